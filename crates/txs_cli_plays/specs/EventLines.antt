@@ -13,7 +13,7 @@ event_name (Fail at view) = codes "fail"
 event_name (Refused at view agent) = codes "refused"
 event_name (Send action) = codes "send"
 event_name (SendRefused agent) = codes "send-refused"
-event_name (Act agent number new) = codes "act"
+event_name (Act agent number new sends) = codes "act"
 event_name (Swap new) = codes "swap"
 event_name (Broke at) = codes "broke"
 

@@ -3,7 +3,7 @@ use Rattle.std.specs.Prelude.{◌≡◌, ◌≢◌, ℕ, max, Bool, true, false,
 use Rattle.std.specs.Io.KnownBytes.{Appends}
 use Rattle.std.specs.declared.result.Result.TheVariants.{Ok, Err}
 use Rattle.txs_world_protocol.specs.declared.event.Event.{Event}
-use Rattle.txs_code_meaning.specs.PlainCode.{PlainCode, function_codes}
+use Rattle.txs_code_meaning.specs.PlainCode.{PlainCode, library_of}
 use Rattle.txs_compile.specs.Compiled.{IsProgramOf, IsRefusal, codes_of}
 use Rattle.txs_compile.specs.declared.compile_error.CompileError.{CompileError}
 use Rattle.txs_compile.specs.declared.compile_error.CompileError.TheVariants.{Memory as NoMemory}
@@ -105,7 +105,7 @@ pub record IsCompiled (text : List ℕ) (p : PlainProgram) (code : PlainCode) : 
   pub program : IsProgramOf text p
   pub generated : IsCodeOf code p
   pub follows : FollowsAll (codes_of code) p
-  pub agents : FollowsAgents (function_codes code) p.functions
+  pub agents : FollowsAgents (library_of code) p.functions
   pub sends : CodesSendSound p.functions (codes_of code)
   pub same : code.cells ≡ p.cells
 

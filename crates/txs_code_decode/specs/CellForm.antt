@@ -1,5 +1,5 @@
 -- The byte form of cells and constants.
-use Rattle.std.specs.Prelude.{ℕ, Bool, true, false, List, [], ◌∷◌, ◌++◌, map}
+use Rattle.std.specs.Prelude.{ℕ, Bool, true, false, List, [], ◌∷◌, ◌++◌, map, None}
 use Rattle.txs_value_data.specs.Limits.{most_depth}
 use Rattle.txs_value_data.specs.View.{plain_of, value_of}
 use Rattle.txs_value_cell.specs.declared.cell.CellDefinition.{CellDefinition}
@@ -45,11 +45,11 @@ mode_format kind = one_of byte (modes kind) mode_byte BadOperand
 unfoldable pub constant_format : Bool → List CellKind → Format Value
 constant_format cells kinds = mapped value_of plain_of (value_format cells kinds most_depth)
 
--- a cell: its kind, its mode, its name, and its opening value, which holds no cell
+-- a cell: its kind, its mode, its name, and its opening value, which holds no cell; it has no validator
 unfoldable pub cell_format : Format CellDefinition
 cell_format =
     mapped
-    (λ p. record { kind = p.0; error_mode = p.1.0; name = p.1.1.0; opening = p.1.1.1 })
+    (λ p. record { kind = p.0; error_mode = p.1.0; name = p.1.1.0; opening = p.1.1.1; validator = None })
     (λ c. (c.kind, (c.error_mode, (c.name, c.opening))))
     (pair kind_format (λ kind. pair (mode_format kind) (λ mode. pair cell_name_format (λ name. constant_format false []))))
 

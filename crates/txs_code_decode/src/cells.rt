@@ -71,6 +71,7 @@ fn cell_at(alloc: Global, bytes: &[u8]) -> Result<(CellDefinition, &[u8]), Stop>
                     name,
                     opening,
                     error_mode,
+                    validator: None,
                 };
                 Ok((cell, rest))
             }

@@ -110,6 +110,7 @@ fn same_cell(a: &CellDefinition, b: &CellDefinition) -> bool
         && a.error_mode == b.error_mode
         && a.name.as_bytes() == b.name.as_bytes()
         && same(&a.opening, &b.opening)
+        && a.validator == b.validator
 }
 
 /// Whether cells are defined alike, one by one.

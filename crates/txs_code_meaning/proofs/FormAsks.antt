@@ -23,7 +23,7 @@ use Rattle.txs_value_data.specs.declared.value.CellId.{CellId}
 use Rattle.txs_value_data.specs.declared.value.CellKind.{CellKind}
 use Rattle.txs_value_data.specs.declared.value.Value.{Value}
 use Rattle.txs_value_data.specs.declared.value.Value.TheVariants.{Cell}
-use Rattle.txs_code_meaning.specs.ActorState.{ActorState, Reception, Replied, Unreplied, receives, asks, StepResult, Continue, Break, Redo, Await, Malformed, on_step, step_of, Reading, Says, SaysRetry, SaysNothing, read_as, heard, just_done, value_there, newest_value, Verdict, Landed, Outdated, Undone, Denied, opened, swap_verdict, send_verdict, sent, buffered_or, look, peek, SwapInHand, open_atom, close_swap, break_swap, reset_atom, send_now, read_cell, set_own, assign_cell, RefUpdate, Alters, Commutes, update_form, open_update, close_own, open_swap, send_action}
+use Rattle.txs_code_meaning.specs.ActorState.{ActorState, Reception, Replied, Unreplied, receives, asks, StepResult, Continue, Break, Redo, Await, Malformed, on_step, step_of, Reading, Says, SaysRetry, SaysNothing, read_as, heard, just_done, value_there, newest_value, Verdict, Landed, Outdated, Undone, Denied, opened, swap_verdict, send_verdict, sent, buffered_or, look, peek, SwapInHand, open_atom, close_swap, break_swap, reset_atom, send_now, read_cell, set_own, assign_cell, RefUpdate, Alters, Commutes, update_form, open_update, close_own, open_swap, send_action, InHand, send_or_hold}
 use Rattle.txs_code_meaning.specs.FormAsks.{IsAskOf, WantsSo, AsksSo, asked_by, FormsAskAsTold}
 
 -- what waits with an ask of the kind
@@ -155,7 +155,11 @@ send_now_so a s = then_so Sending false a.agent _ (sent a) (ask_so Sending false
 
 sends_so : (inside : Bool) (a : Action) (s : ActorState) → AsksSo Sending inside a.agent (send_action inside a s)
 sends_so true a s = tt
-sends_so false a s = send_now_so a s
+sends_so false a s = or_hold s.acting
+  where
+    or_hold : (o : Option InHand) → AsksSo Sending false a.agent (send_or_hold o a s)
+    or_hold None = send_now_so a s
+    or_hold (Some h) = tt
 
 pub forms_ask_as_told : FormsAskAsTold
 forms_ask_as_told = record {

@@ -28,8 +28,8 @@ use Rattle.txs_value_data.specs.declared.value.CellId.{CellId}
 use Rattle.txs_value_data.specs.declared.value.Value.{Value}
 use Rattle.txs_code_meaning.specs.declared.instr.OpenForm.{OpenForm}
 use Rattle.txs_code_meaning.specs.declared.instr.OpenForm.TheVariants as open_form
-use Rattle.txs_code_meaning.specs.ActorState.{ActorState, Reception, Replied, Unreplied, receives, asks, StepResult, Continue, Break, Redo, Await, Malformed, on_step, step_of, Reading, Says, SaysRetry, SaysNothing, read_as, heard, read_point, just_done, value_there, newest_value, views, Verdict, Landed, Outdated, Undone, Denied, commit_verdict, opened, swap_verdict, send_verdict, sent, Taken, handed_out, begun, begin, fail, buffered_or, look, paired, viewed, view, commit, peek, SwapInHand, open_atom, close_swap, break_swap, reset_atom, send_now, take_action, finish, cell_at, read_cell, read, set_own, assign_cell, assign, RefUpdate, Alters, Commutes, update_form, kept_open, open_update, close_own, close_update, open_swap, send_action, send_to, print}
-use Rattle.txs_code_meaning.specs.Machine.{PlainInstr, Push, Load, Store, Pop, Jump, JumpFalse, CoreOf, CallOf, Return, MakeVector, PrintOf, TxBegin, TxEnd, LookOf, PutOf, OpenOf, CloseOf, SendOf, Halt, TakeOf, RunOf, FinishOf, ThreadCode, fetch, Frame, Savepoint, Activity, Outside, Restarting, Running, Applying, Swapping, Acting, is_inside, Configuration, Turned, Ended, Failed, Asking, Unfinished, Stuck, and_then, told, raise, try_more, rerun, retried, on, found, on_top, on_args, on_args_of, on_two, gives, starts, begins, decided, lands, settles, arguments_of, applies, ends, returns_to, opens_ref, opens_atom, opens, swap_decided, closes_swap, closes, started, runs_callee, runs, act, turn, run}
+use Rattle.txs_code_meaning.specs.ActorState.{ActorState, Reception, Replied, Unreplied, receives, asks, StepResult, Continue, Break, Redo, Await, Malformed, on_step, step_of, Reading, Says, SaysRetry, SaysNothing, read_as, heard, read_point, just_done, value_there, newest_value, views, Verdict, Landed, Outdated, Undone, Denied, commit_verdict, opened, swap_verdict, send_verdict, sent, Taken, handed_out, begun, begin, fail, buffered_or, look, paired, viewed, view, commit, peek, SwapInHand, open_atom, close_swap, break_swap, reset_atom, send_now, take_action, finish, cell_at, read_cell, read, set_own, assign_cell, assign, RefUpdate, Alters, Commutes, update_form, kept_open, open_update, close_own, close_update, open_swap, send_action, send_to, print, InHand, send_or_hold}
+use Rattle.txs_code_meaning.specs.Machine.{PlainInstr, Push, Load, Store, Pop, Jump, JumpFalse, CoreOf, CallOf, Return, MakeVector, PrintOf, TxBegin, TxEnd, LookOf, PutOf, OpenOf, CloseOf, SendOf, Halt, TakeOf, RunOf, FinishOf, ThreadCode, fetch, Frame, Savepoint, Activity, Outside, Restarting, Running, Applying, Swapping, is_inside, Configuration, Turned, Ended, Failed, Asking, Unfinished, Stuck, and_then, told, raise, try_more, rerun, retried, on, found, on_top, on_args, on_args_of, on_two, gives, starts, begins, decided, lands, settles, arguments_of, applies, ends, returns_to, opens_ref, opens_atom, opens, swap_decided, closes_swap, closes, started, runs_callee, runs, act, turn, run, ends_with}
 use Rattle.txs_code_meaning.specs.Opening.{given}
 
 module _ (ys : List Exchange) where
@@ -159,7 +159,7 @@ module _ (ys : List Exchange) where
 
   finish_more : (g : CellId) (new : Result Value Fault) (s : ActorState) → StepMore (finish g new s) (finish g new (later s))
   unfolding finish
-  finish_more g new s = ask_more just_done (ask.Finish g new) s
+  finish_more g new s = ask_more just_done (ask.Finish g new []) s
 
   -- ---- forms
 
@@ -207,7 +207,11 @@ module _ (ys : List Exchange) where
 
   send_action_more : (inside : Bool) (a : Action) (s : ActorState) → StepMore (send_action inside a s) (send_action inside a (later s))
   send_action_more true a s = refl
-  send_action_more false a s = send_now_more a s
+  send_action_more false a s = or_hold s.acting
+    where
+      or_hold : (o : Option InHand) → StepMore (send_or_hold o a s) (send_or_hold o a (later s))
+      or_hold None = send_now_more a s
+      or_hold (Some h) = refl
 
   send_more : (inside : Bool) (span : Span) (v : Value) (callee : Callee) (vs : List Value) (s : ActorState) → StepMore (send_to inside span v callee vs s) (send_to inside span v callee vs (later s))
   send_more inside span v callee vs s =
@@ -232,13 +236,16 @@ module _ (ys : List Exchange) where
   told_more (Await s) y a b e k = tt
   told_more Malformed y a b e k = tt
 
+  over_more : (o : Option InHand) (f : Fault) (s : ActorState) → More (ends_with o f s) (ends_with o f (later s))
+  over_more None f s = refl
+  over_more (Some h) f s = told_more (finish h.agent (Err f) s) (finish h.agent (Err f) (later s)) _ _ (finish_more h.agent (Err f) s) (λ s1. refl)
+
   raise_more : (doing : Activity) (f : Fault) (s : ActorState) → More (raise doing f s) (raise doing f (later s))
-  raise_more Outside f s = refl
+  raise_more Outside f s = over_more s.acting f s
   raise_more (Restarting left) f s = refl
   raise_more (Running left inner from) f s = told_more (fail s) (fail (later s)) _ _ (fail_more s) (λ s1. refl)
   raise_more (Applying left from work values) f s = told_more (fail s) (fail (later s)) _ _ (fail_more s) (λ s1. refl)
   raise_more (Swapping swap from) f s = told_more (break_swap swap s) (break_swap swap (later s)) _ _ (break_swap_more swap s) (λ s1. refl)
-  raise_more (Acting agent action) f s = told_more (finish agent (Err f) s) (finish agent (Err f) (later s)) _ _ (finish_more agent (Err f) s) (λ s1. refl)
 
   tries_more : (left : ℕ) (from : Savepoint) (s : ActorState) (a b : ℕ → Configuration) → ((k : ℕ) → b k ≡ given ys (a k)) → More (try_more left from s a) (try_more left from (later s) b)
   tries_more zero from s a b k = refl
@@ -253,7 +260,6 @@ module _ (ys : List Exchange) where
   retried_more (Running left inner from) s = rerun_later left from s
   retried_more (Applying left from work values) s = tt
   retried_more (Swapping swap from) s = tt
-  retried_more (Acting agent action) s = tt
 
   on_more : {A : Type 0} (doing : Activity) (x y : StepResult A) (a b : A → ActorState → Turned Configuration) → StepMore x y → ((v : A) (s : ActorState) → More (a v s) (b v (later s))) → More (on doing x a) (on doing y b)
   on_more doing (Continue v s) y a b e k = subst (λ u. More (a v s) (on doing u b)) (sym e) (k v s)
@@ -289,7 +295,6 @@ module _ (ys : List Exchange) where
   begins_more (Running left inner from) span c = refl
   begins_more (Applying left from work values) span c = tt
   begins_more (Swapping swap from) span c = tt
-  begins_more (Acting agent action) span c = tt
 
   decided_more : (v : Verdict) (left : ℕ) (from : Savepoint) (c : Configuration) (s : ActorState) → More (decided v left from c s) (decided v left from (given ys c) (later s))
   decided_more Landed left from c s = refl
@@ -316,7 +321,6 @@ module _ (ys : List Exchange) where
   ends_more code (Applying left from [] ws) c = lands_more left from ws c
   ends_more code (Applying left from (k ∷ work) ws) c = applies_more code k.callee left from k work ws c
   ends_more code (Swapping swap from) c = tt
-  ends_more code (Acting agent action) c = tt
 
   returns_more : (frames : List Frame) (v : Value) (c : Configuration) → More (returns_to frames v c) (returns_to frames v (given ys c))
   returns_more [] v c = tt
@@ -331,7 +335,6 @@ module _ (ys : List Exchange) where
   opens_atom_more (Running left inner from) span vs cell rest c = tt
   opens_atom_more (Applying left from work values) span vs cell rest c = tt
   opens_atom_more (Swapping swap from) span vs cell rest c = tt
-  opens_atom_more (Acting agent action) span vs cell rest c = tt
 
   opens_more : (form : OpenForm) (span : Span) (vs : List Value) (cell : Value) (rest : List Value) (c : Configuration) → More (opens form span vs cell rest c) (opens form span vs cell rest (given ys c))
   opens_more open_form.Alter span vs cell rest c = opens_ref_more Alters span vs cell rest c
@@ -350,7 +353,6 @@ module _ (ys : List Exchange) where
   closes_swap_more (Restarting left) w rest c = tt
   closes_swap_more (Running left inner from) w rest c = tt
   closes_swap_more (Applying left from work values) w rest c = tt
-  closes_swap_more (Acting agent action) w rest c = tt
 
   closes_more : (form : UpdateForm) (span : Span) (w cell : Value) (rest : List Value) (c : Configuration) → More (closes form span w cell rest c) (closes form span w cell rest (given ys c))
   closes_more update.Alter span w cell rest c = gives_more c rest _ _ (close_update_more span cell w c.state)
@@ -365,13 +367,9 @@ module _ (ys : List Exchange) where
   runs_callee_more code (callee.Core op) a v rest c = gives_more c rest _ _ (step_of_more (core op (v ∷ a.args)) a.span c.state)
   runs_callee_more code (callee.Function f) a v rest c = refl
 
-  runs_more : (code : ThreadCode) (doing : Activity) (v : Value) (rest : List Value) (c : Configuration) → More (runs code doing v rest c) (runs code doing v rest (given ys c))
-  runs_more code (Acting g a) v rest c = runs_callee_more code a.callee a v rest c
-  runs_more code Outside v rest c = tt
-  runs_more code (Restarting left) v rest c = tt
-  runs_more code (Running left inner from) v rest c = tt
-  runs_more code (Applying left from work values) v rest c = tt
-  runs_more code (Swapping swap from) v rest c = tt
+  runs_more : (code : ThreadCode) (o : Option InHand) (v : Value) (rest : List Value) (c : Configuration) → More (runs code o v rest c) (runs code o v rest (given ys c))
+  runs_more code None v rest c = tt
+  runs_more code (Some h) v rest c = runs_callee_more code h.action.callee h.action v rest c
 
   pub act_more : (code : ThreadCode) (i : Option PlainInstr) (c : Configuration) → More (act code i c) (act code i (given ys c))
   act_more code None c = tt
@@ -395,7 +393,7 @@ module _ (ys : List Exchange) where
   act_more code (Some (SendOf callee args span)) c = args_of_more args c.stack _ _ (λ vs cell rest. gives_more c rest _ _ (send_more (is_inside c.doing) span cell callee vs c.state))
   act_more code (Some Halt) c = refl
   act_more code (Some (TakeOf g)) c = on_more c.doing _ _ _ _ (take_more g c.state) (λ o s. started_more g o c s)
-  act_more code (Some RunOf) c = top_more c.stack _ _ (λ v rest. runs_more code c.doing v rest c)
+  act_more code (Some RunOf) c = top_more c.stack _ _ (λ v rest. runs_more code c.state.acting v rest c)
   act_more code (Some (FinishOf g)) c = top_more c.stack _ _ (λ v rest. told_more _ _ _ _ (finish_more g (Ok v) c.state) (λ s. refl))
 
   then_more : (t u : Turned Configuration) (f g : Configuration → Turned Configuration) → More t u → ((d : Configuration) → More (f d) (g (given ys d))) → More (and_then t f) (and_then u g)

@@ -9,7 +9,7 @@ use Rattle.txs_frame.specs.declared.frame.Commute.{Commute}
 use Rattle.txs_value_apply.specs.Core.{core, vector_of}
 use Rattle.txs_value_cell.specs.Forms.{rule, cell_of}
 use Rattle.txs_value_data.specs.Limits.{reruns}
-use Rattle.txs_value_base.specs.Places.{nth}
+use Rattle.txs_value_base.specs.Places.{nth, fault_at}
 use Rattle.txs_value_cell.specs.declared.action.Action.{Action}
 use Rattle.txs_value_base.specs.declared.fault.Fault.{Fault}
 use Rattle.txs_value_base.specs.declared.fault.FaultKind.{FaultKind}
@@ -25,11 +25,12 @@ use Rattle.txs_value_base.specs.declared.op.Callee.{Callee}
 use Rattle.txs_value_base.specs.declared.op.Callee.TheVariants as callee
 use Rattle.txs_value_data.specs.declared.value.CellId.{CellId}
 use Rattle.txs_value_data.specs.declared.value.Value.{Value}
+use Rattle.txs_value_data.specs.declared.value.Value.TheVariants.{Cell}
 use Rattle.txs_code_meaning.specs.declared.instr.OpenForm.{OpenForm}
 use Rattle.txs_code_meaning.specs.declared.instr.OpenForm.TheVariants as open_form
-use Rattle.txs_code_meaning.specs.ActorState.{ActorState, Reception, Replied, Unreplied, receives, asks, StepResult, Continue, Break, Redo, Await, Malformed, on_step, step_of, Reading, Says, SaysRetry, SaysNothing, read_as, heard, read_point, just_done, value_there, newest_value, views, Verdict, Landed, Outdated, Undone, Denied, commit_verdict, opened, swap_verdict, send_verdict, sent, Taken, handed_out, begun, begin, fail, buffered_or, look, paired, viewed, view, commit, peek, SwapInHand, open_atom, close_swap, break_swap, reset_atom, send_now, take_action, finish, read_cell, read, set_own, assign_cell, assign, RefUpdate, Alters, Commutes, update_form, kept_open, open_update, close_own, close_update, open_swap, send_to, print}
+use Rattle.txs_code_meaning.specs.ActorState.{ActorState, Reception, Replied, Unreplied, receives, asks, StepResult, Continue, Break, Redo, Await, Malformed, on_step, step_of, Reading, Says, SaysRetry, SaysNothing, read_as, heard, read_point, just_done, value_there, newest_value, views, Verdict, Landed, Outdated, Undone, Denied, commit_verdict, opened, swap_verdict, send_verdict, sent, Taken, handed_out, begun, begin, fail, buffered_or, look, paired, viewed, view, commit, peek, SwapInHand, open_atom, close_swap, break_swap, reset_atom, send_now, take_action, finish, read_cell, read, set_own, assign_cell, assign, RefUpdate, Alters, Commutes, update_form, kept_open, open_update, close_own, close_update, open_swap, send_to, print, InHand, send_or_hold, now_holding, send_action}
 use Rattle.txs_code_meaning.specs.Laws.{TakesOne, TurnTakesOne, MaySend, SendsLawfully, AsksOnce}
-use Rattle.txs_code_meaning.specs.Machine.{PlainInstr, Push, Load, Store, Pop, Jump, JumpFalse, CoreOf, CallOf, Return, MakeVector, PrintOf, TxBegin, TxEnd, LookOf, PutOf, OpenOf, CloseOf, SendOf, Halt, TakeOf, RunOf, FinishOf, ThreadCode, fetch, Frame, Savepoint, Activity, Outside, Restarting, Running, Applying, Swapping, Acting, is_inside, Configuration, Turned, told, raise, try_more, rerun, retried, on, found, on_top, on_args, on_args_of, on_two, gives, starts, begins, decided, lands, settles, arguments_of, applies, ends, returns_to, opens_ref, opens_atom, opens, swap_decided, closes_swap, closes, started, runs_callee, runs, act}
+use Rattle.txs_code_meaning.specs.Machine.{PlainInstr, Push, Load, Store, Pop, Jump, JumpFalse, CoreOf, CallOf, Return, MakeVector, PrintOf, TxBegin, TxEnd, LookOf, PutOf, OpenOf, CloseOf, SendOf, Halt, TakeOf, RunOf, FinishOf, ThreadCode, fetch, Frame, Savepoint, Activity, Outside, Restarting, Running, Applying, Swapping, is_inside, Configuration, Turned, told, raise, try_more, rerun, retried, on, found, on_top, on_args, on_args_of, on_two, gives, starts, begins, decided, lands, settles, arguments_of, applies, ends, returns_to, opens_ref, opens_atom, opens, swap_decided, closes_swap, closes, started, runs_callee, runs, act, ends_with}
 
 -- ---- steps
 
@@ -220,7 +221,7 @@ take_once g s = ask_once handed_out (ask.Take g) s
 
 finish_once : (g : CellId) (new : Result Value Fault) (s : ActorState) → StepTakesOne s.todo (finish g new s)
 unfolding finish
-finish_once g new s = ask_once just_done (ask.Finish g new) s
+finish_once g new s = ask_once just_done (ask.Finish g new []) s
 
 -- ---- forms
 
@@ -266,7 +267,11 @@ send_inside_once : (span : Span) (v : Value) (f : Callee) (vs : List Value) (s :
 send_inside_once span v f vs s = then_once (cell_of (rule form.Send) true v) span s _ (λ g. takes_none s.todo)
 
 send_outside_once : (span : Span) (v : Value) (f : Callee) (vs : List Value) (s : ActorState) → StepTakesSome s.todo (send_to false span v f vs s)
-send_outside_once span v f vs s = then_some (cell_of (rule form.Send) false v) span s _ (λ g. send_now_once (record { agent = g; callee = f; args = vs; span = span }) s)
+send_outside_once span v f vs s = then_some (cell_of (rule form.Send) false v) span s _ (λ g. or_hold (record { agent = g; callee = f; args = vs; span = span }) s.acting)
+  where
+    or_hold : (a : Action) (o : Option InHand) → StepTakesSome s.todo (send_or_hold o a s)
+    or_hold a None = send_now_once a s
+    or_hold a (Some h) = takes_none s.todo
 
 print_once : (inside : Bool) (vs : List Value) (s : ActorState) → StepTakesOne s.todo (print inside vs s)
 unfolding print
@@ -286,13 +291,16 @@ told_once before (Redo s) go h k = tt
 told_once before (Await s) go h k = h
 told_once before Malformed go h k = tt
 
+over_once : (o : Option InHand) (f : Fault) (s : ActorState) → TurnTakesOne s.todo (ends_with o f s)
+over_once None f s = takes_none s.todo
+over_once (Some h) f s = told_once s.todo (finish h.agent (Err f) s) _ (finish_once h.agent (Err f) s) (λ s1 g. g)
+
 raise_once : (doing : Activity) (f : Fault) (s : ActorState) → TurnTakesOne s.todo (raise doing f s)
-raise_once Outside f s = takes_none s.todo
+raise_once Outside f s = over_once s.acting f s
 raise_once (Restarting left) f s = takes_none s.todo
 raise_once (Running left inner from) f s = told_once s.todo (fail s) _ (fail_once s) (λ s1 h. h)
 raise_once (Applying left from work values) f s = told_once s.todo (fail s) _ (fail_once s) (λ s1 h. h)
 raise_once (Swapping swap from) f s = told_once s.todo (break_swap swap s) _ (break_swap_once swap s) (λ s1 h. h)
-raise_once (Acting agent action) f s = told_once s.todo (finish agent (Err f) s) _ (finish_once agent (Err f) s) (λ s1 h. h)
 
 tries_once : (before : List Exchange) (left : ℕ) (from : Savepoint) (s : ActorState) (go : ℕ → Configuration) → TakesOne before s.todo → ((k : ℕ) → (go k).state ≡ s) → TurnTakesOne before (try_more left from s go)
 tries_once before zero from s go h k = h
@@ -307,7 +315,6 @@ retried_once before (Restarting left) s h = tt
 retried_once before (Running left inner from) s h = rerun_once before left from s h
 retried_once before (Applying left from work values) s h = tt
 retried_once before (Swapping swap from) s h = tt
-retried_once before (Acting agent action) s h = tt
 
 -- what goes on with a step's answer asks nothing
 abbrev GoesOn : {A : Type 0} → List Exchange → (A → ActorState → Turned Configuration) → Type 0
@@ -320,13 +327,55 @@ on_once before doing (Redo s) go h k = retried_once before doing s h
 on_once before doing (Await s) go h k = h
 on_once before doing Malformed go h k = tt
 
+-- where a step faults, this action is in hand
+abbrev FaultsIn : {A : Type 0} → Option InHand → StepResult A → Type 0
+FaultsIn o (Continue a s) = s.acting ≡ o
+FaultsIn o (Break f s) = s.acting ≡ o
+FaultsIn o (Redo s) = Unit {0}
+FaultsIn o (Await s) = Unit {0}
+FaultsIn o Malformed = Unit {0}
+
+read_in : {A : Type 0} (r : Reading A) (s : ActorState) → FaultsIn s.acting (read_as r s)
+read_in (Says a) s = refl
+read_in SaysRetry s = tt
+read_in SaysNothing s = tt
+
+ask_in : {A : Type 0} (reads : Reply → Reading A) (q : Ask) (s : ActorState) → FaultsIn s.acting (heard reads (asks q s))
+unfolding asks
+ask_in reads q s = go s.todo
+  where
+    by : (b : Bool) (x : Exchange) (xs : List Exchange) → FaultsIn s.acting (heard reads (if b then Replied x.reply (record s { todo = xs }) else Unreplied (record s { wants = Some q })))
+    by true x xs = read_in (reads x.reply) (record s { todo = xs })
+    by false x xs = tt
+
+    go : (xs : List Exchange) → FaultsIn s.acting (heard reads (receives q s xs))
+    go [] = tt
+    go (x ∷ xs) = by (same_ask q x.ask) x xs
+
+sent_in : (a : Action) (d : Verdict) (o : Option InHand) (s : ActorState) → s.acting ≡ o → FaultsIn o (sent a d s)
+sent_in a Landed o s e = e
+sent_in a Outdated o s e = tt
+sent_in a Undone o s e = tt
+sent_in a Denied o s e = e
+
+then_in : {A B : Type 0} (o : Option InHand) (x : StepResult A) (go : A → ActorState → StepResult B) → FaultsIn o x → ((a : A) (s : ActorState) → s.acting ≡ o → FaultsIn o (go a s)) → FaultsIn o (on_step x go)
+then_in o (Continue a s) go e k = k a s e
+then_in o (Break f s) go e k = e
+then_in o (Redo s) go e k = tt
+then_in o (Await s) go e k = tt
+then_in o Malformed go e k = tt
+
+send_in : (a : Action) (s : ActorState) → FaultsIn s.acting (send_now a s)
+unfolding send_now
+send_in a s = then_in s.acting (heard send_verdict (asks (ask.Send a) s)) (sent a) (ask_in send_verdict (ask.Send a) s) (λ d t e. sent_in a d s.acting t e)
+
 -- outside transactions, swaps and actions a fault asks nothing
-on_outside : {A : Type 0} (before : List Exchange) (x : StepResult A) (go : A → ActorState → Turned Configuration) → StepTakesSome before x → GoesOn before go → TurnTakesOne before (on Outside x go)
-on_outside before (Continue a s) go h k = k a s h
-on_outside before (Break f s) go h k = h
-on_outside before (Redo s) go h k = tt
-on_outside before (Await s) go h k = h
-on_outside before Malformed go h k = tt
+on_outside : {A : Type 0} (before : List Exchange) (x : StepResult A) (go : A → ActorState → Turned Configuration) → StepTakesSome before x → FaultsIn None x → GoesOn before go → TurnTakesOne before (on Outside x go)
+on_outside before (Continue a s) go h e k = k a s h
+on_outside before (Break f s) go h e k = subst (λ o. TurnTakesOne before (ends_with o f s)) (sym e) h
+on_outside before (Redo s) go h e k = tt
+on_outside before (Await s) go h e k = h
+on_outside before Malformed go h e k = tt
 
 on_restarting : {A : Type 0} (before : List Exchange) (left : ℕ) (x : StepResult A) (go : A → ActorState → Turned Configuration) → StepTakesSome before x → GoesOn before go → TurnTakesOne before (on (Restarting left) x go)
 on_restarting before left (Continue a s) go h k = k a s h
@@ -362,7 +411,6 @@ begins_once (Restarting left) span c = starts_once left span c
 begins_once (Running left inner from) span c = takes_none c.state.todo
 begins_once (Applying left from work values) span c = tt
 begins_once (Swapping swap from) span c = tt
-begins_once (Acting agent action) span c = tt
 
 decided_once : (before : List Exchange) (v : Verdict) (left : ℕ) (from : Savepoint) (c : Configuration) (s : ActorState) → TakesOne before s.todo → TurnTakesOne before (decided v left from c s)
 decided_once before Landed left from c s h = h
@@ -389,7 +437,6 @@ ends_once code (Running left zero from) c = settles_once (commuted c.state.done)
 ends_once code (Applying left from [] ws) c = lands_once left from ws c
 ends_once code (Applying left from (k ∷ work) ws) c = applies_once code k.callee left from k work ws c
 ends_once code (Swapping swap from) c = tt
-ends_once code (Acting agent action) c = tt
 
 returns_once : (frames : List Frame) (v : Value) (c : Configuration) → TurnTakesOne c.state.todo (returns_to frames v c)
 returns_once [] v c = tt
@@ -404,7 +451,6 @@ opens_atom_once (Restarting left) span vs cell rest c = tt
 opens_atom_once (Running left inner from) span vs cell rest c = tt
 opens_atom_once (Applying left from work values) span vs cell rest c = tt
 opens_atom_once (Swapping swap from) span vs cell rest c = tt
-opens_atom_once (Acting agent action) span vs cell rest c = tt
 
 opens_once : (by : OpenForm) (span : Span) (vs : List Value) (cell : Value) (rest : List Value) (c : Configuration) → TurnTakesOne c.state.todo (opens by span vs cell rest c)
 opens_once open_form.Alter span vs cell rest c = opens_ref_once Alters span vs cell rest c
@@ -423,7 +469,6 @@ closes_swap_once Outside w rest c = tt
 closes_swap_once (Restarting left) w rest c = tt
 closes_swap_once (Running left inner from) w rest c = tt
 closes_swap_once (Applying left from work values) w rest c = tt
-closes_swap_once (Acting agent action) w rest c = tt
 
 closes_once : (by : UpdateForm) (span : Span) (w cell : Value) (rest : List Value) (c : Configuration) → TurnTakesOne c.state.todo (closes by span w cell rest c)
 closes_once update.Alter span w cell rest c = gives_once c rest _ (close_update_once span cell w c.state)
@@ -431,12 +476,19 @@ closes_once update.Commute span w cell rest c = gives_once c rest _ (close_updat
 closes_once update.Swap span w cell rest c = closes_swap_once c.doing w rest c
 
 send_once : (doing : Activity) → MaySend doing → (span : Span) (v : Value) (f : Callee) (vs : List Value) (s : ActorState) (go : Value → ActorState → Turned Configuration) → GoesOn s.todo go → TurnTakesOne s.todo (on doing (send_to (is_inside doing) span v f vs s) go)
-send_once Outside ok span v f vs s go k = on_outside s.todo _ go (send_outside_once span v f vs s) k
+send_once Outside ok span v f vs s go k = by (cell_of (rule form.Send) false v)
+  where
+    or_hold : (a : Action) (o : Option InHand) → s.acting ≡ o → TurnTakesOne s.todo (on Outside (send_or_hold o a s) go)
+    or_hold a None e = on_outside s.todo (send_now a s) go (send_now_once a s) (subst (λ o. FaultsIn o (send_now a s)) e (send_in a s)) k
+    or_hold a (Some h) e = k (Cell a.agent) (record s { acting = now_holding a s.acting }) (takes_none s.todo)
+
+    by : (r : Result CellId FaultKind) → TurnTakesOne s.todo (on Outside (on_step (step_of r span s) (λ g s1. send_action false (record { agent = g; callee = f; args = vs; span = span }) s1)) go)
+    by (Ok g) = or_hold (record { agent = g; callee = f; args = vs; span = span }) s.acting refl
+    by (Err y) = raise_once Outside (fault_at y span) s
 send_once (Restarting left) ok span v f vs s go k = on_restarting s.todo left _ go (send_outside_once span v f vs s) k
 send_once (Running left inner from) ok span v f vs s go k = on_once s.todo (Running left inner from) _ go (send_inside_once span v f vs s) k
 send_once (Applying left from work values) ok span v f vs s go k = on_once s.todo (Applying left from work values) _ go (send_inside_once span v f vs s) k
 send_once (Swapping swap from) ok span v f vs s go k = absurd ok
-send_once (Acting agent action) ok span v f vs s go k = absurd ok
 
 started_once : (before : List Exchange) (g : CellId) (o : Option Taken) (c : Configuration) (s : ActorState) → TakesOne before s.todo → TurnTakesOne before (started g o c s)
 started_once before g None c s h = h
@@ -446,13 +498,9 @@ runs_callee_once : (code : ThreadCode) (f : Callee) (a : Action) (v : Value) (re
 runs_callee_once code (callee.Core op) a v rest c = gives_once c rest _ (step_of_once (core op (v ∷ a.args)) a.span c.state)
 runs_callee_once code (callee.Function f) a v rest c = takes_none c.state.todo
 
-runs_once : (code : ThreadCode) (doing : Activity) (v : Value) (rest : List Value) (c : Configuration) → TurnTakesOne c.state.todo (runs code doing v rest c)
-runs_once code (Acting g a) v rest c = runs_callee_once code a.callee a v rest c
-runs_once code Outside v rest c = tt
-runs_once code (Restarting left) v rest c = tt
-runs_once code (Running left inner from) v rest c = tt
-runs_once code (Applying left from work values) v rest c = tt
-runs_once code (Swapping swap from) v rest c = tt
+runs_once : (code : ThreadCode) (o : Option InHand) (v : Value) (rest : List Value) (c : Configuration) → TurnTakesOne c.state.todo (runs code o v rest c)
+runs_once code None v rest c = tt
+runs_once code (Some h) v rest c = runs_callee_once code h.action.callee h.action v rest c
 
 act_once : (code : ThreadCode) (i : Option PlainInstr) (c : Configuration) → SendsLawfully i c.doing → TurnTakesOne c.state.todo (act code i c)
 act_once code None c ok = tt
@@ -476,7 +524,7 @@ act_once code (Some (CloseOf by span)) c ok = two_once c.state.todo c.stack _ (�
 act_once code (Some (SendOf f args span)) c ok = args_of_once c.state.todo args c.stack _ (λ vs cell rest. send_once c.doing ok span cell f vs c.state _ (λ v s h. h))
 act_once code (Some Halt) c ok = takes_none c.state.todo
 act_once code (Some (TakeOf g)) c ok = on_once c.state.todo c.doing _ _ (take_once g c.state) (λ o s h. started_once c.state.todo g o c s h)
-act_once code (Some RunOf) c ok = top_once c.state.todo c.stack _ (λ v rest. runs_once code c.doing v rest c)
+act_once code (Some RunOf) c ok = top_once c.state.todo c.stack _ (λ v rest. runs_once code c.state.acting v rest c)
 act_once code (Some (FinishOf g)) c ok = top_once c.state.todo c.stack _ (λ v rest. told_once c.state.todo _ _ (finish_once g (Ok v) c.state) (λ s h. h))
 
 -- no turn asks twice

@@ -65,7 +65,7 @@ abbrev six_by : PlainBody
 six_by = record { locals = 1; instrs = Push (int 6) ∷ Load 0 ∷ CoreOf Quot 2 (at 82) ∷ Return ∷ [] }
 
 abbrev thread : ℕ → List PlainInstr → ThreadCode
-thread locals instrs = record { functions = adds ∷ breaks ∷ six_by ∷ []; main = record { locals = locals; instrs = instrs } }
+thread locals instrs = record { functions = adds ∷ breaks ∷ six_by ∷ []; validators = []; main = record { locals = locals; instrs = instrs } }
 
 -- how a run came out: whether it ended, with which fault, the bytes that it printed, how many exchanges are left, and the ask that has
 -- no answer
@@ -267,11 +267,11 @@ send_refused = refl
 
 -- An action that faults in its function is handed in with the fault, and the agent goes on from the start; an operation is run at once; and
 -- an agent that is handed out none takes again.
-action_faults : result (agent_target (adds ∷ breaks ∷ []) g0 40 (
+action_faults : result (agent_target (record { bodies = adds ∷ breaks ∷ []; validators = [] }) g0 40 (
     answered (ask.Take g0) (reply.Action 1 (action (callee.Function 1) []) (int 6)) ∷
-    answered (ask.Finish g0 (Err (fault_at DivideByZero (at 81)))) reply.Done ∷
+    answered (ask.Finish g0 (Err (fault_at DivideByZero (at 81))) []) reply.Done ∷
     answered (ask.Take g0) (reply.Action 2 (action (callee.Core Add) (int 4 ∷ [])) (int 6)) ∷
-    answered (ask.Finish g0 (Ok (int 10))) reply.Done ∷
+    answered (ask.Finish g0 (Ok (int 10)) []) reply.Done ∷
     answered (ask.Take g0) reply.Idle ∷ [])) ≡ waiting (ask.Take g0)
 unfolding asks take_action finish core
 action_faults = refl

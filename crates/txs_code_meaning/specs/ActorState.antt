@@ -28,6 +28,17 @@ use Rattle.txs_value_data.specs.declared.value.CellId.{CellId}
 use Rattle.txs_value_data.specs.declared.value.Value.{Value}
 use Rattle.txs_value_data.specs.declared.value.Value.TheVariants.{Nil, Cell}
 
+-- an action in hand: its agent, the action, and the sends that it holds
+pub record InHand : Type 0 where
+  pub agent : CellId
+  pub action : Action
+  pub sends : List Action
+
+-- this send is held too, in an action
+abbrev pub now_holding : Action → Option InHand → Option InHand
+now_holding a None = None
+now_holding a (Some h) = Some (record h { sends = h.sends ++ a ∷ [] })
+
 -- An actor's state but for its code: the exchanges to come, the bytes that it has printed, its transaction's read point, the place
 -- of its last view (the read point where there is none), what the transaction has done, and the commute that is open.
 pub record ActorState : Type 0 where
@@ -37,6 +48,8 @@ pub record ActorState : Type 0 where
   pub view : ℕ
   pub done : Work
   pub commuting : Option Commute
+  -- the action that an agent runs
+  pub acting : Option InHand
   -- the ask that has no answer yet
   pub wants : Option Ask
 
@@ -260,7 +273,7 @@ take_action g s = heard handed_out (asks (ask.Take g) s)
 
 -- an agent's action ends, with the new state or a fault
 unfoldable pub finish : CellId → Result Value Fault → ActorState → StepResult (Unit {0})
-finish g new s = heard just_done (asks (ask.Finish g new) s)
+finish g new s = heard just_done (asks (ask.Finish g new []) s)
 
 -- ---- the forms, inside a transaction and outside
 
@@ -331,11 +344,16 @@ abbrev pub open_swap : Bool → Span → Value → ActorState → StepResult (Sw
 open_swap true span v s = Malformed
 open_swap false span v s = on_step (cell_at (form.Update update.Swap) false span v s) open_atom
 
+-- a send outside every transaction: a thread's is made, an action's is held
+abbrev pub send_or_hold : Option InHand → Action → ActorState → StepResult Value
+send_or_hold None a s = send_now a s
+send_or_hold (Some h) a s = Continue (Cell a.agent) (record s { acting = now_holding a s.acting })
+
 -- a send, held or made
 abbrev pub send_action : Bool → Action → ActorState → StepResult Value
--- in a transaction the send is held, outside it is made
+-- a transaction holds it
 send_action true a s = Continue (Cell a.agent) (record s { done = hold_send a s.done })
-send_action false a s = send_now a s
+send_action false a s = send_or_hold s.acting a s
 
 -- `send`
 abbrev pub send_to : Bool → Span → Value → Callee → List Value → ActorState → StepResult Value

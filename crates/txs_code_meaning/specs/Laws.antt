@@ -1,7 +1,7 @@
 -- What a turn takes of the exchanges that are to come.
 use Rattle.std.specs.Prelude.{◌≡◌, ◌≤◌, List, ◌++◌, length, Option, Some}
 use Rattle.txs_world_protocol.specs.Ask.{Exchange}
-use Rattle.txs_code_meaning.specs.Machine.{PlainInstr, SendOf, ThreadCode, fetch, Activity, Outside, Restarting, Running, Applying, Swapping, Acting, Configuration, Turned, Ended, Failed, Asking, Unfinished, Stuck, turn}
+use Rattle.txs_code_meaning.specs.Machine.{PlainInstr, SendOf, ThreadCode, fetch, Activity, Outside, Restarting, Running, Applying, Swapping, Configuration, Turned, Ended, Failed, Asking, Unfinished, Stuck, turn}
 
 -- of some exchanges the first one is taken at most, and these are left
 abbrev pub TakesOne : List Exchange → List Exchange → Type 0
@@ -15,14 +15,13 @@ TurnTakesOne before (Asking s) = s.todo ≡ before
 TurnTakesOne before (Unfinished c) = TakesOne before c.state.todo
 TurnTakesOne before Stuck = Unit {0}
 
--- the callees of swaps and actions send nothing, as they are pure
+-- the callees of swaps send nothing, as they are pure; the sends of an action are held
 abbrev pub MaySend : Activity → Type 0
 MaySend Outside = Unit {0}
 MaySend (Restarting left) = Unit {0}
 MaySend (Running left inner from) = Unit {0}
 MaySend (Applying left from work values) = Unit {0}
 MaySend (Swapping swap from) = ⊥
-MaySend (Acting agent action) = ⊥
 
 -- a send stands where it may
 abbrev pub SendsLawfully : Option PlainInstr → Activity → Type 0

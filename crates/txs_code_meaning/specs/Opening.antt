@@ -4,11 +4,11 @@ use Rattle.txs_world_protocol.specs.Ask.{Exchange}
 use Rattle.txs_frame.specs.Frame.{no_work}
 use Rattle.txs_value_data.specs.declared.value.CellId.{CellId}
 use Rattle.txs_code_meaning.specs.ActorState.{ActorState}
-use Rattle.txs_code_meaning.specs.Machine.{PlainBody, ThreadCode, locals_of, agent_code, Configuration, first_place, Outcome, exec}
+use Rattle.txs_code_meaning.specs.Machine.{ThreadCode, locals_of, agent_code, Configuration, first_place, Outcome, exec, Library}
 
 -- an actor's state before its first turn, with the exchanges to come
 abbrev pub fresh : List Exchange → ActorState
-fresh todo = record { todo = todo; printed = []; at = 0; view = 0; done = no_work; commuting = None; wants = None }
+fresh todo = record { todo = todo; printed = []; at = 0; view = 0; done = no_work; commuting = None; acting = None; wants = None }
 
 -- where an actor begins
 abbrev pub opening : ThreadCode → List Exchange → Configuration
@@ -19,8 +19,8 @@ abbrev pub target : ThreadCode → ℕ → List Exchange → Outcome
 target code m todo = exec code m (opening code todo)
 
 -- an agent on these exchanges, after at most m turns
-abbrev pub agent_target : List PlainBody → CellId → ℕ → List Exchange → Outcome
-agent_target functions g m todo = target (agent_code functions g) m todo
+abbrev pub agent_target : Library → CellId → ℕ → List Exchange → Outcome
+agent_target shared g m todo = target (agent_code shared g) m todo
 
 -- a configuration to which more exchanges come at the end
 abbrev pub given : List Exchange → Configuration → Configuration

@@ -4,7 +4,7 @@ ghost use Rattle.std.specs.Prelude.{◌≡◌, IfOk, IfErr};
 ghost use Rattle.txs_code_decode.specs.CodeForm.{HasForm};
 ghost use Rattle.txs_check.specs.Refused.{CheckStops};
 ghost use Rattle.txs_code_meaning.specs.OwnCells.{NamesOwnCells};
-ghost use Rattle.txs_code_meaning.specs.PlainCode.{function_codes};
+ghost use Rattle.txs_code_meaning.specs.PlainCode.{library_of};
 ghost use Rattle.txs_theorem_threads.specs.FollowsAgent.{FollowsAgents};
 ghost use Rattle.txs_theorem_threads.specs.FollowsAll.{FollowsAll};
 ghost use Rattle.txs_theorem_threads.specs.Sends.{CodesSendSound};
@@ -89,7 +89,7 @@ pub fn compile(alloc: Global, bytes: &[u8]) -> Result<(Program, Verified), Compi
     ensures marked { IfOk result (λ c. ProgramMarkedBy Exactly (program_of c.0)) }
     ensures generated { IfOk result (λ c. IsCodeOf c.1 (program_of c.0)) }
     ensures code { IfOk result (λ c. FollowsAll (codes_of c.1) (program_of c.0)) }
-    ensures agents { IfOk result (λ c. FollowsAgents (function_codes c.1) (program_of c.0).functions) }
+    ensures agents { IfOk result (λ c. FollowsAgents (library_of c.1) (program_of c.0).functions) }
     ensures sends { IfOk result (λ c. CodesSendSound (program_of c.0).functions (codes_of c.1)) }
     ensures cells { IfOk result (λ c. c.1.cells ≡ c.0.cells) }
     ensures own_cells { IfOk result (λ c. NamesOwnCells c.1) }

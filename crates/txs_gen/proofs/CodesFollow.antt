@@ -9,9 +9,11 @@ use Rattle.txs_gen.specs.CodeFollows.{CodeFollows}
 use Rattle.txs_gen.specs.Gen.{function_code, body_code, functions_code, generated}
 use Rattle.txs_gen.specs.Generated.{AreFunctionsOf, AreBodiesOf, IsBodyOf}
 use Rattle.txs_gen.proofs.Ends.{code_behaves}
+use Rattle.txs_value_cell.specs.Cells.{Validators, validators_of}
+use Rattle.txs_value_cell.specs.declared.cell.CellDefinition.{CellDefinition}
 
-abbrev with_main : List PlainBody → PlainBody → ThreadCode
-with_main fs b = record { functions = fs; main = b }
+abbrev with_main : List PlainBody → List CellDefinition → PlainBody → ThreadCode
+with_main fs cells b = record { functions = fs; validators = validators_of cells; main = b }
 
 pub functions_are : (ps : List ℕ) (cs : List Value) (bs : List CodeBody) (fs : List PlainFunction) → AreFunctionsOf ps cs bs fs → plain_bodies ps cs bs ≡ functions_code fs
 functions_are ps cs [] [] h = refl
@@ -19,17 +21,18 @@ functions_are ps cs [] (f ∷ fs) h = absurd h
 functions_are ps cs (b ∷ bs) [] h = absurd h
 functions_are ps cs (b ∷ bs) (f ∷ fs) h = ap (λ x. x ∷ plain_bodies ps cs bs) h.0.code ∙ ap (λ l. function_code f ∷ l) (functions_are ps cs bs fs h.1)
 
-pub thread_is : (code : PlainCode) (p : PlainProgram) (b : CodeBody) (t : PlainThread) → AreFunctionsOf (parameters_of code.functions) code.constants code.functions p.functions → IsBodyOf (parameters_of code.functions) code.constants b t → thread_code code b ≡ generated (source_of p t)
-thread_is code p b t e h =
-    ap (λ x. with_main (plain_bodies (parameters_of code.functions) code.constants code.functions) x) h.code ∙ ap (λ fs. with_main fs (body_code t.body)) (functions_are (parameters_of code.functions) code.constants code.functions p.functions e)
+pub thread_is : (code : PlainCode) (p : PlainProgram) (b : CodeBody) (t : PlainThread) → code.cells ≡ p.cells → AreFunctionsOf (parameters_of code.functions) code.constants code.functions p.functions → IsBodyOf (parameters_of code.functions) code.constants b t → thread_code code b ≡ generated (source_of p t)
+thread_is code p b t c e h =
+    ap (λ x. with_main (plain_bodies (parameters_of code.functions) code.constants code.functions) code.cells x) h.code
+    ∙ ap (λ cells. with_main (plain_bodies (parameters_of code.functions) code.constants code.functions) cells (body_code t.body)) c ∙ ap (λ fs. with_main fs p.cells (body_code t.body)) (functions_are (parameters_of code.functions) code.constants code.functions p.functions e)
 
-threads_are : (code : PlainCode) (p : PlainProgram) (bs : List CodeBody) (ts : List PlainThread) → AreFunctionsOf (parameters_of code.functions) code.constants code.functions p.functions → AreBodiesOf (parameters_of code.functions) code.constants bs ts → map (λ b. thread_code code b) bs ≡ map (λ t. generated (source_of p t)) ts
-threads_are code p [] [] e h = refl
-threads_are code p [] (t ∷ ts) e h = absurd h
-threads_are code p (b ∷ bs) [] e h = absurd h
-threads_are code p (b ∷ bs) (t ∷ ts) e h =
-    ap (λ x. x ∷ map (λ b. thread_code code b) bs) (thread_is code p b t e h.0) ∙ ap (λ l. generated (source_of p t) ∷ l) (threads_are code p bs ts e h.1)
+threads_are : (code : PlainCode) (p : PlainProgram) (bs : List CodeBody) (ts : List PlainThread) → code.cells ≡ p.cells → AreFunctionsOf (parameters_of code.functions) code.constants code.functions p.functions → AreBodiesOf (parameters_of code.functions) code.constants bs ts → map (λ b. thread_code code b) bs ≡ map (λ t. generated (source_of p t)) ts
+threads_are code p [] [] c e h = refl
+threads_are code p [] (t ∷ ts) c e h = absurd h
+threads_are code p (b ∷ bs) [] c e h = absurd h
+threads_are code p (b ∷ bs) (t ∷ ts) c e h =
+    ap (λ x. x ∷ map (λ b. thread_code code b) bs) (thread_is code p b t c e h.0) ∙ ap (λ l. generated (source_of p t) ∷ l) (threads_are code p bs ts c e h.1)
 
 pub code_follows : GeneratedFollows → CodeFollows
 code_follows law code p sound h =
-    subst (λ l. FollowsAll l p) (sym (threads_are code p code.threads p.threads h.functions h.threads)) (law generated code_behaves p sound)
+    subst (λ l. FollowsAll l p) (sym (threads_are code p code.threads p.threads h.cells h.functions h.threads)) (law generated code_behaves p sound)

@@ -8,6 +8,7 @@ use Rattle.txs_world_protocol.specs.declared.ask.Reply.TheVariants as reply
 use Rattle.txs_frame.specs.Frame.{commuted, set_writes, is_commuted, with_cell}
 use Rattle.txs_frame.specs.declared.frame.Commute.{Commute}
 use Rattle.txs_world_protocol.specs.Ask.{with_write}
+use Rattle.txs_value_cell.specs.Cells.{Validators}
 use Rattle.txs_value_cell.specs.Forms.{rule, cell_of}
 use Rattle.txs_value_base.specs.declared.fault.FaultKind.{FaultKind}
 use Rattle.txs_value_base.specs.declared.fault.FaultKind.TheVariants.{SetAfterCommute}
@@ -389,36 +390,36 @@ module _ (P : Callee → Type 0) where
       bind_kept (res (open_update u true span c vs s)) _ (res_kept (open_update u true span c vs s) (open_update_kept u span c vs s w h))
       (λ v s1 k. bind_kept (f callee (v ∷ vs) s1) _ (hf callee (v ∷ vs) s1 k) (λ x s2 l. res_kept (close_update span c x s2) (close_update_kept span c x s2 l)))
 
-  updates_kept : (form : UpdateForm) (span : Span) (c : Value) (callee : Callee) (vs : List Value) (f : Applies ActorState) (s : ActorState) → P callee → ((d : Callee) (ws : List Value) (s1 : ActorState) → Kept P s1 → KeptAfter P (f d ws s1)) → Kept P s → KeptAfter P (updates form true span c callee vs f s)
-  updates_kept update.Alter span c callee vs f s w hf h = update_kept Alters span c callee vs f s tt hf h
-  updates_kept update.Commute span c callee vs f s w hf h = update_kept (Commutes callee) span c callee vs f s w hf h
-  updates_kept update.Swap span c callee vs f s w hf h = tt
+  updates_kept : (validators : Validators) (form : UpdateForm) (span : Span) (c : Value) (callee : Callee) (vs : List Value) (f : Applies ActorState) (s : ActorState) → P callee → ((d : Callee) (ws : List Value) (s1 : ActorState) → Kept P s1 → KeptAfter P (f d ws s1)) → Kept P s → KeptAfter P (updates validators form true span c callee vs f s)
+  updates_kept validators update.Alter span c callee vs f s w hf h = update_kept Alters span c callee vs f s tt hf h
+  updates_kept validators update.Commute span c callee vs f s w hf h = update_kept (Commutes callee) span c callee vs f s w hf h
+  updates_kept validators update.Swap span c callee vs f s w hf h = tt
 
-  alike : (call : Bool → ℕ → List Value → ActorState → Completion ActorState Value) (n : ℕ) → Alike ActorState ActorState link on_replies on_replies call call n n Inside rules
+  alike : (validators : Validators) (call : Bool → ℕ → List Value → ActorState → Completion ActorState Value) (n : ℕ) → Alike ActorState ActorState link (on_replies validators) (on_replies validators) call call n n Inside rules
   unfolding link
-  alike call n = record {
-    print = λ inside vs s t m r. along (λ x. on_replies.print inside vs x) s t r (λ k. subst (λ b. KeptAfter P (res (print b vs s))) (sym m) (res_kept (print true vs s) (print_kept vs s)));
-    look = λ form inside m c s t may i r. along (λ x. on_replies.look form inside m c x) s t r (λ k. subst (λ b. KeptAfter P (res (read form b m.span c s))) (sym i) (res_kept (read form true m.span c s) (read_kept form m.span c s k)));
-    put = λ form inside m c w s t may i r. along (λ x. on_replies.put form inside m c w x) s t r (λ k. subst (λ b. KeptAfter P (res (assign form b m.span c w s))) (sym i) (res_kept (assign form true m.span c w s) (assign_kept form m.span c w s k)));
+  alike validators call n = record {
+    print = λ inside vs s t m r. along (λ x. (on_replies validators).print inside vs x) s t r (λ k. subst (λ b. KeptAfter P (res (print b vs s))) (sym m) (res_kept (print true vs s) (print_kept vs s)));
+    look = λ form inside m c s t may i r. along (λ x. (on_replies validators).look form inside m c x) s t r (λ k. subst (λ b. KeptAfter P (res (read form b m.span c s))) (sym i) (res_kept (read form true m.span c s) (read_kept form m.span c s k)));
+    put = λ form inside m c w s t may i applied r. along (λ x. (on_replies validators).put form inside m c w (apply (call inside) m.span) x) s t r (λ k. subst (λ b. KeptAfter P (res (assign form b m.span c w s))) (sym i) (res_kept (assign form true m.span c w s) (assign_kept form m.span c w s k)));
     update = λ form inside m c callee vs s t may i p applied r.
-        along (λ x. on_replies.update form inside m c callee vs (apply (call inside) m.span) x) s t r
-        (λ k. subst (λ b. KeptAfter P (updates form b m.span c callee vs (apply (call inside) m.span) s)) (sym i)
-        (updates_kept form m.span c callee vs (apply (call inside) m.span) s p (λ d ws s1 l. related_kept (apply (call inside) m.span d ws s1) (applied (λ f. tt) d ws s1 s1 (refl, l))) k));
-    send = λ inside m c callee vs s t i p r. along (λ x. on_replies.send inside m c callee vs x) s t r (λ k. subst (λ b. KeptAfter P (res (send_to b m.span c callee vs s))) (sym i) (res_kept (send_to true m.span c callee vs s) (send_kept m.span c callee vs s k)));
+        along (λ x. (on_replies validators).update form inside m c callee vs (apply (call inside) m.span) x) s t r
+        (λ k. subst (λ b. KeptAfter P (updates validators form b m.span c callee vs (apply (call inside) m.span) s)) (sym i)
+        (updates_kept validators form m.span c callee vs (apply (call inside) m.span) s p (λ d ws s1 l. related_kept (apply (call inside) m.span d ws s1) (applied (λ f. tt) d ws s1 s1 (refl, l))) k));
+    send = λ inside m c callee vs s t i p r. along (λ x. (on_replies validators).send inside m c callee vs x) s t r (λ k. subst (λ b. KeptAfter P (res (send_to b m.span c callee vs s))) (sym i) (res_kept (send_to true m.span c callee vs s) (send_kept m.span c callee vs s k)));
     dosync = λ inside m e env s t i p body applied r.
-        subst (λ b. Related link (on_replies.dosync b m e env (λ s1. closed (eval on_replies call n true e env s1)) (apply (call true) m.span) s) (on_replies.dosync b m e env (λ s1. closed (eval on_replies call n true e env s1)) (apply (call true) m.span) t)) (sym i)
+        subst (λ b. Related link ((on_replies validators).dosync b m e env (λ s1. closed (eval (on_replies validators) call n true e env s1)) (apply (call true) m.span) s) ((on_replies validators).dosync b m e env (λ s1. closed (eval (on_replies validators) call n true e env s1)) (apply (call true) m.span) t)) (sym i)
         (body refl s t r);
   }
 
 -- the body of a transaction keeps that the callees of commutes are pure
 module _ (functions : List PlainFunction) (sound : SoundFunctions [] functions) where
-  calls_kept : (n d : ℕ) → CallsAlike ActorState ActorState (link (IsPure (known functions))) (call_at (λ b. on_replies) n functions d) (call_at (λ b. on_replies) n functions d) (Inside (IsPure (known functions))) (λ inside f. Unit {0})
-  calls_kept n d =
-      calls_related ActorState ActorState (link (IsPure (known functions))) (λ b. on_replies) (λ b. on_replies) n n functions (Inside (IsPure (known functions))) (pure_callees (known functions)) (inl refl) (λ b. alike (IsPure (known functions)) (call_at (λ b. on_replies) n functions b) n) (function_callees functions sound) d
+  calls_kept : (validators : Validators) (n d : ℕ) → CallsAlike ActorState ActorState (link (IsPure (known functions))) (call_at (λ b. on_replies validators) n functions d) (call_at (λ b. on_replies validators) n functions d) (Inside (IsPure (known functions))) (λ inside f. Unit {0})
+  calls_kept validators n d =
+      calls_related ActorState ActorState (link (IsPure (known functions))) (λ b. on_replies validators) (λ b. on_replies validators) n n functions (Inside (IsPure (known functions))) (pure_callees (known functions)) (inl refl) (λ b. alike (IsPure (known functions)) validators (call_at (λ b. on_replies validators) n functions b) n) (function_callees functions sound) d
 
-  pub body_kept : (n d : ℕ) (e : Tree) (env : List Value) (s : ActorState) → Keeps (pure_callees (known functions)) true e → Kept (IsPure (known functions)) s → KeptAfter (IsPure (known functions)) (eval on_replies (call_at (λ b. on_replies) n functions d) n true e env s)
+  pub body_kept : (validators : Validators) (n d : ℕ) (e : Tree) (env : List Value) (s : ActorState) → Keeps (pure_callees (known functions)) true e → Kept (IsPure (known functions)) s → KeptAfter (IsPure (known functions)) (eval (on_replies validators) (call_at (λ b. on_replies validators) n functions d) n true e env s)
   unfolding link
-  body_kept n d e env s p h =
-      let call = call_at (λ b. on_replies) n functions d in
-      related_kept (IsPure (known functions)) (eval on_replies call n true e env s)
-      (eval_related ActorState ActorState (link (IsPure (known functions))) on_replies on_replies call call n n (Inside (IsPure (known functions))) (pure_callees (known functions)) (inl refl) (alike (IsPure (known functions)) call n) (calls_kept n d) e true env s s p refl (refl, h))
+  body_kept validators n d e env s p h =
+      let call = call_at (λ b. on_replies validators) n functions d in
+      related_kept (IsPure (known functions)) (eval (on_replies validators) call n true e env s)
+      (eval_related ActorState ActorState (link (IsPure (known functions))) (on_replies validators) (on_replies validators) call call n n (Inside (IsPure (known functions))) (pure_callees (known functions)) (inl refl) (alike (IsPure (known functions)) validators call n) (calls_kept validators n d) e true env s s p refl (refl, h))

@@ -143,7 +143,7 @@ module _ (p : PlainProgram) (sound : SoundFunctions [] p.functions) where
   source_sends_sound : (t : PlainThread) → SoundThread all t → CodeSendsSound p.functions (generated (source_of p t))
   source_sends_sound t h b at n f span e = subst (FitsThere all) e (fetched_fits t h b at)
 
-  module _ (code : PlainCode) (made : AreFunctionsOf (parameters_of code.functions) code.constants code.functions p.functions) where
+  module _ (code : PlainCode) (same_cells : code.cells ≡ p.cells) (made : AreFunctionsOf (parameters_of code.functions) code.constants code.functions p.functions) where
     abbrev Sends : Option ThreadCode → Type 0
     Sends None = Unit {0}
     Sends (Some c) = CodeSendsSound p.functions c
@@ -151,8 +151,8 @@ module _ (p : PlainProgram) (sound : SoundFunctions [] p.functions) where
     threads_send : (bs : List CodeBody) (ts : List PlainThread) → AreBodiesOf (parameters_of code.functions) code.constants bs ts → SoundThreads all ts → (i : ℕ) → Sends (nth (map (thread_code code) bs) i)
     threads_send [] ts h s i = tt
     threads_send (b ∷ bs) [] h s i = absurd h
-    threads_send (b ∷ bs) (t ∷ ts) h s zero = subst (CodeSendsSound p.functions) (sym (thread_is code p b t made h.0)) (source_sends_sound t s.0)
+    threads_send (b ∷ bs) (t ∷ ts) h s zero = subst (CodeSendsSound p.functions) (sym (thread_is code p b t same_cells made h.0)) (source_sends_sound t s.0)
     threads_send (b ∷ bs) (t ∷ ts) h s (suc i) = threads_send bs ts h.1 s.1 i
 
 pub code_sends_sound : CodeOfProgramSendsSound
-code_sends_sound code p sound made i c e = subst (Sends p sound.functions code made.functions) e (threads_send p sound.functions code made.functions code.threads p.threads made.threads sound.threads i)
+code_sends_sound code p sound made i c e = subst (Sends p sound.functions code made.cells made.functions) e (threads_send p sound.functions code made.cells made.functions code.threads p.threads made.threads sound.threads i)

@@ -9,6 +9,7 @@ use Rattle.txs_tree_meaning.specs.Tree.{Tree, Const, Local, If, Do, Let, Loop, R
 use Rattle.txs_code_meaning.specs.declared.instr.OpenForm.{OpenForm}
 use Rattle.txs_code_meaning.specs.declared.instr.OpenForm.TheVariants as open_form
 use Rattle.txs_code_meaning.specs.Machine.{PlainInstr, Push, Load, Store, Pop, Jump, JumpFalse, CoreOf, CallOf, Return, MakeVector, PrintOf, TxBegin, TxEnd, LookOf, PutOf, OpenOf, CloseOf, SendOf, Halt, PlainBody, ThreadCode}
+use Rattle.txs_value_cell.specs.Cells.{validators_of}
 
 -- code that begins at a place, and what follows it
 abbrev pub then_code : ℕ → List PlainInstr → (ℕ → List PlainInstr) → List PlainInstr
@@ -129,4 +130,4 @@ body_code body = record { locals = locals_in body 0; instrs = gen body 0 0 0 0 +
 
 -- the code of a thread with that of its functions
 abbrev pub generated : ThreadSource → ThreadCode
-generated p = record { functions = functions_code p.functions; main = body_code p.main }
+generated p = record { functions = functions_code p.functions; validators = validators_of p.cells; main = body_code p.main }

@@ -153,5 +153,6 @@ fn copy_cell(cell: &CellDefinition) -> Result<CellDefinition, AllocError>
         name: cell.name.share()?,
         opening: copy_value(&cell.opening)?,
         error_mode: cell.error_mode,
+        validator: cell.validator,
     })
 }

@@ -13,7 +13,9 @@ use Rattle.txs_machine_transaction.specs.Transaction.{is_running}
 use Rattle.txs_machine_transaction.specs.declared.state.Pending.{Pending}
 use Rattle.txs_machine_transaction.specs.declared.state.Pending.TheVariants.{Begin, Read, Ensure, Open, View, Reset, Send, Swap, Close, Commit, Fail, Broke, Take, Finish}
 use Rattle.txs_machine_transaction.specs.declared.state.Transaction.{Transaction}
-use Rattle.txs_machine_transaction.specs.declared.state.Transaction.TheVariants.{Outside, Restarting, Running, Applying, Evaluating, Swapping, Attending, Acting}
+use Rattle.txs_machine_transaction.specs.declared.state.Transaction.TheVariants.{Outside, Restarting, Running, Applying, Evaluating, Swapping}
+use Rattle.txs_machine_actor.specs.declared.role.Role.{Role}
+use Rattle.txs_machine_actor.specs.declared.role.Role.TheVariants.{Thread, Attending, Acting}
 use Rattle.txs_machine_actor.proofs.Replies.{by_reply}
 
 -- an outcome that isn't want of steps
@@ -50,8 +52,6 @@ again_leaves a (Applying zero from phase) = ends a _ (outcome.Failed _) refl ref
 again_leaves a (Applying (suc left) from phase) = goes a _ refl refl refl refl refl
 again_leaves a (Evaluating left from phase aside) = goes a _ refl refl refl refl refl
 again_leaves a (Swapping c p from) = goes a _ refl refl refl refl refl
-again_leaves a (Attending ag o) = goes a _ refl refl refl refl refl
-again_leaves a (Acting ag ax aside) = goes a _ refl refl refl refl refl
 
 end_leaves : (a : PlainActor) (tx : Transaction) → Leaves a (end_again a tx)
 end_leaves a Outside = goes a _ refl refl refl refl refl
@@ -62,8 +62,6 @@ end_leaves a (Applying zero from phase) = ends a _ (outcome.Failed _) refl refl 
 end_leaves a (Applying (suc left) from phase) = goes a _ refl refl refl refl refl
 end_leaves a (Evaluating left from phase aside) = goes a _ refl refl refl refl refl
 end_leaves a (Swapping c p from) = goes a _ refl refl refl refl refl
-end_leaves a (Attending ag o) = goes a _ refl refl refl refl refl
-end_leaves a (Acting ag ax aside) = goes a _ refl refl refl refl refl
 
 refuse_leaves : (a : PlainActor) (tx : Transaction) → Leaves a (refuse a tx)
 refuse_leaves a Outside = goes a _ refl refl refl refl refl
@@ -72,8 +70,6 @@ refuse_leaves a (Running left inner from) = ends a _ (outcome.Failed _) refl ref
 refuse_leaves a (Applying left from phase) = ends a _ (outcome.Failed _) refl refl refl refl refl tt
 refuse_leaves a (Evaluating left from phase aside) = goes a _ refl refl refl refl refl
 refuse_leaves a (Swapping c p from) = goes a _ refl refl refl refl refl
-refuse_leaves a (Attending ag o) = goes a _ refl refl refl refl refl
-refuse_leaves a (Acting ag ax aside) = goes a _ refl refl refl refl refl
 
 views_leaves : (a : PlainActor) (phase : PlainPhase) (q : ℕ) (vs : List Value) (tx : Transaction) → Leaves a (views a phase q vs tx)
 views_leaves a phase q vs Outside = goes a _ refl refl refl refl refl
@@ -82,18 +78,11 @@ views_leaves a phase q vs (Running left inner from) = goes a _ refl refl refl re
 views_leaves a phase q vs (Applying left from before) = goes a _ refl refl refl refl refl
 views_leaves a phase q vs (Evaluating left from before aside) = goes a _ refl refl refl refl refl
 views_leaves a phase q vs (Swapping c p from) = goes a _ refl refl refl refl refl
-views_leaves a phase q vs (Attending ag o) = goes a _ refl refl refl refl refl
-views_leaves a phase q vs (Acting ag ax aside) = goes a _ refl refl refl refl refl
 
-anew_leaves : (a : PlainActor) (tx : Transaction) → Leaves a (attends_anew a tx)
-anew_leaves a Outside = goes a _ refl refl refl refl refl
-anew_leaves a (Restarting left) = goes a _ refl refl refl refl refl
-anew_leaves a (Running left inner from) = goes a _ refl refl refl refl refl
-anew_leaves a (Applying left from phase) = goes a _ refl refl refl refl refl
-anew_leaves a (Evaluating left from phase aside) = goes a _ refl refl refl refl refl
-anew_leaves a (Swapping c p from) = goes a _ refl refl refl refl refl
+anew_leaves : (a : PlainActor) (role : Role) → Leaves a (attends_anew a role)
+anew_leaves a Thread = goes a _ refl refl refl refl refl
 anew_leaves a (Attending g o) = goes a _ refl refl refl refl refl
-anew_leaves a (Acting g x aside) = goes a _ refl refl refl refl refl
+anew_leaves a (Acting h aside) = goes a _ refl refl refl refl refl
 
 full_leaves : (a : PlainActor) (p : Pending) → Leaves a (answered_for a p reply.Full)
 full_leaves a (Begin left from) = ends a _ outcome.JournalFull refl refl refl refl refl tt
@@ -180,7 +169,7 @@ answer_leaves a q r e m unless = leaves_unless r a (answered a r) unless (go a.p
           breaks = λ c k f i. ends a _ (outcome.Failed f) refl refl refl refl refl tt;
           takes = λ g i n x v. goes a _ refl refl refl refl refl;
           idles = λ g i. tt;
-          finishes = λ g new i. anew_leaves a a.tx;
+          finishes = λ g new i. anew_leaves a a.role;
           full = λ y i. full_leaves a y;
           memory = λ y i. memory_leaves a y;
         }) p (is_running a.tx) a.at a.view (applied_in a.tx) r (subst (λ x. MayAnswer x r) (sym (some e)) m)

@@ -20,32 +20,36 @@ use Rattle.txs_value_data.specs.declared.value.CellId.{CellId}
 use Rattle.txs_value_data.specs.declared.value.Value.{Value}
 use Rattle.txs_value_data.specs.declared.value.Value.TheVariants.{Nil}
 use Rattle.txs_machine_calls.specs.Travels.{body_at}
-use Rattle.txs_code_meaning.specs.Machine.{PlainInstr, TakeOf, PlainBody, ThreadCode, agent_code, Activity, Outside, Configuration, Turned, Asking, Unfinished, turn}
-use Rattle.txs_code_meaning.specs.PlainCode.{CodeBody, PlainCode, function_codes}
+use Rattle.txs_code_meaning.specs.ActorState.{ActorState}
+use Rattle.txs_code_meaning.specs.Machine.{PlainInstr, TakeOf, ThreadCode, agent_code, Frame, Activity, Configuration, Turned, Asking, Unfinished, turn, Library}
+use Rattle.txs_code_meaning.specs.PlainCode.{CodeBody, PlainCode, library_of}
 use Rattle.txs_code_meaning.specs.WellTyped.{FunctionKind, IsImpure}
-use Rattle.txs_machine_actor.specs.PlainActor.{PlainActor, IsActorOf, Lives, Runs, AttendsAt, waits, has_taken, has_value, AttendsFor, AttendsOn, MayAnswer, MayRun, HandsOut, answered, answered_for, answered_if, asked_for, attends_anew, unanswered, activity_of, configuration_of, state_of, code_of, Callers, IsFirst, first_in, BeganBy, IsPureBody, AppliesWell, NoneAside, ActsFor, open_of, GoesOn, AsksWell, CanGoOn, owner_of, setting_of, Awaits}
+use Rattle.txs_code_meaning.specs.declared.instr.OpenForm.TheVariants as open_form
+use Rattle.txs_machine_actor.specs.PlainActor.{PlainActor, IsActorOf, Lives, Runs, AttendsAt, waits, has_taken, has_value, AttendsFor, AttendsOn, MayAnswer, MayRun, HandsOut, answered, answered_for, answered_if, asked_for, attends_anew, unanswered, acting_of, home_of, activity_of, configuration_of, state_of, code_of, Callers, IsFirst, IsOwnFirst, first_in, BeganBy, IsPureBody, AppliesWell, ActsFor, open_of, GoesOn, AsksWell, CanGoOn, owner_of, setting_of, Awaits}
 use Rattle.txs_machine_transaction.specs.Asks.{ask_for, applied_in}
-use Rattle.txs_machine_transaction.specs.Transaction.{is_running, IsSwapping}
-use Rattle.txs_machine_actor.specs.Turns.{Answers, Moves, TurnsFrom, GoesOnAfter, TurnsOf, IsActing}
+use Rattle.txs_machine_transaction.specs.Transaction.{is_running}
+use Rattle.txs_machine_actor.specs.Turns.{Answers, Moves, TurnsFrom, GoesOnAfter, TurnsOf}
 use Rattle.txs_machine_actor.specs.declared.outcome.Turn.{Turn}
 use Rattle.txs_machine_actor.specs.declared.outcome.Turn.TheVariants as turned
+use Rattle.txs_machine_actor.specs.declared.role.Role.{Role}
+use Rattle.txs_machine_actor.specs.declared.role.Role.TheVariants.{Thread, Attending, Acting}
 use Rattle.txs_machine_transaction.specs.declared.state.Pending.{Pending}
 use Rattle.txs_machine_transaction.specs.declared.state.Pending.TheVariants as pending
 use Rattle.txs_machine_transaction.specs.declared.state.Transaction.{Transaction}
 use Rattle.txs_machine_transaction.specs.declared.state.Transaction.TheVariants as tx
 use Rattle.txs_machine_actor.proofs.Applying.{pure_impure}
-use Rattle.txs_machine_actor.proofs.Landing.{look_stands, open_stands, put_stands, send_stands}
+use Rattle.txs_machine_actor.proofs.Landing.{begin_stands, look_stands, open_stands, put_stands, send_stands}
 use Rattle.txs_machine_actor.proofs.Replies.{take_replies, finish_replies}
 use Rattle.txs_machine_actor.proofs.Striding.{none_asked}
 use Rattle.txs_world.proofs.Merging.{joined}
-use Rattle.txs_world_book.specs.Book.{has_agent, actor_of}
+use Rattle.txs_world_book.specs.Book.{has_agent, actor_of, is_empty}
 use Rattle.txs_world_book.specs.Served.{served, cell_of, cells_of}
 use Rattle.txs_world.specs.Store.{is_taken, next_action, takes, taken_after, hands_out, is_done}
 use Rattle.txs_theorem_runs.specs.Shared.{Shared}
 use Rattle.txs_theorem_runs.proofs.Acting.{agent_within}
 use Rattle.txs_theorem_runs.proofs.Growing.{Grown}
 use Rattle.txs_world_shared.specs.SharedState as shared
-use Rattle.txs_world_shared.specs.SharedState.{PlainShared, shared_of, is_lawful, answer_to, numbered_book, IsAfter}
+use Rattle.txs_world_shared.specs.SharedState.{PlainShared, is_lawful, answer_to, IsAfter}
 use Rattle.txs_machine.specs.RunOver.{IsStateOf, IsLimited, books_of}
 use Rattle.txs_machine.specs.Running.{AsksAsAgent, HasWork, IsAgentAt, IsAgents, IsAnswered, IsSynced, LeavesTaken, is_acting}
 use Rattle.txs_machine.specs.Serving.{IsServed}
@@ -66,61 +70,70 @@ is_some (Some x) = Unit {0}
 
 -- ---- turns
 
--- where turns leave an actor: still doing this, with an ask of an instruction at which this was done, or at an end
-abbrev pub Stays : ThreadCode → Activity → Turn → PlainActor → Type 0
-Stays code d turned.Went b = (b.outcome ≡ None) × (activity_of b.tx ≡ d)
-Stays code d (turned.Asks q) b = (c : Configuration) × (c.doing ≡ d) × (c.state.todo ≡ []) × Awaits code c b q
-Stays code d (turned.Ended o) b = b.outcome ≡ Some o
+-- whether it runs an action
+abbrev holds_one : PlainActor → Bool
+holds_one a = is_acting (state_of a).acting
+
+-- where turns leave an actor: with this activity, and running an action or none; so it is at an instruction that asks; or it has ended
+abbrev pub Stays : ThreadCode → Activity → Bool → Turn → PlainActor → Type 0
+Stays code d held turned.Went b = (b.outcome ≡ None) × ((configuration_of b).doing ≡ d) × (holds_one b ≡ held)
+Stays code d held (turned.Asks q) b = (c : Configuration) × (c.doing ≡ d) × (is_acting c.state.acting ≡ held) × (c.state.todo ≡ []) × Awaits code c b q
+Stays code d held (turned.Ended o) b = b.outcome ≡ Some o
 
 -- so they do, and it is the same actor
-pub record LeavesSo (code : ThreadCode) (d : Activity) (r : Turn) (n : ℕ) (b : PlainActor) : Type 0 where
+pub record LeavesSo (code : ThreadCode) (d : Activity) (held : Bool) (r : Turn) (n : ℕ) (b : PlainActor) : Type 0 where
   pub number : b.number ≡ n
-  pub stays : Stays code d r b
+  pub stays : Stays code d held r b
 
-went_on : (d : Activity) (o : Turned Configuration) (c : Configuration) → Keeps d o → o ≡ Unfinished c → c.doing ≡ d
-went_on d o c k e = subst (Keeps d) e k
+went_on : (d : Activity) (held : Bool) (o : Turned Configuration) (c : Configuration) → Keeps d held o → o ≡ Unfinished c → (c.doing ≡ d) × (is_acting c.state.acting ≡ held)
+went_on d held o c k e = subst (Keeps d held) e k
 
-step_stays : (code : PlainCode) (a b : PlainActor) (r : Turn) → IsAgents (activity_of a.tx) → Answers code a r b → LeavesSo (code_of code a.number) (activity_of a.tx) r a.number b
-step_stays code a b turned.Went ag t = record {
-  number = t.1.number;
-  stays = (t.1.outcome, went_on (activity_of a.tx) (turn (code_of code a.number) (configuration_of a)) (configuration_of b) (turn_keeps (code_of code a.number) (configuration_of a) ag refl) t.0);
-}
-step_stays code a b (turned.Asks q) ag t = record { number = t.1.number; stays = (configuration_of a, refl, refl, t.0) }
+-- turns left an actor as this one was
+abbrev LeftSo : PlainCode → PlainActor → Turn → PlainActor → Type 0
+LeftSo code a r b = LeavesSo (code_of code a.number) (configuration_of a).doing (holds_one a) r a.number b
+
+step_stays : (code : PlainCode) (a b : PlainActor) (r : Turn) → IsAgents (configuration_of a).doing → Answers code a r b → LeftSo code a r b
+step_stays code a b turned.Went ag t =
+    let k = went_on (configuration_of a).doing (holds_one a) (turn (code_of code a.number) (configuration_of a)) (configuration_of b) (turn_keeps (code_of code a.number) (configuration_of a) ag refl) t.0 in
+    record { number = t.1.number; stays = (t.1.outcome, k.0, k.1) }
+step_stays code a b (turned.Asks q) ag t = record { number = t.1.number; stays = (configuration_of a, refl, refl, refl, t.0) }
 step_stays code a b (turned.Ended outcome.Done) ag t = record { number = t.1.number; stays = t.1.outcome }
 step_stays code a b (turned.Ended (outcome.Failed f)) ag t = record { number = t.1.number; stays = t.1.outcome }
 step_stays code a b (turned.Ended outcome.StepsSpent) ag t = absurd t
 step_stays code a b (turned.Ended outcome.JournalFull) ag t = absurd t
 step_stays code a b (turned.Ended outcome.Memory) ag t = record { number = t.1.number; stays = t.1.outcome }
 
-move_stays : (code : PlainCode) (a b : PlainActor) (r : Turn) (may : Bool) → IsAgents (activity_of a.tx) → Moves code a may r b → LeavesSo (code_of code a.number) (activity_of a.tx) r a.number b
+move_stays : (code : PlainCode) (a b : PlainActor) (r : Turn) (may : Bool) → IsAgents (configuration_of a).doing → Moves code a may r b → LeftSo code a r b
 move_stays code a b r true ag t = step_stays code a b r ag t
 move_stays code a b r false ag t =
-    subst (λ s. LeavesSo (code_of code a.number) (activity_of a.tx) s a.number b) (sym t.0)
-    (subst (λ x. LeavesSo (code_of code a.number) (activity_of a.tx) (turned.Ended outcome.StepsSpent) a.number x) (sym t.1) (record { number = refl; stays = refl }))
+    subst (λ s. LeftSo code a s b) (sym t.0)
+    (subst (LeftSo code a (turned.Ended outcome.StepsSpent)) (sym t.1) (record { number = refl; stays = refl }))
 
 -- so many turns of an agent's actor leave what it is doing
-pub turns_stay : (code : PlainCode) (n : ℕ) (a b : PlainActor) (r : Turn) → a.outcome ≡ None → IsAgents (activity_of a.tx) → TurnsOf code n a r b → LeavesSo (code_of code a.number) (activity_of a.tx) r a.number b
+pub turns_stay : (code : PlainCode) (n : ℕ) (a b : PlainActor) (r : Turn) → a.outcome ≡ None → IsAgents (configuration_of a).doing → TurnsOf code n a r b → LeftSo code a r b
 turns_stay code zero a b r e ag t =
-    subst (λ s. LeavesSo (code_of code a.number) (activity_of a.tx) s a.number b) (sym t.0)
-    (subst (λ x. LeavesSo (code_of code a.number) (activity_of a.tx) turned.Went a.number x) (sym t.1) (record { number = refl; stays = (e, refl) }))
+    subst (λ s. LeftSo code a s b) (sym t.0)
+    (subst (LeftSo code a turned.Went) (sym t.1) (record { number = refl; stays = (e, refl, refl) }))
 turns_stay code (suc n) a b r e ag t =
     go (λ c o k x. turns_stay code n c b r o k x) t.0 t.1 (move_stays code a t.1 t.0 (nat_lt a.steps a.limit) ag (subst (λ o. TurnsFrom code a o t.0 t.1) e t.2)) t.3
   where
-    go : ((c : PlainActor) → c.outcome ≡ None → IsAgents (activity_of c.tx) → TurnsOf code n c r b → LeavesSo (code_of code c.number) (activity_of c.tx) r c.number b)
-        → (s : Turn) (c : PlainActor) → LeavesSo (code_of code a.number) (activity_of a.tx) s a.number c → GoesOnAfter s (TurnsOf code n c r b) ((r ≡ s) × (b ≡ c)) → LeavesSo (code_of code a.number) (activity_of a.tx) r a.number b
+    go : ((c : PlainActor) → c.outcome ≡ None → IsAgents (configuration_of c).doing → TurnsOf code n c r b → LeftSo code c r b)
+        → (s : Turn) (c : PlainActor) → LeftSo code a s c → GoesOnAfter s (TurnsOf code n c r b) ((r ≡ s) × (b ≡ c)) → LeftSo code a r b
     go more turned.Went c l g =
-        subst (λ (d : Activity). LeavesSo (code_of code a.number) d r a.number b) l.stays.1
-        (subst (λ m. LeavesSo (code_of code m) (activity_of c.tx) r m b) l.number (more c l.stays.0 (subst IsAgents (sym l.stays.1) ag) g))
-    go more (turned.Asks q) c l g = subst (λ s. LeavesSo (code_of code a.number) (activity_of a.tx) s a.number b) (sym g.0) (subst (LeavesSo (code_of code a.number) (activity_of a.tx) (turned.Asks q) a.number) (sym g.1) l)
-    go more (turned.Ended o) c l g = subst (λ s. LeavesSo (code_of code a.number) (activity_of a.tx) s a.number b) (sym g.0) (subst (LeavesSo (code_of code a.number) (activity_of a.tx) (turned.Ended o) a.number) (sym g.1) l)
+        subst (λ (held : Bool). LeavesSo (code_of code a.number) (configuration_of a).doing held r a.number b) l.stays.2
+        (subst (λ (d : Activity). LeavesSo (code_of code a.number) d (holds_one c) r a.number b) l.stays.1
+        (subst (λ m. LeavesSo (code_of code m) (configuration_of c).doing (holds_one c) r m b) l.number (more c l.stays.0 (subst IsAgents (sym l.stays.1) ag) g)))
+    go more (turned.Asks q) c l g = subst (λ s. LeftSo code a s b) (sym g.0) (subst (LeftSo code a (turned.Asks q)) (sym g.1) l)
+    go more (turned.Ended o) c l g = subst (λ s. LeftSo code a s b) (sym g.0) (subst (LeftSo code a (turned.Ended o)) (sym g.1) l)
 
-pub turns_number : (code : PlainCode) (n : ℕ) (a b : PlainActor) (r : Turn) → a.outcome ≡ None → IsAgents (activity_of a.tx) → TurnsOf code n a r b → b.number ≡ a.number
+pub turns_number : (code : PlainCode) (n : ℕ) (a b : PlainActor) (r : Turn) → a.outcome ≡ None → IsAgents (configuration_of a).doing → TurnsOf code n a r b → b.number ≡ a.number
 turns_number code n a b r e ag t = (turns_stay code n a b r e ag t).number
 
 -- the store knows what turns that went leave
 pub turned_synced : (code : PlainCode) (taken : List Bool) (g : CellId) (n : ℕ) (a b : PlainActor) → a.outcome ≡ None → IsSynced taken g a → TurnsOf code n a turned.Went b → IsSynced taken g b
 turned_synced code taken g n a b e h t o =
-    subst (λ (d : Activity). IsAgents d × (is_taken taken g ≡ is_acting d)) (sym (turns_stay code n a b turned.Went e (h e).0 t).stays.1) (h e)
+    let l = (turns_stay code n a b turned.Went e (h e).0 t).stays in
+    (subst IsAgents (sym l.1) (h e).0, (h e).1 ∙ sym l.2)
 
 pub never_ended : (b : PlainActor) (o : Outcome) → b.outcome ≡ Some o → b.outcome ≡ None → ⊥
 never_ended b o e f = subst is_some (sym e ∙ f) tt
@@ -155,7 +168,7 @@ asked_or q (turned.Asks x) = x
 asked_or q _ = q
 
 -- at its own body's first place it asks for an action before all else
-module _ (code : PlainCode) (functions : List PlainBody) (g : CellId) (a : PlainActor) (acts : code_of code a.number ≡ agent_code functions g) (body : a.body ≡ 0) (place : a.place ≡ 0) where
+module _ (code : PlainCode) (functions : Library) (g : CellId) (a : PlainActor) (acts : code_of code a.number ≡ agent_code functions g) (body : a.body ≡ 0) (place : a.place ≡ 0) where
   takes_now : turn (code_of code a.number) (configuration_of a) ≡ Asking (record (state_of a) { wants = Some (ask.Take g) })
   takes_now = ap (λ t. turn t (configuration_of a)) acts ∙ takes_first functions g (configuration_of a) body place refl
 
@@ -209,85 +222,64 @@ module _ (code : PlainCode) (kinds : List FunctionKind) (n : ℕ) (none : nth co
   not_own body b e h = subst is_some (sym h ∙ ap (body_at code n) e ∙ none) tt
 
   -- no thread's body was called first
-  not_first : (a : PlainActor) (first base : ℕ × ℕ) (b : CodeBody) → body_at code n a.body ≡ Some b → Callers code kinds n a.frames first base → IsFirst a.frames a.body → ⊥
+  not_first : (a : PlainActor) (first base : ℕ × ℕ) (b : CodeBody) → body_at code n a.body ≡ Some b → Callers code kinds n a.frames first base → IsOwnFirst a.frames a.body → ⊥
   not_first a first base b h =
-      list_cases (λ fs. Callers code kinds n fs first base → IsFirst fs a.body → ⊥) (λ c i. not_own a.body b i h) (λ f fs c i. let w = c.1.goes Nil in not_own f.body w.code_body i w.is) a.frames
+      list_cases (λ fs. Callers code kinds n fs first base → IsOwnFirst fs a.body → ⊥) (λ c i. not_own a.body b i h) (λ f fs c i. let w = c.1.goes Nil in not_own f.body w.code_body i w.is) a.frames
 
-  -- one that runs a body of the code runs an action
-  goes_acting : (b : CodeBody) (a : PlainActor) → a.number ≡ n → body_at code a.number a.body ≡ Some b → GoesOn code kinds b a → IsActing a.tx
-  goes_acting b a e h g = go a.tx (subst (λ m. Callers code kinds m a.frames (first_in a.tx) g.base) e g.callers) g.is_first (subst (λ m. AppliesWell code kinds m b a.place a.tx) e g.applies)
+  -- what was called first is the action's function, so the body is pure
+  first_pure : (home : List Frame) (a : PlainActor) (first base : ℕ × ℕ) (b : CodeBody) → body_at code n a.body ≡ Some b → Callers code kinds n a.frames first base → IsFirst kinds home a.frames a.body → IsPureBody kinds a.body
+  first_pure [] a first base b h c i = absurd (not_first a first base b h c i)
+  first_pure (f ∷ home) a first base b h c i = i.1
+
+  -- one that runs a body of the code is in a pure one
+  goes_pure : (b : CodeBody) (a : PlainActor) → a.number ≡ n → body_at code a.number a.body ≡ Some b → GoesOn code kinds b a → IsPureBody kinds a.body
+  goes_pure b a e h g = go a.tx (subst (λ m. Callers code kinds m a.frames (first_in a.tx) g.base) e g.callers) g.is_first
     where
       there : body_at code n a.body ≡ Some b
       there = subst (λ m. body_at code m a.body ≡ Some b) e h
 
-      go : (t : Transaction) → Callers code kinds n a.frames (first_in t) g.base → BeganBy kinds t a.frames a.body → AppliesWell code kinds n b a.place t → IsActing t
-      go tx.Outside c i w = not_first a (0, 0) g.base b there c i
-      go (tx.Restarting left) c i w = not_first a (0, 0) g.base b there c i
-      go (tx.Running left inner from) c i w = not_first a (0, 0) g.base b there c i
-      go (tx.Applying left from phase) c i w = not_first a (0, 0) g.base b there c i
-      go (tx.Evaluating left from phase aside) c i w = let s = w.0 in not_first (record a { body = aside.body; frames = aside.frames }) (0, 0) s.base s.stands.code_body s.stands.is s.callers s.is_first
-      go (tx.Swapping d p from) c i w = not_first a (0, 0) g.base b there c i
-      go (tx.Attending h o) c i w = absurd i
-      go (tx.Acting h x aside) c i w = tt
+      go : (t : Transaction) → Callers code kinds n a.frames (first_in t) g.base → BeganBy kinds (home_of a.role) t a.frames a.body → IsPureBody kinds a.body
+      go tx.Outside c i = first_pure (home_of a.role) a (0, 0) g.base b there c i
+      go (tx.Restarting left) c i = first_pure (home_of a.role) a (0, 0) g.base b there c i
+      go (tx.Running left inner from) c i = first_pure (home_of a.role) a (0, 0) g.base b there c i
+      go (tx.Applying left from phase) c i = first_pure (home_of a.role) a (0, 0) g.base b there c i
+      go (tx.Evaluating left from phase aside) c i = i.1
+      go (tx.Swapping d p from) c i = first_pure (home_of a.role) a (0, 0) g.base b there c i
 
--- it has one in hand
-acting_is : (t : Transaction) → IsActing t → is_acting (activity_of t) ≡ true
-acting_is tx.Outside i = absurd i
-acting_is (tx.Restarting left) i = absurd i
-acting_is (tx.Running left inner from) i = absurd i
-acting_is (tx.Applying left from phase) i = absurd i
-acting_is (tx.Evaluating left from phase aside) i = absurd i
-acting_is (tx.Swapping d p from) i = absurd i
-acting_is (tx.Attending h o) i = absurd i
-acting_is (tx.Acting h x aside) i = refl
+  home_acts : (r : Role) → (home_of r ≡ [] → ⊥) → is_acting (acting_of r) ≡ true
+  home_acts Thread h = absurd (h refl)
+  home_acts (Attending i o) h = absurd (h refl)
+  home_acts (Acting x aside) h = refl
 
-acting_not_aside : (t : Transaction) → IsActing t → NoneAside t → ⊥
-acting_not_aside tx.Outside i n = i
-acting_not_aside (tx.Restarting left) i n = i
-acting_not_aside (tx.Running left inner from) i n = i
-acting_not_aside (tx.Applying left from phase) i n = i
-acting_not_aside (tx.Evaluating left from phase aside) i n = i
-acting_not_aside (tx.Swapping d p from) i n = i
-acting_not_aside (tx.Attending h o) i n = i
-acting_not_aside (tx.Acting h x aside) i n = n
+  -- so it runs an action
+  goes_acting : (b : CodeBody) (a : PlainActor) → a.number ≡ n → body_at code a.number a.body ≡ Some b → GoesOn code kinds b a → is_acting (acting_of a.role) ≡ true
+  goes_acting b a e h g =
+      home_acts a.role
+      (λ k. go k a.tx (subst (λ m. Callers code kinds m a.frames (first_in a.tx) g.base) e g.callers) (subst (λ home. BeganBy kinds home a.tx a.frames a.body) k g.is_first) (subst (λ home. AppliesWell code kinds n home b a.place a.tx) k (subst (λ m. AppliesWell code kinds m (home_of a.role) b a.place a.tx) e g.applies)))
+    where
+      there : body_at code n a.body ≡ Some b
+      there = subst (λ m. body_at code m a.body ≡ Some b) e h
 
-acting_not_swapping : (t : Transaction) → IsActing t → IsSwapping t → ⊥
-acting_not_swapping tx.Outside i n = i
-acting_not_swapping (tx.Restarting left) i n = i
-acting_not_swapping (tx.Running left inner from) i n = i
-acting_not_swapping (tx.Applying left from phase) i n = i
-acting_not_swapping (tx.Evaluating left from phase aside) i n = i
-acting_not_swapping (tx.Swapping d p from) i n = i
-acting_not_swapping (tx.Attending h o) i n = i
-acting_not_swapping (tx.Acting h x aside) i n = n
+      go : home_of a.role ≡ [] → (t : Transaction) → Callers code kinds n a.frames (first_in t) g.base → BeganBy kinds [] t a.frames a.body → AppliesWell code kinds n [] b a.place t → ⊥
+      go k tx.Outside c i w = not_first a (0, 0) g.base b there c i
+      go k (tx.Restarting left) c i w = not_first a (0, 0) g.base b there c i
+      go k (tx.Running left inner from) c i w = not_first a (0, 0) g.base b there c i
+      go k (tx.Applying left from phase) c i w = not_first a (0, 0) g.base b there c i
+      go k (tx.Evaluating left from phase aside) c i w = let s = w.0 in not_first (record a { body = aside.body; frames = aside.frames }) (0, 0) s.base s.stands.code_body s.stands.is s.callers s.is_first
+      go k (tx.Swapping d p from) c i w = not_first a (0, 0) g.base b there c i
 
-acting_pure : (kinds : List FunctionKind) (a : PlainActor) (t : Transaction) → IsActing t → BeganBy kinds t a.frames a.body → IsPureBody kinds a.body
-acting_pure kinds a tx.Outside i w = absurd i
-acting_pure kinds a (tx.Restarting left) i w = absurd i
-acting_pure kinds a (tx.Running left inner from) i w = absurd i
-acting_pure kinds a (tx.Applying left from phase) i w = absurd i
-acting_pure kinds a (tx.Evaluating left from phase aside) i w = absurd i
-acting_pure kinds a (tx.Swapping d p from) i w = absurd i
-acting_pure kinds a (tx.Attending h o) i w = absurd i
-acting_pure kinds a (tx.Acting h x aside) i w = w.1
-
-acts_for : (code : PlainCode) (kinds : List FunctionKind) (k : ℕ) (g : CellId) (t : Transaction) → ActsFor code kinds k g t → (is_acting (activity_of t) ≡ true) × IsActorOf code k g
-acts_for code kinds k g tx.Outside w = absurd w
-acts_for code kinds k g (tx.Restarting left) w = absurd w
-acts_for code kinds k g (tx.Running left inner from) w = absurd w
-acts_for code kinds k g (tx.Applying left from phase) w = absurd w
-acts_for code kinds k g (tx.Evaluating left from phase aside) w = absurd w
-acts_for code kinds k g (tx.Swapping d p from) w = absurd w
-acts_for code kinds k g (tx.Attending h o) w = absurd w
-acts_for code kinds k g (tx.Acting h x aside) w = (refl, subst (IsActorOf code k) (sym w.0) w.1.actor)
+acts_for : (code : PlainCode) (kinds : List FunctionKind) (k : ℕ) (g : CellId) (r : Role) → ActsFor code kinds k g r → (is_acting (acting_of r) ≡ true) × IsActorOf code k g
+acts_for code kinds k g Thread w = absurd w
+acts_for code kinds k g (Attending h o) w = absurd w
+acts_for code kinds k g (Acting x aside) w = (refl, subst (IsActorOf code k) (sym w.0) w.1.actor)
 
 -- ---- its asks
 
 -- an agent's actor waits for this: an action, which it hasn't, or that the one in hand is taken from it
 abbrev WaitsFor : CellId → PlainActor → Ask → Type 0
 WaitsFor g a q =
-    ((a.pending ≡ Some (pending.Take g)) × (a.tx ≡ tx.Attending g None) × (q ≡ ask.Take g))
-    ⊎ ((new : Result Value Fault) × (a.pending ≡ Some (pending.Finish g new)) × (is_acting (activity_of a.tx) ≡ true) × (q ≡ ask.Finish g new))
+    ((a.pending ≡ Some (pending.Take g)) × (a.role ≡ Attending g None) × (a.tx ≡ tx.Outside) × (q ≡ ask.Take g))
+    ⊎ ((new : Result Value Fault) × (a.pending ≡ Some (pending.Finish g new)) × (is_acting (acting_of a.role) ≡ true) × (a.tx ≡ tx.Outside) × (q ≡ ask.Finish g new []))
 
 module _ (code : PlainCode) (g : CellId) (k : ℕ) (at : IsAgentAt code g k) (a : PlainActor) (number : a.number ≡ k) where
   its : (h : CellId) → IsActorOf code a.number h → h ≡ g
@@ -295,12 +287,12 @@ module _ (code : PlainCode) (g : CellId) (k : ℕ) (at : IsAgentAt code g k) (a 
 
   -- one that goes on and asks nothing is at its own body's first place, or has an action in hand
   abbrev pub Resting : Type 0
-  Resting = ((a.body ≡ 0) × (a.place ≡ 0)) ⊎ (is_acting (activity_of a.tx) ≡ true)
+  Resting = ((a.body ≡ 0) × (a.place ≡ 0)) ⊎ (is_acting (acting_of a.role) ≡ true)
 
   at_own : (h : CellId) → AttendsAt code h a → Resting
   at_own h (waits is) = inl (ap (λ (x : PlainActor). x.body) is, ap (λ (x : PlainActor). x.place) is)
-  at_own h (has_taken x v may is) = inr (ap (λ (y : PlainActor). is_acting (activity_of y.tx)) is)
-  at_own h (has_value x v is) = inr (ap (λ (y : PlainActor). is_acting (activity_of y.tx)) is)
+  at_own h (has_taken x v may is) = inr (ap (λ (y : PlainActor). is_acting (acting_of y.role)) is)
+  at_own h (has_value x v is) = inr (ap (λ (y : PlainActor). is_acting (acting_of y.role)) is)
 
   free_at : (h : CellId) (o : Option Outcome) (p : Option Pending) → o ≡ None → p ≡ None → AttendsOn code h a o p → AttendsAt code h a
   free_at h None None e f w = w
@@ -315,7 +307,7 @@ module _ (code : PlainCode) (g : CellId) (k : ℕ) (at : IsAgentAt code g k) (a 
   pub rests : Lives code a → a.outcome ≡ None → unanswered a ≡ None → Resting
   rests (inl r) e f =
       let q = none_asked a.pending (is_running a.tx) a.at a.view (applied_in a.tx) a.done f in
-      inr (acting_is a.tx (goes_acting code r.kinds k (not_threads code g k at) r.body a number r.is (free_goes r.kinds r.body a.outcome a.pending e q r.goes)))
+      inr (goes_acting code r.kinds k (not_threads code g k at) r.body a number r.is (free_goes r.kinds r.body a.outcome a.pending e q r.goes))
   rests (inr h) e f =
       let q = none_asked a.pending (is_running a.tx) a.at a.view (applied_in a.tx) a.done f in
       at_own h.agent (free_at h.agent a.outcome a.pending e q h.attends)
@@ -323,35 +315,29 @@ module _ (code : PlainCode) (g : CellId) (k : ℕ) (at : IsAgentAt code g k) (a 
   -- ---- one that runs a body of the code
 
   module _ (q : Ask) (untold : IsUntold (Some q)) (r : Runs code a) where
-    acts_on : GoesOn code r.kinds r.body a → IsActing a.tx
-    acts_on w = goes_acting code r.kinds k (not_threads code g k at) r.body a number r.is w
-
-    pure_body : GoesOn code r.kinds r.body a → IsPureBody r.kinds a.body
-    pure_body w = acting_pure r.kinds a a.tx (acts_on w) w.is_first
-
     impure : GoesOn code r.kinds r.body a → IsImpure (owner_of r.kinds a.body) → ⊥
-    impure w i = pure_impure r.kinds a.body (pure_body w) i
+    impure w i = pure_impure r.kinds a.body (goes_pure code r.kinds k (not_threads code g k at) r.body a number r.is w) i
 
     not_told : {A : Type 0} (p : Pending) → ask_for p (is_running a.tx) a.at a.view (applied_in a.tx) a.done ≡ q → (IsUntold (Some (ask_for p (is_running a.tx) a.at a.view (applied_in a.tx) a.done)) → A) → A
     not_told p e go = go (subst (λ x. IsUntold (Some x)) (sym e) untold)
 
     body_waits : (p : Pending) → a.pending ≡ Some p → ask_for p (is_running a.tx) a.at a.view (applied_in a.tx) a.done ≡ q → AsksWell code r.kinds r.body a p → WaitsFor g a q
-    body_waits (pending.Begin left from) f e w = absurd (acting_not_aside a.tx (acts_on w.0) w.1.5)
+    body_waits (pending.Begin left from) f e w = absurd (impure w.0 (begin_stands (setting_of code r.kinds a.body) code.constants r.body a.locals a.place a.values a.room w.0.own w.0.ready w.1.0))
     body_waits (pending.Read c) f e w = absurd (impure w.0 (look_stands (setting_of code r.kinds a.body) code.constants r.body a.locals a.place a.values a.room w.0.own w.0.ready look.Deref w.1).0)
     body_waits (pending.Ensure c es) f e w = absurd (impure w.0 (look_stands (setting_of code r.kinds a.body) code.constants r.body a.locals a.place a.values a.room w.0.own w.0.ready look.Ensure w.1.0).0)
     body_waits (pending.Open c n kept) f e w = absurd (impure w.0 (open_stands (setting_of code r.kinds a.body) code.constants r.body a.locals a.place a.values a.room w.0.own w.0.ready (open_of kept) n w.1.0).1.0)
-    body_waits (pending.View phase) f e w = absurd (acting_not_aside a.tx (acts_on w.0) w.1.3)
+    body_waits (pending.View phase) f e w = not_told (pending.View phase) e (λ u. absurd u)
     body_waits (pending.Reset c v) f e w = absurd (impure w.0 (put_stands (setting_of code r.kinds a.body) code.constants r.body a.locals a.place a.values a.room w.0.own w.0.ready put.Reset w.1).1.0)
     body_waits (pending.Send x n) f e w = absurd (impure w.0 (send_stands (setting_of code r.kinds a.body) code.constants r.body a.locals a.place a.values a.room w.0.own w.0.ready x.callee n w.1).1.0)
-    body_waits (pending.Swap c n from) f e w = absurd (subst IsActing w.1.1 (acts_on w.0))
-    body_waits (pending.Close c p v) f e w = absurd (acting_not_swapping a.tx (acts_on w.0) w.1.1)
-    body_waits pending.Commit f e w = absurd (acting_not_aside a.tx (acts_on w.0) w.1.2)
+    body_waits (pending.Swap c n from) f e w = absurd (impure w.0 (open_stands (setting_of code r.kinds a.body) code.constants r.body a.locals a.place a.values a.room w.0.own w.0.ready (open_form.Swap w.1.0.0) n w.1.0.1).1.0)
+    body_waits (pending.Close c p v) f e w = not_told (pending.Close c p v) e (λ u. absurd u)
+    body_waits pending.Commit f e w = not_told pending.Commit e (λ u. absurd u)
     body_waits (pending.Fail x) f e w = not_told (pending.Fail x) e (λ u. absurd u)
     body_waits (pending.Broke c p x) f e w = not_told (pending.Broke c p x) e (λ u. absurd u)
     body_waits (pending.Take h) f e w = absurd w.1
     body_waits (pending.Finish h new) f e w =
-        let x = acts_for code r.kinds a.number h a.tx w.0 in
-        subst (λ i. WaitsFor i a q) (its h x.1) (inr (new, f, x.0, sym e))
+        let x = acts_for code r.kinds a.number h a.role w.0 in
+        subst (λ i. WaitsFor i a q) (its h x.1) (inr (new, f, x.0, w.1, sym e))
 
     runs_wait : (o : Option Outcome) (p : Option Pending) → o ≡ None → a.pending ≡ p → asked_for p (is_running a.tx) a.at a.view (applied_in a.tx) a.done ≡ Some q → CanGoOn code r.kinds r.body a o p → WaitsFor g a q
     runs_wait o None e f i w = absurd (subst is_some (sym i) tt)
@@ -377,7 +363,8 @@ module _ (code : PlainCode) (g : CellId) (k : ℕ) (at : IsAgentAt code g k) (a 
       let n : j ≡ g = w.0 ∙ its h i in
       inl (
         f ∙ ap (λ y. Some (pending.Take y)) n,
-        ap (λ (x : PlainActor). x.tx) w.1 ∙ ap (λ y. tx.Attending y None) (its h i),
+        ap (λ (x : PlainActor). x.role) w.1 ∙ ap (λ y. Attending y None) (its h i),
+        ap (λ (x : PlainActor). x.tx) w.1,
         sym e ∙ ap ask.Take n,
       )
   own_waits h q (pending.Finish j new) i f e w =
@@ -385,8 +372,9 @@ module _ (code : PlainCode) (g : CellId) (k : ℕ) (at : IsAgentAt code g k) (a 
       inr (
         new,
         f ∙ ap (λ y. Some (pending.Finish y new)) n,
-        ap (λ (x : PlainActor). is_acting (activity_of x.tx)) w.2,
-        sym e ∙ ap (λ y. ask.Finish y new) n,
+        ap (λ (x : PlainActor). is_acting (acting_of x.role)) w.2,
+        ap (λ (x : PlainActor). x.tx) w.2,
+        sym e ∙ ap (λ y. ask.Finish y new []) n,
       )
 
   own_wait : (h : CellId) (q : Ask) (o : Option Outcome) (p : Option Pending) → IsActorOf code a.number h → o ≡ None → a.pending ≡ p → asked_for p (is_running a.tx) a.at a.view (applied_in a.tx) a.done ≡ Some q → AttendsOn code h a o p → WaitsFor g a q
@@ -394,12 +382,12 @@ module _ (code : PlainCode) (g : CellId) (k : ℕ) (at : IsAgentAt code g k) (a 
   own_wait h q None (Some p) i e f k w = own_waits h q p i f (some k) w
   own_wait h q (Some x) (Some p) i e f k w = absurd w
 
-  -- one that asks, but for a fault of a transaction or a swap
+  -- one that asks, but for an end of a transaction or a swap
   pub waits_for : (q : Ask) → IsUntold (Some q) → Lives code a → a.outcome ≡ None → unanswered a ≡ Some q → WaitsFor g a q
   waits_for q u (inl r) e f = runs_wait q u r a.outcome a.pending e refl f r.goes
   waits_for q u (inr h) e f = own_wait h.agent q a.outcome a.pending h.actor e refl f h.attends
 
--- what an agent may ask is no such fault
+-- what an agent may ask is no such end
 untold : (taken : List Bool) (g : CellId) (q : Ask) → AsksAsAgent taken g q → IsUntold (Some q)
 untold taken g ask.Begin h = absurd h
 untold taken g (ask.Look c p) h = absurd h
@@ -409,36 +397,35 @@ untold taken g (ask.Fail p y) h = h
 untold taken g (ask.Peek c) h = absurd h
 untold taken g (ask.Send x) h = absurd h
 untold taken g (ask.Take h) e = tt
-untold taken g (ask.Finish h new) e = tt
+untold taken g (ask.Finish h new sends) e = tt
 untold taken g (ask.OpenAt c) h = absurd h
 untold taken g (ask.CloseAt c p v) h = absurd h
 untold taken g (ask.Broke c p) h = h
 
 -- what an agent's actor asks after turns
 module _ (code : PlainCode) (g : CellId) (k : ℕ) (at : IsAgentAt code g k) (a b : PlainActor) (number : a.number ≡ k) (taken : List Bool) (n : ℕ) (q : Ask) (going : a.outcome ≡ None) (idle : unanswered a ≡ None) (synced : IsSynced taken g a) (t : TurnsOf code n a (turned.Asks q) b) where
-  came : LeavesSo (code_of code a.number) (activity_of a.tx) (turned.Asks q) a.number b
+  came : LeftSo code a (turned.Asks q) b
   came = turns_stay code n a b (turned.Asks q) going (synced going).0 t
 
   pub asker_number : b.number ≡ k
   asker_number = came.number ∙ number
 
   asked_untold : IsUntold (Some q)
-  asked_untold = subst (Keeps came.stays.0.doing) came.stays.3.asks (turn_keeps (code_of code a.number) came.stays.0 (subst IsAgents (sym came.stays.1) (synced going).0) came.stays.2)
+  asked_untold =
+      let l = came.stays in
+      subst (Keeps l.0.doing (is_acting l.0.state.acting)) l.4.asks (turn_keeps (code_of code a.number) l.0 (subst IsAgents (sym l.1) (synced going).0) l.3)
 
   -- the instruction that asks for an action stands where none is in hand
-  not_taking : (j : CellId) → q ≡ ask.Take j → b.pending ≡ Some (pending.Take j) → b.tx ≡ tx.Attending j None → is_acting (activity_of a.tx) ≡ false
-  not_taking j e p i =
-      let rests = came.stays.3.rests (subst (λ x. MayAnswer x reply.Idle) (sym e) tt) in
-      ap is_acting (sym came.stays.1) ∙ ap (λ (c : Configuration). is_acting c.doing) rests
-      ∙ ap (λ x. is_acting (activity_of (answered_if b x reply.Idle).tx)) p ∙ ap (λ x. is_acting (activity_of x)) i
+  not_taking : (j : CellId) → b.role ≡ Attending j None → holds_one a ≡ false
+  not_taking j i = sym came.stays.2 ∙ ap (λ (s : ActorState). is_acting s.acting) came.stays.4.here ∙ ap (λ r. is_acting (acting_of r)) i
 
   pub asks_as : Lives code a → Lives code b → b.outcome ≡ None → unanswered b ≡ Some q → AsksAsAgent taken g q
   asks_as la lb e f = go (rests code g k at a number la going idle) (waits_for code g k at b asker_number q asked_untold lb e f)
     where
-      go : ((a.body ≡ 0) × (a.place ≡ 0)) ⊎ (is_acting (activity_of a.tx) ≡ true) → WaitsFor g b q → AsksAsAgent taken g q
-      go x (inl w) = subst (AsksAsAgent taken g) (sym w.2) (refl, (synced going).1 ∙ not_taking g w.2 w.0 w.1)
-      go (inl x) (inr w) = absurd (subst IsTake (sym (sym w.3 ∙ taken_first code (function_codes code) g a (ap (code_of code) number ∙ at.acts) x.0 x.1 n b q going t)) tt)
-      go (inr x) (inr w) = subst (AsksAsAgent taken g) (sym w.3) (refl, (synced going).1 ∙ x)
+      go : ((a.body ≡ 0) × (a.place ≡ 0)) ⊎ (is_acting (acting_of a.role) ≡ true) → WaitsFor g b q → AsksAsAgent taken g q
+      go x (inl w) = subst (AsksAsAgent taken g) (sym w.3) (refl, (synced going).1 ∙ not_taking g w.1)
+      go (inl x) (inr w) = absurd (subst IsTake (sym (sym w.4 ∙ taken_first code (library_of code) g a (ap (code_of code) number ∙ at.acts) x.0 x.1 n b q going t)) tt)
+      go (inr x) (inr w) = subst (AsksAsAgent taken g) (sym w.4) (refl, (synced going).1 ∙ x, refl)
 
 -- ---- its ask is lawful, and it is handed what it may run
 
@@ -460,10 +447,10 @@ agent_lawful code s g k q of at fits = subst (λ (x : PlainShared). is_lawful x 
         subst (λ i. is_lawful (state_with code s.books s.taken) k (ask.Take i) ≡ true) (sym h.0)
         (joined (k == actor_of (length code.threads) (cells_of code.cells) g) (has_agent (cells_of code.cells) g && not (is_taken s.taken g)) mine
         (joined (has_agent (cells_of code.cells) g) (not (is_taken s.taken g)) at.has (ap not h.1)))
-    go (ask.Finish j new) h =
-        subst (λ i. is_lawful (state_with code s.books s.taken) k (ask.Finish i new) ≡ true) (sym h.0)
-        (joined (k == actor_of (length code.threads) (cells_of code.cells) g) (has_agent (cells_of code.cells) g && is_taken s.taken g) mine
-        (joined (has_agent (cells_of code.cells) g) (is_taken s.taken g) at.has h.1))
+    go (ask.Finish j new sends) h =
+        subst (λ i. is_lawful (state_with code s.books s.taken) k (ask.Finish i new sends) ≡ true) (sym h.0)
+        (joined (k == actor_of (length code.threads) (cells_of code.cells) g) (has_agent (cells_of code.cells) g && (is_taken s.taken g && is_empty sends)) mine
+        (joined (has_agent (cells_of code.cells) g) (is_taken s.taken g && is_empty sends) at.has (joined (is_taken s.taken g) (is_empty sends) h.1 h.2)))
     go (ask.OpenAt c) h = absurd h
     go (ask.CloseAt c p v) h = absurd h
     go (ask.Broke c p) h = absurd h
@@ -499,7 +486,7 @@ next_for code s g k q x of fits e = go q fits e
     go (ask.Take j) h f =
         ap (λ cs. next_action (cells_of cs) (books_of s 0) g) (sym of.cells) ∙ ap (next_action (cells_of s.cells) (books_of s 0)) (sym h.0)
         ∙ sym (takes_action (next_action (cells_of s.cells) (books_of s 0) j) _ _) ∙ f
-    go (ask.Finish j new) h f = absurd (subst is_some (sym f ∙ no_action (nat_lt (length (books_of s 0)) most_events) _ (books_of s 0)) tt)
+    go (ask.Finish j new sends) h f = absurd (subst is_some (sym f ∙ no_action (nat_lt (length (books_of s 0)) most_events) _ (books_of s 0)) tt)
     go (ask.OpenAt c) h f = absurd h
     go (ask.CloseAt c p v) h f = absurd h
     go (ask.Broke c p) h f = absurd h
@@ -564,28 +551,26 @@ idle_or (reply.Opened p v) = inr (λ e. cc)
 idle_or reply.Full = inr (λ e. cc)
 idle_or reply.Memory = inr (λ e. cc)
 
+-- outside transactions it is an agent's
+agents_outside : (home : List Frame) (t : Transaction) → t ≡ tx.Outside → IsAgents (activity_of home t)
+agents_outside home t e = subst (λ x. IsAgents (activity_of home x)) (sym e) tt
+
 -- an agent that handed its action in has none
-anew_outside : (a : PlainActor) (t : Transaction) → is_acting (activity_of t) ≡ true → activity_of (attends_anew a t).tx ≡ Outside
-anew_outside a tx.Outside e = absurd (false≢true e)
-anew_outside a (tx.Restarting left) e = absurd (false≢true e)
-anew_outside a (tx.Running left inner from) e = absurd (false≢true e)
-anew_outside a (tx.Applying left from phase) e = absurd (false≢true e)
-anew_outside a (tx.Evaluating left from phase aside) e = absurd (false≢true e)
-anew_outside a (tx.Swapping d p from) e = absurd (false≢true e)
-anew_outside a (tx.Attending h None) e = absurd (false≢true e)
-anew_outside a (tx.Attending h (Some x)) e = refl
-anew_outside a (tx.Acting h x aside) e = refl
+anew_free : (a : PlainActor) (r : Role) → a.tx ≡ tx.Outside → is_acting (acting_of r) ≡ true → IsAgents (configuration_of (attends_anew a r)).doing × (holds_one (attends_anew a r) ≡ false)
+anew_free a Thread u e = absurd (false≢true e)
+anew_free a (Attending h o) u e = (agents_outside [] a.tx u, refl)
+anew_free a (Acting x aside) u e = (agents_outside [] a.tx u, refl)
 
-module _ (taken : List Bool) (g : CellId) (a : PlainActor) (within : g.number < length taken) where
-  takes_synced : a.tx ≡ tx.Attending g None → is_taken taken g ≡ false → (r : Reply) → MayAnswer (ask.Take g) r → IsSynced (taken_after (ask.Take g) r taken) g (answered_for a (pending.Take g) r)
+module _ (taken : List Bool) (g : CellId) (a : PlainActor) (within : g.number < length taken) (outside : a.tx ≡ tx.Outside) where
+  takes_synced : a.role ≡ Attending g None → is_taken taken g ≡ false → (r : Reply) → MayAnswer (ask.Take g) r → IsSynced (taken_after (ask.Take g) r taken) g (answered_for a (pending.Take g) r)
   takes_synced e free r m =
-      take_replies (λ x. IsSynced (taken_after (ask.Take g) x taken) g (answered_for a (pending.Take g) x)) g (λ n x v o. (tt, get_or-set_same taken g.number true false within))
-      (λ o. (subst IsAgents (sym (ap activity_of e)) tt, free ∙ sym (ap (λ x. is_acting (activity_of x)) e))) (λ o. absurd (subst is_some o tt)) r m
+      take_replies (λ x. IsSynced (taken_after (ask.Take g) x taken) g (answered_for a (pending.Take g) x)) g (λ n x v o. (agents_outside [] a.tx outside, get_or-set_same taken g.number true false within))
+      (λ o. (agents_outside (home_of a.role) a.tx outside, free ∙ sym (ap (λ x. is_acting (acting_of x)) e))) (λ o. absurd (subst is_some o tt)) r m
 
-  hands_synced : (new : Result Value Fault) → is_acting (activity_of a.tx) ≡ true → (r : Reply) → MayAnswer (ask.Finish g new) r → IsSynced (taken_after (ask.Finish g new) r taken) g (answered_for a (pending.Finish g new) r)
+  hands_synced : (new : Result Value Fault) → is_acting (acting_of a.role) ≡ true → (r : Reply) → MayAnswer (ask.Finish g new []) r → IsSynced (taken_after (ask.Finish g new []) r taken) g (answered_for a (pending.Finish g new) r)
   hands_synced new e r m =
-      finish_replies (λ x. IsSynced (taken_after (ask.Finish g new) x taken) g (answered_for a (pending.Finish g new) x)) g new
-      (λ o. let d = anew_outside a a.tx e in (subst IsAgents (sym d) tt, get_or-set_same taken g.number false false within ∙ sym (ap is_acting d))) (λ o. absurd (subst is_some o tt)) (λ o. absurd (subst is_some o tt)) r m
+      finish_replies (λ x. IsSynced (taken_after (ask.Finish g new []) x taken) g (answered_for a (pending.Finish g new) x)) g new
+      (λ o. let d = anew_free a a.role outside e in (d.0, get_or-set_same taken g.number false false within ∙ sym d.1)) (λ o. absurd (subst is_some o tt)) (λ o. absurd (subst is_some o tt)) r m
 
 set_others : (taken : List Bool) (g h : CellId) (b v : Bool) → (h.number ≡ g.number → ⊥) → is_taken (if b then set taken g.number v else taken) h ≡ is_taken taken h
 set_others taken g h true v n = get_or-set_other taken g.number h.number v false n
@@ -611,12 +596,12 @@ module _ (code : PlainCode) (s t : PlainShared) (g : CellId) (k : ℕ) (a z : Pl
 
       go : WaitsFor g a q → IsSynced (taken_after q h.reply s.taken) g (answered a h.reply)
       go (inl w) =
-          let free : is_taken s.taken g ≡ false = (subst (AsksAsAgent s.taken g) w.2 fits).1 in
-          subst (λ p. IsSynced (taken_after p h.reply s.taken) g (answered a h.reply)) (sym w.2)
-          (subst (λ p. IsSynced (taken_after (ask.Take g) h.reply s.taken) g (answered_if a p h.reply)) (sym w.0) (takes_synced s.taken g a within w.1 free h.reply (subst (λ p. MayAnswer p h.reply) w.2 h.may)))
-      go (inr w) =
+          let free : is_taken s.taken g ≡ false = (subst (AsksAsAgent s.taken g) w.3 fits).1 in
           subst (λ p. IsSynced (taken_after p h.reply s.taken) g (answered a h.reply)) (sym w.3)
-          (subst (λ p. IsSynced (taken_after (ask.Finish g w.0) h.reply s.taken) g (answered_if a p h.reply)) (sym w.1) (hands_synced s.taken g a within w.0 w.2 h.reply (subst (λ p. MayAnswer p h.reply) w.3 h.may)))
+          (subst (λ p. IsSynced (taken_after (ask.Take g) h.reply s.taken) g (answered_if a p h.reply)) (sym w.0) (takes_synced s.taken g a within w.2 w.1 free h.reply (subst (λ p. MayAnswer p h.reply) w.3 h.may)))
+      go (inr w) =
+          subst (λ p. IsSynced (taken_after p h.reply s.taken) g (answered a h.reply)) (sym w.4)
+          (subst (λ p. IsSynced (taken_after (ask.Finish g w.0 []) h.reply s.taken) g (answered_if a p h.reply)) (sym w.1) (hands_synced s.taken g a within w.3 w.0 w.2 h.reply (subst (λ p. MayAnswer p h.reply) w.4 h.may)))
 
   -- where there was no action it is where it was, a step before
   abbrev Idled : Type 0
@@ -627,7 +612,7 @@ module _ (code : PlainCode) (s t : PlainShared) (g : CellId) (k : ℕ) (a z : Pl
     where
       go : WaitsFor g a q → answered a reply.Idle ≡ record a { steps = a.steps - 1; pending = None }
       go (inl w) = ap (λ p. answered_if a p reply.Idle) w.0
-      go (inr w) = absurd (subst (λ p. MayAnswer p reply.Idle) w.3 (subst (MayAnswer q) e h.may))
+      go (inr w) = absurd (subst (λ p. MayAnswer p reply.Idle) w.4 (subst (MayAnswer q) e h.may))
 
   left_by : (h.reply ≡ reply.Idle → ⊥) → Leaves a z
   left_by unless = subst (Leaves a) (sym h.is) (answer_leaves a q h.reply asks h.may unless)
@@ -676,7 +661,7 @@ module _ (code : PlainCode) (s t : PlainShared) (g : CellId) (k : ℕ) (a z : Pl
           ap (next_action (cells_of s.cells) (books_of s 0)) x.0 ∙ ap (λ cs. next_action (cells_of cs) (books_of s 0) g) of.cells ∙ w.1
           in
           subst is_some (sym next ∙ sym (takes_action (next_action (cells_of s.cells) (books_of s 0) j) _ _) ∙ f) tt
-      handed (ask.Finish j y) x m f = m
+      handed (ask.Finish j y sends) x m f = m
       handed (ask.OpenAt c) x m f = x
       handed (ask.CloseAt c p v) x m f = x
       handed (ask.Broke c p) x m f = x
@@ -688,15 +673,15 @@ module _ (code : PlainCode) (s t : PlainShared) (g : CellId) (k : ℕ) (a z : Pl
   after_others i n = ap (λ l. is_taken l i) taken_is ∙ go waits_so
     where
       go : WaitsFor g a q → is_taken (taken_after q h.reply s.taken) i ≡ is_taken s.taken i
-      go (inl w) = ap (λ p. is_taken (taken_after p h.reply s.taken) i) w.2 ∙ set_others s.taken g i (hands_out h.reply) true n
-      go (inr w) = ap (λ p. is_taken (taken_after p h.reply s.taken) i) w.3 ∙ set_others s.taken g i (is_done h.reply) false n
+      go (inl w) = ap (λ p. is_taken (taken_after p h.reply s.taken) i) w.3 ∙ set_others s.taken g i (hands_out h.reply) true n
+      go (inr w) = ap (λ p. is_taken (taken_after p h.reply s.taken) i) w.4 ∙ set_others s.taken g i (is_done h.reply) false n
 
   pub after_long : length t.taken ≡ length s.taken
   after_long = ap length taken_is ∙ go waits_so
     where
       go : WaitsFor g a q → length (taken_after q h.reply s.taken) ≡ length s.taken
-      go (inl w) = ap (λ p. length (taken_after p h.reply s.taken)) w.2 ∙ set_long s.taken g (hands_out h.reply) true
-      go (inr w) = ap (λ p. length (taken_after p h.reply s.taken)) w.3 ∙ set_long s.taken g (is_done h.reply) false
+      go (inl w) = ap (λ p. length (taken_after p h.reply s.taken)) w.3 ∙ set_long s.taken g (hands_out h.reply) true
+      go (inr w) = ap (λ p. length (taken_after p h.reply s.taken)) w.4 ∙ set_long s.taken g (is_done h.reply) false
 
   pub after_of : IsStateOf code t
   after_of = go (after_or s t k q h.reply tr new h.served)

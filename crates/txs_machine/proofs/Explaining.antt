@@ -44,6 +44,7 @@ use Rattle.txs_machine.specs.declared.schedule.Play.{Play}
 use Rattle.txs_world_protocol.specs.declared.report.Ran.{Ran}
 use Rattle.txs_machine.proofs.Playing.{between_of}
 use Rattle.txs_machine.proofs.RunOver.{trace_holds}
+use Rattle.txs_value_cell.specs.Cells.{validators_of}
 
 abbrev is_some : {A : Type 0} → Option A → Type 0
 is_some None = ⊥
@@ -199,7 +200,7 @@ module _ (by : Known) (code : PlainCode) (k : ℕ) (books : ℕ → List Event) 
 
 -- the code of a program's thread
 pub code_at : (code : PlainCode) (bs : List CodeBody) (ts : List PlainThread) (n k : ℕ) (t : PlainThread) → length (map (thread_code code) bs) ≡ length ts → nth ts k ≡ Some t
-    → nth (map (thread_code code) bs) k ≡ Some (record { functions = function_codes code; main = own_body code n (nth bs k) })
+    → nth (map (thread_code code) bs) k ≡ Some (record { functions = function_codes code; validators = validators_of code.cells; main = own_body code n (nth bs k) })
 code_at code [] [] n k t e h = absurd (subst is_some (sym h) tt)
 code_at code [] (u ∷ ts) n k t e h = absurd (omega (arith, e))
 code_at code (b ∷ bs) [] n k t e h = absurd (omega (arith, e))

@@ -36,6 +36,7 @@ use Rattle.txs_machine.specs.declared.player.AgentPlayer.{AgentPlayer}
 use Rattle.txs_machine.specs.declared.player.Player.{Player}
 use Rattle.txs_machine.proofs.OwnCells.{code_known}
 use Rattle.txs_machine.proofs.RunOver.{ValuesKnown, standing_of}
+use Rattle.txs_value_cell.specs.Cells.{validators_of}
 
 abbrev is_some : {A : Type 0} → Option A → Type 0
 is_some None = ⊥
@@ -199,7 +200,7 @@ sends_may : (code : PlainCode) (k : ℕ) → nat_lt k (length code.threads) ≡ 
 sends_may code k below =
     let lt : k < length code.threads = grind (arith, nat_tests, below) in
     let b = body_there code.threads k lt in
-    subst (λ o. CodeSendsSuch (MayRun code) (record { functions = function_codes code; main = own_body code k o })) (sym b.1)
+    subst (λ o. CodeSendsSuch (MayRun code) (record { functions = function_codes code; validators = validators_of code.cells; main = own_body code k o })) (sym b.1)
     (λ m xs c e f n span i g vs many function_rooms thread_rooms w.
     subst (CanApply (functions_of code w.kinds) f) (sym many) (send_applies code k b.0 b.1 function_rooms thread_rooms w m xs c e f n span i))
 

@@ -1,5 +1,5 @@
 -- The actors of agents before their first turns.
-use Rattle.std.proofs.Common.{◌≡◌, ◌<◌, ◌≤◌, ◌+◌, ℕ, zero, suc, Bool, true, false, List, [], ◌∷◌, ◌++◌, length, get_or, take, drop, Some, Result, Ok, Err, IfOk, refl, sym, ap, subst, ◌∙◌, arith}
+use Rattle.std.proofs.Common.{◌≡◌, ◌<◌, ◌≤◌, ◌+◌, ℕ, zero, suc, Bool, true, false, List, [], ◌∷◌, ◌++◌, length, get_or, take, drop, Some, None, Result, Ok, Err, IfOk, refl, sym, ap, subst, ◌∙◌, arith}
 use Rattle.std.proofs.lemmas.Bool.{false≢true}
 use Rattle.txs_value_cell.specs.Forms.{same_kind}
 use Rattle.txs_value_base.specs.Places.{nth}
@@ -9,7 +9,7 @@ use Rattle.txs_value_data.specs.declared.value.CellKind.{CellKind}
 use Rattle.txs_value_data.specs.declared.value.CellKind.TheVariants.{Ref, Atom, Agent}
 use Rattle.txs_code_meaning.specs.Machine.{Outside, Configuration}
 use Rattle.txs_code_meaning.specs.PlainCode.{PlainCode}
-use Rattle.txs_machine_actor.specs.PlainActor.{Lives, activity_of}
+use Rattle.txs_machine_actor.specs.PlainActor.{Lives, activity_of, acting_of, home_of}
 use Rattle.txs_value_cell.specs.Agents.{agents_from, with_agent}
 use Rattle.txs_machine_actor.specs.Turns.{IsNew}
 use Rattle.txs_world_book.specs.Served.{cells_of}
@@ -44,11 +44,14 @@ new_attending code g k limit x e at lives new = record {
   free = new.unasking;
   number = new.number;
   limited = new_limited limit x.player.actor new.limited new.unended new.unused;
-  synced = λ o. (subst IsAgents (sym outside) tt, none_in_hand (cells_of code.cells) g.number ∙ sym (ap is_acting outside));
+  synced = λ o. (subst IsAgents (sym outside) tt, none_in_hand (cells_of code.cells) g.number ∙ sym (ap is_acting resting));
 }
   where
-    outside : activity_of x.player.actor.tx ≡ Outside
+    outside : activity_of (home_of x.player.actor.role) x.player.actor.tx ≡ Outside
     outside = ap (λ (c : Configuration). c.doing) new.opens
+
+    resting : acting_of x.player.actor.role ≡ None
+    resting = ap (λ (c : Configuration). c.state.acting) new.opens
 
 -- one more of them
 pub attending_more : (code : PlainCode) (limit : ℕ) (taken : List Bool) (k : ℕ) (gs : List CellId) (xs : List AgentPlayer) (g : CellId) (x : AgentPlayer) → AreAttending code limit taken k gs xs → IsAttending code g (k + length xs) limit taken x

@@ -13,7 +13,7 @@ use Rattle.txs_world_protocol.specs.declared.event.EventKind.{EventKind}
 use Rattle.txs_world_protocol.specs.declared.event.Outcome.{Outcome}
 use Rattle.txs_world_protocol.specs.declared.event.Outcome.TheVariants as outcome
 use Rattle.txs_value_data.proofs.SameLemmas.{and_both, numbers, number-itself}
-use Rattle.txs_value_cell.specs.Cells.{World}
+use Rattle.txs_value_cell.specs.Cells.{World, validators_of}
 use Rattle.txs_value_base.specs.Places.{nth}
 use Rattle.txs_value_cell.specs.declared.action.Action.{Action}
 use Rattle.txs_value_cell.specs.declared.cell.CellDefinition.{CellDefinition}
@@ -225,7 +225,7 @@ body_there (b ∷ bs) (suc k) h = body_there bs k (omega (arith, h))
 -- the instructions of each thread of well-typed code stand where they may
 pub standing_of : TypedStands → (code : PlainCode) (function_rooms thread_rooms : List ℕ) (k : ℕ) → WellTyped code function_rooms thread_rooms → k < length code.threads → StandingCode (code_of code k)
 standing_of law code function_rooms thread_rooms k well below =
-    let b = body_there code.threads k below in subst (λ (o : Option CodeBody). StandingCode (record { functions = function_codes code; main = own_body code k o })) (sym b.1) (law code function_rooms thread_rooms k b.0 well b.1)
+    let b = body_there code.threads k below in subst (λ (o : Option CodeBody). StandingCode (record { functions = function_codes code; validators = validators_of code.cells; main = own_body code k o })) (sym b.1) (law code function_rooms thread_rooms k b.0 well b.1)
 
 -- an actor that goes on stands where its next instruction asks in its stage
 pub stands_staged : (code : PlainCode) (xs : List Exchange) (a : PlainActor) → StagedCode (code_of code a.number) → unanswered a ≡ None → HasRun code xs a → a.outcome ≡ None → TurnIsStaged (code_of code a.number) (configuration_of a)
@@ -643,7 +643,7 @@ idle_never st (ask.Commit p ws es q cs xs) ok may = may
 idle_never st (ask.Fail p q) ok may = may
 idle_never st (ask.Peek c) ok may = may
 idle_never st (ask.Send x) ok may = may
-idle_never st (ask.Finish g new) ok may = may
+idle_never st (ask.Finish g new sends) ok may = may
 idle_never st (ask.OpenAt c) ok may = may
 idle_never st (ask.CloseAt c p v) ok may = may
 idle_never st (ask.Broke c p) ok may = may
@@ -661,7 +661,7 @@ action_never st (ask.Commit p ws es q cs xs) n x v ok may = may
 action_never st (ask.Fail p q) n x v ok may = may
 action_never st (ask.Peek c) n x v ok may = may
 action_never st (ask.Send y) n x v ok may = may
-action_never st (ask.Finish g new) n x v ok may = may
+action_never st (ask.Finish g new sends) n x v ok may = may
 action_never st (ask.OpenAt c) n x v ok may = may
 action_never st (ask.CloseAt c p w) n x v ok may = may
 action_never st (ask.Broke c p) n x v ok may = may
@@ -887,7 +887,7 @@ serve_may cells a (ask.Fail p q) book = added_may (ask.Fail p q) a _ reply.Done 
 serve_may cells a (ask.Peek c) book = peeked_may cells a c book (is_atom c)
 serve_may cells a (ask.Send x) book = sent_may a x book (is_failed (cells_of cells) book x.agent)
 serve_may cells a (ask.Take g) book = taken_may g _ _ (world.next_action (cells_of cells) book g)
-serve_may cells a (ask.Finish g new) book = added_may (ask.Finish g new) a _ reply.Done book (nat_lt (length book) most_events) tt tt
+serve_may cells a (ask.Finish g new sends) book = added_may (ask.Finish g new sends) a _ reply.Done book (nat_lt (length book) most_events) tt tt
 serve_may cells a (ask.OpenAt c) book = tt
 serve_may cells a (ask.CloseAt c p x) book = closed_may a c p x book
 serve_may cells a (ask.Broke c p) book = added_may (ask.Broke c p) a _ reply.Done book (nat_lt (length book) most_events) tt tt
@@ -913,7 +913,7 @@ memory_may (ask.Fail p q) r m t = tt
 memory_may (ask.Peek c) r m t = tt
 memory_may (ask.Send x) r m t = tt
 memory_may (ask.Take g) r m t = tt
-memory_may (ask.Finish g new) r m t = tt
+memory_may (ask.Finish g new sends) r m t = tt
 memory_may (ask.OpenAt c) r m t = tt
 memory_may (ask.CloseAt c p v) r m t = tt
 memory_may (ask.Broke c p) r m t = tt
@@ -928,7 +928,7 @@ adding_may (ask.Fail p q) h = tt
 adding_may (ask.Peek c) h = tt
 adding_may (ask.Send x) h = tt
 adding_may (ask.Take g) h = tt
-adding_may (ask.Finish g new) h = tt
+adding_may (ask.Finish g new sends) h = tt
 adding_may (ask.OpenAt c) h = tt
 adding_may (ask.CloseAt c p v) h = tt
 adding_may (ask.Broke c p) h = tt
@@ -961,7 +961,7 @@ reads_alone s t a q r tr none g = inl (record {
     left (ask.Fail p y) book e = absurd (false≢true (sym e))
     left (ask.Peek c) book e = absurd (false≢true (sym e))
     left (ask.Send x) book e = absurd (false≢true (sym e))
-    left (ask.Finish g new) book e = absurd (false≢true (sym e))
+    left (ask.Finish g new sends) book e = absurd (false≢true (sym e))
     left (ask.CloseAt c p v) book e = absurd (false≢true (sym e))
     left (ask.Broke c p) book e = absurd (false≢true (sym e))
 
@@ -1002,7 +1002,7 @@ few_for s a (ask.Commit p sets ensured q commuted sends) h w = w.store.legal.few
 few_for s a (ask.Fail p q) h w = w.store.legal.few
 few_for s a (ask.Send x) h w = w.store.legal.few
 few_for s a (ask.Take g) h w = w.store.legal.few
-few_for s a (ask.Finish g new) h w = w.store.legal.few
+few_for s a (ask.Finish g new sends) h w = w.store.legal.few
 few_for s a (ask.Peek c) h w = go (is_atom c) refl
   where
     go : (b : Bool) → is_atom c ≡ b → length (numbered_book s (if b then suc (atoms_below s.cells c.number) else 0)) ≤ most_events

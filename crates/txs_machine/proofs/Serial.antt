@@ -7,6 +7,7 @@ use Rattle.txs_world_protocol.specs.declared.event.Outcome.{Outcome}
 use Rattle.txs_world_protocol.specs.declared.event.Outcome.TheVariants as outcome
 use Rattle.txs_world_protocol.specs.declared.event.Place.{Place}
 use Rattle.txs_value_base.specs.Places.{nth}
+use Rattle.txs_value_cell.specs.Cells.{Validators, validators_of}
 use Rattle.txs_value_data.specs.declared.value.Value.{Value}
 use Rattle.txs_tree_meaning.specs.Known.{known}
 use Rattle.txs_tree_meaning.specs.Marked.{Marked, MarkedThreads, MarkedProgram}
@@ -66,17 +67,17 @@ explained_up (Some outcome.JournalFull) out r h = eaten_up (out ++ h.0) r h.1
 explained_up (Some outcome.Memory) out r h = eaten_up (out ++ h.0) r h.1
 
 -- so each commit and refusal has its transaction
-noted_all : (functions : List PlainFunction) (n : ℕ) (es todo : List SeenEvent) (txs : List TxRun) → Noted functions n es todo txs → todo ≡ [] → RunsOf functions n es txs
-noted_all functions n es todo txs h e = subst (λ l. RunsOf functions n l txs) (sym (h.split ∙ ap (λ l. h.eaten ++ l) e ∙ append-nil h.eaten)) h.runs
+noted_all : (functions : List PlainFunction) (validators : Validators) (n : ℕ) (es todo : List SeenEvent) (txs : List TxRun) → Noted functions validators n es todo txs → todo ≡ [] → RunsOf functions validators n es txs
+noted_all functions validators n es todo txs h e = subst (λ l. RunsOf functions validators n l txs) (sym (h.split ∙ ap (λ l. h.eaten ++ l) e ∙ append-nil h.eaten)) h.runs
 
-runs_of : (functions : List PlainFunction) (n : ℕ) (es : List SeenEvent) (r : Completion ThreadState Value) → HasEatenUp r → EndsNoted functions n es r → RunsOf functions n es (txs_of r)
-runs_of functions n es (Completes v t) h k = noted_all functions n es t.todo t.txs k h
-runs_of functions n es (Recurs vs t) h k = absurd h
-runs_of functions n es (Faults f t) h k = noted_all functions n es t.todo t.txs k h
-runs_of functions n es (Retries t) h k = absurd h
-runs_of functions n es (Waits t) h k = noted_all functions n es t.todo t.txs k h
-runs_of functions n es (OutOfTurns t) h k = noted_all functions n es t.todo t.txs k h
-runs_of functions n es Invalid h k = absurd h
+runs_of : (functions : List PlainFunction) (validators : Validators) (n : ℕ) (es : List SeenEvent) (r : Completion ThreadState Value) → HasEatenUp r → EndsNoted functions validators n es r → RunsOf functions validators n es (txs_of r)
+runs_of functions validators n es (Completes v t) h k = noted_all functions validators n es t.todo t.txs k h
+runs_of functions validators n es (Recurs vs t) h k = absurd h
+runs_of functions validators n es (Faults f t) h k = noted_all functions validators n es t.todo t.txs k h
+runs_of functions validators n es (Retries t) h k = absurd h
+runs_of functions validators n es (Waits t) h k = noted_all functions validators n es t.todo t.txs k h
+runs_of functions validators n es (OutOfTurns t) h k = noted_all functions validators n es t.todo t.txs k h
+runs_of functions validators n es Invalid h k = absurd h
 
 -- ---- the threads of a program
 
@@ -108,7 +109,7 @@ module _ (p : PlainProgram) (sh : Shared) (rans : List Ran) (sound : Sound p) (m
       let m = meant_by p t sh.books ran.trace.items x.turns in
       let main = sound_thread p.functions p.threads k t sound.threads there in
       let noted = threads_note s x.turns es (record { functions = sound.functions; main = main.0 }) marks.functions (marked_thread p.threads k t marks.threads there) in
-      record { traced = x.traced; runs = runs_of p.functions x.turns es m (explained_up ran.outcome ran.printed.items m x.means) noted; calm = x.calm }
+      record { traced = x.traced; runs = runs_of p.functions (validators_of p.cells) x.turns es m (explained_up ran.outcome ran.printed.items m x.means) noted; calm = x.calm }
 
   covered_serial : SaidOfAll (λ n. serial_if_covered p.functions n p.cells sh.books) p sh rans e
   covered_serial k t ran there here =

@@ -12,7 +12,7 @@ use Rattle.txs_value_data.specs.declared.value.CellKind.{CellKind}
 use Rattle.txs_value_data.specs.declared.value.CellKind.TheVariants.{Ref, Atom, Agent}
 use Rattle.txs_code_meaning.specs.ActorState.{ActorState}
 use Rattle.txs_code_meaning.specs.Machine.{PlainBody, ThreadCode, Configuration, Turned}
-use Rattle.txs_code_meaning.specs.PlainCode.{CodeBody, PlainCode, thread_code, function_codes}
+use Rattle.txs_code_meaning.specs.PlainCode.{CodeBody, PlainCode, thread_code, function_codes, library_of}
 use Rattle.txs_theorem_threads.specs.FollowsAgent.{GoesOn}
 use Rattle.txs_machine_actor.specs.PlainActor.{PlainActor, agent_or_none, code_of, own_body}
 use Rattle.txs_value_cell.specs.Agents.{agents_from, with_agent}
@@ -44,6 +44,7 @@ use Rattle.txs_world_protocol.specs.declared.report.Ran.{Ran}
 use Rattle.txs_machine.proofs.Explaining.{reported_at, as_many, length_map}
 use Rattle.txs_machine.proofs.Going.{turns_append, others_left}
 use Rattle.txs_machine.proofs.RunOver.{longer}
+use Rattle.txs_value_cell.specs.Cells.{validators_of}
 
 abbrev is_some : {A : Type 0} → Option A → Type 0
 is_some None = ⊥
@@ -142,7 +143,7 @@ agent_at code i g e = record {
   has = joined (same_kind g.kind Agent) (is_of_kind g.kind (nth (cells_of code.cells) g.number)) (ap (λ k. same_kind k Agent) p.kind)
       (subst (λ k. is_of_kind k (nth (cells_of code.cells) g.number) ≡ true) (sym p.kind) (subst (λ n. is_of_kind Agent (nth (cells_of code.cells) n) ≡ true) (sym same) p.there));
   place = ap (λ n. length code.threads + n) (sym p.before ∙ ap (agents_below (cells_of code.cells)) (sym same));
-  acts = ap (λ (m : PlainBody). record { functions = function_codes code; main = m })
+  acts = ap (λ (m : PlainBody). record { functions = function_codes code; validators = validators_of code.cells; main = m })
       (ap (own_body code (length code.threads + i)) (past_end code.threads i) ∙ ap (λ n. agent_or_none (nth (agents_from 0 code.cells) n)) minus ∙ ap agent_or_none e);
 }
   where
@@ -370,12 +371,12 @@ module _ (traced : RunTraced) (code : PlainCode) (limit : ℕ) (s : PlainShared)
       book : books_of s 0 ≡ (run_of code h.run.turns).shared.books 0
       book = ap (λ (sh : Shared). sh.books 0) h.run.shared
 
-      mapped : (bs : List CodeBody) (i n : ℕ) (c : ThreadCode) → nth (map (thread_code code) bs) i ≡ Some c → record { functions = function_codes code; main = own_body code n (nth bs i) } ≡ c
+      mapped : (bs : List CodeBody) (i n : ℕ) (c : ThreadCode) → nth (map (thread_code code) bs) i ≡ Some c → record { functions = function_codes code; validators = validators_of code.cells; main = own_body code n (nth bs i) } ≡ c
       mapped [] i n c e = absurd (subst is_some (sym e) tt)
       mapped (b ∷ bs) zero n c e = ap (or_else c) e
       mapped (b ∷ bs) (suc i) n c e = mapped bs i n c e
 
-      runs : RunsProgram p (map (thread_code code) code.threads) (function_codes code) (code_of code)
+      runs : RunsProgram p (map (thread_code code) code.threads) (library_of code) (code_of code)
       runs = record {
         threads_run = λ i c e. mapped code.threads i i c e;
         agents_run = λ g has. (
@@ -383,10 +384,10 @@ module _ (traced : RunTraced) (code : PlainCode) (limit : ℕ) (s : PlainShared)
             ap (code_of code) (ap (λ n. world.actor_of n (cells_of p.cells) g) (sym threads) ∙ ap (λ cs. world.actor_of (length code.threads) (cells_of cs) g) same ∙ a.2) ∙ (agent_at code a.0 g a.1).acts);
       }
 
-      whole : ReportExplained p (function_codes code) (run_of code h.run.turns)
+      whole : ReportExplained p (library_of code) (run_of code h.run.turns)
       whole =
-          subst (ReportExplained p (function_codes code)) (ap (λ cs. plays cs (length p.threads) (code_of code) h.run.turns) same ∙ ap (λ n. plays code.cells n (code_of code) h.run.turns) (sym threads))
-          (law p (map (thread_code code) code.threads) (function_codes code) (code_of code) h.run.turns follows agents staged sends runs)
+          subst (ReportExplained p (library_of code)) (ap (λ cs. plays cs (length p.threads) (code_of code) h.run.turns) same ∙ ap (λ n. plays code.cells n (code_of code) h.run.turns) (sym threads))
+          (law p (map (thread_code code) code.threads) (library_of code) (code_of code) h.run.turns follows agents staged sends runs)
 
       agent_explained : (i : ℕ) (r : Ran) → IsEntry i r → ExplainsAgent (length p.threads + i) (books_of s) r
       agent_explained i r x =

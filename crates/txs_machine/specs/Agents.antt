@@ -5,7 +5,7 @@ use Rattle.txs_world_protocol.specs.declared.event.Outcome.TheVariants as outcom
 use Rattle.txs_value_base.specs.Places.{nth}
 use Rattle.txs_value_data.specs.declared.value.CellId.{CellId}
 use Rattle.txs_tree_meaning.specs.Tree.{PlainProgram}
-use Rattle.txs_code_meaning.specs.PlainCode.{PlainCode, thread_code, function_codes}
+use Rattle.txs_code_meaning.specs.PlainCode.{PlainCode, thread_code, library_of}
 use Rattle.txs_theorem_threads.specs.FollowsAgent.{FollowsAgents}
 use Rattle.txs_theorem_threads.specs.FollowsAll.{FollowsAll}
 use Rattle.txs_theorem_threads.specs.Sends.{CodesSendSound}
@@ -62,7 +62,7 @@ abbrev pub AreExplainedBy : PlainCode → Shared → List Ran → List Ran → T
 AreExplainedBy code sh threads agents =
     (p : PlainProgram)
     → p.cells ≡ code.cells → FollowsAll (map (thread_code code) code.threads) p
-    → FollowsAgents (function_codes code) p.functions → CodesSendSound p.functions (map (thread_code code) code.threads)
+    → FollowsAgents (library_of code) p.functions → CodesSendSound p.functions (map (thread_code code) code.threads)
     → ExplainsAll p sh threads agents
 
 -- ---- when rounds are over

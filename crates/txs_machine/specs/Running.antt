@@ -11,10 +11,11 @@ use Rattle.txs_world_protocol.specs.declared.event.Outcome.TheVariants as outcom
 use Rattle.txs_value_base.specs.Places.{nth}
 use Rattle.txs_value_cell.specs.declared.action.Action.{Action}
 use Rattle.txs_value_data.specs.declared.value.CellId.{CellId}
-use Rattle.txs_code_meaning.specs.Machine.{Activity, Outside, Restarting, Running, Applying, Swapping, Acting, Configuration, Turned, Ended, Failed, Unfinished}
+use Rattle.txs_code_meaning.specs.ActorState.{InHand}
+use Rattle.txs_code_meaning.specs.Machine.{Activity, Outside, Restarting, Running, Applying, Swapping, Configuration, Turned, Ended, Failed, Unfinished}
 use Rattle.txs_code_meaning.specs.PlainCode.{PlainCode}
 use Rattle.txs_machine_actor.specs.PlainActor.{PlainActor, HasRun, IsActorOf, Lives, MayAnswer, answered, code_of, configuration_of, state_of, unanswered}
-use Rattle.txs_world_book.specs.Book.{has_agent, actor_of}
+use Rattle.txs_world_book.specs.Book.{has_agent, actor_of, is_empty}
 use Rattle.txs_world_book.specs.Served.{cells_of}
 use Rattle.txs_world.specs.Store.{is_taken, next_action}
 use Rattle.txs_theorem_runs.specs.Run as run
@@ -97,26 +98,21 @@ pub record IsAnswered (k : ℕ) (s : PlainShared) (a : PlainActor) (trace : List
 -- ---- agents between two plays
 
 -- an agent has an action in hand
-abbrev pub is_acting : Activity → Bool
-is_acting Outside = false
-is_acting (Restarting left) = false
-is_acting (Running left inner from) = false
-is_acting (Applying left from work values) = false
-is_acting (Swapping swap from) = false
-is_acting (Acting g x) = true
+abbrev pub is_acting : Option InHand → Bool
+is_acting None = false
+is_acting (Some h) = true
 
--- an agent is in its own body, with an action in hand or without
+-- an agent runs no transaction and no swap
 abbrev pub IsAgents : Activity → Type 0
 IsAgents Outside = Unit {0}
 IsAgents (Restarting left) = ⊥
 IsAgents (Running left inner from) = ⊥
 IsAgents (Applying left from work values) = ⊥
 IsAgents (Swapping swap from) = ⊥
-IsAgents (Acting g x) = Unit {0}
 
 -- the store knows whether the agent has an action in hand
 abbrev pub IsSynced : List Bool → CellId → PlainActor → Type 0
-IsSynced taken g a = a.outcome ≡ None → IsAgents (configuration_of a).doing × (is_taken taken g ≡ is_acting (configuration_of a).doing)
+IsSynced taken g a = a.outcome ≡ None → IsAgents (configuration_of a).doing × (is_taken taken g ≡ is_acting (state_of a).acting)
 
 -- this agent's actor has this number
 pub record IsAgentAt (code : PlainCode) (g : CellId) (k : ℕ) : Type 0 where
@@ -183,10 +179,10 @@ AreIdle code s (x ∷ xs) = (x.player.actor.outcome ≡ None → HasWork code s 
 abbrev pub LeavesTaken : CellId → List Bool → List Bool → Type 0
 LeavesTaken g before later = (h : CellId) → (h.number ≡ g.number → ⊥) → is_taken later h ≡ is_taken before h
 
--- an agent asks to take an action where it has none in hand, and to hand in the one that it has
+-- an agent asks to take an action where it has none in hand, and to hand in the one that it has, which sends nothing
 abbrev pub AsksAsAgent : List Bool → CellId → Ask → Type 0
 AsksAsAgent taken g (ask.Take h) = (h ≡ g) × (is_taken taken g ≡ false)
-AsksAsAgent taken g (ask.Finish h new) = (h ≡ g) × (is_taken taken g ≡ true)
+AsksAsAgent taken g (ask.Finish h new sends) = (h ≡ g) × (is_taken taken g ≡ true) × (is_empty sends ≡ true)
 AsksAsAgent taken g _ = ⊥
 
 -- what holds of all actors between two plays

@@ -1,6 +1,7 @@
 -- Serializability: the commits of a report that a program explains are as if its transactions had run one after the other.
 use Rattle.std.specs.Prelude.{◌≡◌, ℕ, List, Some}
 use Rattle.txs_value_base.specs.Places.{nth}
+use Rattle.txs_value_cell.specs.Cells.{validators_of}
 use Rattle.txs_tree_meaning.specs.Marked.{MarkedProgram}
 use Rattle.txs_tree_meaning.specs.Sound.{Sound}
 use Rattle.txs_tree_meaning.specs.Thread.{TxRun}
@@ -40,7 +41,7 @@ pub record InOrder (p : PlainProgram) (sh : Shared) (rans : List Ran) : Type 0 w
   -- they are those of meanings that explain the threads
   pub noted : (k : ℕ) (t : PlainThread) (ran : Ran) → nth p.threads k ≡ Some t → nth rans k ≡ Some ran
       → (n : ℕ) × ExplainsSo ran.outcome ran.printed.items (meant_by p t sh.books ran.trace.items n) × (runs k ≡ transactions p t sh ran n)
-  pub one_by_one : OneByOne p.functions runs (opening (cells_of p.cells)) (sh.books 0)
+  pub one_by_one : OneByOne p.functions (validators_of p.cells) runs (opening (cells_of p.cells)) (sh.books 0)
 
 -- So it is of a report that a program explains, where all its commits are covered.
 abbrev pub ReportsAreSerial : Type 0

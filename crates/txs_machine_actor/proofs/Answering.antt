@@ -16,6 +16,7 @@ use Rattle.txs_value_cell.specs.declared.form.LookForm.TheVariants.{Deref, Ensur
 use Rattle.txs_value_cell.specs.declared.form.PutForm.TheVariants.{Reset}
 use Rattle.txs_value_cell.specs.declared.form.UpdateForm.TheVariants as update
 use Rattle.txs_machine_calls.specs.Travels.{body_at}
+use Rattle.txs_code_meaning.specs.Machine.{Frame}
 use Rattle.txs_code_meaning.specs.PlainCode.{PlainCode, CodeBody}
 use Rattle.txs_code_meaning.specs.WellTyped.{FunctionKind, form_of}
 use Rattle.txs_value_data.specs.declared.value.CellId.{CellId}
@@ -27,15 +28,17 @@ use Rattle.txs_machine_loop.specs.Ready.{Setting, swaps_of, Ready}
 use Rattle.txs_machine_loop.specs.Values.{last_of, put_under}
 use Rattle.txs_machine_loop.proofs.Lists.{nth_index}
 use Rattle.txs_machine_loop.proofs.Ready.{here_of}
-use Rattle.txs_machine_actor.specs.PlainActor.{PlainActor, stops_as, asked_for, unanswered, MayAnswer, MayAnswerIf, begins_again, run_again, ends_again, opens_again, end_again, refuse, views, answered_for, answered_if, answered, functions_of, setting_of, Began, BeganAnew, BeganWell, swaps_in, NoneAside, AllApply, open_of, GoesOn, AsksWell, CanGoOn, Runs, attends_anew, ActsFor, attending_at, waits, AttendsOn, Attends, Lives, OpenApplies}
+use Rattle.txs_machine_actor.specs.PlainActor.{PlainActor, home_of, stops_as, asked_for, unanswered, MayAnswer, MayAnswerIf, begins_again, run_again, ends_again, opens_again, end_again, refuse, views, answered_for, answered_if, answered, functions_of, setting_of, Began, BeganAnew, BeganWell, swaps_in, NoneAside, AllApply, open_of, GoesOn, AsksWell, CanGoOn, Runs, attends_anew, ActsFor, attending_at, waits, AttendsOn, Attends, Lives, OpenApplies}
 use Rattle.txs_machine_transaction.specs.Asks.{applied_in, ask_for}
 use Rattle.txs_machine_transaction.specs.Transaction.{is_running, depth_in, IsSwapping}
 use Rattle.txs_machine_actor.specs.Turns.{TakesAnswer}
 use Rattle.txs_machine_transaction.specs.declared.state.Origin.{Origin}
 use Rattle.txs_machine_transaction.specs.declared.state.Transaction.{Transaction}
-use Rattle.txs_machine_transaction.specs.declared.state.Transaction.TheVariants.{Outside, Restarting, Running, Applying, Evaluating, Swapping, Attending, Acting}
+use Rattle.txs_machine_transaction.specs.declared.state.Transaction.TheVariants.{Outside, Restarting, Running, Applying, Evaluating, Swapping}
 use Rattle.txs_machine_transaction.specs.declared.state.Pending.{Pending}
 use Rattle.txs_machine_transaction.specs.declared.state.Pending.TheVariants as pending
+use Rattle.txs_machine_actor.specs.declared.role.Role.{Role}
+use Rattle.txs_machine_actor.specs.declared.role.Role.TheVariants.{Thread, Attending, Acting}
 use Rattle.txs_machine_actor.proofs.Applying.{all_by_ref, length_blank, well_behind, callers_none, began_none, swap_none, swapless}
 use Rattle.txs_machine_actor.proofs.Landing.{look_ready, begin_ready, end_ready, no_own_swap, open_stands, open_ready, put_stands, put_ready, send_stands, send_ready, close_stands, close_ready}
 use Rattle.txs_machine_actor.proofs.Replies.{by_reply}
@@ -54,6 +57,10 @@ module _ (d : PlainCode) (kinds : List FunctionKind) (b : CodeBody) (a : PlainAc
 
   abbrev set : Setting
   set = setting_of d kinds a.body
+
+  -- the frames below all others
+  abbrev home : List Frame
+  home = home_of a.role
 
   -- no swap is in hand in a transaction
   unswapped : depth_in a.tx ≡ 1 → swaps_in a.tx ≡ 0
@@ -78,60 +85,54 @@ module _ (d : PlainCode) (kinds : List FunctionKind) (b : CodeBody) (a : PlainAc
   stays_so : a.outcome ≡ None → GoesOn d kinds b a → After (record a { pending = None })
   stays_so e g =
       goes_so (record a { pending = None }) refl e refl refl
-      (record { own = g.own; base = g.base; ready = g.ready; enters = g.enters; callers = g.callers; is_first = g.is_first; counted = g.counted; swaps = g.swaps; began = g.began; shallow = g.shallow; commutes = g.commutes; opened = g.opened; applies = g.applies })
+      (record { own = g.own; base = g.base; ready = g.ready; enters = g.enters; callers = g.callers; is_first = g.is_first; counted = g.counted; swaps = g.swaps; began = g.began; shallow = g.shallow; commutes = g.commutes; opened = g.opened; serves = g.serves; applies = g.applies })
 
-  begins_goes : (left : ℕ) (from : Origin) → a.outcome ≡ None → GoesOn d kinds b a → BeganAnew d kinds a.number from → After (begins_again a left from)
+  begins_goes : (left : ℕ) (from : Origin) → a.outcome ≡ None → GoesOn d kinds b a → BeganAnew d kinds a.number home from → After (begins_again a left from)
   begins_goes zero from e g w = ends_so (outcome.Failed (fault_at RetryLimit from.span))
   begins_goes (suc left) from e g w =
       let x = begins_again a (suc left) from in
       let v = w.0 in
       let go : GoesOn d kinds v.stands.code_body x =
-      record { own = (0, 0); base = (0, 0); ready = v.stands.ready; enters = v.stands.enters; callers = v.callers; is_first = v.is_first; counted = refl; swaps = refl; began = tt; shallow = omega arith; commutes = g.commutes; opened = g.opened; applies = w.1 } in
+      record { own = (0, 0); base = (0, 0); ready = v.stands.ready; enters = v.stands.enters; callers = v.callers; is_first = v.is_first; counted = refl; swaps = refl; began = tt; shallow = omega arith; commutes = g.commutes; opened = g.opened; serves = g.serves; applies = w.1 } in
       inl (record { number = refl; body = v.stands.code_body; is = v.stands.is; goes = subst (λ (o : Option Outcome). CanGoOn d kinds v.stands.code_body x o None) (sym e) go })
 
   -- the swap goes again from its open
-  opens_goes : (from : Origin) → a.outcome ≡ None → GoesOn d kinds b a → Began d kinds a.number from → After (opens_again a from)
+  opens_goes : (from : Origin) → a.outcome ≡ None → GoesOn d kinds b a → Began d kinds a.number home from → After (opens_again a from)
   opens_goes from e g v =
       let x = opens_again a from in
       let go : GoesOn d kinds v.stands.code_body x =
-      record { own = (0, 0); base = (0, 0); ready = v.stands.ready; enters = v.stands.enters; callers = v.callers; is_first = v.is_first; counted = refl; swaps = refl; began = tt; shallow = omega arith; commutes = g.commutes; opened = g.opened; applies = tt } in
+      record { own = (0, 0); base = (0, 0); ready = v.stands.ready; enters = v.stands.enters; callers = v.callers; is_first = v.is_first; counted = refl; swaps = refl; began = tt; shallow = omega arith; commutes = g.commutes; opened = g.opened; serves = g.serves; applies = tt } in
       inl (record { number = refl; body = v.stands.code_body; is = v.stands.is; goes = subst (λ (o : Option Outcome). CanGoOn d kinds v.stands.code_body x o None) (sym e) go })
 
-  swap_again_goes : (t : Transaction) → IsSwapping t → a.outcome ≡ None → GoesOn d kinds b a → BeganWell d kinds a.number t → After (end_again a t)
+  swap_again_goes : (t : Transaction) → IsSwapping t → a.outcome ≡ None → GoesOn d kinds b a → BeganWell d kinds a.number home t → After (end_again a t)
   swap_again_goes Outside s e g w = absurd s
   swap_again_goes (Restarting left) s e g w = absurd s
   swap_again_goes (Running left inner from) s e g w = absurd s
   swap_again_goes (Applying left from phase) s e g w = absurd s
   swap_again_goes (Evaluating left from phase aside) s e g w = absurd s
   swap_again_goes (Swapping c p from) s e g w = opens_goes from e g w
-  swap_again_goes (Attending ag o) s e g w = absurd s
-  swap_again_goes (Acting ag ax aside) s e g w = absurd s
 
-  again_goes : (t : Transaction) → a.outcome ≡ None → GoesOn d kinds b a → BeganWell d kinds a.number t → After (run_again a t)
+  again_goes : (t : Transaction) → a.outcome ≡ None → GoesOn d kinds b a → BeganWell d kinds a.number home t → After (run_again a t)
   again_goes Outside e g w = stays_so e g
   again_goes (Restarting left) e g w = stays_so e g
   again_goes (Running left inner from) e g w = begins_goes left from e g w
   again_goes (Applying left from phase) e g w = begins_goes left from e g w
   again_goes (Evaluating left from phase aside) e g w = stays_so e g
   again_goes (Swapping c p from) e g w = stays_so e g
-  again_goes (Attending ag o) e g w = stays_so e g
-  again_goes (Acting ag ax aside) e g w = stays_so e g
 
-  ends_goes : (left : ℕ) (from : Origin) → a.outcome ≡ None → (g : GoesOn d kinds b a) → NoneAside a.tx → g.base.0 + g.own.0 ≡ 1 → g.base.1 + g.own.1 ≡ 0 → 1 ≤ a.steps → BeganAnew d kinds a.number from → After (ends_again a left from)
+  ends_goes : (left : ℕ) (from : Origin) → a.outcome ≡ None → (g : GoesOn d kinds b a) → NoneAside a.tx → g.base.0 + g.own.0 ≡ 1 → g.base.1 + g.own.1 ≡ 0 → 1 ≤ a.steps → BeganAnew d kinds a.number home from → After (ends_again a left from)
   ends_goes zero from e g u c z le w = ends_so (outcome.Failed (fault_at RetryLimit from.span))
   ends_goes (suc left) from e g u c z le w =
       goes_so (ends_again a (suc left) from) refl e refl refl
-      (record { own = g.own; base = g.base; ready = g.ready; enters = g.enters; callers = callers_none d kinds a.number a.tx a.frames g.base u g.callers; is_first = began_none kinds a.tx a.frames a.body u g.is_first; counted = c; swaps = z; began = w; shallow = le; commutes = g.commutes; opened = g.opened; applies = tt })
+      (record { own = g.own; base = g.base; ready = g.ready; enters = g.enters; callers = callers_none d kinds a.number a.tx a.frames g.base u g.callers; is_first = began_none kinds home a.tx a.frames a.body u g.is_first; counted = c; swaps = z; began = w; shallow = le; commutes = g.commutes; opened = g.opened; serves = g.serves; applies = tt })
 
-  end_again_goes : (t : Transaction) → a.outcome ≡ None → (g : GoesOn d kinds b a) → NoneAside a.tx → g.base.0 + g.own.0 ≡ 1 → g.base.1 + g.own.1 ≡ 0 → 1 ≤ a.steps → BeganWell d kinds a.number t → After (end_again a t)
+  end_again_goes : (t : Transaction) → a.outcome ≡ None → (g : GoesOn d kinds b a) → NoneAside a.tx → g.base.0 + g.own.0 ≡ 1 → g.base.1 + g.own.1 ≡ 0 → 1 ≤ a.steps → BeganWell d kinds a.number home t → After (end_again a t)
   end_again_goes Outside e g u c z le w = stays_so e g
   end_again_goes (Restarting left) e g u c z le w = stays_so e g
   end_again_goes (Running left inner from) e g u c z le w = ends_goes left from e g u c z le w
   end_again_goes (Applying left from phase) e g u c z le w = ends_goes left from e g u c z le w
   end_again_goes (Evaluating left from phase aside) e g u c z le w = stays_so e g
   end_again_goes (Swapping x p from) e g u c z le w = opens_goes from e g w
-  end_again_goes (Attending ag o) e g u c z le w = stays_so e g
-  end_again_goes (Acting ag ax aside) e g u c z le w = stays_so e g
 
   refuse_goes : (t : Transaction) → a.outcome ≡ None → GoesOn d kinds b a → After (refuse a t)
   refuse_goes Outside e g = stays_so e g
@@ -140,23 +141,19 @@ module _ (d : PlainCode) (kinds : List FunctionKind) (b : CodeBody) (a : PlainAc
   refuse_goes (Applying left from phase) e g = ends_so (outcome.Failed (fault_at AgentFailed from.span))
   refuse_goes (Evaluating left from phase aside) e g = stays_so e g
   refuse_goes (Swapping c p from) e g = stays_so e g
-  refuse_goes (Attending ag o) e g = stays_so e g
-  refuse_goes (Acting ag ax aside) e g = stays_so e g
 
   -- the commutes are applied from now on
-  views_goes : (t : Transaction) (phase : PlainPhase) (q : ℕ) (vs : List Value) → a.outcome ≡ None → (g : GoesOn d kinds b a) → NoneAside a.tx → g.base.0 + g.own.0 ≡ 1 → g.base.1 + g.own.1 ≡ 0 → 1 ≤ a.steps → BeganWell d kinds a.number t → nth b.instrs a.place ≡ Some instr.TxEnd
+  views_goes : (t : Transaction) (phase : PlainPhase) (q : ℕ) (vs : List Value) → a.outcome ≡ None → (g : GoesOn d kinds b a) → NoneAside a.tx → g.base.0 + g.own.0 ≡ 1 → g.base.1 + g.own.1 ≡ 0 → 1 ≤ a.steps → BeganWell d kinds a.number home t → nth b.instrs a.place ≡ Some instr.TxEnd
       → AllApply (functions_of d kinds) phase.work
       → After (views a phase q vs t)
   views_goes Outside phase q vs e g u c z le w is_end all = stays_so e g
   views_goes (Restarting left) phase q vs e g u c z le w is_end all = stays_so e g
   views_goes (Running left inner from) phase q vs e g u c z le w is_end all =
       goes_so (views a phase q vs (Running left inner from)) refl e refl refl
-      (record { own = g.own; base = g.base; ready = g.ready; enters = g.enters; callers = callers_none d kinds a.number a.tx a.frames g.base u g.callers; is_first = began_none kinds a.tx a.frames a.body u g.is_first; counted = c; swaps = z; began = w; shallow = le; commutes = g.commutes; opened = g.opened; applies = (is_end, all) })
+      (record { own = g.own; base = g.base; ready = g.ready; enters = g.enters; callers = callers_none d kinds a.number a.tx a.frames g.base u g.callers; is_first = began_none kinds home a.tx a.frames a.body u g.is_first; counted = c; swaps = z; began = w; shallow = le; commutes = g.commutes; opened = g.opened; serves = g.serves; applies = (is_end, all) })
   views_goes (Applying left from before) phase q vs e g u c z le w is_end all = stays_so e g
   views_goes (Evaluating left from before aside) phase q vs e g u c z le w is_end all = stays_so e g
   views_goes (Swapping x p from) phase q vs e g u c z le w is_end all = stays_so e g
-  views_goes (Attending ag o) phase q vs e g u c z le w is_end all = stays_so e g
-  views_goes (Acting ag ax aside) phase q vs e g u c z le w is_end all = stays_so e g
 
   full_ends : (p : Pending) → After (answered_for a p Full)
   full_ends (pending.Begin left from) = ends_so outcome.JournalFull
@@ -223,31 +220,26 @@ module _ (d : PlainCode) (kinds : List FunctionKind) (b : CodeBody) (a : PlainAc
   memory_taken (pending.Finish ag new) = tt
 
   -- an agent is at the beginning of its own body again
-  goes_home : (ag : CellId) → a.outcome ≡ None → AllApply (functions_of d kinds) a.done.commutes → OpenApplies (functions_of d kinds) a.commuting → (t : Transaction) → ActsFor d kinds a.number ag t → Attends d (attends_anew a t)
-  goes_home ag e all can Outside w = absurd w
-  goes_home ag e all can (Restarting left) w = absurd w
-  goes_home ag e all can (Running left inner from) w = absurd w
-  goes_home ag e all can (Applying left from phase) w = absurd w
-  goes_home ag e all can (Evaluating left from phase aside) w = absurd w
-  goes_home ag e all can (Swapping c p from) w = absurd w
-  goes_home ag e all can (Attending h o) w = absurd w
-  goes_home ag e all can (Acting h x aside) w =
-      let there : PlainStack → PlainActor = λ y. attends_anew a (Acting h x y) in
-      let stood : PlainStack → Type 0 = λ y. there y ≡ attending_at (there y) h None 0 [] in
+  goes_home : (ag : CellId) → a.outcome ≡ None → AllApply (functions_of d kinds) a.done.commutes → OpenApplies (functions_of d kinds) a.commuting → a.tx ≡ Outside → (r : Role) → ActsFor d kinds a.number ag r → Attends d (attends_anew a r)
+  goes_home ag e all can out Thread w = absurd w
+  goes_home ag e all can out (Attending h o) w = absurd w
+  goes_home ag e all can out (Acting h aside) w =
+      let there : PlainStack → Transaction → PlainActor = λ y t. record (attends_anew a (Acting h y)) { tx = t } in
+      let stood : PlainStack → Transaction → Type 0 = λ y t. there y t ≡ attending_at (there y t) h.agent None 0 [] in
       let typed = w.1.typed.typed in
       let same : kinds ≡ typed.kinds = sym w.1.typed.same in
       record {
         function_rooms = w.1.typed.function_rooms;
         thread_rooms = w.1.typed.thread_rooms;
         typed = typed;
-        agent = h;
-        action = None;
+        agent = h.agent;
+        acting = None;
         here = refl;
         actor = w.1.actor;
         roomy = w.1.roomy;
         commutes = subst (λ (y : List FunctionKind). AllApply (functions_of d y) a.done.commutes) same all;
         opened = subst (λ (y : List FunctionKind). OpenApplies (functions_of d y) a.commuting) same can;
-        attends = subst (λ (o : Option Outcome). AttendsOn d h (there aside) o None) (sym e) (waits (subst stood (sym w.1.is) refl));
+        attends = subst (λ (o : Option Outcome). AttendsOn d h.agent (there aside a.tx) o None) (sym e) (waits (subst (λ (y : PlainStack). stood y a.tx) (sym w.1.is) (subst (λ (t : Transaction). stood (record { body = 0; locals = 0; place = 2; values = []; room = aside.room; frames = [] }) t) (sym out) refl)));
       }
 
   pub takes : (p : Pending) (inside : Bool) (at view : ℕ) (ws : Writes) (r : Reply) → AsksWell d kinds b a p → MayAnswer (ask_for p inside at view ws a.done) r → TakesAnswer a (length b.instrs) (Some p) r
@@ -315,23 +307,23 @@ module _ (d : PlainCode) (kinds : List FunctionKind) (b : CodeBody) (a : PlainAc
             let c = g.counted in
             let u = k.1.5 in
             goes_so (answered_for a (pending.Begin left from) (At x)) refl e refl refl
-            (record { own = (suc g.own.0, g.own.1); base = g.base; ready = t; enters = g.enters; callers = callers_none d kinds a.number a.tx a.frames g.base u g.callers; is_first = began_none kinds a.tx a.frames a.body u g.is_first; counted = omega (arith, c, k.1.1); swaps = g.swaps ∙ k.1.4; began = k.1.3; shallow = let h = k.1.2 in omega (arith, h); commutes = tt; opened = tt; applies = tt });
+            (record { own = (suc g.own.0, g.own.1); base = g.base; ready = t; enters = g.enters; callers = callers_none d kinds a.number a.tx a.frames g.base u g.callers; is_first = began_none kinds home a.tx a.frames a.body u g.is_first; counted = omega (arith, c, k.1.1); swaps = g.swaps ∙ k.1.4; began = k.1.3; shallow = let h = k.1.2 in omega (arith, h); commutes = tt; opened = tt; serves = g.serves; applies = tt });
         reads = λ c i v k.
             let g = k.0 in
             goes_so (answered_for a (pending.Read c) (Is v)) refl e refl refl
-            (record { own = g.own; base = g.base; ready = (look_ready set d.constants b a.locals a.place a.values a.room g.own g.ready Deref k.1 v).1; enters = g.enters; callers = g.callers; is_first = g.is_first; counted = g.counted; swaps = g.swaps; began = g.began; shallow = g.shallow; commutes = g.commutes; opened = g.opened; applies = well_behind d kinds a.number b b a.place (a.place + 1) a.tx (instr.Look Deref) g.applies k.1 (λ x. cc) (λ x. cc) });
+            (record { own = g.own; base = g.base; ready = (look_ready set d.constants b a.locals a.place a.values a.room g.own g.ready Deref k.1 v).1; enters = g.enters; callers = g.callers; is_first = g.is_first; counted = g.counted; swaps = g.swaps; began = g.began; shallow = g.shallow; commutes = g.commutes; opened = g.opened; serves = g.serves; applies = well_behind d kinds a.number home b b a.place (a.place + 1) a.tx (instr.Look Deref) g.applies k.1 (λ x. cc) (λ x. cc) });
         reads_again = λ c x k. again_goes a.tx e k.0 k.0.began;
         ensures = λ c es i v k.
             let g = k.0 in
             goes_so (answered_for a (pending.Ensure c es) (Is v)) refl e refl refl
-            (record { own = g.own; base = g.base; ready = (look_ready set d.constants b a.locals a.place a.values a.room g.own g.ready Ensure k.1.0 v).1; enters = g.enters; callers = g.callers; is_first = g.is_first; counted = g.counted; swaps = g.swaps; began = g.began; shallow = g.shallow; commutes = g.commutes; opened = g.opened; applies = well_behind d kinds a.number b b a.place (a.place + 1) a.tx (instr.Look Ensure) g.applies k.1.0 (λ x. cc) (λ x. cc) });
+            (record { own = g.own; base = g.base; ready = (look_ready set d.constants b a.locals a.place a.values a.room g.own g.ready Ensure k.1.0 v).1; enters = g.enters; callers = g.callers; is_first = g.is_first; counted = g.counted; swaps = g.swaps; began = g.began; shallow = g.shallow; commutes = g.commutes; opened = g.opened; serves = g.serves; applies = well_behind d kinds a.number home b b a.place (a.place + 1) a.tx (instr.Look Ensure) g.applies k.1.0 (λ x. cc) (λ x. cc) });
         ensures_again = λ c es i x k. again_goes a.tx e k.0 k.0.began;
         opens = λ c n kept i v k.
             let g = k.0 in
             let none = no_own_swap set d.constants b a.locals a.place a.values a.room g.own g.ready (instr.Open (open_of kept) n) k.1.0 tt in
             let s = g.swaps in
             goes_so (answered_for a (pending.Open c n kept) (Is v)) refl e refl refl
-            (record { own = (g.own.0, 0); base = g.base; ready = opened_ready g kept n k.1.0 v; enters = g.enters; callers = g.callers; is_first = g.is_first; counted = g.counted; swaps = omega (arith, s, none); began = g.began; shallow = g.shallow; commutes = g.commutes; opened = k.1.1; applies = well_behind d kinds a.number b b a.place (a.place + 1) a.tx (instr.Open (open_of kept) n) g.applies k.1.0 (λ x. cc) (λ x. cc) });
+            (record { own = (g.own.0, 0); base = g.base; ready = opened_ready g kept n k.1.0 v; enters = g.enters; callers = g.callers; is_first = g.is_first; counted = g.counted; swaps = omega (arith, s, none); began = g.began; shallow = g.shallow; commutes = g.commutes; opened = k.1.1; serves = g.serves; applies = well_behind d kinds a.number home b b a.place (a.place + 1) a.tx (instr.Open (open_of kept) n) g.applies k.1.0 (λ x. cc) (λ x. cc) });
         opens_again = λ c n kept i x k. again_goes a.tx e k.0 k.0.began;
         views = λ phase i q vs f k.
             let le = k.0.shallow in
@@ -339,18 +331,18 @@ module _ (d : PlainCode) (kinds : List FunctionKind) (b : CodeBody) (a : PlainAc
         resets = λ c v i k.
             let g = k.0 in
             goes_so (answered_for a (pending.Reset c v) Done) refl e refl refl
-            (record { own = g.own; base = g.base; ready = put_ready set d.constants b a.locals a.place a.values a.room g.own g.ready Reset k.1 (last_of a.values); enters = g.enters; callers = g.callers; is_first = g.is_first; counted = g.counted; swaps = g.swaps; began = g.began; shallow = g.shallow; commutes = g.commutes; opened = g.opened; applies = well_behind d kinds a.number b b a.place (a.place + 1) a.tx (instr.Put Reset) g.applies k.1 (λ x. cc) (λ x. cc) });
+            (record { own = g.own; base = g.base; ready = put_ready set d.constants b a.locals a.place a.values a.room g.own g.ready Reset k.1 (last_of a.values); enters = g.enters; callers = g.callers; is_first = g.is_first; counted = g.counted; swaps = g.swaps; began = g.began; shallow = g.shallow; commutes = g.commutes; opened = g.opened; serves = g.serves; applies = well_behind d kinds a.number home b b a.place (a.place + 1) a.tx (instr.Put Reset) g.applies k.1 (λ x. cc) (λ x. cc) });
         sends = λ x n i k.
             let g = k.0 in
             goes_so (answered_for a (pending.Send x n) Done) refl e refl refl
-            (record { own = g.own; base = g.base; ready = send_ready set d.constants b a.locals a.place a.values a.room g.own g.ready x.callee n k.1 (Cell x.agent); enters = g.enters; callers = g.callers; is_first = g.is_first; counted = g.counted; swaps = g.swaps; began = g.began; shallow = g.shallow; commutes = g.commutes; opened = g.opened; applies = well_behind d kinds a.number b b a.place (a.place + 1) a.tx (instr.Send x.callee n) g.applies k.1 (λ y. cc) (λ y. cc) });
+            (record { own = g.own; base = g.base; ready = send_ready set d.constants b a.locals a.place a.values a.room g.own g.ready x.callee n k.1 (Cell x.agent); enters = g.enters; callers = g.callers; is_first = g.is_first; counted = g.counted; swaps = g.swaps; began = g.began; shallow = g.shallow; commutes = g.commutes; opened = g.opened; serves = g.serves; applies = well_behind d kinds a.number home b b a.place (a.place + 1) a.tx (instr.Send x.callee n) g.applies k.1 (λ y. cc) (λ y. cc) });
         refused = λ x n i g k. ends_so (outcome.Failed (fault_at AgentFailed x.span));
         commits = λ i k.
             let g = k.0 in
             let t = end_ready set d.constants b a.locals a.place a.values a.room g.own g.ready k.1.0 in
             let c = g.counted in
             goes_so (answered_for a pending.Commit Done) refl e refl refl
-            (record { own = (g.own.0 - 1, g.own.1); base = g.base; ready = t.1; enters = g.enters; callers = callers_none d kinds a.number a.tx a.frames g.base k.1.2 g.callers; is_first = began_none kinds a.tx a.frames a.body k.1.2 g.is_first; counted = omega (arith, c, t.0, k.1.1); swaps = g.swaps ∙ unswapped k.1.1; began = tt; shallow = omega arith; commutes = g.commutes; opened = g.opened; applies = tt });
+            (record { own = (g.own.0 - 1, g.own.1); base = g.base; ready = t.1; enters = g.enters; callers = callers_none d kinds a.number a.tx a.frames g.base k.1.2 g.callers; is_first = began_none kinds home a.tx a.frames a.body k.1.2 g.is_first; counted = omega (arith, c, t.0, k.1.1); swaps = g.swaps ∙ unswapped k.1.1; began = tt; shallow = omega arith; commutes = g.commutes; opened = g.opened; serves = g.serves; applies = tt });
         opens_atom = λ c n from i p v k.
             let g = k.0 in
             let f = k.1.0.0 in
@@ -359,14 +351,14 @@ module _ (d : PlainCode) (kinds : List FunctionKind) (b : CodeBody) (a : PlainAc
             let many : swaps_in a.tx ≡ 0 = ap swaps_in k.1.1 in
             let s = g.swaps in
             goes_so (answered_for a (pending.Swap c n from) (Opened p v)) refl e refl refl
-            (record { own = (g.own.0, 1); base = g.base; ready = open_ready set d.constants b a.locals a.place a.values a.room g.own g.ready (open_form.Swap f) n k.1.0.1 v; enters = g.enters; callers = callers_none d kinds a.number a.tx a.frames g.base none g.callers; is_first = began_none kinds a.tx a.frames a.body none g.is_first; counted = g.counted ∙ depth; swaps = omega (arith, s, many); began = k.1.2; shallow = omega arith; commutes = g.commutes; opened = g.opened; applies = tt });
+            (record { own = (g.own.0, 1); base = g.base; ready = open_ready set d.constants b a.locals a.place a.values a.room g.own g.ready (open_form.Swap f) n k.1.0.1 v; enters = g.enters; callers = callers_none d kinds a.number a.tx a.frames g.base none g.callers; is_first = began_none kinds home a.tx a.frames a.body none g.is_first; counted = g.counted ∙ depth; swaps = omega (arith, s, many); began = k.1.2; shallow = omega arith; commutes = g.commutes; opened = g.opened; serves = g.serves; applies = tt });
         closes_atom = λ c p v i k.
             let g = k.0 in
             let n = swap_none a.tx k.1.1 in
             let l = close_stands set d.constants b a.locals a.place a.values a.room g.own g.ready update.Swap k.1.0 in
             let s = g.swaps in
             goes_so (answered_for a (pending.Close c p v) Done) refl e refl refl
-            (record { own = (g.own.0, 0); base = g.base; ready = close_ready set d.constants b a.locals a.place a.values a.room g.own g.ready update.Swap k.1.0 (last_of a.values); enters = g.enters; callers = callers_none d kinds a.number a.tx a.frames g.base n.0 g.callers; is_first = began_none kinds a.tx a.frames a.body n.0 g.is_first; counted = g.counted ∙ n.1; swaps = omega (arith, s, n.2, l.1); began = tt; shallow = omega arith; commutes = g.commutes; opened = g.opened; applies = tt });
+            (record { own = (g.own.0, 0); base = g.base; ready = close_ready set d.constants b a.locals a.place a.values a.room g.own g.ready update.Swap k.1.0 (last_of a.values); enters = g.enters; callers = callers_none d kinds a.number a.tx a.frames g.base n.0 g.callers; is_first = began_none kinds home a.tx a.frames a.body n.0 g.is_first; counted = g.counted ∙ n.1; swaps = omega (arith, s, n.2, l.1); began = tt; shallow = omega arith; commutes = g.commutes; opened = g.opened; serves = g.serves; applies = tt });
         swaps_again = λ c p v i x k. swap_again_goes a.tx k.1.1 e k.0 k.0.began;
         commits_again = λ i x k. again_goes a.tx e k.0 k.0.began;
         changed = λ i x k. end_again_goes a.tx e k.0 k.1.2 (k.0.counted ∙ k.1.1) (k.0.swaps ∙ unswapped k.1.1) (let le = k.0.shallow in omega (arith, le, k.1.1)) k.0.began;
@@ -375,7 +367,7 @@ module _ (d : PlainCode) (kinds : List FunctionKind) (b : CodeBody) (a : PlainAc
         breaks = λ c p f i k. ends_so (outcome.Failed f);
         takes = λ ag i n x v k. absurd k.1;
         idles = λ ag i k. absurd k.1;
-        finishes = λ ag new i k. inr (goes_home ag e k.1 k.2 a.tx k.0);
+        finishes = λ ag new i k. inr (goes_home ag e k.2 k.3 k.1 a.role k.0);
         full = λ q i k. full_ends q;
         memory = λ q i k. memory_ends q;
       }) p inside at view ws r m w

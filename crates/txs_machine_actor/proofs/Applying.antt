@@ -12,6 +12,7 @@ use Rattle.txs_value_base.specs.declared.op.Callee.TheVariants as callee
 use Rattle.txs_value_base.specs.declared.op.Op.{Op}
 use Rattle.txs_value_data.specs.declared.value.CellId.{CellId}
 use Rattle.txs_value_data.specs.declared.value.Value.{Value}
+use Rattle.txs_code_meaning.specs.Machine.{Frame}
 use Rattle.txs_code_meaning.specs.PlainCode.{PlainCode, CodeBody}
 use Rattle.txs_code_meaning.specs.WellTyped.{Functions, FunctionKind, CalleeTakes, IsPureCallee, IsImpure}
 use Rattle.txs_code_meaning.specs.declared.instr.Instr.{Instr}
@@ -24,7 +25,7 @@ use Rattle.txs_machine_stack.specs.PlainFrame.{PlainFrame}
 use Rattle.txs_machine_transaction.specs.declared.state.Origin.{Origin}
 use Rattle.txs_machine_transaction.specs.declared.state.Pending.TheVariants as pending
 use Rattle.txs_machine_transaction.specs.declared.state.Transaction.{Transaction}
-use Rattle.txs_machine_transaction.specs.declared.state.Transaction.TheVariants.{Outside, Restarting, Running, Applying, Evaluating, Swapping, Attending, Acting}
+use Rattle.txs_machine_transaction.specs.declared.state.Transaction.TheVariants.{Outside, Restarting, Running, Applying, Evaluating, Swapping}
 
 -- ---- many commutes
 
@@ -78,51 +79,44 @@ pub pure_impure : (kinds : List FunctionKind) (bn : ℕ) → IsPureBody kinds bn
 pure_impure kinds zero p i = absurd p
 pure_impure kinds (suc f) p i = let x = sym p ∙ i in cc
 
-module _ (d : PlainCode) (kinds : List FunctionKind) (n : ℕ) where
+module _ (d : PlainCode) (kinds : List FunctionKind) (n : ℕ) (home : List Frame) where
   -- commutes are applied at no other instruction of an impure body than a transaction's end, where no swap is in hand
-  pub unapplied : (b : CodeBody) (at : ℕ) (t : Transaction) (fs : List PlainFrame) (bn : ℕ) (i : Instr) → AppliesWell d kinds n b at t → BeganBy kinds t fs bn → nth b.instrs at ≡ Some i → (i ≡ TxEnd → ⊥) → IsImpure (owner_of kinds bn) → (IsSwapping t → ⊥) → IsUnapplied t
+  pub unapplied : (b : CodeBody) (at : ℕ) (t : Transaction) (fs : List PlainFrame) (bn : ℕ) (i : Instr) → AppliesWell d kinds n home b at t → BeganBy kinds home t fs bn → nth b.instrs at ≡ Some i → (i ≡ TxEnd → ⊥) → IsImpure (owner_of kinds bn) → (IsSwapping t → ⊥) → IsUnapplied t
   unapplied b at Outside fs bn i w p e other im none = tt
   unapplied b at (Restarting left) fs bn i w p e other im none = tt
   unapplied b at (Running left inner from) fs bn i w p e other im none = tt
   unapplied b at (Applying left from phase) fs bn i w p e other im none = absurd (other (some (sym e ∙ w.0)))
   unapplied b at (Evaluating left from phase aside) fs bn i w p e other im none = absurd (pure_impure kinds bn p.1 im)
   unapplied b at (Swapping c p1 from) fs bn i w p e other im none = absurd (none tt)
-  unapplied b at (Attending ag o) fs bn i w p e other im none = absurd w
-  unapplied b at (Acting ag ax aside) fs bn i w p e other im none = absurd (pure_impure kinds bn p.1 im)
 
   -- outside transactions, and with no swap in hand, an actor is plainly outside, where no transaction begins anew
-  pub plainly_outside : (b : CodeBody) (at : ℕ) (t : Transaction) (i : Instr) → AppliesWell d kinds n b at t → nth b.instrs at ≡ Some i → (i ≡ TxBegin → ⊥) → IsUnapplied t → depth_in t ≡ 0 → t ≡ Outside
+  pub plainly_outside : (b : CodeBody) (at : ℕ) (t : Transaction) (i : Instr) → AppliesWell d kinds n home b at t → nth b.instrs at ≡ Some i → (i ≡ TxBegin → ⊥) → IsUnapplied t → depth_in t ≡ 0 → t ≡ Outside
   plainly_outside b at Outside i w e begins u k = refl
   plainly_outside b at (Restarting left) i w e begins u k = absurd (begins (some (sym e ∙ w)))
   plainly_outside b at (Running left inner from) i w e begins u k = cc
   plainly_outside b at (Applying left from phase) i w e begins u k = absurd u
   plainly_outside b at (Evaluating left from phase aside) i w e begins u k = absurd u
   plainly_outside b at (Swapping c p from) i w e begins u k = absurd u
-  plainly_outside b at (Attending ag o) i w e begins u k = absurd u
-  plainly_outside b at (Acting ag ax aside) i w e begins u k = absurd u
 
   -- behind an instruction that is no transaction's end and no beginning they are applied in turns of a function alone, wherever that is
-  pub well_behind : (b b1 : CodeBody) (at to : ℕ) (t : Transaction) (i : Instr) → AppliesWell d kinds n b at t → nth b.instrs at ≡ Some i → (i ≡ TxEnd → ⊥) → (i ≡ TxBegin → ⊥) → AppliesWell d kinds n b1 to t
+  pub well_behind : (b b1 : CodeBody) (at to : ℕ) (t : Transaction) (i : Instr) → AppliesWell d kinds n home b at t → nth b.instrs at ≡ Some i → (i ≡ TxEnd → ⊥) → (i ≡ TxBegin → ⊥) → AppliesWell d kinds n home b1 to t
   well_behind b b1 at to Outside i w e other begins = tt
   well_behind b b1 at to (Restarting left) i w e other begins = absurd (begins (some (sym e ∙ w)))
   well_behind b b1 at to (Running left inner from) i w e other begins = tt
   well_behind b b1 at to (Applying left from phase) i w e other begins = absurd (other (some (sym e ∙ w.0)))
   well_behind b b1 at to (Evaluating left from phase aside) i w e other begins = w
   well_behind b b1 at to (Swapping c p from) i w e other begins = tt
-  well_behind b b1 at to (Attending ag o) i w e other begins = absurd w
-  well_behind b b1 at to (Acting ag ax aside) i w e other begins = w
 
   -- at a transaction's end the next commute is of an operation, where it is of no function
-  pub left_apply : (b : CodeBody) (at : ℕ) (t : Transaction) → AppliesWell d kinds n b at t → NoneAside t → next_function t ≡ None → LeftApply t
+  pub left_apply : (b : CodeBody) (at : ℕ) (t : Transaction) → AppliesWell d kinds n home b at t → NoneAside t → next_function t ≡ None → LeftApply t
   left_apply b at Outside w u e = tt
   left_apply b at (Restarting left) w u e = tt
   left_apply b at (Running left inner from) w u e = tt
   left_apply b at (Applying left from phase) w u e = all_operate (functions_of d kinds) phase.work w.1 e
   left_apply b at (Evaluating left from phase aside) w u e = absurd u
   left_apply b at (Swapping c p from) w u e = tt
-  left_apply b at (Attending ag o) w u e = absurd u
-  left_apply b at (Acting ag ax aside) w u e = absurd u
 
+module _ (d : PlainCode) (kinds : List FunctionKind) (n : ℕ) where
   -- a body is called in as many transactions as what was called first, or more
   pub callers_from : (fs : List PlainFrame) (first base : ℕ × ℕ) → Callers d kinds n fs first base → first.0 ≤ base.0
   callers_from [] first base c = let e : first.0 ≡ base.0 = ap (λ (x : ℕ × ℕ). x.0) c in omega (arith, e)
@@ -136,8 +130,6 @@ module _ (d : PlainCode) (kinds : List FunctionKind) (n : ℕ) where
   none_in_own (Applying left from phase) fs own base c e lt = tt
   none_in_own (Evaluating left from phase aside) fs own base c e lt = let le : 1 ≤ base.0 = callers_from fs (1, 0) base c in absurd (omega (arith, le, e, lt))
   none_in_own (Swapping x p from) fs own base c e lt = tt
-  none_in_own (Attending ag o) fs own base c e lt = absurd (omega (arith, e, lt))
-  none_in_own (Acting ag ax aside) fs own base c e lt = absurd (omega (arith, e, lt))
 
   first_none : (t : Transaction) → NoneAside t → first_in t ≡ (0, 0)
   first_none Outside u = refl
@@ -146,21 +138,17 @@ module _ (d : PlainCode) (kinds : List FunctionKind) (n : ℕ) where
   first_none (Applying left from phase) u = refl
   first_none (Evaluating left from phase aside) u = absurd u
   first_none (Swapping c p from) u = refl
-  first_none (Attending ag o) u = absurd u
-  first_none (Acting ag ax aside) u = absurd u
 
   pub callers_none : (t : Transaction) (fs : List PlainFrame) (base : ℕ × ℕ) → NoneAside t → Callers d kinds n fs (first_in t) base → Callers d kinds n fs (0, 0) base
   callers_none t fs base u c = subst (λ (x : ℕ × ℕ). Callers d kinds n fs x base) (first_none t u) c
 
-pub began_none : (kinds : List FunctionKind) (t : Transaction) (fs : List PlainFrame) (bn : ℕ) → NoneAside t → BeganBy kinds t fs bn → IsFirst fs bn
-began_none kinds Outside fs bn u p = p
-began_none kinds (Restarting left) fs bn u p = p
-began_none kinds (Running left inner from) fs bn u p = p
-began_none kinds (Applying left from phase) fs bn u p = p
-began_none kinds (Evaluating left from phase aside) fs bn u p = absurd u
-began_none kinds (Swapping c at from) fs bn u p = p
-began_none kinds (Attending ag o) fs bn u p = absurd u
-began_none kinds (Acting ag ax aside) fs bn u p = absurd u
+pub began_none : (kinds : List FunctionKind) (home : List Frame) (t : Transaction) (fs : List PlainFrame) (bn : ℕ) → NoneAside t → BeganBy kinds home t fs bn → IsFirst kinds home fs bn
+began_none kinds home Outside fs bn u p = p
+began_none kinds home (Restarting left) fs bn u p = p
+began_none kinds home (Running left inner from) fs bn u p = p
+began_none kinds home (Applying left from phase) fs bn u p = p
+began_none kinds home (Evaluating left from phase aside) fs bn u p = absurd u
+began_none kinds home (Swapping c at from) fs bn u p = p
 
 pub none_unapplied : (t : Transaction) → IsUnapplied t → NoneAside t
 none_unapplied Outside u = tt
@@ -169,8 +157,6 @@ none_unapplied (Running left inner from) u = tt
 none_unapplied (Applying left from phase) u = tt
 none_unapplied (Evaluating left from phase aside) u = absurd u
 none_unapplied (Swapping c p from) u = absurd u
-none_unapplied (Attending ag o) u = absurd u
-none_unapplied (Acting ag ax aside) u = absurd u
 
 -- a swap is in hand in no transaction, and no stack is put aside then
 pub swap_none : (t : Transaction) → IsSwapping t → NoneAside t × (depth_in t ≡ 0) × (swaps_in t ≡ 1)
@@ -180,8 +166,6 @@ swap_none (Running left inner from) s = absurd s
 swap_none (Applying left from phase) s = absurd s
 swap_none (Evaluating left from phase aside) s = absurd s
 swap_none (Swapping c p from) s = (tt, refl, refl)
-swap_none (Attending ag o) s = absurd s
-swap_none (Acting ag ax aside) s = absurd s
 
 -- no swap is in hand in a transaction
 pub swapless : (t : Transaction) → 0 < depth_in t → swaps_in t ≡ 0
@@ -191,8 +175,6 @@ swapless (Running left inner from) lt = refl
 swapless (Applying left from phase) lt = refl
 swapless (Evaluating left from phase aside) lt = refl
 swapless (Swapping c p from) lt = absurd (omega (arith, lt))
-swapless (Attending ag o) lt = refl
-swapless (Acting ag ax aside) lt = refl
 
 -- where there is a swap, it is in hand
 pub swap_in_hand : (t : Transaction) → 0 < swaps_in t → IsSwapping t
@@ -202,8 +184,6 @@ swap_in_hand (Running left inner from) lt = absurd (omega (arith, lt))
 swap_in_hand (Applying left from phase) lt = absurd (omega (arith, lt))
 swap_in_hand (Evaluating left from phase aside) lt = absurd (omega (arith, lt))
 swap_in_hand (Swapping c p from) lt = tt
-swap_in_hand (Attending ag o) lt = absurd (omega (arith, lt))
-swap_in_hand (Acting ag ax aside) lt = absurd (omega (arith, lt))
 
 -- ---- one stage of a commute phase
 

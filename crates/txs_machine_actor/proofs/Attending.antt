@@ -1,5 +1,5 @@
 -- An agent in its own body: what its turns come to, and where it goes on after an answer.
-use Rattle.std.proofs.Common.{◌≡◌, ℕ, suc, ◌+◌, ◌-◌, ◌<◌, ◌≤◌, Bool, true, List, [], ◌∷◌, ◌++◌, length, reverse, Option, Some, None, Result, Ok, Err, refl, sym, ap, ◌∙◌, subst, arith, inl, inr}
+use Rattle.std.proofs.Common.{◌≡◌, ℕ, suc, ◌+◌, ◌-◌, ◌<◌, ◌≤◌, Bool, List, [], ◌∷◌, ◌++◌, length, reverse, Option, Some, None, Result, Ok, Err, refl, sym, ap, ◌∙◌, subst, arith, inl, inr}
 use Rattle.std.proofs.lemmas.Bool.{lt-ltb, le-ltb}
 use Rattle.std.proofs.lemmas.List.{length-append, take_all, drop_all}
 use Rattle.txs_world_protocol.specs.Ask.{Exchange}
@@ -22,27 +22,28 @@ use Rattle.txs_value_base.specs.declared.op.Callee.TheVariants as callee
 use Rattle.txs_value_base.specs.declared.op.Op.{Op}
 use Rattle.txs_value_data.specs.declared.value.CellId.{CellId}
 use Rattle.txs_value_data.specs.declared.value.Value.{Value}
-use Rattle.txs_code_meaning.specs.ActorState.{StepResult, step_of, Taken, finish}
-use Rattle.txs_code_meaning.specs.Machine.{PlainInstr, PlainBody, ThreadCode, fetch, Frame, to_stack, locals_of, nils, agent_code, Configuration, Turned, Asking, Unfinished, turn, on, started, told, first_place, runs_callee}
+use Rattle.txs_code_meaning.specs.ActorState.{InHand, StepResult, step_of, Taken, finish}
+use Rattle.txs_code_meaning.specs.Machine.{PlainInstr, PlainBody, ThreadCode, fetch, Frame, to_stack, locals_of, nils, agent_code, Configuration, Turned, Asking, Unfinished, turn, on, started, told, first_place, rested, runs_callee}
 use Rattle.txs_code_meaning.specs.Machine as machine
-use Rattle.txs_code_meaning.specs.PlainCode.{PlainCode, CodeBody, parameters_of, function_codes}
+use Rattle.txs_code_meaning.specs.PlainCode.{PlainCode, CodeBody, parameters_of, library_of}
 use Rattle.txs_code_meaning.specs.WellTyped.{FunctionKind, plain, a_function, IsTable, IsStaging, IsPureFunction, WellTypedFunctions, WellTyped}
 use Rattle.txs_machine_stack.specs.Calls.{begun}
-use Rattle.txs_machine_stack.specs.PlainFrame.{PlainFrame, PlainStack}
+use Rattle.txs_machine_stack.specs.PlainFrame.{PlainStack}
 use Rattle.txs_machine_loop.specs.Ready.{Ready}
 use Rattle.txs_machine_loop.specs.Values.{stack_in}
 use Rattle.txs_machine_loop.proofs.Lists.{length_nils}
 use Rattle.txs_machine_actor.specs.Paces.{MayStep, IsOver}
-use Rattle.txs_machine_actor.specs.PlainActor.{PlainActor, state_of, configuration_of, code_of, IsActorOf, attending, asked_for, unanswered, MayAnswerIf, stops_as, stands_at, answered, answered_if, answered_for, attends_anew, kind_or_pure, owner_of, functions_of, setting_of, CalledIn, IsPureBody, BeganBy, CanApply, AllApply, OpenApplies, ActsFor, AsksWell, GoesOn, CanGoOn, Runs, attending_at, MayRun, HandsOut, MayBreak, BreaksAt, AttendsAt, waits, has_taken, has_value, AttendsFor, AttendsOn, Attends, Lives, Awaits}
+use Rattle.txs_machine_actor.specs.PlainActor.{PlainActor, state_of, configuration_of, code_of, IsActorOf, ServesWell, in_hand, asked_for, unanswered, MayAnswerIf, stops_as, stands_at, answered, answered_if, answered_for, attends_anew, kind_or_pure, owner_of, functions_of, setting_of, CalledIn, IsPureBody, CanApply, AllApply, OpenApplies, ActsFor, AsksWell, GoesOn, CanGoOn, Runs, attending_at, MayRun, HandsOut, MayBreak, BreaksAt, AttendsAt, waits, has_taken, has_value, AttendsFor, AttendsOn, Attends, Lives, Awaits}
 use Rattle.txs_machine_transaction.specs.Asks.{ask_for, applied_in}
-use Rattle.txs_machine_transaction.specs.Transaction.{is_running, IsSwapping}
+use Rattle.txs_machine_transaction.specs.Transaction.{is_running}
 use Rattle.txs_machine_actor.specs.Turns.{IsNew, OneStep, Answers, Moves, TurnsFrom, Turns, AsksFor, TakesAnswer, IsAttending, OperatedAs, Operates, begins_acting, BeginsActing, CanApplyFor, AppliesFor, CanAttend, AttendsSo}
 use Rattle.txs_machine_actor.specs.declared.outcome.Turn.{Turn}
 use Rattle.txs_machine_actor.specs.declared.outcome.Turn.TheVariants as turned
 use Rattle.txs_machine_transaction.specs.declared.state.Pending.{Pending}
 use Rattle.txs_machine_transaction.specs.declared.state.Pending.TheVariants as pending
-use Rattle.txs_machine_transaction.specs.declared.state.Transaction.{Transaction}
-use Rattle.txs_machine_transaction.specs.declared.state.Transaction.TheVariants.{Outside, Restarting, Running, Applying, Evaluating, Swapping, Attending, Acting}
+use Rattle.txs_machine_transaction.specs.declared.state.Transaction.TheVariants.{Outside}
+use Rattle.txs_machine_actor.specs.declared.role.Role.{Role}
+use Rattle.txs_machine_actor.specs.declared.role.Role.TheVariants.{Thread, Attending, Acting}
 use Rattle.txs_machine_actor.proofs.Calling.{parameters_at, parameters_from, function_at, kind_at, table_too}
 use Rattle.txs_machine_actor.proofs.Effects.{finishes, takes as takes_so, it}
 use Rattle.txs_machine_actor.proofs.Meaning.{stated, configuration, body_in}
@@ -100,28 +101,28 @@ moves_so d a c r e lt h =
 module _ (d : PlainCode) (function_rooms thread_rooms : List ℕ) (typed : WellTyped d function_rooms thread_rooms) (n : ℕ) (was : List ℕ) (p seen : ℕ) (done : Work) (kept : Option Commute) (limit room : ℕ) (g : CellId)
     (actor : IsActorOf d n g) (roomy : 0 < room) (commutes : AllApply (functions_of d typed.kinds) done.commutes) (opened : OpenApplies (functions_of d typed.kinds) kept) where
   -- the agent's actor in its own body
-  abbrev pub own : ℕ → Option Action → List Value → ℕ → Option Pending → PlainActor
-  own at o vs s q = it n 0 [] 0 at vs was p seen done kept s limit room (Attending g o) q
+  abbrev pub own : ℕ → Option InHand → List Value → ℕ → Option Pending → PlainActor
+  own at o vs s q = it n (Attending g o) 0 [] 0 at vs was p seen done kept s limit room Outside q
 
   abbrev ac : ThreadCode
-  ac = agent_code (function_codes d) g
+  ac = agent_code (library_of d) g
 
   -- the machine there
-  abbrev at_own : ℕ → Option Action → List Value → List Exchange → Configuration
-  at_own at o stack xs = configuration 0 at stack [] [] (attending g o) (stated xs was p seen done kept)
+  abbrev at_own : ℕ → Option InHand → List Value → List Exchange → Configuration
+  at_own at o stack xs = configuration 0 at stack [] [] machine.Outside (stated xs was p seen done kept o)
 
   -- a turn of the agent's code is one of the actor's
   turned_so : (c : Configuration) (r : Turned Configuration) → turn ac c ≡ r → turn (code_of d n) c ≡ r
   turned_so c r e = ap (λ (t : ThreadCode). turn t c) actor ∙ e
 
   -- such an actor can go on
-  attends_by : (at : ℕ) (o : Option Action) (vs : List Value) (s : ℕ) (q : Option Pending) → AttendsFor d g (own at o vs s q) q → Attends d (own at o vs s q)
+  attends_by : (at : ℕ) (o : Option InHand) (vs : List Value) (s : ℕ) (q : Option Pending) → AttendsFor d g (own at o vs s q) q → Attends d (own at o vs s q)
   attends_by at o vs s q w = record {
     function_rooms = function_rooms;
     thread_rooms = thread_rooms;
     typed = typed;
     agent = g;
-    action = o;
+    acting = o;
     here = refl;
     actor = actor;
     roomy = roomy;
@@ -131,13 +132,13 @@ module _ (d : PlainCode) (function_rooms thread_rooms : List ℕ) (typed : WellT
   }
 
   -- one that was stopped
-  stopped_by : (at : ℕ) (o : Option Action) (vs : List Value) (s : ℕ) (x : Outcome) → Attends d (stops_as (own at o vs s None) x)
+  stopped_by : (at : ℕ) (o : Option InHand) (vs : List Value) (s : ℕ) (x : Outcome) → Attends d (stops_as (own at o vs s None) x)
   stopped_by at o vs s x = record {
     function_rooms = function_rooms;
     thread_rooms = thread_rooms;
     typed = typed;
     agent = g;
-    action = o;
+    acting = o;
     here = refl;
     actor = actor;
     roomy = roomy;
@@ -148,18 +149,18 @@ module _ (d : PlainCode) (function_rooms thread_rooms : List ℕ) (typed : WellT
 
   module _ (s : ℕ) (lt : s < limit) where
     -- what a turn came to
-    abbrev Comes : ℕ → Option Action → List Value → Turn → PlainActor → Type 0
+    abbrev Comes : ℕ → Option InHand → List Value → Turn → PlainActor → Type 0
     Comes at o vs r c = Turns d (own at o vs s None) r c × Lives d c
 
     -- the agent's own instruction at this place may want memory
     abbrev Breaks : ℕ → Type 0
     Breaks at = (i : PlainInstr) × (fetch ac 0 at ≡ Some i) × MayBreak i
 
-    breaks_in : (at : ℕ) (o : Option Action) (vs : List Value) → Breaks at → BreaksAt (code_of d n) (configuration_of (own at o vs s None))
+    breaks_in : (at : ℕ) (o : Option InHand) (vs : List Value) → Breaks at → BreaksAt (code_of d n) (configuration_of (own at o vs s None))
     breaks_in at o vs h = subst (λ (t : ThreadCode). BreaksAt t (configuration_of (own at o vs s None))) (sym actor) h
 
     -- want of memory, in an action or where one is handed in
-    no_memory : (at : ℕ) (o : Option Action) (vs us : List Value) → Breaks at → (x : Outcome) (c : PlainActor) → x ≡ outcome.Memory → c ≡ stops_as (own at o us (s + 1) None) outcome.Memory → Comes at o vs (turned.Ended x) c
+    no_memory : (at : ℕ) (o : Option InHand) (vs us : List Value) → Breaks at → (x : Outcome) (c : PlainActor) → x ≡ outcome.Memory → c ≡ stops_as (own at o us (s + 1) None) outcome.Memory → Comes at o vs (turned.Ended x) c
     no_memory at o vs us breaks x c e h =
         let b = stops_as (own at o us (s + 1) None) outcome.Memory in
         let t : Turns d (own at o vs s None) (turned.Ended outcome.Memory) b = moves_so d (own at o vs s None) b (turned.Ended outcome.Memory) refl lt (refl, record { number = refl; outcome = refl; unanswered = refl; counted = refl; limited = refl }, breaks_in at o vs breaks) in (
@@ -168,7 +169,7 @@ module _ (d : PlainCode) (function_rooms thread_rooms : List ℕ) (typed : WellT
         )
 
     -- a turn that went
-    went_so : (at : ℕ) (o : Option Action) (vs : List Value) (r : Turn) (c b : PlainActor) → r ≡ turned.Went → c ≡ b → turn ac (configuration_of (own at o vs s None)) ≡ Unfinished (configuration_of b) → OneStep (own at o vs s None) None None b → Lives d b → Comes at o vs r c
+    went_so : (at : ℕ) (o : Option InHand) (vs : List Value) (r : Turn) (c b : PlainActor) → r ≡ turned.Went → c ≡ b → turn ac (configuration_of (own at o vs s None)) ≡ Unfinished (configuration_of b) → OneStep (own at o vs s None) None None b → Lives d b → Comes at o vs r c
     went_so at o vs r c b e h w one l =
         let t : Turns d (own at o vs s None) turned.Went b = moves_so d (own at o vs s None) b turned.Went refl lt (turned_so (configuration_of (own at o vs s None)) (Unfinished (configuration_of b)) w, one) in (
           subst (λ (y : Turn). Turns d (own at o vs s None) y c) (sym e) (subst (λ (y : PlainActor). Turns d (own at o vs s None) turned.Went y) (sym h) t),
@@ -182,7 +183,7 @@ module _ (d : PlainCode) (function_rooms thread_rooms : List ℕ) (typed : WellT
     takes_one (turned.Asks q) c h =
         let b = own 0 None [] (s + 1) (Some (pending.Take g)) in
         let go : List Exchange → StepResult (Option Taken) → Turned Configuration = λ xs x. on machine.Outside x (λ o s1. started g o (at_own 0 None [] xs) s1) in
-        let k = takes_so n 0 [] 0 0 [] was p seen done kept (s + 1) limit room g (Attending g None) go (λ s1. refl) (λ xs m x v. refl) (λ xs. refl) in
+        let k = takes_so n (Attending g None) 0 [] 0 0 [] was p seen done kept (s + 1) limit room g Outside go (λ s1. refl) (λ xs m x v. refl) (λ xs. refl) in
         let awaits : Awaits (code_of d n) (configuration_of (own 0 None [] s None)) b (ask.Take g) = record {
           here = refl;
           asks = turned_so (configuration_of (own 0 None [] s None)) (Asking (record (state_of b) { wants = Some (ask.Take g) })) k.now;
@@ -196,50 +197,54 @@ module _ (d : PlainCode) (function_rooms thread_rooms : List ℕ) (typed : WellT
         )
 
     -- it hands in what an action came to
-    hands_one : (at : ℕ) (x : Action) (v : Value) (new : Result Value Fault) → Breaks at
-        → ((xs : List Exchange) → turn ac (at_own at (Some x) (v ∷ []) xs) ≡ told (finish g new (stated xs was p seen done kept)) (λ s1. Unfinished (first_place [] s1)))
+    hands_one : (at : ℕ) (x : InHand) (v : Value) (new : Result Value Fault) → Breaks at
+        → ((xs : List Exchange) → turn ac (at_own at (Some x) (v ∷ []) xs) ≡ told (finish g new (stated xs was p seen done kept (Some x))) (λ s1. Unfinished (first_place [] (rested s1))))
         → (r : Turn) (c : PlainActor) → AsksFor (own at (Some x) [] (s + 1) None) (pending.Finish g new) r c → Comes at (Some x) (v ∷ []) r c
     hands_one at x v new breaks w turned.Went c h = absurd h
     hands_one at x v new breaks w (turned.Ended y) c h = no_memory at (Some x) (v ∷ []) [] breaks y c h.1 h.2
     hands_one at x v new breaks w (turned.Asks q) c h =
         let b = own at (Some x) [] (s + 1) (Some (pending.Finish g new)) in
-        let k = finishes n 0 [] 0 at [] was p seen done kept (s + 1) limit room g new (Attending g (Some x)) refl in
-        let awaits : Awaits (code_of d n) (configuration_of (own at (Some x) (v ∷ []) s None)) b (ask.Finish g new) = record {
+        let k = finishes n (Attending g (Some x)) 0 [] 0 at [] was p seen done kept (s + 1) limit room g new Outside refl in
+        let awaits : Awaits (code_of d n) (configuration_of (own at (Some x) (v ∷ []) s None)) b (ask.Finish g new []) = record {
           here = refl;
-          asks = turned_so (configuration_of (own at (Some x) (v ∷ []) s None)) (Asking (record (state_of b) { wants = Some (ask.Finish g new) })) (w [] ∙ k.now);
-          leads = λ y m st. turned_so (given (record { ask = ask.Finish g new; reply = y } ∷ []) (configuration_of (own at (Some x) (v ∷ []) s None))) (stands_at (answered b y)) (w (record { ask = ask.Finish g new; reply = y } ∷ []) ∙ k.leads y m st);
+          asks = turned_so (configuration_of (own at (Some x) (v ∷ []) s None)) (Asking (record (state_of b) { wants = Some (ask.Finish g new []) })) (w [] ∙ k.now);
+          leads = λ y m st. turned_so (given (record { ask = ask.Finish g new []; reply = y } ∷ []) (configuration_of (own at (Some x) (v ∷ []) s None))) (stands_at (answered b y)) (w (record { ask = ask.Finish g new []; reply = y } ∷ []) ∙ k.leads y m st);
           rests = λ m. absurd m;
         } in
-        let t : Turns d (own at (Some x) (v ∷ []) s None) (turned.Asks (ask.Finish g new)) b = moves_so d (own at (Some x) (v ∷ []) s None) b (turned.Asks (ask.Finish g new)) refl lt (awaits, record { number = refl; outcome = refl; unanswered = refl; counted = refl; limited = refl }) in (
-          subst (λ (y : Ask). Turns d (own at (Some x) (v ∷ []) s None) (turned.Asks y) c) (sym h.0) (subst (λ (y : PlainActor). Turns d (own at (Some x) (v ∷ []) s None) (turned.Asks (ask.Finish g new)) y) (sym h.1) t),
+        let t : Turns d (own at (Some x) (v ∷ []) s None) (turned.Asks (ask.Finish g new [])) b = moves_so d (own at (Some x) (v ∷ []) s None) b (turned.Asks (ask.Finish g new [])) refl lt (awaits, record { number = refl; outcome = refl; unanswered = refl; counted = refl; limited = refl }) in (
+          subst (λ (y : Ask). Turns d (own at (Some x) (v ∷ []) s None) (turned.Asks y) c) (sym h.0) (subst (λ (y : PlainActor). Turns d (own at (Some x) (v ∷ []) s None) (turned.Asks (ask.Finish g new [])) y) (sym h.1) t),
           subst (λ (y : PlainActor). Lives d y) (sym h.1) (inr (attends_by at (Some x) [] (s + 1) (Some (pending.Finish g new)) (refl, x, refl))),
         )
 
     -- the value of an action
-    gives_one : (x : Action) (v : Value) (r : Turn) (c : PlainActor) → AsksFor (own 2 (Some x) [] (s + 1) None) (pending.Finish g (Ok v)) r c → Comes 2 (Some x) (v ∷ []) r c
+    gives_one : (x : InHand) (v : Value) (r : Turn) (c : PlainActor) → AsksFor (own 2 (Some x) [] (s + 1) None) (pending.Finish g (Ok v)) r c → Comes 2 (Some x) (v ∷ []) r c
     gives_one x v r c h = hands_one 2 x v (Ok v) (machine.FinishOf g, refl, tt) (λ xs. refl) r c h
 
     -- ---- an action that is run
 
     module _ (x : Action) (v : Value) (may : MayRun d x) where
+      -- the action, which holds no send
+      abbrev hand : InHand
+      hand = in_hand g x
+
       -- the action's callee, as the machine runs it
-      runs_it : (f : Callee) → x.callee ≡ f → (xs : List Exchange) → turn ac (at_own 1 (Some x) (v ∷ []) xs) ≡ runs_callee ac f x v [] (at_own 1 (Some x) (v ∷ []) xs)
-      runs_it f e xs = ap (λ (y : Callee). runs_callee ac y x v [] (at_own 1 (Some x) (v ∷ []) xs)) e
+      runs_it : (f : Callee) → x.callee ≡ f → (xs : List Exchange) → turn ac (at_own 1 (Some hand) (v ∷ []) xs) ≡ runs_callee ac f x v [] (at_own 1 (Some hand) (v ∷ []) xs)
+      runs_it f e xs = ap (λ (y : Callee). runs_callee ac y x v [] (at_own 1 (Some hand) (v ∷ []) xs)) e
 
-      operated : (op : Op) → x.callee ≡ callee.Core op → (y : Answer) → core op (v ∷ x.args) ≡ y → (r : Turn) (c : PlainActor) → OperatedAs (own 1 (Some x) [] (s + 1) None) x.span y r c → Comes 1 (Some x) (v ∷ []) r c
+      operated : (op : Op) → x.callee ≡ callee.Core op → (y : Answer) → core op (v ∷ x.args) ≡ y → (r : Turn) (c : PlainActor) → OperatedAs (own 1 (Some hand) [] (s + 1) None) x.span y r c → Comes 1 (Some hand) (v ∷ []) r c
       operated op e (Ok w) q r c h =
-          went_so 1 (Some x) (v ∷ []) r c (own 2 (Some x) (w ∷ []) (s + 1) None) h.0 h.1
-          (runs_it (callee.Core op) e [] ∙ ap (λ (y : Answer). machine.gives (at_own 1 (Some x) (v ∷ []) []) [] (step_of y x.span (stated [] was p seen done kept))) q)
-          (record { number = refl; outcome = refl; unanswered = refl; counted = refl; limited = refl }) (inr (attends_by 2 (Some x) (w ∷ []) (s + 1) None (has_value x w refl)))
+          went_so 1 (Some hand) (v ∷ []) r c (own 2 (Some hand) (w ∷ []) (s + 1) None) h.0 h.1
+          (runs_it (callee.Core op) e [] ∙ ap (λ (y : Answer). machine.gives (at_own 1 (Some hand) (v ∷ []) []) [] (step_of y x.span (stated [] was p seen done kept (Some hand)))) q)
+          (record { number = refl; outcome = refl; unanswered = refl; counted = refl; limited = refl }) (inr (attends_by 2 (Some hand) (w ∷ []) (s + 1) None (has_value hand w refl)))
       operated op e (Err k) q r c h =
-          hands_one 1 x v (Err (fault_at k x.span)) (machine.RunOf, refl, tt)
-          (λ xs. runs_it (callee.Core op) e xs ∙ ap (λ (y : Answer). machine.gives (at_own 1 (Some x) (v ∷ []) xs) [] (step_of y x.span (stated xs was p seen done kept))) q) r c h
+          hands_one 1 hand v (Err (fault_at k x.span)) (machine.RunOf, refl, tt)
+          (λ xs. runs_it (callee.Core op) e xs ∙ ap (λ (y : Answer). machine.gives (at_own 1 (Some hand) (v ∷ []) xs) [] (step_of y x.span (stated xs was p seen done kept (Some hand)))) q) r c h
 
-      operates : (op : Op) → x.callee ≡ callee.Core op → (r : Turn) (c : PlainActor) → Operates (own 1 (Some x) (v ∷ []) (s + 1) None) op r c → Comes 1 (Some x) (v ∷ []) r c
+      operates : (op : Op) → x.callee ≡ callee.Core op → (r : Turn) (c : PlainActor) → Operates (own 1 (Some hand) (v ∷ []) (s + 1) None) op r c → Comes 1 (Some hand) (v ∷ []) r c
       operates op e r c (inl h) = operated op e (core op (v ∷ x.args)) refl r c h
       operates op e r c (inr h) =
-          let m = no_memory 1 (Some x) (v ∷ []) [] (machine.RunOf, refl, tt) outcome.Memory c refl h.1 in
-          (subst (λ (y : Turn). Turns d (own 1 (Some x) (v ∷ []) s None) y c) (sym h.0) m.0, m.1)
+          let m = no_memory 1 (Some hand) (v ∷ []) [] (machine.RunOf, refl, tt) outcome.Memory c refl h.1 in
+          (subst (λ (y : Turn). Turns d (own 1 (Some hand) (v ∷ []) s None) y c) (sym h.0) m.0, m.1)
 
       -- the function of the action
       can_apply : (f : Callee) → x.callee ≡ f → CanApply (functions_of d typed.kinds) f (length x.args)
@@ -249,14 +254,14 @@ module _ (d : PlainCode) (function_rooms thread_rooms : List ℕ) (typed : WellT
       vals b1 = (v ∷ x.args) ++ nils (b1.locals - b1.parameters)
 
       abbrev began_at : PlainStack → PlainActor
-      began_at st = begins_acting (own 1 (Some x) [] (s + 1) None) st (Attending g (Some x))
+      began_at st = begins_acting (own 1 (Some hand) [] (s + 1) None) st (Attending g (Some hand))
 
       begins_means : (f : ℕ) → x.callee ≡ callee.Function f → (b1 : CodeBody) → nth d.functions f ≡ Some b1 → b1.parameters ≤ b1.locals → suc (length x.args) ≡ b1.parameters → (room1 : ℕ)
-          → turn ac (at_own 1 (Some x) (v ∷ []) []) ≡ Unfinished (configuration_of (began_at (begun f b1 (v ∷ x.args) room1)))
+          → turn ac (at_own 1 (Some hand) (v ∷ []) []) ≡ Unfinished (configuration_of (began_at (begun f b1 (v ∷ x.args) room1)))
       begins_means f e b1 is_b1 within many room1 =
           let many_vals : length (vals b1) ≡ b1.locals = length-append (v ∷ x.args) (nils (b1.locals - b1.parameters)) ∙ omega (arith, many, length_nils (b1.locals - b1.parameters), within) in
           let frs : List Frame = record { body = 0; place = 2; stack = []; locals = []; awaits = to_stack } ∷ [] in
-          let at_this : List Value → List Value → Turned Configuration = λ stack locals. Unfinished (configuration (suc f) 0 stack locals frs (machine.Acting g x) (stated [] was p seen done kept)) in
+          let at_this : List Value → List Value → Turned Configuration = λ stack locals. Unfinished (configuration (suc f) 0 stack locals frs machine.Outside (stated [] was p seen done kept (Some hand))) in
           runs_it (callee.Function f) e []
           ∙ ap (λ (o : Option PlainBody). at_this [] (locals_of o (v ∷ x.args))) (body_in (parameters_of d.functions) d.constants d.functions f b1 is_b1)
           ∙ ap (λ (y : ℕ). at_this [] ((v ∷ x.args) ++ nils (b1.locals - y))) many
@@ -280,10 +285,11 @@ module _ (d : PlainCode) (function_rooms thread_rooms : List ℕ) (typed : WellT
             shallow = omega arith;
             commutes = commutes;
             opened = opened;
-            applies = record { typed = record { function_rooms = function_rooms; thread_rooms = thread_rooms; typed = typed; same = refl }; actor = actor; is = refl; roomy = roomy };
+            serves = record { typed = record { function_rooms = function_rooms; thread_rooms = thread_rooms; typed = typed; same = refl }; actor = actor; is = refl; roomy = roomy };
+            applies = tt;
           }
 
-      begins_one : (f : ℕ) → x.callee ≡ callee.Function f → (r : Turn) (c : PlainActor) → BeginsActing d (own 1 (Some x) (v ∷ []) (s + 1) None) f r c → Comes 1 (Some x) (v ∷ []) r c
+      begins_one : (f : ℕ) → x.callee ≡ callee.Function f → (r : Turn) (c : PlainActor) → BeginsActing d (own 1 (Some hand) (v ∷ []) (s + 1) None) f r c → Comes 1 (Some hand) (v ∷ []) r c
       begins_one f e turned.Went c h =
           let can = can_apply (callee.Function f) e in
           let i = h.1 in
@@ -291,17 +297,17 @@ module _ (d : PlainCode) (function_rooms thread_rooms : List ℕ) (typed : WellT
           let many : suc (length x.args) ≡ b1.parameters = some (sym can.1 ∙ parameters_at d.functions f b1 i.2) in
           let within = (function_at (functions_of d typed.kinds) 0 d.constants d.functions typed.kinds function_rooms f b1 typed.functions i.2).typed.parameters in
           let c0 = began_at (begun f b1 (v ∷ x.args) (b1.locals + i.1)) in
-          went_so 1 (Some x) (v ∷ []) turned.Went c c0 refl (h.2 ∙ ap began_at i.4) (begins_means f e b1 i.2 within many (b1.locals + i.1))
+          went_so 1 (Some hand) (v ∷ []) turned.Went c c0 refl (h.2 ∙ ap began_at i.4) (begins_means f e b1 i.2 within many (b1.locals + i.1))
           (record { number = refl; outcome = refl; unanswered = refl; counted = refl; limited = refl })
           (inl (record { kinds = typed.kinds; rooms = function_rooms; functions = typed.functions; body = b1; is = i.2; goes = begins_goes f can.0 b1 i.2 within many i.1 i.3 }))
       begins_one f e (turned.Asks q) c h = absurd h
-      begins_one f e (turned.Ended y) c h = no_memory 1 (Some x) (v ∷ []) [] (machine.RunOf, refl, tt) y c h.0 h.1
+      begins_one f e (turned.Ended y) c h = no_memory 1 (Some hand) (v ∷ []) [] (machine.RunOf, refl, tt) y c h.0 h.1
 
-      runs_one : (f : Callee) → x.callee ≡ f → (r : Turn) (c : PlainActor) → AppliesFor d (own 1 (Some x) (v ∷ []) (s + 1) None) (Some f) r c → Comes 1 (Some x) (v ∷ []) r c
+      runs_one : (f : Callee) → x.callee ≡ f → (r : Turn) (c : PlainActor) → AppliesFor d (own 1 (Some hand) (v ∷ []) (s + 1) None) (Some f) r c → Comes 1 (Some hand) (v ∷ []) r c
       runs_one (callee.Core op) e r c h = operates op e r c h
       runs_one (callee.Function f) e r c h = begins_one f e r c h
 
-      can_one : (f : Callee) → x.callee ≡ f → CanApplyFor d (own 1 (Some x) (v ∷ []) (s + 1) None) (Some f)
+      can_one : (f : Callee) → x.callee ≡ f → CanApplyFor d (own 1 (Some hand) (v ∷ []) (s + 1) None) (Some f)
       can_one (callee.Core op) e = record { value = omega arith; roomy = roomy; takes_all = can_apply (callee.Core op) e }
       can_one (callee.Function f) e =
           let can = can_apply (callee.Function f) e in
@@ -323,10 +329,10 @@ pub record AttendsHere (d : PlainCode) (a : PlainActor) : Type 0 where
 
 module _ (d : PlainCode) (a : PlainActor) (h : Attends d a) (lt : a.steps < a.limit) (g : CellId) (is_g : h.agent ≡ g) where
   -- the same actor by its fields
-  abbrev own_at : ℕ → Option Action → List Value → PlainActor
+  abbrev own_at : ℕ → Option InHand → List Value → PlainActor
   own_at at o vs = record (attending_at a g o at vs) { pending = None; outcome = None }
 
-  plainly : (at : ℕ) (o : Option Action) (vs : List Value) → a.outcome ≡ None → a.pending ≡ None → a ≡ attending_at a g o at vs → own_at at o vs ≡ a
+  plainly : (at : ℕ) (o : Option InHand) (vs : List Value) → a.outcome ≡ None → a.pending ≡ None → a ≡ attending_at a g o at vs → own_at at o vs ≡ a
   plainly at o vs e f is =
       ap (λ (x : Option Outcome). record (attending_at a g o at vs) { pending = None; outcome = x }) (sym e) ∙ ap (λ (x : Option Pending). record (attending_at a g o at vs) { pending = x }) (sym f) ∙ sym is
 
@@ -338,7 +344,7 @@ module _ (d : PlainCode) (a : PlainActor) (h : Attends d a) (lt : a.steps < a.li
       subst (λ (x : PlainActor). AttendsHere d x) (plainly 0 None [] e f is)
       (record { can = (g, refl); so = λ r c k. takes_one d h.function_rooms h.thread_rooms h.typed a.number a.printed a.at a.view a.done a.commuting a.limit a.room g here_actor h.roomy h.commutes h.opened a.steps lt r c k })
   attends_here (has_taken x v may is) e f =
-      subst (λ (y : PlainActor). AttendsHere d y) (plainly 1 (Some x) (v ∷ []) e f is)
+      subst (λ (y : PlainActor). AttendsHere d y) (plainly 1 (Some (in_hand g x)) (v ∷ []) e f is)
       (record {
         can = can_one d h.function_rooms h.thread_rooms h.typed a.number a.printed a.at a.view a.done a.commuting a.limit a.room g here_actor h.roomy h.commutes h.opened a.steps lt x v may x.callee refl;
         so = λ r c k. runs_one d h.function_rooms h.thread_rooms h.typed a.number a.printed a.at a.view a.done a.commuting a.limit a.room g here_actor h.roomy h.commutes h.opened a.steps lt x v may x.callee refl r c k;
@@ -349,80 +355,50 @@ module _ (d : PlainCode) (a : PlainActor) (h : Attends d a) (lt : a.steps < a.li
 
 -- ---- actors that run a body aren't in an agent's own
 
-not_begun : (kinds : List FunctionKind) (t : Transaction) (fs : List PlainFrame) (body : ℕ) → IsAttending t → BeganBy kinds t fs body → ⊥
-not_begun kinds Outside fs body i b = i
-not_begun kinds (Restarting left) fs body i b = i
-not_begun kinds (Running left inner from) fs body i b = i
-not_begun kinds (Applying left from phase) fs body i b = i
-not_begun kinds (Evaluating left from phase aside) fs body i b = i
-not_begun kinds (Swapping c p from) fs body i b = i
-not_begun kinds (Attending g o) fs body i b = b
-not_begun kinds (Acting g x aside) fs body i b = i
+not_served : (d : PlainCode) (kinds : List FunctionKind) (k : ℕ) (r : Role) → IsAttending r → ServesWell d kinds k r → ⊥
+not_served d kinds k Thread i s = i
+not_served d kinds k (Attending g o) i s = s
+not_served d kinds k (Acting h aside) i s = i
 
-not_running : (t : Transaction) → IsAttending t → is_running t ≡ true → ⊥
-not_running Outside i e = i
-not_running (Restarting left) i e = i
-not_running (Running left inner from) i e = i
-not_running (Applying left from phase) i e = i
-not_running (Evaluating left from phase aside) i e = i
-not_running (Swapping c p from) i e = i
-not_running (Attending g o) i e = cc
-not_running (Acting g x aside) i e = i
-
-not_swapping : (t : Transaction) → IsAttending t → IsSwapping t → ⊥
-not_swapping Outside i s = i
-not_swapping (Restarting left) i s = i
-not_swapping (Running left inner from) i s = i
-not_swapping (Applying left from phase) i s = i
-not_swapping (Evaluating left from phase aside) i s = i
-not_swapping (Swapping c p from) i s = i
-not_swapping (Attending g o) i s = s
-not_swapping (Acting g x aside) i s = i
-
-not_acting : (d : PlainCode) (kinds : List FunctionKind) (k : ℕ) (h : CellId) (t : Transaction) → IsAttending t → ActsFor d kinds k h t → ⊥
-not_acting d kinds k h Outside i w = i
-not_acting d kinds k h (Restarting left) i w = i
-not_acting d kinds k h (Running left inner from) i w = i
-not_acting d kinds k h (Applying left from phase) i w = i
-not_acting d kinds k h (Evaluating left from phase aside) i w = i
-not_acting d kinds k h (Swapping c p from) i w = i
+not_acting : (d : PlainCode) (kinds : List FunctionKind) (k : ℕ) (h : CellId) (r : Role) → IsAttending r → ActsFor d kinds k h r → ⊥
+not_acting d kinds k h Thread i w = i
 not_acting d kinds k h (Attending g o) i w = w
-not_acting d kinds k h (Acting g x aside) i w = i
+not_acting d kinds k h (Acting x aside) i w = i
 
-not_asking : (d : PlainCode) (kinds : List FunctionKind) (b : CodeBody) (a : PlainActor) (p : Pending) → IsAttending a.tx → AsksWell d kinds b a p → ⊥
-not_asking d kinds b a (pending.Begin left from) i w = not_begun kinds a.tx a.frames a.body i w.0.is_first
-not_asking d kinds b a (pending.Read c) i w = not_begun kinds a.tx a.frames a.body i w.0.is_first
-not_asking d kinds b a (pending.Ensure c es) i w = not_begun kinds a.tx a.frames a.body i w.0.is_first
-not_asking d kinds b a (pending.Open c n kept) i w = not_begun kinds a.tx a.frames a.body i w.0.is_first
-not_asking d kinds b a (pending.Reset c v) i w = not_begun kinds a.tx a.frames a.body i w.0.is_first
-not_asking d kinds b a (pending.Send x n) i w = not_begun kinds a.tx a.frames a.body i w.0.is_first
-not_asking d kinds b a (pending.View phase) i w = not_begun kinds a.tx a.frames a.body i w.0.is_first
-not_asking d kinds b a pending.Commit i w = not_begun kinds a.tx a.frames a.body i w.0.is_first
-not_asking d kinds b a (pending.Swap c n from) i w = not_begun kinds a.tx a.frames a.body i w.0.is_first
-not_asking d kinds b a (pending.Close c p v) i w = not_begun kinds a.tx a.frames a.body i w.0.is_first
-not_asking d kinds b a (pending.Fail f) i w = not_running a.tx i w
-not_asking d kinds b a (pending.Broke c p f) i w = not_swapping a.tx i w
+not_asking : (d : PlainCode) (kinds : List FunctionKind) (b : CodeBody) (a : PlainActor) (p : Pending) → IsAttending a.role → AsksWell d kinds b a p → ⊥
+not_asking d kinds b a (pending.Begin left from) i w = not_served d kinds a.number a.role i w.0.serves
+not_asking d kinds b a (pending.Read c) i w = not_served d kinds a.number a.role i w.0.serves
+not_asking d kinds b a (pending.Ensure c es) i w = not_served d kinds a.number a.role i w.0.serves
+not_asking d kinds b a (pending.Open c n kept) i w = not_served d kinds a.number a.role i w.0.serves
+not_asking d kinds b a (pending.Reset c v) i w = not_served d kinds a.number a.role i w.0.serves
+not_asking d kinds b a (pending.Send x n) i w = not_served d kinds a.number a.role i w.0.serves
+not_asking d kinds b a (pending.View phase) i w = not_served d kinds a.number a.role i w.0.serves
+not_asking d kinds b a pending.Commit i w = not_served d kinds a.number a.role i w.0.serves
+not_asking d kinds b a (pending.Swap c n from) i w = not_served d kinds a.number a.role i w.0.serves
+not_asking d kinds b a (pending.Close c p v) i w = not_served d kinds a.number a.role i w.0.serves
+not_asking d kinds b a (pending.Fail f) i w = not_served d kinds a.number a.role i w.1
+not_asking d kinds b a (pending.Broke c p f) i w = not_served d kinds a.number a.role i w.1
 not_asking d kinds b a (pending.Take g) i w = w.1
-not_asking d kinds b a (pending.Finish g new) i w = not_acting d kinds a.number g a.tx i w.0
+not_asking d kinds b a (pending.Finish g new) i w = not_acting d kinds a.number g a.role i w.0
 
 -- one that hasn't ended
-not_going : (d : PlainCode) (kinds : List FunctionKind) (b : CodeBody) (a : PlainActor) (o : Option Outcome) (q : Option Pending) → IsAttending a.tx → o ≡ None → CanGoOn d kinds b a o q → ⊥
-not_going d kinds b a None None i e w = not_begun kinds a.tx a.frames a.body i w.is_first
+not_going : (d : PlainCode) (kinds : List FunctionKind) (b : CodeBody) (a : PlainActor) (o : Option Outcome) (q : Option Pending) → IsAttending a.role → o ≡ None → CanGoOn d kinds b a o q → ⊥
+not_going d kinds b a None None i e w = not_served d kinds a.number a.role i w.serves
 not_going d kinds b a None (Some p) i e w = not_asking d kinds b a p i w
 not_going d kinds b a (Some x) q i e w = cc
 
-runs_elsewhere : (d : PlainCode) (a : PlainActor) → Runs d a → IsAttending a.tx → a.outcome ≡ None → ⊥
+runs_elsewhere : (d : PlainCode) (a : PlainActor) → Runs d a → IsAttending a.role → a.outcome ≡ None → ⊥
 runs_elsewhere d a r i e = not_going d r.kinds r.body a a.outcome a.pending i e r.goes
 
 -- an actor in an agent's own body isn't elsewhere
-attends_there : (t : Transaction) (g : CellId) (o : Option Action) → t ≡ Attending g o → IsAttending t
-attends_there t g o e = subst IsAttending (sym e) tt
+attends_there : (r : Role) (g : CellId) (o : Option InHand) → r ≡ Attending g o → IsAttending r
+attends_there r g o e = subst IsAttending (sym e) tt
 
-pub runs_or : (d : PlainCode) (a : PlainActor) → Lives d a → (IsAttending a.tx → ⊥) → Runs d a
+pub runs_or : (d : PlainCode) (a : PlainActor) → Lives d a → (IsAttending a.role → ⊥) → Runs d a
 runs_or d a (inl r) other = r
-runs_or d a (inr h) other = absurd (other (attends_there a.tx h.agent h.action h.here))
+runs_or d a (inr h) other = absurd (other (attends_there a.role h.agent h.acting h.here))
 
-pub attends_or : (d : PlainCode) (a : PlainActor) → Lives d a → IsAttending a.tx → a.outcome ≡ None → Attends d a
+pub attends_or : (d : PlainCode) (a : PlainActor) → Lives d a → IsAttending a.role → a.outcome ≡ None → Attends d a
 attends_or d a (inl r) i e = absurd (runs_elsewhere d a r i e)
 attends_or d a (inr h) i e = h
 
@@ -433,14 +409,14 @@ attends_free d g a None (Some p) e f w = cc
 attends_free d g a (Some x) q e f w = cc
 
 -- its turn
-pub attends_turn : (d : PlainCode) (a : PlainActor) → Lives d a → IsAttending a.tx → unanswered a ≡ None → MayStep a → AttendsHere d a
+pub attends_turn : (d : PlainCode) (a : PlainActor) → Lives d a → IsAttending a.role → unanswered a ≡ None → MayStep a → AttendsHere d a
 attends_turn d a l i f m =
     let h = attends_or d a l i m.0 in
     let q = none_asked a.pending (is_running a.tx) a.at a.view (applied_in a.tx) a.done f in
     attends_here d a h m.1 h.agent refl (attends_free d h.agent a a.outcome a.pending m.0 q h.attends) m.0 q
 
 -- how it ended, or ends now
-pub attends_over : (d : PlainCode) (a : PlainActor) (x : Option Outcome) (o : Outcome) (c : PlainActor) → a.outcome ≡ x → Lives d a → IsAttending a.tx → unanswered a ≡ None → IsOver a x o c → Turns d a (turned.Ended o) c × Lives d c
+pub attends_over : (d : PlainCode) (a : PlainActor) (x : Option Outcome) (o : Outcome) (c : PlainActor) → a.outcome ≡ x → Lives d a → IsAttending a.role → unanswered a ≡ None → IsOver a x o c → Turns d a (turned.Ended o) c × Lives d c
 attends_over d a (Some y) o c e l i f k = (
   subst (λ (m : Option Outcome). TurnsFrom d a m (turned.Ended o) c) (sym e) (ap turned.Ended k.0, k.1),
   subst (λ (z : PlainActor). Lives d z) (sym k.1) l,
@@ -455,7 +431,7 @@ attends_over d a None o c e l i f k =
       thread_rooms = h.thread_rooms;
       typed = h.typed;
       agent = h.agent;
-      action = h.action;
+      acting = h.acting;
       here = h.here;
       actor = h.actor;
       roomy = h.roomy;
@@ -503,20 +479,20 @@ unended d a r (inr h) m = by a.outcome a.pending h.attends m
     by (Some x) None w n = absurd n
     by (Some x) (Some p) w n = absurd w
 
-pub attends_takes : (d : PlainCode) (a : PlainActor) (r : Reply) → Lives d a → IsAttending a.tx → MayAnswerIf (unanswered a) r → TakesAnswer a 0 a.pending r
+pub attends_takes : (d : PlainCode) (a : PlainActor) (r : Reply) → Lives d a → IsAttending a.role → MayAnswerIf (unanswered a) r → TakesAnswer a 0 a.pending r
 attends_takes d a r l i m =
     let h = attends_or d a l i (unended d a r l m) in
     takes_for d h.agent a a.outcome a.pending r h.roomy h.attends m
 
 module _ (d : PlainCode) (a : PlainActor) (h : Attends d a) (e : a.outcome ≡ None) where
   -- an actor with the same code and work
-  again : (c : PlainActor) (g : CellId) (o : Option Action) → c.tx ≡ Attending g o → c.number ≡ a.number → g ≡ h.agent → 0 < c.room → c.done ≡ a.done → c.commuting ≡ a.commuting → AttendsOn d g c c.outcome c.pending → Attends d c
+  again : (c : PlainActor) (g : CellId) (o : Option InHand) → c.role ≡ Attending g o → c.number ≡ a.number → g ≡ h.agent → 0 < c.room → c.done ≡ a.done → c.commuting ≡ a.commuting → AttendsOn d g c c.outcome c.pending → Attends d c
   again c g o t n is roomy w k on_so = record {
     function_rooms = h.function_rooms;
     thread_rooms = h.thread_rooms;
     typed = h.typed;
     agent = g;
-    action = o;
+    acting = o;
     here = t;
     actor = subst (λ (x : CellId). IsActorOf d c.number x) (sym is) (subst (λ (x : ℕ). IsActorOf d x h.agent) (sym n) h.actor);
     roomy = roomy;
@@ -527,28 +503,28 @@ module _ (d : PlainCode) (a : PlainActor) (h : Attends d a) (e : a.outcome ≡ N
 
   -- one that was stopped
   ends_so : (x : Outcome) → Attends d (stops_as a x)
-  ends_so x = again (stops_as a x) h.agent h.action h.here refl refl h.roomy refl refl tt
+  ends_so x = again (stops_as a x) h.agent h.acting h.here refl refl h.roomy refl refl tt
 
   lands_for : (q : Pending) (r : Reply) → AttendsFor d h.agent a (Some q) → HandsOut d r → MayAnswerIf (Some (ask_for q (is_running a.tx) a.at a.view (applied_in a.tx) a.done)) r → Attends d (answered_for a q r)
   lands_for (pending.Take g) r w out m =
       take_replies (λ (x : Reply). HandsOut d x → Attends d (answered_for a (pending.Take g) x)) g
       (λ i x v may.
       let there : PlainActor → PlainActor = λ y. answered_for y (pending.Take g) (reply.Action i x v) in
-      let stood : there a ≡ attending_at (there a) g (Some x) 1 (v ∷ []) = subst (λ (y : PlainActor). there y ≡ attending_at (there y) g (Some x) 1 (v ∷ [])) (sym w.1) refl in
-      again (there a) g (Some x) refl refl w.0 h.roomy refl refl (subst (λ (o : Option Outcome). AttendsOn d g (there a) o None) (sym e) (has_taken x v may stood)))
+      let stood : there a ≡ attending_at (there a) g (Some (in_hand g x)) 1 (v ∷ []) = subst (λ (y : PlainActor). there y ≡ attending_at (there y) g (Some (in_hand g x)) 1 (v ∷ [])) (sym w.1) refl in
+      again (there a) g (Some (in_hand g x)) refl refl w.0 h.roomy refl refl (subst (λ (o : Option Outcome). AttendsOn d g (there a) o None) (sym e) (has_taken x v may stood)))
       (λ may.
       let there : PlainActor → PlainActor = λ y. answered_for y (pending.Take g) reply.Idle in
       let stood : there a ≡ attending_at (there a) g None 0 [] = subst (λ (y : PlainActor). there y ≡ attending_at (there y) g None 0 []) (sym w.1) (ap (λ (y : CellId). attending_at (there a) y None 0 []) (sym w.0)) in
-      let here_so : a.tx ≡ Attending g None = ap (λ (y : PlainActor). y.tx) w.1 ∙ ap (λ (y : CellId). Attending y None) (sym w.0) in
+      let here_so : a.role ≡ Attending g None = ap (λ (y : PlainActor). y.role) w.1 ∙ ap (λ (y : CellId). Attending y None) (sym w.0) in
       again (there a) g None here_so refl w.0 h.roomy refl refl (subst (λ (o : Option Outcome). AttendsOn d g (there a) o None) (sym e) (waits stood)))
       (λ may. ends_so outcome.Memory) r m out
   lands_for (pending.Finish g new) r w out m =
       finish_replies (λ (x : Reply). HandsOut d x → Attends d (answered_for a (pending.Finish g new) x)) g new
       (λ may.
       let b : PlainActor = attending_at a h.agent (Some w.1) a.place [] in
-      let there = attends_anew b b.tx in
+      let there = attends_anew b b.role in
       let home : Attends d there = again there h.agent None refl refl refl h.roomy refl refl (subst (λ (o : Option Outcome). AttendsOn d h.agent there o None) (sym e) (waits refl)) in
-      subst (λ (y : PlainActor). Attends d (attends_anew y y.tx)) (sym w.2) home)
+      subst (λ (y : PlainActor). Attends d (attends_anew y y.role)) (sym w.2) home)
       (λ may. ends_so outcome.JournalFull) (λ may. ends_so outcome.Memory) r m out
   lands_for (pending.Begin left from) r w out m = absurd w
   lands_for (pending.Read c) r w out m = absurd w
@@ -569,7 +545,7 @@ module _ (d : PlainCode) (a : PlainActor) (h : Attends d a) (e : a.outcome ≡ N
   lands_if (Some x) (Some q) r f w out m = cc
 
 -- it can go on after it
-pub attends_lands : (d : PlainCode) (a : PlainActor) (r : Reply) → Lives d a → IsAttending a.tx → MayAnswerIf (unanswered a) r → HandsOut d r → Lives d (answered a r)
+pub attends_lands : (d : PlainCode) (a : PlainActor) (r : Reply) → Lives d a → IsAttending a.role → MayAnswerIf (unanswered a) r → HandsOut d r → Lives d (answered a r)
 attends_lands d a r l i m out =
     let e = unended d a r l m in
     let h = attends_or d a l i e in
@@ -579,11 +555,11 @@ attends_lands d a r l i m out =
 
 module _ (d : PlainCode) (n limit : ℕ) (g : CellId) (actor : IsActorOf d n g) (out : List ℕ) (w : Work) where
   abbrev new_agent : PlainActor
-  new_agent = it n 0 [] 0 0 [] out 0 0 w None 0 limit 1 (Attending g None) None
+  new_agent = it n (Attending g None) 0 [] 0 0 [] out 0 0 w None 0 limit 1 Outside None
 
   pub agent_is_new : out ≡ [] → w ≡ no_work → IsNew d n limit new_agent
   agent_is_new unprinted undone =
-      let at_first : List ℕ → Work → Configuration = λ o y. first_place [] (stated [] o 0 0 y None) in
+      let at_first : List ℕ → Work → Configuration = λ o y. first_place [] (stated [] o 0 0 y None None) in
       record {
         number = refl;
         opens = ap (λ (o : List ℕ). at_first o w) unprinted ∙ ap (λ (y : Work). at_first [] y) undone ∙ ap (λ (t : ThreadCode). opening t []) (sym actor);
@@ -599,7 +575,7 @@ module _ (d : PlainCode) (n limit : ℕ) (g : CellId) (actor : IsActorOf d n g) 
     thread_rooms = thread_rooms;
     typed = typed;
     agent = g;
-    action = None;
+    acting = None;
     here = refl;
     actor = actor;
     roomy = omega arith;

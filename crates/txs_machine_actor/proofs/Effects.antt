@@ -28,9 +28,9 @@ use Rattle.txs_value_base.specs.declared.op.Callee.TheVariants as callee
 use Rattle.txs_value_data.specs.declared.value.CellId.{CellId}
 use Rattle.txs_value_data.specs.declared.value.Value.{Value}
 use Rattle.txs_value_data.specs.declared.value.Value.TheVariants.{Cell}
-use Rattle.txs_code_meaning.specs.ActorState.{ActorState, StepResult, Continue, Redo, Await, on_step, step_of, Reception, Replied, Unreplied, asks, heard, read_point, just_done, value_there, newest_value, views as machine_views, view, viewed, paired, Outdated, commit_verdict, begin, begun, fail, Taken, handed_out, take_action, finish, commit, look, buffered_or, peek, read, read_cell, assign, set_own, reset_atom, send_verdict, sent, send_now, send_action, send_to, RefUpdate, Alters, Commutes, update_form, kept_open, open_update, close_own, close_update, SwapInHand, opened as opened_there, open_atom, swap_verdict, close_swap, break_swap}
+use Rattle.txs_code_meaning.specs.ActorState.{ActorState, InHand, now_holding, send_or_hold, StepResult, Continue, Redo, Await, on_step, step_of, Reception, Replied, Unreplied, asks, heard, read_point, just_done, value_there, newest_value, views as machine_views, view, viewed, paired, Outdated, commit_verdict, begin, begun, fail, Taken, handed_out, take_action, finish, commit, look, buffered_or, peek, read, read_cell, assign, set_own, reset_atom, send_verdict, sent, send_now, send_action, send_to, RefUpdate, Alters, Commutes, update_form, kept_open, open_update, close_own, close_update, SwapInHand, opened as opened_there, open_atom, swap_verdict, close_swap, break_swap}
 use Rattle.txs_code_meaning.proofs.Phases.{paired_fills, same_arguments}
-use Rattle.txs_code_meaning.specs.Machine.{ThreadCode, Frame, Activity, Configuration, Turned, Failed, Asking, Unfinished, act, told, raise, rerun, swap_decided, on, on_args_of, on_top, starts, settles, lands, decided, staying, push_all, is_inside, first_place}
+use Rattle.txs_code_meaning.specs.Machine.{ThreadCode, Frame, Activity, Configuration, Turned, Failed, Asking, Unfinished, act, told, raise, rerun, swap_decided, on, on_args_of, on_top, starts, settles, lands, decided, staying, push_all, is_inside, first_place, rested, ends_with}
 use Rattle.txs_code_meaning.specs.Machine as machine
 use Rattle.txs_code_meaning.specs.PlainCode.{plain_instr}
 use Rattle.txs_code_meaning.specs.declared.instr.Instr.{Instr}
@@ -40,33 +40,42 @@ use Rattle.txs_machine_stack.specs.PlainFrame.{PlainFrame}
 use Rattle.txs_machine_loop.specs.Values.{last_of, below, topmost, but_last, put_under, under, stack_in}
 use Rattle.txs_machine_loop.proofs.Lists.{pushed_stack, pushed_locals, popped_stack, popped_locals, below_locals, args_of, length_below, length_but_last, under_is, but_two, put_under_stack, put_under_locals, push_all_is}
 use Rattle.txs_machine_transaction.specs.Asks.{applied_in, ask_for}
-use Rattle.txs_machine_transaction.specs.Effect.{Effect, moves, stays, waits, breaks, falls, own_or, reads, reads_cell, ensures, ensures_cell, opens_cell, opens as opens_at, sets, sets_as, sets_cell, resets, resets_cell, action_of, sends, sends_cell, swaps, swaps_cell, swapped, keeps_cell, closes, begins as begins_at, settles as settles_at, applying, applies_as, applies as applies_at, goes_through, ends as ends_at, IsOperation, Operates, LeftApply, effect}
-use Rattle.txs_machine_actor.specs.PlainActor.{PlainActor, savepoint_of, frames_of, frames_in, activity_of, MayAnswer, Stops, stops_as, begins_again, run_again, ends_again, end_again, refuse, answered, stands_at}
+use Rattle.txs_machine_transaction.specs.Effect.{Effect, moves, stays, waits, dispatches, breaks, falls, own_or, reads, reads_cell, ensures, ensures_cell, opens_cell, opens as opens_at, sets, sets_as, sets_cell, resets, resets_cell, action_of, sends, sends_cell, swaps, swaps_cell, swapped, keeps_cell, closes, begins as begins_at, settles as settles_at, applying, applies_as, applies as applies_at, goes_through, ends as ends_at, IsOperation, Operates, LeftApply, effect}
+use Rattle.txs_machine_actor.specs.PlainActor.{PlainActor, savepoint_of, frames_on, frames_in, activity_of, home_of, acting_of, MayAnswer, Stops, stops_as, begins_again, run_again, ends_again, end_again, refuse, answered, stands_at}
 use Rattle.txs_machine_transaction.specs.Transaction.{is_running, depth_in, IsUnapplied, IsSwapping}
 use Rattle.txs_machine_transaction.specs.declared.state.Origin.{Origin}
 use Rattle.txs_machine_transaction.specs.declared.state.Pending.{Pending}
 use Rattle.txs_machine_transaction.specs.declared.state.Pending.TheVariants as pending
 use Rattle.txs_machine_transaction.specs.declared.state.Transaction.{Transaction}
-use Rattle.txs_machine_transaction.specs.declared.state.Transaction.TheVariants.{Outside, Restarting, Running, Applying, Evaluating, Swapping, Attending, Acting}
+use Rattle.txs_machine_transaction.specs.declared.state.Transaction.TheVariants.{Outside, Restarting, Running, Applying, Evaluating, Swapping}
+use Rattle.txs_machine_actor.specs.declared.role.Role.{Role}
 use Rattle.txs_machine_actor.proofs.Meaning.{stated, configuration, same_place}
 use Rattle.txs_machine_actor.proofs.Replies.{begin_replies, view_replies, look_replies, peek_replies, commit_replies, fail_replies, take_replies, finish_replies, reset_replies, send_replies, open_replies, close_replies, broke_replies}
 use Rattle.txs_machine_transaction.proofs.Keeping.{but_one_more}
 
-module _ (n bn : ℕ) (fs : List PlainFrame) (l at : ℕ) (vs : List Value) (out : List ℕ) (p seen : ℕ) (w : Work) (kept : Option Commute) (steps limit room : ℕ) where
+module _ (n : ℕ) (role : Role) (bn : ℕ) (fs : List PlainFrame) (l at : ℕ) (vs : List Value) (out : List ℕ) (p seen : ℕ) (w : Work) (kept : Option Commute) (steps limit room : ℕ) where
   -- an actor with these values
   abbrev pub it : Transaction → Option Pending → PlainActor
-  it tx o = record { number = n; body = bn; frames = fs; locals = l; place = at; values = vs; printed = out; at = p; view = seen; done = w; commuting = kept; tx = tx; pending = o; outcome = None; steps = steps; limit = limit; room = room }
+  it tx o = record { number = n; role = role; body = bn; frames = fs; locals = l; place = at; values = vs; printed = out; at = p; view = seen; done = w; commuting = kept; tx = tx; pending = o; outcome = None; steps = steps; limit = limit; room = room }
+
+  -- the frames below all others
+  abbrev pub home : List Frame
+  home = home_of role
+
+  -- the action that is run
+  abbrev pub held : Option InHand
+  held = acting_of role
 
   -- where a transaction would begin
   abbrev pub from_here : Span → Origin
   from_here span = record { span = span; stack = record { body = bn; locals = l; place = at; values = vs; room = room; frames = fs } }
 
   abbrev pub before : List Exchange → ActorState
-  before xs = stated xs out p seen w kept
+  before xs = stated xs out p seen w kept held
 
   -- where the machine is
   abbrev pub here : Transaction → List Exchange → Configuration
-  here tx xs = configuration bn at (stack_in l vs) (take l vs) (frames_in fs tx) (activity_of tx) (before xs)
+  here tx xs = configuration bn at (stack_in l vs) (take l vs) (frames_in fs home tx) (activity_of home tx) (before xs)
 
   abbrev pub met : Ask → Reply → List Exchange
   met q r = record { ask = q; reply = r } ∷ []
@@ -108,16 +117,16 @@ module _ (n bn : ℕ) (fs : List PlainFrame) (l at : ℕ) (vs : List Value) (out
       Leads r = (Stops r → ⊥) → told (heard just_done (Replied r (before []))) (λ s1. Failed f s1) ≡ stands_at (answered (it tx (Some (pending.Broke c q f))) r)
 
   -- what an action came to is handed in, and the agent is at the beginning of its own body
-  pub finishes : (g : CellId) (new : Result Value Fault) (tx : Transaction) → stands_at (answered (it tx (Some (pending.Finish g new))) Done) ≡ Unfinished (first_place [] (before []))
-      → Asked (λ xs. told (finish g new (before xs)) (λ s1. Unfinished (first_place [] s1))) (it tx (Some (pending.Finish g new))) (ask.Finish g new)
+  pub finishes : (g : CellId) (new : Result Value Fault) (tx : Transaction) → stands_at (answered (it tx (Some (pending.Finish g new))) Done) ≡ Unfinished (first_place [] (rested (before [])))
+      → Asked (λ xs. told (finish g new (before xs)) (λ s1. Unfinished (first_place [] (rested s1)))) (it tx (Some (pending.Finish g new))) (ask.Finish g new [])
   unfolding finish
   finishes g new tx home = record {
-    now = ap (λ h. told (heard just_done h) (λ s1. Unfinished (first_place [] s1))) (asks_now (ask.Finish g new));
-    leads = λ r m k. ap (λ h. told (heard just_done h) (λ s1. Unfinished (first_place [] s1))) (asks_then (ask.Finish g new) r) ∙ finish_replies Leads g new (λ st. sym home) (λ st. absurd (st tt)) (λ st. absurd (st tt)) r m k;
+    now = ap (λ h. told (heard just_done h) (λ s1. Unfinished (first_place [] (rested s1)))) (asks_now (ask.Finish g new []));
+    leads = λ r m k. ap (λ h. told (heard just_done h) (λ s1. Unfinished (first_place [] (rested s1)))) (asks_then (ask.Finish g new []) r) ∙ finish_replies Leads g new (λ st. sym home) (λ st. absurd (st tt)) (λ st. absurd (st tt)) r m k;
   }
     where
       Leads : Reply → Type 0
-      Leads r = (Stops r → ⊥) → told (heard just_done (Replied r (before []))) (λ s1. Unfinished (first_place [] s1)) ≡ stands_at (answered (it tx (Some (pending.Finish g new))) r)
+      Leads r = (Stops r → ⊥) → told (heard just_done (Replied r (before []))) (λ s1. Unfinished (first_place [] (rested s1))) ≡ stands_at (answered (it tx (Some (pending.Finish g new))) r)
 
   -- an agent takes an action, if there is one
   pub takes : (g : CellId) (tx : Transaction) (go : List Exchange → StepResult (Option Taken) → Turned Configuration)
@@ -163,45 +172,58 @@ module _ (n bn : ℕ) (fs : List PlainFrame) (l at : ℕ) (vs : List Value) (out
       Leads : Reply → Type 0
       Leads r = (Stops r → ⊥) → go (heard newest_value (Replied r (before []))) ≡ stands_at (answered (it tx (Some o)) r)
 
+  -- a send outside every transaction, as the machine says it: a thread asks for it, and the action that is run holds it
+  abbrev pub SentAs : AnAction → ℕ → Transaction → Option InHand → (List Exchange → Turned Configuration) → Type 0
+  SentAs x m tx None f = Asked f (it tx (Some (pending.Send x m))) (ask.Send x)
+  SentAs x m tx (Some h) f =
+      f [] ≡ Unfinished (configuration bn (at + 1) (stack_in l (below (m + 1) vs ++ Cell x.agent ∷ [])) (take l (below (m + 1) vs ++ Cell x.agent ∷ [])) (frames_in fs home tx) (activity_of home tx) (stated [] out p seen w kept (now_holding x held)))
+
   -- what an effect is, as the machine says it
   abbrev pub EffectIs : Span → Transaction → Effect → (List Exchange → Turned Configuration) → Type 0
-  EffectIs span tx (moves us tx1 own had) f = f [] ≡ Unfinished (configuration bn (at + 1) (stack_in l us) (take l us) (frames_in fs tx1) (activity_of tx1) (stated [] out p seen own had))
-  EffectIs span tx (stays us tx1 own had) f = f [] ≡ Unfinished (configuration bn at (stack_in l us) (take l us) (frames_in fs tx1) (activity_of tx1) (stated [] out p seen own had))
+  EffectIs span tx (moves us tx1 own had) f = f [] ≡ Unfinished (configuration bn (at + 1) (stack_in l us) (take l us) (frames_in fs home tx1) (activity_of home tx1) (stated [] out p seen own had held))
+  EffectIs span tx (stays us tx1 own had) f = f [] ≡ Unfinished (configuration bn at (stack_in l us) (take l us) (frames_in fs home tx1) (activity_of home tx1) (stated [] out p seen own had held))
   EffectIs span tx (waits q us tx1 own had) f = (us ≡ vs) × (tx1 ≡ tx) × (own ≡ w) × (had ≡ kept) × Asked f (it tx (Some q)) (ask_for q (is_running tx) p seen (applied_in tx) w)
-  EffectIs span tx (breaks k tx1 own had) f = (tx1 ≡ tx) × (own ≡ w) × (had ≡ kept) × ((xs : List Exchange) → f xs ≡ raise (activity_of tx) (fault_at k span) (before xs))
-  EffectIs span tx (falls d tx1 own had) f = (tx1 ≡ tx) × (own ≡ w) × (had ≡ kept) × ((xs : List Exchange) → f xs ≡ raise (activity_of tx) d (before xs))
+  EffectIs span tx (dispatches x m us tx1 own had) f = (us ≡ vs) × (tx1 ≡ tx) × (own ≡ w) × (had ≡ kept) × SentAs x m tx held f
+  EffectIs span tx (breaks k tx1 own had) f = (tx1 ≡ tx) × (own ≡ w) × (had ≡ kept) × ((xs : List Exchange) → f xs ≡ raise (activity_of home tx) (fault_at k span) (before xs))
+  EffectIs span tx (falls d tx1 own had) f = (tx1 ≡ tx) × (own ≡ w) × (had ≡ kept) × ((xs : List Exchange) → f xs ≡ raise (activity_of home tx) d (before xs))
+
+  -- a send with another way to say what the machine does
+  said_sent : (x : AnAction) (m : ℕ) (tx : Transaction) (o : Option InHand) (f g : List Exchange → Turned Configuration) → ((xs : List Exchange) → f xs ≡ g xs) → SentAs x m tx o g → SentAs x m tx o f
+  said_sent x m tx None f g h k = record { now = h [] ∙ k.now; leads = λ r n st. h (met (ask.Send x) r) ∙ k.leads r n st }
+  said_sent x m tx (Some held_by) f g h k = h [] ∙ k
 
   -- an effect with another way to say what the machine does
   said : (span : Span) (tx : Transaction) (e : Effect) (f g : List Exchange → Turned Configuration) → ((xs : List Exchange) → f xs ≡ g xs) → EffectIs span tx e g → EffectIs span tx e f
   said span tx (moves us tx1 own had) f g h k = h [] ∙ k
   said span tx (stays us tx1 own had) f g h k = h [] ∙ k
   said span tx (waits q us tx1 own had) f g h k = (k.0, k.1, k.2, k.3, record { now = h [] ∙ k.4.now; leads = λ r m st. h (met (ask_for q (is_running tx) p seen (applied_in tx) w) r) ∙ k.4.leads r m st })
+  said span tx (dispatches x m us tx1 own had) f g h k = (k.0, k.1, k.2, k.3, said_sent x m tx held f g h k.4)
   said span tx (breaks d tx1 own had) f g h k = (k.0, k.1, k.2, λ xs. h xs ∙ k.3 xs)
   said span tx (falls d tx1 own had) f g h k = (k.0, k.1, k.2, λ xs. h xs ∙ k.3 xs)
 
   -- the transaction begins again
-  reruns_from : (left : ℕ) (from : Origin) (tx : Transaction) (o : Option Pending) → rerun left (savepoint_of from) (before []) ≡ stands_at (begins_again (it tx o) left from)
+  reruns_from : (left : ℕ) (from : Origin) (tx : Transaction) (o : Option Pending) → rerun left (savepoint_of home from) (before []) ≡ stands_at (begins_again (it tx o) left from)
   reruns_from zero from tx o = refl
   reruns_from (suc left) from tx o = refl
 
-  reruns_so : (left inner : ℕ) (from : Origin) (o : Option Pending) → rerun left (savepoint_of from) (before []) ≡ stands_at (run_again (it (Running left inner from) o) (Running left inner from))
+  reruns_so : (left inner : ℕ) (from : Origin) (o : Option Pending) → rerun left (savepoint_of home from) (before []) ≡ stands_at (run_again (it (Running left inner from) o) (Running left inner from))
   reruns_so left inner from o = reruns_from left from (Running left inner from) o
 
   -- the actor at the next place with this stack
   abbrev stacked : Transaction → List Value → ActorState → Turned Configuration
-  stacked tx st s1 = Unfinished (configuration bn (at + 1) st (take l vs) (frames_in fs tx) (activity_of tx) s1)
+  stacked tx st s1 = Unfinished (configuration bn (at + 1) st (take l vs) (frames_in fs home tx) (activity_of home tx) s1)
 
   -- a value in the place of the last, where the transaction has done this
   replaced_with : (own : Work) (tx : Transaction) (v : Value) → l < length vs
-      → stacked tx (v ∷ stack_in l (but_last vs)) (stated [] out p seen own kept)
-      ≡ Unfinished (configuration bn (at + 1) (stack_in l (but_last vs ++ v ∷ [])) (take l (but_last vs ++ v ∷ [])) (frames_in fs tx) (activity_of tx) (stated [] out p seen own kept))
+      → stacked tx (v ∷ stack_in l (but_last vs)) (stated [] out p seen own kept held)
+      ≡ Unfinished (configuration bn (at + 1) (stack_in l (but_last vs ++ v ∷ [])) (take l (but_last vs ++ v ∷ [])) (frames_in fs home tx) (activity_of home tx) (stated [] out p seen own kept held))
   replaced_with own tx v lt =
       let le : l ≤ length (but_last vs) = omega (arith, length_but_last vs) in
-      same_place bn (frames_in fs tx) (activity_of tx) [] p seen own kept (at + 1) _ _ _ _ out (sym (pushed_stack l (but_last vs) v le)) (sym (popped_locals l vs lt) ∙ sym (pushed_locals l (but_last vs) v le))
+      same_place bn (frames_in fs home tx) (activity_of home tx) [] p seen own kept held (at + 1) _ _ _ _ out (sym (pushed_stack l (but_last vs) v le)) (sym (popped_locals l vs lt) ∙ sym (pushed_locals l (but_last vs) v le))
 
   replaced : (tx : Transaction) (v : Value) → l < length vs
       → stacked tx (v ∷ stack_in l (but_last vs)) (before [])
-      ≡ Unfinished (configuration bn (at + 1) (stack_in l (but_last vs ++ v ∷ [])) (take l (but_last vs ++ v ∷ [])) (frames_in fs tx) (activity_of tx) (before []))
+      ≡ Unfinished (configuration bn (at + 1) (stack_in l (but_last vs ++ v ∷ [])) (take l (but_last vs ++ v ∷ [])) (frames_in fs home tx) (activity_of home tx) (before []))
   replaced = replaced_with w
 
   abbrev on_read : Transaction → Value → ActorState → Turned Configuration
@@ -210,33 +232,31 @@ module _ (n bn : ℕ) (fs : List PlainFrame) (l at : ℕ) (vs : List Value) (out
   -- `deref` in a transaction
   inside_by : (span : Span) (left inner : ℕ) (from : Origin) → l < length vs → (r : Result CellId FaultKind)
       → EffectIs span (Running left inner from) (reads_cell true vs (Running left inner from) w kept r)
-      (λ xs. on (machine.Running left inner (savepoint_of from)) (on_step (step_of r span (before xs)) (read_cell Deref true)) (on_read (Running left inner from)))
+      (λ xs. on (machine.Running left inner (savepoint_of home from)) (on_step (step_of r span (before xs)) (read_cell Deref true)) (on_read (Running left inner from)))
   unfolding look
   inside_by span left inner from lt (Err k) = (refl, refl, refl, λ xs. refl)
   inside_by span left inner from lt (Ok c) = by_own (buffered w.values c.number)
     where
       by_own : (o : Option Value)
           → EffectIs span (Running left inner from) (own_or o (λ v. moves (but_last vs ++ v ∷ []) (Running left inner from) w kept) (waits (pending.Read c) vs (Running left inner from) w kept))
-          (λ xs. on (machine.Running left inner (savepoint_of from)) (buffered_or o (before xs) (heard value_there (asks (ask.Look c p) (before xs)))) (on_read (Running left inner from)))
+          (λ xs. on (machine.Running left inner (savepoint_of home from)) (buffered_or o (before xs) (heard value_there (asks (ask.Look c p) (before xs)))) (on_read (Running left inner from)))
       by_own (Some v) = replaced (Running left inner from) v lt
-      by_own None = (refl, refl, refl, refl, looks (Running left inner from) c (pending.Read c) (λ r. on (machine.Running left inner (savepoint_of from)) r (on_read (Running left inner from))) (λ s. refl) (λ v. replaced (Running left inner from) v lt) (λ d. reruns_so left inner from (Some (pending.Read c))))
+      by_own None = (refl, refl, refl, refl, looks (Running left inner from) c (pending.Read c) (λ r. on (machine.Running left inner (savepoint_of home from)) r (on_read (Running left inner from))) (λ s. refl) (λ v. replaced (Running left inner from) v lt) (λ d. reruns_so left inner from (Some (pending.Read c))))
 
   -- `deref` outside
   outside_by : (span : Span) (tx : Transaction) → is_running tx ≡ false → l < length vs → (r : Result CellId FaultKind)
-      → EffectIs span tx (reads_cell false vs tx w kept r) (λ xs. on (activity_of tx) (on_step (step_of r span (before xs)) (read_cell Deref false)) (on_read tx))
+      → EffectIs span tx (reads_cell false vs tx w kept r) (λ xs. on (activity_of home tx) (on_step (step_of r span (before xs)) (read_cell Deref false)) (on_read tx))
   unfolding peek
   outside_by span tx e lt (Err k) = (refl, refl, refl, λ xs. refl)
-  outside_by span tx e lt (Ok c) = (refl, refl, refl, refl, subst (λ (b : Bool). Asked (λ xs. on (activity_of tx) (heard newest_value (asks (ask.Peek c) (before xs))) (on_read tx)) (it tx (Some (pending.Read c))) (ask_for (pending.Read c) b p seen (applied_in tx) w)) (sym e) (peeks tx c (pending.Read c) (λ r. on (activity_of tx) r (on_read tx)) (λ s. refl) (λ v. replaced tx v lt)))
+  outside_by span tx e lt (Ok c) = (refl, refl, refl, refl, subst (λ (b : Bool). Asked (λ xs. on (activity_of home tx) (heard newest_value (asks (ask.Peek c) (before xs))) (on_read tx)) (it tx (Some (pending.Read c))) (ask_for (pending.Read c) b p seen (applied_in tx) w)) (sym e) (peeks tx c (pending.Read c) (λ r. on (activity_of home tx) r (on_read tx)) (λ s. refl) (λ v. replaced tx v lt)))
 
   reads_by : (span : Span) (tx : Transaction) → l < length vs → IsUnapplied tx
-      → EffectIs span tx (reads (is_running tx) vs tx w kept) (λ xs. on (activity_of tx) (read Deref (is_inside (activity_of tx)) span (last_of vs) (before xs)) (on_read tx))
+      → EffectIs span tx (reads (is_running tx) vs tx w kept) (λ xs. on (activity_of home tx) (read Deref (is_inside (activity_of home tx)) span (last_of vs) (before xs)) (on_read tx))
   reads_by span Outside lt u = outside_by span Outside refl lt (cell_of (rule (form.Look Deref)) false (last_of vs))
   reads_by span (Restarting left) lt u = outside_by span (Restarting left) refl lt (cell_of (rule (form.Look Deref)) false (last_of vs))
   reads_by span (Applying left from phase) lt u = absurd u
   reads_by span (Evaluating left from phase aside) lt u = absurd u
   reads_by span (Swapping c q from) lt u = absurd u
-  reads_by span (Attending ag o) lt u = absurd u
-  reads_by span (Acting ag ax aside) lt u = absurd u
   reads_by span (Running left inner from) lt u = inside_by span left inner from lt (cell_of (rule (form.Look Deref)) true (last_of vs))
 
   -- the ref is ensured, once it was read
@@ -246,7 +266,7 @@ module _ (n bn : ℕ) (fs : List PlainFrame) (l at : ℕ) (vs : List Value) (out
   -- `ensure`
   ensures_by : (span : Span) (left inner : ℕ) (from : Origin) → l < length vs → (r : Result CellId FaultKind)
       → EffectIs span (Running left inner from) (ensures_cell vs (Running left inner from) w kept r)
-      (λ xs. on (machine.Running left inner (savepoint_of from)) (on_step (step_of r span (before xs)) (read_cell Ensure true)) (on_read (Running left inner from)))
+      (λ xs. on (machine.Running left inner (savepoint_of home from)) (on_step (step_of r span (before xs)) (read_cell Ensure true)) (on_read (Running left inner from)))
   unfolding look
   ensures_by span left inner from lt (Err k) = (refl, refl, refl, λ xs. refl)
   ensures_by span left inner from lt (Ok c) = by_own (buffered w.values c.number)
@@ -254,7 +274,7 @@ module _ (n bn : ℕ) (fs : List PlainFrame) (l at : ℕ) (vs : List Value) (out
       by_own : (o : Option Value)
           → EffectIs span (Running left inner from)
           (own_or o (λ v. moves (but_last vs ++ v ∷ []) (Running left inner from) (ensure_ref c w) kept) (waits (pending.Ensure c (with_cell w.ensures c)) vs (Running left inner from) w kept))
-          (λ xs. on (machine.Running left inner (savepoint_of from)) (guarded c (buffered_or o (before xs) (heard value_there (asks (ask.Look c p) (before xs))))) (on_read (Running left inner from)))
+          (λ xs. on (machine.Running left inner (savepoint_of home from)) (guarded c (buffered_or o (before xs) (heard value_there (asks (ask.Look c p) (before xs))))) (on_read (Running left inner from)))
       by_own (Some v) = replaced_with (ensure_ref c w) (Running left inner from) v lt
       by_own None =
           let q = pending.Ensure c (with_cell w.ensures c) in (
@@ -262,7 +282,7 @@ module _ (n bn : ℕ) (fs : List PlainFrame) (l at : ℕ) (vs : List Value) (out
             refl,
             refl,
             refl,
-            looks (Running left inner from) c q (λ r. on (machine.Running left inner (savepoint_of from)) (guarded c r) (on_read (Running left inner from))) (λ s. refl) (λ v. replaced_with (ensure_ref c w) (Running left inner from) v lt) (λ d. reruns_so left inner from (Some q)),
+            looks (Running left inner from) c q (λ r. on (machine.Running left inner (savepoint_of home from)) (guarded c r) (on_read (Running left inner from))) (λ s. refl) (λ v. replaced_with (ensure_ref c w) (Running left inner from) v lt) (λ d. reruns_so left inner from (Some q)),
           )
 
   -- an update opens its ref
@@ -270,9 +290,9 @@ module _ (n bn : ℕ) (fs : List PlainFrame) (l at : ℕ) (vs : List Value) (out
   on_open m tx v s1 = stacked tx (push_all (topmost m vs) (v ∷ stack_in l (below m vs))) s1
 
   put_so : (m : ℕ) (tx : Transaction) (v : Value) (had : Option Commute) → m + l ≤ length vs
-      → on_open m tx v (stated [] out p seen w had) ≡ Unfinished (configuration bn (at + 1) (stack_in l (put_under m v vs)) (take l (put_under m v vs)) (frames_in fs tx) (activity_of tx) (stated [] out p seen w had))
+      → on_open m tx v (stated [] out p seen w had held) ≡ Unfinished (configuration bn (at + 1) (stack_in l (put_under m v vs)) (take l (put_under m v vs)) (frames_in fs home tx) (activity_of home tx) (stated [] out p seen w had held))
   put_so m tx v had le =
-      same_place bn (frames_in fs tx) (activity_of tx) [] p seen w had (at + 1) _ _ _ _ out (push_all_is (topmost m vs) (v ∷ stack_in l (below m vs)) ∙ sym (put_under_stack l m v vs le)) (sym (put_under_locals l m v vs le))
+      same_place bn (frames_in fs home tx) (activity_of home tx) [] p seen w had held (at + 1) _ _ _ _ out (push_all_is (topmost m vs) (v ∷ stack_in l (below m vs)) ∙ sym (put_under_stack l m v vs le)) (sym (put_under_locals l m v vs le))
 
   -- what is open then
   abbrev opened_as : Option Commute → StepResult Value → StepResult Value
@@ -280,14 +300,14 @@ module _ (n bn : ℕ) (fs : List PlainFrame) (l at : ℕ) (vs : List Value) (out
 
   opens_by : (u : RefUpdate) (span : Span) (m left inner : ℕ) (from : Origin) → m + l ≤ length vs → (r : Result CellId FaultKind)
       → EffectIs span (Running left inner from) (opens_cell u m vs (Running left inner from) w kept r)
-      (λ xs. on (machine.Running left inner (savepoint_of from)) (on_step (step_of r span (before xs)) (λ c s1. opened_as (kept_open u c (topmost m vs)) (look c s1))) (on_open m (Running left inner from)))
+      (λ xs. on (machine.Running left inner (savepoint_of home from)) (on_step (step_of r span (before xs)) (λ c s1. opened_as (kept_open u c (topmost m vs)) (look c s1))) (on_open m (Running left inner from)))
   unfolding look
   opens_by u span m left inner from le (Err k) = (refl, refl, refl, λ xs. refl)
   opens_by u span m left inner from le (Ok c) = by_own (kept_open u c (topmost m vs)) (buffered w.values c.number)
     where
       by_own : (had : Option Commute) (o : Option Value)
           → EffectIs span (Running left inner from) (own_or o (λ v. moves (put_under m v vs) (Running left inner from) w had) (waits (pending.Open c m had) vs (Running left inner from) w kept))
-          (λ xs. on (machine.Running left inner (savepoint_of from)) (opened_as had (buffered_or o (before xs) (heard value_there (asks (ask.Look c p) (before xs))))) (on_open m (Running left inner from)))
+          (λ xs. on (machine.Running left inner (savepoint_of home from)) (opened_as had (buffered_or o (before xs) (heard value_there (asks (ask.Look c p) (before xs))))) (on_open m (Running left inner from)))
       by_own had (Some v) = put_so m (Running left inner from) v had le
       by_own had None =
           let q = pending.Open c m had in (
@@ -295,51 +315,49 @@ module _ (n bn : ℕ) (fs : List PlainFrame) (l at : ℕ) (vs : List Value) (out
             refl,
             refl,
             refl,
-            looks (Running left inner from) c q (λ r. on (machine.Running left inner (savepoint_of from)) (opened_as had r) (on_open m (Running left inner from))) (λ s. refl) (λ v. put_so m (Running left inner from) v had le) (λ d. reruns_so left inner from (Some q)),
+            looks (Running left inner from) c q (λ r. on (machine.Running left inner (savepoint_of home from)) (opened_as had r) (on_open m (Running left inner from))) (λ s. refl) (λ v. put_so m (Running left inner from) v had le) (λ d. reruns_so left inner from (Some q)),
           )
 
   -- a transaction begins, where no stack is put aside
-  begun_by : (left : ℕ) (tx : Transaction) → frames_in fs tx ≡ frames_of fs → (span : Span) → Asked (λ xs. starts left span (here tx xs)) (it tx (Some (pending.Begin left (from_here span)))) ask.Begin
+  begun_by : (left : ℕ) (tx : Transaction) → frames_in fs home tx ≡ frames_on fs home → (span : Span) → Asked (λ xs. starts left span (here tx xs)) (it tx (Some (pending.Begin left (from_here span)))) ask.Begin
   unfolding begin
   begun_by left tx low span = record {
-    now = ap (λ h. on (activity_of tx) (on_step (heard read_point h) begun) go) (asks_now ask.Begin);
-    leads = λ r m k. ap (λ h. on (activity_of tx) (on_step (heard read_point h) begun) go) (asks_then ask.Begin r) ∙ begin_replies Leads (λ q. ap (λ x. over x (stated [] out q q no_work None)) low) r m;
+    now = ap (λ h. on (activity_of home tx) (on_step (heard read_point h) begun) go) (asks_now ask.Begin);
+    leads = λ r m k. ap (λ h. on (activity_of home tx) (on_step (heard read_point h) begun) go) (asks_then ask.Begin r) ∙ begin_replies Leads (λ q. ap (λ x. over x (stated [] out q q no_work None held)) low) r m;
   }
     where
       over : List Frame → ActorState → Turned Configuration
       over x s1 = Unfinished (configuration bn (at + 1) (stack_in l vs) (take l vs) x (machine.Running left 0 (record { span = span; body = bn; place = at; stack = stack_in l vs; locals = take l vs; frames = x })) s1)
 
       go : Unit {0} → ActorState → Turned Configuration
-      go u s1 = over (frames_in fs tx) s1
+      go u s1 = over (frames_in fs home tx) s1
 
       Leads : Reply → Type 0
-      Leads r = on (activity_of tx) (on_step (heard read_point (Replied r (before []))) begun) (λ u s1. over (frames_in fs tx) s1) ≡ stands_at (answered (it tx (Some (pending.Begin left (from_here span)))) r)
+      Leads r = on (activity_of home tx) (on_step (heard read_point (Replied r (before []))) begun) (λ u s1. over (frames_in fs home tx) s1) ≡ stands_at (answered (it tx (Some (pending.Begin left (from_here span)))) r)
 
-  begins_by : (span : Span) (tx : Transaction) → IsUnapplied tx → EffectIs span tx (begins_at (from_here span) vs w kept tx) (λ xs. machine.begins (activity_of tx) span (here tx xs))
+  begins_by : (span : Span) (tx : Transaction) → IsUnapplied tx → EffectIs span tx (begins_at (from_here span) vs w kept tx) (λ xs. machine.begins (activity_of home tx) span (here tx xs))
   begins_by span Outside u = (refl, refl, refl, refl, begun_by reruns Outside refl span)
   begins_by span (Restarting left) u = (refl, refl, refl, refl, begun_by left (Restarting left) refl span)
   begins_by span (Applying left from phase) u = absurd u
   begins_by span (Evaluating left from phase aside) u = absurd u
   begins_by span (Swapping c q from) u = absurd u
-  begins_by span (Attending ag o) u = absurd u
-  begins_by span (Acting ag ax aside) u = absurd u
-  begins_by span (Running left inner from) u = ap (λ i. Unfinished (configuration bn (at + 1) (stack_in l vs) (take l vs) (frames_of fs) (machine.Running left i (savepoint_of from)) (before []))) (sym (add-one inner))
+  begins_by span (Running left inner from) u = ap (λ i. Unfinished (configuration bn (at + 1) (stack_in l vs) (take l vs) (frames_on fs home) (machine.Running left i (savepoint_of home from)) (before []))) (sym (add-one inner))
 
   -- the transaction ends again from a new view
-  ends_from : (left : ℕ) (from : Origin) (tx : Transaction) (o : Option Pending) (xs : List Exchange) → frames_in fs tx ≡ frames_of fs → decided Outdated left (savepoint_of from) (here tx xs) (before []) ≡ stands_at (ends_again (it tx o) left from)
+  ends_from : (left : ℕ) (from : Origin) (tx : Transaction) (o : Option Pending) (xs : List Exchange) → frames_in fs home tx ≡ frames_on fs home → decided Outdated left (savepoint_of home from) (here tx xs) (before []) ≡ stands_at (ends_again (it tx o) left from)
   ends_from zero from tx o xs low = refl
-  ends_from (suc left) from tx o xs low = ap (λ x. Unfinished (configuration bn at (stack_in l vs) (take l vs) x (machine.Running left 0 (savepoint_of from)) (before []))) low
+  ends_from (suc left) from tx o xs low = ap (λ x. Unfinished (configuration bn at (stack_in l vs) (take l vs) x (machine.Running left 0 (savepoint_of home from)) (before []))) low
 
   -- how a transaction of so many tries from here, which puts no stack aside, goes on after its commit
   record GoesOnFrom (tx : Transaction) (left : ℕ) (from : Origin) : Type 0 where
-    pub low : frames_in fs tx ≡ frames_of fs
+    pub low : frames_in fs home tx ≡ frames_on fs home
     pub again : run_again (it tx (Some pending.Commit)) tx ≡ begins_again (it tx (Some pending.Commit)) left from
     pub from_view : end_again (it tx (Some pending.Commit)) tx ≡ ends_again (it tx (Some pending.Commit)) left from
     pub refused : refuse (it tx (Some pending.Commit)) tx ≡ stops_as (it tx (Some pending.Commit)) (outcome.Failed (fault_at AgentFailed from.span))
 
   -- a transaction ends, with the values that its commutes gave
   commits : (tx : Transaction) (left : ℕ) (from : Origin) → GoesOnFrom tx left from
-      → Asked (λ xs. lands left (savepoint_of from) (applied_in tx) (here tx xs)) (it tx (Some pending.Commit)) (ask.Commit p (set_writes w) w.ensures seen (applied_in tx) w.sends)
+      → Asked (λ xs. lands left (savepoint_of home from) (applied_in tx) (here tx xs)) (it tx (Some pending.Commit)) (ask.Commit p (set_writes w) w.ensures seen (applied_in tx) w.sends)
   unfolding commit
   commits tx left from k = record {
     now = ap (λ h. gone h []) (asks_now q);
@@ -350,9 +368,9 @@ module _ (n bn : ℕ) (fs : List PlainFrame) (l at : ℕ) (vs : List Value) (out
       q = ask.Commit p (set_writes w) w.ensures seen (applied_in tx) w.sends
 
       gone : Reception → List Exchange → Turned Configuration
-      gone h xs = on (activity_of tx) (heard commit_verdict h) (λ verdict s. decided verdict left (savepoint_of from) (here tx xs) s)
+      gone h xs = on (activity_of home tx) (heard commit_verdict h) (λ verdict s. decided verdict left (savepoint_of home from) (here tx xs) s)
 
-      landed : frames_in fs tx ≡ frames_of fs → gone (Replied Done (before [])) (met q Done) ≡ stands_at (answered (it tx (Some pending.Commit)) Done)
+      landed : frames_in fs home tx ≡ frames_on fs home → gone (Replied Done (before [])) (met q Done) ≡ stands_at (answered (it tx (Some pending.Commit)) Done)
       landed low = ap (λ x. Unfinished (configuration bn (at + 1) (stack_in l vs) (take l vs) x machine.Outside (before []))) low
 
       Leads : Reply → Type 0
@@ -360,7 +378,7 @@ module _ (n bn : ℕ) (fs : List PlainFrame) (l at : ℕ) (vs : List Value) (out
 
   -- the refs that were commuted and not set are viewed
   views_by : (left inner : ℕ) (from : Origin) (phase : PlainPhase) → phase ≡ record { work = phase_work w; values = blank (commuted w) }
-      → Asked (λ xs. on (machine.Running left inner (savepoint_of from)) (view (before xs)) (λ values s. Unfinished (staying (machine.Applying left (savepoint_of from) (phase_work s.done) values) s (here (Running left inner from) xs))))
+      → Asked (λ xs. on (machine.Running left inner (savepoint_of home from)) (view (before xs)) (λ values s. Unfinished (staying (machine.Applying left (savepoint_of home from) (phase_work s.done) values) s (here (Running left inner from) xs))))
       (it (Running left inner from) (Some (pending.View phase))) (ask.View (commuted w))
   unfolding view
   views_by left inner from phase e = record {
@@ -375,14 +393,14 @@ module _ (n bn : ℕ) (fs : List PlainFrame) (l at : ℕ) (vs : List Value) (out
       q = ask.View (commuted w)
 
       go : List Exchange → Writes → ActorState → Turned Configuration
-      go xs values s = Unfinished (staying (machine.Applying left (savepoint_of from) (phase_work s.done) values) s (here tx xs))
+      go xs values s = Unfinished (staying (machine.Applying left (savepoint_of home from) (phase_work s.done) values) s (here tx xs))
 
       gone : Reception → List Exchange → Turned Configuration
-      gone h xs = on (machine.Running left inner (savepoint_of from)) (on_step (heard machine_views h) (λ x s1. viewed x.0 (paired (commuted w) x.1) s1)) (go xs)
+      gone h xs = on (machine.Running left inner (savepoint_of home from)) (on_step (heard machine_views h) (λ x s1. viewed x.0 (paired (commuted w) x.1) s1)) (go xs)
 
       viewed_so : (n : ℕ) (us : List Value) → length us ≡ length (commuted w) → gone (Replied (Views n us) (before [])) (met q (Views n us)) ≡ stands_at (answered (it tx (Some (pending.View phase))) (Views n us))
       viewed_so n us many =
-          ap (λ o. on (machine.Running left inner (savepoint_of from)) (viewed n o (before [])) (go (met q (Views n us)))) (paired_fills (commuted w) us many)
+          ap (λ o. on (machine.Running left inner (savepoint_of home from)) (viewed n o (before [])) (go (met q (Views n us)))) (paired_fills (commuted w) us many)
           ∙ ap (λ (x : PlainPhase). stands_at (answered (it tx (Some (pending.View x))) (Views n us))) (sym e)
 
       Leads : Reply → Type 0
@@ -390,13 +408,13 @@ module _ (n bn : ℕ) (fs : List PlainFrame) (l at : ℕ) (vs : List Value) (out
 
   -- at a transaction's end
   settles_by : (span : Span) (left : ℕ) (from : Origin) (cs : List CellId) → commuted w ≡ cs
-      → EffectIs span (Running left 0 from) (settles_at cs vs (Running left 0 from) w kept) (λ xs. settles cs left (savepoint_of from) (here (Running left 0 from) xs))
+      → EffectIs span (Running left 0 from) (settles_at cs vs (Running left 0 from) w kept) (λ xs. settles cs left (savepoint_of home from) (here (Running left 0 from) xs))
   settles_by span left from [] e = (refl, refl, refl, refl, commits (Running left 0 from) left from (record { low = refl; again = refl; from_view = refl; refused = refl }))
   settles_by span left from (c ∷ cs) e = (refl, refl, refl, refl, views_by left 0 from (record { work = phase_work w; values = blank (commuted w) }) refl)
 
   -- a commute is applied
   applies_by : (code : ThreadCode) (span : Span) (left : ℕ) (from : Origin) (k : Commute) (ks : List Commute) (ws : Writes) (f : Callee) → IsOperation f (length k.args)
-      → EffectIs span (applying left from (k ∷ ks) ws) (applies_at f left from vs w kept k ks ws) (λ xs. machine.applies code f left (savepoint_of from) k ks ws (here (applying left from (k ∷ ks) ws) xs))
+      → EffectIs span (applying left from (k ∷ ks) ws) (applies_at f left from vs w kept k ks ws) (λ xs. machine.applies code f left (savepoint_of home from) k ks ws (here (applying left from (k ∷ ks) ws) xs))
   applies_by code span left from k ks ws (callee.Function f) h = absurd h
   applies_by code span left from k ks ws (callee.Core op) h =
       let tx = applying left from (k ∷ ks) ws in
@@ -405,7 +423,7 @@ module _ (n bn : ℕ) (fs : List PlainFrame) (l at : ℕ) (vs : List Value) (out
       (by_answer (core op (arguments_of k ws)))
     where
       gone : Answer → List Exchange → Turned Configuration
-      gone x xs = on (activity_of (applying left from (k ∷ ks) ws)) (step_of x from.span (before xs)) (λ v s. Unfinished (staying (machine.Applying left (savepoint_of from) ks (with_write ws k.cell v)) s (here (applying left from (k ∷ ks) ws) xs)))
+      gone x xs = on (activity_of home (applying left from (k ∷ ks) ws)) (step_of x from.span (before xs)) (λ v s. Unfinished (staying (machine.Applying left (savepoint_of home from) ks (with_write ws k.cell v)) s (here (applying left from (k ∷ ks) ws) xs)))
 
       by_answer : (x : Answer) → EffectIs span (applying left from (k ∷ ks) ws) (applies_as left from vs w kept k ks ws x) (gone x)
       by_answer (Ok v) = refl
@@ -413,11 +431,11 @@ module _ (n bn : ℕ) (fs : List PlainFrame) (l at : ℕ) (vs : List Value) (out
 
   -- one stage of a commute phase
   goes_by : (code : ThreadCode) (span : Span) (left : ℕ) (from : Origin) (ks : List Commute) (ws : Writes) → Operates ks
-      → EffectIs span (applying left from ks ws) (goes_through left from vs w kept ks ws) (λ xs. machine.ends code (machine.Applying left (savepoint_of from) ks ws) (here (applying left from ks ws) xs))
+      → EffectIs span (applying left from ks ws) (goes_through left from vs w kept ks ws) (λ xs. machine.ends code (machine.Applying left (savepoint_of home from) ks ws) (here (applying left from ks ws) xs))
   goes_by code span left from [] ws h = (refl, refl, refl, refl, commits (applying left from [] ws) left from (record { low = refl; again = refl; from_view = refl; refused = refl }))
   goes_by code span left from (k ∷ ks) ws h = applies_by code span left from k ks ws k.callee h
 
-  ends_by : (code : ThreadCode) (span : Span) (tx : Transaction) → 0 < depth_in tx → LeftApply tx → EffectIs span tx (ends_at vs w kept tx) (λ xs. machine.ends code (activity_of tx) (here tx xs))
+  ends_by : (code : ThreadCode) (span : Span) (tx : Transaction) → 0 < depth_in tx → LeftApply tx → EffectIs span tx (ends_at vs w kept tx) (λ xs. machine.ends code (activity_of home tx) (here tx xs))
   ends_by code span Outside lt h = absurd (omega (arith, lt))
   ends_by code span (Restarting left) lt h = absurd (omega (arith, lt))
   ends_by code span (Running left zero from) lt h = settles_by span left from (commuted w) refl
@@ -425,36 +443,34 @@ module _ (n bn : ℕ) (fs : List PlainFrame) (l at : ℕ) (vs : List Value) (out
   ends_by code span (Applying left from phase) lt h = goes_by code span left from phase.work phase.values h
   ends_by code span (Evaluating left from phase aside) lt h = absurd h
   ends_by code span (Swapping c q from) lt h = absurd (omega (arith, lt))
-  ends_by code span (Attending ag o) lt h = absurd h
-  ends_by code span (Acting ag ax aside) lt h = absurd h
 
   -- a ref is set
   sets_by : (span : Span) (tx : Transaction) → 1 + l < length vs → (r : Result CellId FaultKind)
-      → EffectIs span tx (sets_cell vs tx w kept r) (λ xs. on (activity_of tx) (on_step (step_of r span (before xs)) (set_own span (last_of vs))) (λ v s1. stacked tx (v ∷ stack_in l (below 2 vs)) s1))
+      → EffectIs span tx (sets_cell vs tx w kept r) (λ xs. on (activity_of home tx) (on_step (step_of r span (before xs)) (set_own span (last_of vs))) (λ v s1. stacked tx (v ∷ stack_in l (below 2 vs)) s1))
   sets_by span tx lt (Err k) = (refl, refl, refl, λ xs. refl)
   sets_by span tx lt (Ok c) = by_set (set_ref c (last_of vs) w)
     where
-      moved_so : (own : Work) → stacked tx (last_of vs ∷ stack_in l (below 2 vs)) (stated [] out p seen own kept) ≡ Unfinished (configuration bn (at + 1) (stack_in l (below 2 vs ++ last_of vs ∷ [])) (take l (below 2 vs ++ last_of vs ∷ [])) (frames_in fs tx) (activity_of tx) (stated [] out p seen own kept))
+      moved_so : (own : Work) → stacked tx (last_of vs ∷ stack_in l (below 2 vs)) (stated [] out p seen own kept held) ≡ Unfinished (configuration bn (at + 1) (stack_in l (below 2 vs ++ last_of vs ∷ [])) (take l (below 2 vs ++ last_of vs ∷ [])) (frames_in fs home tx) (activity_of home tx) (stated [] out p seen own kept held))
       moved_so own =
           let le : l ≤ length (below 2 vs) = omega (arith, length_below 2 vs, lt) in
-          same_place bn (frames_in fs tx) (activity_of tx) [] p seen own kept (at + 1) _ _ _ _ out (sym (pushed_stack l (below 2 vs) (last_of vs) le)) (sym (below_locals l 2 vs (omega (arith, lt))) ∙ sym (pushed_locals l (below 2 vs) (last_of vs) le))
+          same_place bn (frames_in fs home tx) (activity_of home tx) [] p seen own kept held (at + 1) _ _ _ _ out (sym (pushed_stack l (below 2 vs) (last_of vs) le)) (sym (below_locals l 2 vs (omega (arith, lt))) ∙ sym (pushed_locals l (below 2 vs) (last_of vs) le))
 
       by_set : (o : Result Work FaultKind)
-          → EffectIs span tx (sets_as vs tx w kept o) (λ xs. on (activity_of tx) (on_step (step_of o span (before xs)) (λ w1 s1. Continue (last_of vs) (record s1 { done = w1 }))) (λ v s1. stacked tx (v ∷ stack_in l (below 2 vs)) s1))
+          → EffectIs span tx (sets_as vs tx w kept o) (λ xs. on (activity_of home tx) (on_step (step_of o span (before xs)) (λ w1 s1. Continue (last_of vs) (record s1 { done = w1 }))) (λ v s1. stacked tx (v ∷ stack_in l (below 2 vs)) s1))
       by_set (Ok own) = moved_so own
       by_set (Err k) = (refl, refl, refl, λ xs. refl)
 
   -- a value in the place of some
   over_some : (own : Work) (tx : Transaction) (m : ℕ) (v : Value) → m + l ≤ length vs
-      → stacked tx (v ∷ stack_in l (below m vs)) (stated [] out p seen own kept)
-      ≡ Unfinished (configuration bn (at + 1) (stack_in l (below m vs ++ v ∷ [])) (take l (below m vs ++ v ∷ [])) (frames_in fs tx) (activity_of tx) (stated [] out p seen own kept))
+      → stacked tx (v ∷ stack_in l (below m vs)) (stated [] out p seen own kept held)
+      ≡ Unfinished (configuration bn (at + 1) (stack_in l (below m vs ++ v ∷ [])) (take l (below m vs ++ v ∷ [])) (frames_in fs home tx) (activity_of home tx) (stated [] out p seen own kept held))
   over_some own tx m v h =
       let le : l ≤ length (below m vs) = omega (arith, length_below m vs, h) in
-      same_place bn (frames_in fs tx) (activity_of tx) [] p seen own kept (at + 1) _ _ _ _ out (sym (pushed_stack l (below m vs) v le)) (sym (below_locals l m vs h) ∙ sym (pushed_locals l (below m vs) v le))
+      same_place bn (frames_in fs home tx) (activity_of home tx) [] p seen own kept held (at + 1) _ _ _ _ out (sym (pushed_stack l (below m vs) v le)) (sym (below_locals l m vs h) ∙ sym (pushed_locals l (below m vs) v le))
 
   -- an atom gets a value
   resets_by : (span : Span) (tx : Transaction) → 1 + l < length vs → (r : Result CellId FaultKind)
-      → EffectIs span tx (resets_cell vs tx w kept r) (λ xs. on (activity_of tx) (on_step (step_of r span (before xs)) (λ c s. reset_atom c (last_of vs) s)) (λ v s1. stacked tx (v ∷ stack_in l (below 2 vs)) s1))
+      → EffectIs span tx (resets_cell vs tx w kept r) (λ xs. on (activity_of home tx) (on_step (step_of r span (before xs)) (λ c s. reset_atom c (last_of vs) s)) (λ v s1. stacked tx (v ∷ stack_in l (below 2 vs)) s1))
   unfolding reset_atom
   resets_by span tx lt (Err k) = (refl, refl, refl, λ xs. refl)
   resets_by span tx lt (Ok c) = (
@@ -469,7 +485,7 @@ module _ (n bn : ℕ) (fs : List PlainFrame) (l at : ℕ) (vs : List Value) (out
       q = ask.CloseAt c None (last_of vs)
 
       gone : Reception → Turned Configuration
-      gone h = on (activity_of tx) (on_step (heard just_done h) (λ u s. Continue (last_of vs) s)) (λ v s1. stacked tx (v ∷ stack_in l (below 2 vs)) s1)
+      gone h = on (activity_of home tx) (on_step (heard just_done h) (λ u s. Continue (last_of vs) s)) (λ v s1. stacked tx (v ∷ stack_in l (below 2 vs)) s1)
 
       Leads : Reply → Type 0
       Leads r = (Stops r → ⊥) → gone (Replied r (before [])) ≡ stands_at (answered (it tx (Some (pending.Reset c (last_of vs)))) r)
@@ -477,50 +493,63 @@ module _ (n bn : ℕ) (fs : List PlainFrame) (l at : ℕ) (vs : List Value) (out
   -- an action is held in a transaction
   holds_by : (f : Callee) (span : Span) (tx : Transaction) (m : ℕ) → m + l < length vs → (r : Result CellId FaultKind)
       → EffectIs span tx (sends_cell true f m span vs tx w kept r)
-      (λ xs. on (activity_of tx) (on_step (step_of r span (before xs)) (λ g s. send_action true (action_of f m span vs g) s)) (λ v s1. stacked tx (v ∷ stack_in l (below (m + 1) vs)) s1))
+      (λ xs. on (activity_of home tx) (on_step (step_of r span (before xs)) (λ g s. send_action true (action_of f m span vs g) s)) (λ v s1. stacked tx (v ∷ stack_in l (below (m + 1) vs)) s1))
   holds_by f span tx m lt (Err k) = (refl, refl, refl, λ xs. refl)
   holds_by f span tx m lt (Ok g) = over_some (hold_send (action_of f m span vs g) w) tx (m + 1) (Cell g) (omega (arith, lt))
 
-  -- an action is sent outside
-  sends_by : (f : Callee) (span : Span) (tx : Transaction) (m : ℕ) → m + l < length vs → ((x : Fault) (s : ActorState) → raise (activity_of tx) x s ≡ Failed x s) → (r : Result CellId FaultKind)
-      → EffectIs span tx (sends_cell false f m span vs tx w kept r)
-      (λ xs. on (activity_of tx) (on_step (step_of r span (before xs)) (λ g s. send_action false (action_of f m span vs g) s)) (λ v s1. stacked tx (v ∷ stack_in l (below (m + 1) vs)) s1))
+  -- the agent on the stack, one place on
+  abbrev on_sent : ℕ → Transaction → Value → ActorState → Turned Configuration
+  on_sent m tx v s1 = stacked tx (v ∷ stack_in l (below (m + 1) vs)) s1
+
+  -- a thread's send is made
+  made_by : (x : AnAction) (m : ℕ) (tx : Transaction) → m + l < length vs → raise (activity_of home tx) (fault_at AgentFailed x.span) (before []) ≡ Failed (fault_at AgentFailed x.span) (before [])
+      → Asked (λ xs. on (activity_of home tx) (send_now x (before xs)) (on_sent m tx)) (it tx (Some (pending.Send x m))) (ask.Send x)
   unfolding send_now
-  sends_by f span tx m lt fails_so (Err k) = (refl, refl, refl, λ xs. refl)
-  sends_by f span tx m lt fails_so (Ok g) = (
-    refl,
-    refl,
-    refl,
-    refl,
-    record { now = ap gone (asks_now q); leads = λ r n st. ap gone (asks_then q r) ∙ send_replies Leads x (λ k. over_some w tx (m + 1) (Cell g) (omega (arith, lt))) (λ d k. fails_so (fault_at AgentFailed span) (before [])) (λ k. absurd (k tt)) (λ k. absurd (k tt)) r n st },
-  )
+  made_by x m tx lt fails_so = record {
+    now = ap gone (asks_now (ask.Send x));
+    leads = λ r n st. ap gone (asks_then (ask.Send x) r) ∙ send_replies Leads x (λ k. over_some w tx (m + 1) (Cell x.agent) (omega (arith, lt))) (λ d k. fails_so) (λ k. absurd (k tt)) (λ k. absurd (k tt)) r n st;
+  }
     where
-      x : AnAction
-      x = action_of f m span vs g
-
-      q : Ask
-      q = ask.Send x
-
       gone : Reception → Turned Configuration
-      gone h = on (activity_of tx) (on_step (heard send_verdict h) (sent x)) (λ v s1. stacked tx (v ∷ stack_in l (below (m + 1) vs)) s1)
+      gone h = on (activity_of home tx) (on_step (heard send_verdict h) (sent x)) (on_sent m tx)
 
       Leads : Reply → Type 0
       Leads r = (Stops r → ⊥) → gone (Replied r (before [])) ≡ stands_at (answered (it tx (Some (pending.Send x m))) r)
 
+  -- the agent in the place of all that was taken, whatever is held
+  over_held : (o : Option InHand) (tx : Transaction) (m : ℕ) (v : Value) → m + 1 + l ≤ length vs
+      → on_sent m tx v (stated [] out p seen w kept o) ≡ Unfinished (configuration bn (at + 1) (stack_in l (below (m + 1) vs ++ v ∷ [])) (take l (below (m + 1) vs ++ v ∷ [])) (frames_in fs home tx) (activity_of home tx) (stated [] out p seen w kept o))
+  over_held o tx m v h =
+      let le : l ≤ length (below (m + 1) vs) = omega (arith, length_below (m + 1) vs, h) in
+      same_place bn (frames_in fs home tx) (activity_of home tx) [] p seen w kept o (at + 1) _ _ _ _ out (sym (pushed_stack l (below (m + 1) vs) v le)) (sym (below_locals l (m + 1) vs h) ∙ sym (pushed_locals l (below (m + 1) vs) v le))
+
+  -- it is made, or the action that is run holds it
+  sent_by : (x : AnAction) (m : ℕ) (tx : Transaction) → m + l < length vs → (o : Option InHand) → (o ≡ None → raise (activity_of home tx) (fault_at AgentFailed x.span) (before []) ≡ Failed (fault_at AgentFailed x.span) (before []))
+      → SentAs x m tx o (λ xs. on (activity_of home tx) (send_or_hold o x (before xs)) (on_sent m tx))
+  sent_by x m tx lt None fails_so = made_by x m tx lt (fails_so refl)
+  sent_by x m tx lt (Some h) fails_so = over_held (now_holding x held) tx m (Cell x.agent) (omega (arith, lt))
+
+  -- an action is sent outside
+  sends_by : (f : Callee) (span : Span) (tx : Transaction) (m : ℕ) → m + l < length vs → ((x : Fault) → held ≡ None → raise (activity_of home tx) x (before []) ≡ Failed x (before [])) → (r : Result CellId FaultKind)
+      → EffectIs span tx (sends_cell false f m span vs tx w kept r)
+      (λ xs. on (activity_of home tx) (on_step (step_of r span (before xs)) (λ g s. send_action false (action_of f m span vs g) s)) (on_sent m tx))
+  sends_by f span tx m lt fails_so (Err k) = (refl, refl, refl, λ xs. refl)
+  sends_by f span tx m lt fails_so (Ok g) = (refl, refl, refl, refl, sent_by (action_of f m span vs g) m tx lt held (fails_so (fault_at AgentFailed span)))
+
   -- the commute that was open is kept
   keeps_by : (o : Commute) (span : Span) (tx : Transaction) → kept ≡ Some o → 1 + l < length vs → (r : Result CellId FaultKind)
-      → EffectIs span tx (keeps_cell o vs tx w r) (λ xs. on (activity_of tx) (on_step (step_of r span (before xs)) (close_own (Some o) span (last_of vs))) (λ v s1. stacked tx (v ∷ stack_in l (below 2 vs)) s1))
+      → EffectIs span tx (keeps_cell o vs tx w r) (λ xs. on (activity_of home tx) (on_step (step_of r span (before xs)) (close_own (Some o) span (last_of vs))) (λ v s1. stacked tx (v ∷ stack_in l (below 2 vs)) s1))
   keeps_by o span tx e lt (Err k) = (refl, refl, sym e, λ xs. refl)
   keeps_by o span tx e lt (Ok c) =
       let own = commute_ref c o.callee o.args (last_of vs) w in
       let le : l ≤ length (below 2 vs) = omega (arith, length_below 2 vs, lt) in
-      same_place bn (frames_in fs tx) (activity_of tx) [] p seen own None (at + 1) _ _ _ _ out (sym (pushed_stack l (below 2 vs) (last_of vs) le)) (sym (below_locals l 2 vs (omega (arith, lt))) ∙ sym (pushed_locals l (below 2 vs) (last_of vs) le))
+      same_place bn (frames_in fs home tx) (activity_of home tx) [] p seen own None held (at + 1) _ _ _ _ out (sym (pushed_stack l (below 2 vs) (last_of vs) le)) (sym (below_locals l 2 vs (omega (arith, lt))) ∙ sym (pushed_locals l (below 2 vs) (last_of vs) le))
 
   -- the close of an update
   closes_by : (had : Option Commute) (span : Span) (tx : Transaction) → kept ≡ had → 1 + l < length vs
       → EffectIs span tx (closes vs tx w had)
-      (λ xs. on (activity_of tx) (on_step (step_of (cell_of (rule (form.Update update.Alter)) true (under 1 vs)) span (before xs)) (close_own had span (last_of vs))) (λ v s1. stacked tx (v ∷ stack_in l (below 2 vs)) s1))
-  closes_by None span tx e lt = subst (λ (x : Option Commute). EffectIs span tx (sets (form.Update update.Alter) vs tx w x) (λ xs. on (activity_of tx) (on_step (step_of (cell_of (rule (form.Update update.Alter)) true (under 1 vs)) span (before xs)) (set_own span (last_of vs))) (λ v s1. stacked tx (v ∷ stack_in l (below 2 vs)) s1))) e (sets_by span tx lt (cell_of (rule (form.Update update.Alter)) true (under 1 vs)))
+      (λ xs. on (activity_of home tx) (on_step (step_of (cell_of (rule (form.Update update.Alter)) true (under 1 vs)) span (before xs)) (close_own had span (last_of vs))) (λ v s1. stacked tx (v ∷ stack_in l (below 2 vs)) s1))
+  closes_by None span tx e lt = subst (λ (x : Option Commute). EffectIs span tx (sets (form.Update update.Alter) vs tx w x) (λ xs. on (activity_of home tx) (on_step (step_of (cell_of (rule (form.Update update.Alter)) true (under 1 vs)) span (before xs)) (set_own span (last_of vs))) (λ v s1. stacked tx (v ∷ stack_in l (below 2 vs)) s1))) e (sets_by span tx lt (cell_of (rule (form.Update update.Alter)) true (under 1 vs)))
   closes_by (Some o) span tx e lt = keeps_by o span tx e lt (cell_of (rule (form.Update update.Alter)) true (under 1 vs))
 
   -- the two values at the top
@@ -541,21 +570,19 @@ module _ (n bn : ℕ) (fs : List PlainFrame) (l at : ℕ) (vs : List Value) (out
   opens_so u span (Applying left from phase) m h inside un = absurd un
   opens_so u span (Evaluating left from phase aside) m h inside un = absurd un
   opens_so u span (Swapping c q from) m h inside un = absurd un
-  opens_so u span (Attending ag o) m h inside un = absurd un
-  opens_so u span (Acting ag ax aside) m h inside un = absurd un
   opens_so u span (Running left inner from) m h inside un =
       let tx = Running left inner from in
       let le : m + l ≤ length vs = omega (arith, h) in
       let lt : l < length (below m vs) = omega (arith, h, length_below m vs) in
       let top = popped_stack l (below m vs) lt in
-      let next : List Value → Value → List Value → List Exchange → Turned Configuration = λ us c rest xs. on (activity_of tx) (open_update u true span c us (before xs)) (λ v s1. stacked tx (push_all us (v ∷ c ∷ rest)) s1) in
+      let next : List Value → Value → List Value → List Exchange → Turned Configuration = λ us c rest xs. on (activity_of home tx) (open_update u true span c us (before xs)) (λ v s1. stacked tx (push_all us (v ∷ c ∷ rest)) s1) in
       said span tx (opens_at u m vs tx w kept) _ _
       (λ xs.
       args_of l m vs (λ us below_them. on_top below_them (λ c rest. next us c rest xs)) le
       ∙ ap (λ st. on_top st (λ c rest. next (topmost m vs) c rest xs)) top
-      ∙ ap (λ st. on (activity_of tx) (open_update u true span (last_of (below m vs)) (topmost m vs) (before xs)) (λ v s1. stacked tx (push_all (topmost m vs) (v ∷ st)) s1)) (sym top)
-      ∙ ap (λ c. on (activity_of tx) (open_update u true span c (topmost m vs) (before xs)) (on_open m tx)) (under_is m vs (omega (arith, h)))
-      ∙ ap (λ r. on (activity_of tx) (on_step (step_of r span (before xs)) (λ c s1. opened_as (kept_open u c (topmost m vs)) (look c s1))) (on_open m tx)) (takes_refs u))
+      ∙ ap (λ st. on (activity_of home tx) (open_update u true span (last_of (below m vs)) (topmost m vs) (before xs)) (λ v s1. stacked tx (push_all (topmost m vs) (v ∷ st)) s1)) (sym top)
+      ∙ ap (λ c. on (activity_of home tx) (open_update u true span c (topmost m vs) (before xs)) (on_open m tx)) (under_is m vs (omega (arith, h)))
+      ∙ ap (λ r. on (activity_of home tx) (on_step (step_of r span (before xs)) (λ c s1. opened_as (kept_open u c (topmost m vs)) (look c s1))) (on_open m tx)) (takes_refs u))
       (opens_by u span m left inner from le (cell_of (rule (form.Update update.Alter)) true (under m vs)))
     where
       -- `alter` and `commute` take a ref alike
@@ -565,20 +592,20 @@ module _ (n bn : ℕ) (fs : List PlainFrame) (l at : ℕ) (vs : List Value) (out
 
   -- the close of an update, as the machine makes it
   closes_so : (span : Span) (tx : Transaction) → 1 + l < length vs
-      → EffectIs span tx (closes vs tx w kept) (λ xs. machine.on_two (stack_in l vs) (λ v c rest. on (activity_of tx) (close_update span c v (before xs)) (λ x s1. stacked tx (x ∷ rest) s1)))
+      → EffectIs span tx (closes vs tx w kept) (λ xs. machine.on_two (stack_in l vs) (λ v c rest. on (activity_of home tx) (close_update span c v (before xs)) (λ x s1. stacked tx (x ∷ rest) s1)))
   closes_so span tx h =
       said span tx (closes vs tx w kept) _ _
-      (λ xs. two_tops (λ v c rest. on (activity_of tx) (close_update span c v (before xs)) (λ x s1. stacked tx (x ∷ rest) s1)) h)
+      (λ xs. two_tops (λ v c rest. on (activity_of home tx) (close_update span c v (before xs)) (λ x s1. stacked tx (x ∷ rest) s1)) h)
       (closes_by kept span tx refl h)
 
   -- a send, as the machine makes it
   sends_so : (f : Callee) (inside : Bool) (span : Span) (tx : Transaction) (m : ℕ) → m + l < length vs → (xs : List Exchange)
-      → on_args_of m (stack_in l vs) (λ us c rest. on (activity_of tx) (send_to inside span c f us (before xs)) (λ v s1. stacked tx (v ∷ rest) s1))
-      ≡ on (activity_of tx) (on_step (step_of (cell_of (rule form.Send) inside (under m vs)) span (before xs)) (λ g s. send_action inside (action_of f m span vs g) s)) (λ v s1. stacked tx (v ∷ stack_in l (below (m + 1) vs)) s1)
+      → on_args_of m (stack_in l vs) (λ us c rest. on (activity_of home tx) (send_to inside span c f us (before xs)) (λ v s1. stacked tx (v ∷ rest) s1))
+      ≡ on (activity_of home tx) (on_step (step_of (cell_of (rule form.Send) inside (under m vs)) span (before xs)) (λ g s. send_action inside (action_of f m span vs g) s)) (λ v s1. stacked tx (v ∷ stack_in l (below (m + 1) vs)) s1)
   sends_so f inside span tx m h xs =
       let le : m + l ≤ length vs = omega (arith, h) in
       let lt : l < length (below m vs) = omega (arith, h, length_below m vs) in
-      let next : List Value → Value → List Value → Turned Configuration = λ us c rest. on (activity_of tx) (send_to inside span c f us (before xs)) (λ v s1. stacked tx (v ∷ rest) s1) in
+      let next : List Value → Value → List Value → Turned Configuration = λ us c rest. on (activity_of home tx) (send_to inside span c f us (before xs)) (λ v s1. stacked tx (v ∷ rest) s1) in
       args_of l m vs (λ us rest. on_top rest (next us)) le
       ∙ ap (λ st. on_top st (next (topmost m vs))) (popped_stack l (below m vs) lt)
       ∙ ap (λ c. next (topmost m vs) c (stack_in l (but_last (below m vs)))) (under_is m vs (omega (arith, h)))
@@ -587,7 +614,7 @@ module _ (n bn : ℕ) (fs : List PlainFrame) (l at : ℕ) (vs : List Value) (out
   -- a swap begins with its atom's value
   abbrev in_swap : ℕ → Span → SwapInHand × Value → ActorState → Turned Configuration
   in_swap m span o s1 =
-      Unfinished (configuration bn (at + 1) (push_all (topmost m vs) (o.1 ∷ stack_in l (below m vs))) (take l vs) (frames_of fs) (machine.Swapping o.0 (savepoint_of (from_here span))) s1)
+      Unfinished (configuration bn (at + 1) (push_all (topmost m vs) (o.1 ∷ stack_in l (below m vs))) (take l vs) (frames_on fs home) (machine.Swapping o.0 (savepoint_of home (from_here span))) s1)
 
   swaps_by : (span : Span) (m : ℕ) → m + l ≤ length vs → (r : Result CellId FaultKind)
       → EffectIs span Outside (swaps_cell m (from_here span) vs Outside w kept r) (λ xs. on machine.Outside (on_step (step_of r span (before xs)) open_atom) (in_swap m span))
@@ -609,7 +636,7 @@ module _ (n bn : ℕ) (fs : List PlainFrame) (l at : ℕ) (vs : List Value) (out
 
       opened_so : (q : ℕ) (v : Value) → gone (Replied (Opened q v) (before [])) ≡ stands_at (answered (it Outside (Some (pending.Swap c m (from_here span)))) (Opened q v))
       opened_so q v =
-          same_place bn (frames_of fs) (activity_of (Swapping c q (from_here span))) [] p seen w kept (at + 1) _ _ _ _ out (push_all_is (topmost m vs) (v ∷ stack_in l (below m vs)) ∙ sym (put_under_stack l m v vs le)) (sym (put_under_locals l m v vs le))
+          same_place bn (frames_on fs home) (activity_of home (Swapping c q (from_here span))) [] p seen w kept held (at + 1) _ _ _ _ out (push_all_is (topmost m vs) (v ∷ stack_in l (below m vs)) ∙ sym (put_under_stack l m v vs le)) (sym (put_under_locals l m v vs le))
 
   -- the open of a swap, as the machine makes it
   swaps_so : (f : Callee) (span : Span) (tx : Transaction) (m : ℕ) → m + l < length vs → tx ≡ Outside
@@ -623,7 +650,7 @@ module _ (n bn : ℕ) (fs : List PlainFrame) (l at : ℕ) (vs : List Value) (out
       next xs us c rest = machine.opens (open_form.Swap f) span us c rest (here Outside xs)
 
       opened_with : List Exchange → List Value → Value → Turned Configuration
-      opened_with xs below_it c = on machine.Outside (on_step (step_of (cell_of (rule (form.Update update.Swap)) false c) span (before xs)) open_atom) (λ o s1. Unfinished (configuration bn (at + 1) (push_all (topmost m vs) (o.1 ∷ below_it)) (take l vs) (frames_of fs) (machine.Swapping o.0 (savepoint_of (from_here span))) s1))
+      opened_with xs below_it c = on machine.Outside (on_step (step_of (cell_of (rule (form.Update update.Swap)) false c) span (before xs)) open_atom) (λ o s1. Unfinished (configuration bn (at + 1) (push_all (topmost m vs) (o.1 ∷ below_it)) (take l vs) (frames_on fs home) (machine.Swapping o.0 (savepoint_of home (from_here span))) s1))
 
       steps_so : (xs : List Exchange) → on_args_of m (stack_in l vs) (next xs) ≡ opened_with xs (stack_in l (below m vs)) (under m vs)
       steps_so xs =
@@ -639,7 +666,7 @@ module _ (n bn : ℕ) (fs : List PlainFrame) (l at : ℕ) (vs : List Value) (out
 
   -- a swap ends, or goes again from its open
   closes_atom : (c : CellId) (q : ℕ) (from : Origin) → 1 + l < length vs
-      → Asked (λ xs. on (activity_of (Swapping c q from)) (close_swap (record { cell = c; at = q }) (last_of vs) (before xs)) (λ verdict s. swap_decided verdict (savepoint_of from) (last_of vs) (stack_in l (below 2 vs)) (here (Swapping c q from) xs) s))
+      → Asked (λ xs. on (activity_of home (Swapping c q from)) (close_swap (record { cell = c; at = q }) (last_of vs) (before xs)) (λ verdict s. swap_decided verdict (savepoint_of home from) (last_of vs) (stack_in l (below 2 vs)) (here (Swapping c q from) xs) s))
       (it (Swapping c q from) (Some (pending.Close c q (last_of vs)))) (ask.CloseAt c (Some q) (last_of vs))
   unfolding close_swap
   closes_atom c q from lt = record {
@@ -651,7 +678,7 @@ module _ (n bn : ℕ) (fs : List PlainFrame) (l at : ℕ) (vs : List Value) (out
       x = ask.CloseAt c (Some q) (last_of vs)
 
       gone : Reception → List Exchange → Turned Configuration
-      gone h xs = on (activity_of (Swapping c q from)) (heard swap_verdict h) (λ verdict s. swap_decided verdict (savepoint_of from) (last_of vs) (stack_in l (below 2 vs)) (here (Swapping c q from) xs) s)
+      gone h xs = on (activity_of home (Swapping c q from)) (heard swap_verdict h) (λ verdict s. swap_decided verdict (savepoint_of home from) (last_of vs) (stack_in l (below 2 vs)) (here (Swapping c q from) xs) s)
 
       landed : gone (Replied Done (before [])) (met x Done) ≡ stands_at (answered (it (Swapping c q from) (Some (pending.Close c q (last_of vs)))) Done)
       landed = over_some w Outside 2 (last_of vs) (omega (arith, lt))
@@ -667,8 +694,6 @@ module _ (n bn : ℕ) (fs : List PlainFrame) (l at : ℕ) (vs : List Value) (out
   swapped_so span (Running left inner from) h s = absurd s
   swapped_so span (Applying left from phase) h s = absurd s
   swapped_so span (Evaluating left from phase aside) h s = absurd s
-  swapped_so span (Attending ag o) h s = absurd s
-  swapped_so span (Acting ag ax aside) h s = absurd s
   swapped_so span (Swapping c q from) h s =
       said span (Swapping c q from) (swapped vs w kept (Swapping c q from)) _ _
       (λ xs. two_tops (λ v x rest. machine.closes update.Swap span v x rest (here (Swapping c q from) xs)) h)
@@ -679,7 +704,7 @@ module _ (n bn : ℕ) (fs : List PlainFrame) (l at : ℕ) (vs : List Value) (out
   Stands tx (instr.Look Deref) = (l < length vs) × IsUnapplied tx
   Stands tx (instr.Look Ensure) = (l < length vs) × (0 < depth_in tx) × IsUnapplied tx
   Stands tx (instr.Put RefSet) = (1 + l < length vs) × (0 < depth_in tx) × IsUnapplied tx
-  Stands tx (instr.Put Reset) = (1 + l < length vs) × (is_inside (activity_of tx) ≡ false)
+  Stands tx (instr.Put Reset) = (1 + l < length vs) × (is_inside (activity_of home tx) ≡ false)
   Stands tx (instr.Send f m) = (m + l < length vs) × IsUnapplied tx
   Stands tx instr.TxBegin = IsUnapplied tx
   Stands tx instr.TxEnd = (0 < depth_in tx) × LeftApply tx
@@ -695,49 +720,43 @@ module _ (n bn : ℕ) (fs : List PlainFrame) (l at : ℕ) (vs : List Value) (out
       → EffectIs span tx (effect (from_here span) vs tx w kept i) (λ xs. act code (Some (plain_instr ps ks i span)) (here tx xs))
   effect_is code ps ks span tx (instr.Look Deref) h =
       said span tx (reads (is_running tx) vs tx w kept) _ _
-      (λ xs. ap (λ st. on_top st (λ c rest. on (activity_of tx) (read Deref (is_inside (activity_of tx)) span c (before xs)) (λ v s1. stacked tx (v ∷ rest) s1))) (popped_stack l vs h.0))
+      (λ xs. ap (λ st. on_top st (λ c rest. on (activity_of home tx) (read Deref (is_inside (activity_of home tx)) span c (before xs)) (λ v s1. stacked tx (v ∷ rest) s1))) (popped_stack l vs h.0))
       (reads_by span tx h.0 h.1)
   effect_is code ps ks span Outside (instr.Look Ensure) h = absurd (omega (arith, h.1))
   effect_is code ps ks span (Restarting left) (instr.Look Ensure) h = absurd (omega (arith, h.1))
   effect_is code ps ks span (Applying left from phase) (instr.Look Ensure) h = absurd h.2
   effect_is code ps ks span (Evaluating left from phase aside) (instr.Look Ensure) h = absurd h.2
   effect_is code ps ks span (Swapping c q from) (instr.Look Ensure) h = absurd h.2
-  effect_is code ps ks span (Attending ag o) (instr.Look Ensure) h = absurd h.2
-  effect_is code ps ks span (Acting ag ax aside) (instr.Look Ensure) h = absurd h.2
   effect_is code ps ks span (Running left inner from) (instr.Look Ensure) h =
       let tx = Running left inner from in
       said span tx (ensures vs tx w kept) _ _
-      (λ xs. ap (λ st. on_top st (λ c rest. on (activity_of tx) (read Ensure true span c (before xs)) (λ v s1. stacked tx (v ∷ rest) s1))) (popped_stack l vs h.0))
+      (λ xs. ap (λ st. on_top st (λ c rest. on (activity_of home tx) (read Ensure true span c (before xs)) (λ v s1. stacked tx (v ∷ rest) s1))) (popped_stack l vs h.0))
       (ensures_by span left inner from h.0 (cell_of (rule (form.Look Ensure)) true (last_of vs)))
   effect_is code ps ks span Outside (instr.Put RefSet) h = absurd (omega (arith, h.1))
   effect_is code ps ks span (Restarting left) (instr.Put RefSet) h = absurd (omega (arith, h.1))
   effect_is code ps ks span (Applying left from phase) (instr.Put RefSet) h = absurd h.2
   effect_is code ps ks span (Evaluating left from phase aside) (instr.Put RefSet) h = absurd h.2
   effect_is code ps ks span (Swapping c q from) (instr.Put RefSet) h = absurd h.2
-  effect_is code ps ks span (Attending ag o) (instr.Put RefSet) h = absurd h.2
-  effect_is code ps ks span (Acting ag ax aside) (instr.Put RefSet) h = absurd h.2
   effect_is code ps ks span (Running left inner from) (instr.Put RefSet) h =
       let tx = Running left inner from in
       said span tx (sets (form.Put RefSet) vs tx w kept) _ _
-      (λ xs. two_tops (λ v c rest. on (activity_of tx) (assign RefSet true span c v (before xs)) (λ x s1. stacked tx (x ∷ rest) s1)) h.0)
+      (λ xs. two_tops (λ v c rest. on (activity_of home tx) (assign RefSet true span c v (before xs)) (λ x s1. stacked tx (x ∷ rest) s1)) h.0)
       (sets_by span tx h.0 (cell_of (rule (form.Put RefSet)) true (under 1 vs)))
   effect_is code ps ks span tx (instr.Put Reset) h =
       said span tx (resets vs tx w kept) _ _
-      (λ xs. two_tops (λ v c rest. on (activity_of tx) (assign Reset (is_inside (activity_of tx)) span c v (before xs)) (λ x s1. stacked tx (x ∷ rest) s1)) h.0
-      ∙ ap (λ (i : Bool). on (activity_of tx) (assign Reset i span (under 1 vs) (last_of vs) (before xs)) (λ x s1. stacked tx (x ∷ stack_in l (below 2 vs)) s1)) h.1)
+      (λ xs. two_tops (λ v c rest. on (activity_of home tx) (assign Reset (is_inside (activity_of home tx)) span c v (before xs)) (λ x s1. stacked tx (x ∷ rest) s1)) h.0
+      ∙ ap (λ (i : Bool). on (activity_of home tx) (assign Reset i span (under 1 vs) (last_of vs) (before xs)) (λ x s1. stacked tx (x ∷ stack_in l (below 2 vs)) s1)) h.1)
       (resets_by span tx h.0 (cell_of (rule (form.Put Reset)) false (under 1 vs)))
   effect_is code ps ks span Outside (instr.Send f m) h =
-      said span Outside (sends false f m span vs Outside w kept) _ _ (sends_so f false span Outside m h.0) (sends_by f span Outside m h.0 (λ x s. refl) (cell_of (rule form.Send) false (under m vs)))
+      said span Outside (sends false f m span vs Outside w kept) _ _ (sends_so f false span Outside m h.0) (sends_by f span Outside m h.0 (λ x e. ap (λ (o : Option InHand). ends_with o x (before [])) e) (cell_of (rule form.Send) false (under m vs)))
   effect_is code ps ks span (Restarting left) (instr.Send f m) h =
-      said span (Restarting left) (sends false f m span vs (Restarting left) w kept) _ _ (sends_so f false span (Restarting left) m h.0) (sends_by f span (Restarting left) m h.0 (λ x s. refl) (cell_of (rule form.Send) false (under m vs)))
+      said span (Restarting left) (sends false f m span vs (Restarting left) w kept) _ _ (sends_so f false span (Restarting left) m h.0) (sends_by f span (Restarting left) m h.0 (λ x e. refl) (cell_of (rule form.Send) false (under m vs)))
   effect_is code ps ks span (Running left inner from) (instr.Send f m) h =
       let tx = Running left inner from in
       said span tx (sends true f m span vs tx w kept) _ _ (sends_so f true span tx m h.0) (holds_by f span tx m h.0 (cell_of (rule form.Send) true (under m vs)))
   effect_is code ps ks span (Applying left from phase) (instr.Send f m) h = absurd h.1
   effect_is code ps ks span (Evaluating left from phase aside) (instr.Send f m) h = absurd h.1
   effect_is code ps ks span (Swapping c q from) (instr.Send f m) h = absurd h.1
-  effect_is code ps ks span (Attending ag o) (instr.Send f m) h = absurd h.1
-  effect_is code ps ks span (Acting ag ax aside) (instr.Send f m) h = absurd h.1
   effect_is code ps ks span tx instr.TxBegin h = begins_by span tx h
   effect_is code ps ks span tx instr.TxEnd h = ends_by code span tx h.0 h.1
   effect_is code ps ks span tx (instr.Open open_form.Alter m) h = opens_so Alters span tx m h.0 h.1 h.2

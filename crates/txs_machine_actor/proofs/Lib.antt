@@ -3,6 +3,7 @@ pub mod Applying
 pub mod Attending
 pub mod Calling
 pub mod Departing
+pub mod Dispatching
 pub mod Effects
 pub mod Following
 pub mod Landing

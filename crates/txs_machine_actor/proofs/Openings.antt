@@ -15,8 +15,10 @@ use Rattle.txs_machine_stack.specs.PlainFrame.{PlainFrame}
 use Rattle.txs_machine_actor.specs.Turns.{IsNew}
 use Rattle.txs_machine_loop.proofs.Lists.{index_nth, length_nils}
 use Rattle.txs_machine_transaction.specs.declared.state.Transaction.TheVariants as transaction
+use Rattle.txs_machine_actor.specs.declared.role.Role.TheVariants.{Thread}
 use Rattle.txs_machine_actor.proofs.Effects.{it}
 use Rattle.txs_machine_actor.proofs.Meaning.{configuration, stated, placed}
+use Rattle.txs_value_cell.specs.Cells.{validators_of}
 
 pub rooms_as_many : (fs : Functions) (ks : List Value) (bs : List CodeBody) (rooms : List ℕ) → WellTypedThreads fs ks bs rooms → length rooms ≡ length bs
 rooms_as_many fs ks [] rooms w = ap length w
@@ -33,36 +35,36 @@ well_typed_at fs ks (c ∷ bs) (r ∷ rooms) zero b w e = subst (λ (x : CodeBod
 well_typed_at fs ks (c ∷ bs) (r ∷ rooms) (suc k) b w e = well_typed_at fs ks bs rooms k b w.2 e
 
 -- the place of an actor with its locals alone
-opens : (l : ℕ) → placed 0 [] Outside [] 0 0 no_work None l 0 (nils l) [] ≡ configuration 0 0 [] (nils l) [] Outside (stated [] [] 0 0 no_work None)
+opens : (l : ℕ) → placed 0 [] Outside [] 0 0 no_work None None l 0 (nils l) [] ≡ configuration 0 0 [] (nils l) [] Outside (stated [] [] 0 0 no_work None None)
 opens l =
     let none : reverse (drop l (nils l)) ≡ [] = ap reverse (drop_all l (nils l) (omega (arith, length_nils l))) in
     let all : take l (nils l) ≡ nils l = take_all l (nils l) (omega (arith, length_nils l)) in
-    ap (λ st. configuration 0 0 st (take l (nils l)) [] Outside (stated [] [] 0 0 no_work None)) none ∙ ap (λ ls. configuration 0 0 [] ls [] Outside (stated [] [] 0 0 no_work None)) all
+    ap (λ st. configuration 0 0 st (take l (nils l)) [] Outside (stated [] [] 0 0 no_work None None)) none ∙ ap (λ ls. configuration 0 0 [] ls [] Outside (stated [] [] 0 0 no_work None None)) all
 
 module _ (d : PlainCode) (k l limit room : ℕ) (vs : List Value) (fs : List PlainFrame) (out : List ℕ) (own : Work) (b : CodeBody) (is : b ≡ get_or d.threads k b) (lt : k < length d.threads)
     (sized : l ≡ b.locals) (made : vs ≡ nils l) (uncalled : fs ≡ []) (unprinted : out ≡ []) (undone : own ≡ no_work) where
   body_there : nth d.threads k ≡ Some b
   body_there = index_nth d.threads k b lt ∙ ap Some (sym is)
 
-  opens_so : placed 0 [] Outside [] 0 0 own None l 0 vs out ≡ opening (thread_code d b) []
+  opens_so : placed 0 [] Outside [] 0 0 own None None l 0 vs out ≡ opening (thread_code d b) []
   opens_so =
-      ap (λ x. placed 0 [] Outside [] 0 0 x None l 0 vs out) undone ∙ ap (λ x. placed 0 [] Outside [] 0 0 no_work None l 0 x out) made ∙ ap (λ x. placed 0 [] Outside [] 0 0 no_work None l 0 (nils l) x) unprinted ∙ opens l
-      ∙ ap (λ n. configuration 0 0 [] (nils n) [] Outside (stated [] [] 0 0 no_work None)) (sized ∙ sym less)
+      ap (λ x. placed 0 [] Outside [] 0 0 x None None l 0 vs out) undone ∙ ap (λ x. placed 0 [] Outside [] 0 0 no_work None None l 0 x out) made ∙ ap (λ x. placed 0 [] Outside [] 0 0 no_work None None l 0 (nils l) x) unprinted ∙ opens l
+      ∙ ap (λ n. configuration 0 0 [] (nils n) [] Outside (stated [] [] 0 0 no_work None None)) (sized ∙ sym less)
     where
       less : b.locals - 0 ≡ b.locals
       less = omega arith
 
-  pub is_new : IsNew d k limit (it k 0 fs l 0 vs out 0 0 own None 0 limit room transaction.Outside None)
+  pub is_new : IsNew d k limit (it k Thread 0 fs l 0 vs out 0 0 own None 0 limit room transaction.Outside None)
   is_new = record {
     number = refl;
-    opens = ap (λ (x : List PlainFrame). placed 0 (frames_of x) Outside [] 0 0 own None l 0 vs out) uncalled ∙ opens_so ∙ ap (λ (o : Option CodeBody). opening (record { functions = function_codes d; main = own_body d k o }) []) (sym body_there);
+    opens = ap (λ (x : List PlainFrame). placed 0 (frames_of x) Outside [] 0 0 own None None l 0 vs out) uncalled ∙ opens_so ∙ ap (λ (o : Option CodeBody). opening (record { functions = function_codes d; validators = validators_of d.cells; main = own_body d k o }) []) (sym body_there);
     unended = refl;
     unasking = refl;
     unused = refl;
     limited = refl;
   }
 
-  pub new_runs : (function_rooms rooms : List ℕ) → WellTyped d function_rooms rooms → room ≡ l + get_or rooms k 0 → Runs d (it k 0 fs l 0 vs out 0 0 own None 0 limit room transaction.Outside None)
+  pub new_runs : (function_rooms rooms : List ℕ) → WellTyped d function_rooms rooms → room ≡ l + get_or rooms k 0 → Runs d (it k Thread 0 fs l 0 vs out 0 0 own None 0 limit room transaction.Outside None)
   new_runs function_rooms rooms w roomy =
       let t = well_typed_at (functions_of d w.kinds) d.constants d.threads rooms k b w.threads body_there in
       let size : length vs ≡ l = ap length made ∙ length_nils l in
@@ -84,20 +86,21 @@ module _ (d : PlainCode) (k l limit room : ℕ) (vs : List Value) (fs : List Pla
         deep = omega arith;
         roomy = omega arith;
       } in
-      let g : GoesOn d w.kinds b (it k 0 fs l 0 vs out 0 0 own None 0 limit room transaction.Outside None) =
+      let g : GoesOn d w.kinds b (it k Thread 0 fs l 0 vs out 0 0 own None 0 limit room transaction.Outside None) =
       record {
         own = (0, 0);
         base = (0, 0);
         ready = r;
         enters = record { inside = λ e. absurd e; outside = λ e. refl; swapping = λ lt. absurd (omega (arith, lt)) };
         callers = subst (λ (x : List PlainFrame). Callers d w.kinds k x (0, 0) (0, 0)) (sym uncalled) refl;
-        is_first = subst (λ (x : List PlainFrame). IsFirst x 0) (sym uncalled) refl;
+        is_first = subst (λ (x : List PlainFrame). IsFirst w.kinds [] x 0) (sym uncalled) refl;
         counted = refl;
         swaps = refl;
         began = tt;
         shallow = omega arith;
         commutes = subst (λ (x : Work). AllApply (functions_of d w.kinds) x.commutes) (sym undone) tt;
         opened = tt;
+        serves = tt;
         applies = tt;
       } in
       record { kinds = w.kinds; rooms = function_rooms; functions = w.functions; body = b; is = body_there; goes = g }

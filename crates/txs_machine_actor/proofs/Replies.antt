@@ -1,5 +1,5 @@
 -- The replies that asks may have, one by one.
-use Rattle.std.proofs.Common.{◌≡◌, ℕ, Bool, true, false, List, length, Option, Some, None, Result}
+use Rattle.std.proofs.Common.{[], ◌≡◌, ℕ, Bool, true, false, List, length, Option, Some, None, Result}
 use Rattle.txs_world_protocol.specs.Ask.{Writes}
 use Rattle.txs_world_protocol.specs.declared.ask.Ask.TheVariants as ask
 use Rattle.txs_world_protocol.specs.declared.ask.Reply.{Reply}
@@ -117,7 +117,7 @@ module _ (P : Reply → Type 0) where
   take_replies g action idle memory (Opened n v) m = absurd m
   take_replies g action idle memory Full m = absurd m
 
-  pub finish_replies : (g : CellId) (new : Result Value Fault) → P Done → P Full → P Memory → (r : Reply) → MayAnswer (ask.Finish g new) r → P r
+  pub finish_replies : (g : CellId) (new : Result Value Fault) → P Done → P Full → P Memory → (r : Reply) → MayAnswer (ask.Finish g new []) r → P r
   finish_replies g new done full memory Done m = done
   finish_replies g new done full memory Full m = full
   finish_replies g new done full memory Memory m = memory

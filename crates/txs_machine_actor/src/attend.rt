@@ -7,8 +7,9 @@ ghost use Rattle.txs_machine_actor.specs.declared.outcome.Turn.TheVariants as tu
 
 use crate::actor::{Actor, tell};
 use crate::outcome::Turn;
+use crate::role::Role;
 use txs_code_meaning::Verified;
-use txs_machine_transaction::{Pending, Transaction};
+use txs_machine_transaction::Pending;
 use txs_value_base::Callee;
 use txs_world_protocol::Outcome;
 
@@ -29,15 +30,14 @@ impl Actor {
             return;
         }
         if at == 1 {
-            let Some(
-                Transaction::Attending {
-                    action: Some(action),
-                    ..
-                },
-            ) = self.tx.whole()
+            let Role::Attending {
+                acting: Some(acting),
+                ..
+            } = &self.role
             else {
                 unreachable!();
             };
+            let action = acting.action();
             let (callee, span) = (action.callee, action.span);
             match callee {
                 Callee::Core(op) => self.run_operation(op, span, turn),
@@ -59,7 +59,7 @@ impl Actor {
     #[inline(never)]
     pub(crate) fn attend(&mut self, code: &Verified, turn: &mut Turn)
         requires lives { Lives code.now self.old }
-        requires attending { IsAttending self.old.tx }
+        requires attending { IsAttending self.old.role }
         requires answered { unanswered self.old ≡ None }
         requires went { turn.old ≡ turned.Went }
         ensures turns { Turns code.now self.old turn.new self.new }

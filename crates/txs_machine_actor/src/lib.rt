@@ -10,6 +10,7 @@ mod attend;
 pub mod law;
 pub mod outcome;
 mod pace;
+pub mod role;
 
 pub use actor::Actor;
 pub use answer::may_answer;

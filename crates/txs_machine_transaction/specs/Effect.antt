@@ -37,7 +37,7 @@ use Rattle.txs_machine_transaction.specs.declared.state.Origin.{Origin}
 use Rattle.txs_machine_transaction.specs.declared.state.Pending.{Pending}
 use Rattle.txs_machine_transaction.specs.declared.state.Pending.TheVariants as pending
 use Rattle.txs_machine_transaction.specs.declared.state.Transaction.{Transaction}
-use Rattle.txs_machine_transaction.specs.declared.state.Transaction.TheVariants.{Outside, Restarting, Running, Applying, Evaluating, Swapping, Attending, Acting}
+use Rattle.txs_machine_transaction.specs.declared.state.Transaction.TheVariants.{Outside, Restarting, Running, Applying, Evaluating, Swapping}
 
 -- a callee is an operation that takes the ref's value and so many further arguments
 abbrev pub IsOperation : Callee → ℕ → Type 0
@@ -57,8 +57,6 @@ LeftApply (Running left inner from) = Unit {0}
 LeftApply (Applying left from phase) = Operates phase.work
 LeftApply (Evaluating left from phase aside) = ⊥
 LeftApply (Swapping c p from) = Unit {0}
-LeftApply (Attending g o) = ⊥
-LeftApply (Acting g x aside) = ⊥
 
 -- what an instruction on cells or the transaction needs: values enough, room for one more, and that inner transactions can be counted
 abbrev pub CanMove : List Value → ℕ → Transaction → Instr → Type 0
@@ -78,11 +76,12 @@ CanMove vs room tx (Close update.Swap) = (1 < length vs) × IsSwapping tx
 CanMove vs room tx _ = ⊥
 
 -- what such an instruction makes of the values, the transaction, what that has done and the commute that is open: the next
--- instruction follows, or the same once more, something is asked for, or it faults, here or of another place
+-- instruction follows, or the same once more, something is asked for, an action is sent, or it faults, here or of another place
 pub data Effect : Type 0 where
   moves : (values : List Value) (tx : Transaction) (done : Work) (kept : Option Commute) → Effect
   stays : (values : List Value) (tx : Transaction) (done : Work) (kept : Option Commute) → Effect
   waits : (p : Pending) (values : List Value) (tx : Transaction) (done : Work) (kept : Option Commute) → Effect
+  dispatches : (x : Action) (args : ℕ) (values : List Value) (tx : Transaction) (done : Work) (kept : Option Commute) → Effect
   breaks : (k : FaultKind) (tx : Transaction) (done : Work) (kept : Option Commute) → Effect
   falls : (f : Fault) (tx : Transaction) (done : Work) (kept : Option Commute) → Effect
 
@@ -157,10 +156,10 @@ resets vs tx w kept = resets_cell vs tx w kept (cell_of (rule (form.Put Reset)) 
 abbrev pub action_of : Callee → ℕ → Span → List Value → CellId → Action
 action_of f n span vs g = record { agent = g; callee = f; args = topmost n vs; span = span }
 
--- an action is held in a transaction, and the agent stands in the place of all that was taken; outside the store is asked to take it
+-- an action is held in a transaction, and the agent stands in the place of all that was taken; outside it is sent
 abbrev pub sends_cell : Bool → Callee → ℕ → Span → List Value → Transaction → Work → Option Commute → Result CellId FaultKind → Effect
 sends_cell true f n span vs tx w kept (Ok g) = moves (below (n + 1) vs ++ Cell g ∷ []) tx (hold_send (action_of f n span vs g) w) kept
-sends_cell false f n span vs tx w kept (Ok g) = waits (pending.Send (action_of f n span vs g) n) vs tx w kept
+sends_cell false f n span vs tx w kept (Ok g) = dispatches (action_of f n span vs g) n vs tx w kept
 sends_cell inside f n span vs tx w kept (Err k) = breaks k tx w kept
 
 -- the same of the agent below the arguments
@@ -197,8 +196,6 @@ swapped vs w kept (Restarting left) = moves vs (Restarting left) w kept
 swapped vs w kept (Running left inner from) = moves vs (Running left inner from) w kept
 swapped vs w kept (Applying left from phase) = moves vs (Applying left from phase) w kept
 swapped vs w kept (Evaluating left from phase aside) = moves vs (Evaluating left from phase aside) w kept
-swapped vs w kept (Attending g o) = moves vs (Attending g o) w kept
-swapped vs w kept (Acting g x aside) = moves vs (Acting g x aside) w kept
 swapped vs w kept (Swapping c p from) = waits (pending.Close c p (last_of vs)) vs (Swapping c p from) w kept
 
 -- a transaction begins here, or joins the one that runs
@@ -209,8 +206,6 @@ begins from vs w kept (Running left inner at) = moves vs (Running left (inner + 
 begins from vs w kept (Applying left at phase) = moves vs (Applying left at phase) w kept
 begins from vs w kept (Evaluating left at phase aside) = moves vs (Evaluating left at phase aside) w kept
 begins from vs w kept (Swapping c p at) = moves vs (Swapping c p at) w kept
-begins from vs w kept (Attending g o) = moves vs (Attending g o) w kept
-begins from vs w kept (Acting g x aside) = moves vs (Acting g x aside) w kept
 
 -- at a transaction's end: the commit where no ref was commuted and not set, else such refs are viewed
 abbrev pub settles : List CellId → List Value → Transaction → Work → Option Commute → Effect
@@ -245,8 +240,6 @@ ends vs w kept (Running left (suc inner) from) = moves vs (Running left inner fr
 ends vs w kept (Applying left from phase) = goes_through left from vs w kept phase.work phase.values
 ends vs w kept (Evaluating left from phase aside) = moves vs (Evaluating left from phase aside) w kept
 ends vs w kept (Swapping c p from) = moves vs (Swapping c p from) w kept
-ends vs w kept (Attending g o) = moves vs (Attending g o) w kept
-ends vs w kept (Acting g x aside) = moves vs (Acting g x aside) w kept
 
 -- an instruction on cells or the transaction, where a transaction that begins does so from here
 abbrev pub effect : Origin → List Value → Transaction → Work → Option Commute → Instr → Effect
@@ -271,6 +264,7 @@ abbrev pub Comes : Moved → List Value → Transaction → Work → Option Comm
 Comes moved.On vs tx w kept was had e = e ≡ moves vs tx w kept
 Comes moved.Stays vs tx w kept was had e = e ≡ stays vs tx w kept
 Comes (moved.Asks p) vs tx w kept was had e = e ≡ waits p vs tx w kept
+Comes (moved.Sends x n) vs tx w kept was had e = e ≡ dispatches x n vs tx w kept
 Comes (moved.Faults k) vs tx w kept was had e = e ≡ breaks k tx w kept
 Comes (moved.Falls f) vs tx w kept was had e = e ≡ falls f tx w kept
 Comes moved.Memory vs tx w kept was had e = (w ≡ was) × (kept ≡ had)

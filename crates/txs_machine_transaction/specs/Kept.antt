@@ -11,7 +11,7 @@ use Rattle.txs_machine_transaction.specs.declared.state.Origin.{Origin}
 use Rattle.txs_machine_transaction.specs.declared.state.Pending.{Pending}
 use Rattle.txs_machine_transaction.specs.declared.state.Pending.TheVariants as pending
 use Rattle.txs_machine_transaction.specs.declared.state.Transaction.{Transaction}
-use Rattle.txs_machine_transaction.specs.declared.state.Transaction.TheVariants.{Outside, Restarting, Running, Applying, Evaluating, Swapping, Attending, Acting}
+use Rattle.txs_machine_transaction.specs.declared.state.Transaction.TheVariants.{Outside, Restarting, Running, Applying, Evaluating, Swapping}
 
 -- the transaction: one that runs, from where it began, or another, which is kept whole
 abbrev pub transaction_of : Option Standing → Origin → Transaction → Transaction

@@ -138,10 +138,12 @@ pub fn ask_for(
         Pending::Finish(agent, Ok(value)) => Ok(Ask::Finish {
             agent: *agent,
             new: Ok(copy_value(value)?),
+            sends: Listed::from_vec(Vec::new(tx.alloc())),
         }),
         Pending::Finish(agent, Err(fault)) => Ok(Ask::Finish {
             agent: *agent,
             new: Err(*fault),
+            sends: Listed::from_vec(Vec::new(tx.alloc())),
         }),
     }
 }

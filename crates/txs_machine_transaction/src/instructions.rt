@@ -254,7 +254,7 @@ pub fn replace_over(stack: &mut Stack, n: usize, value: Value)
     stack.replace_last(value);
 }
 
-/// An action for the agent below the n arguments is held in a transaction, and sent outside.
+/// An action for the agent below the n arguments is held in a transaction. Outside it is handed on: the actor sends it, or holds it.
 #[inline(never)]
 fn send(
     alloc: Global,
@@ -284,7 +284,7 @@ fn send(
         span,
     };
     if !inside {
-        return Moved::Asks(Pending::Send(action, n));
+        return Moved::Sends(action, n);
     }
     match frame.hold_send(action) {
         Err(_) => Moved::Memory,
@@ -479,9 +479,7 @@ fn end(alloc: Global, tx: &mut Transaction, frame: &TxFrame) -> Moved
         Transaction::Outside | Transaction::Restarting { .. } | Transaction::Swapping { .. } => {
             Moved::On
         }
-        Transaction::Evaluating { .. }
-        | Transaction::Attending { .. }
-        | Transaction::Acting { .. } => unreachable!(),
+        Transaction::Evaluating { .. } => unreachable!(),
     }
 }
 

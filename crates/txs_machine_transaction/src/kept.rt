@@ -232,9 +232,7 @@ impl KeptTransaction {
             Transaction::Restarting { left } => Some(*left),
             Transaction::Applying { .. }
             | Transaction::Evaluating { .. }
-            | Transaction::Swapping { .. }
-            | Transaction::Attending { .. }
-            | Transaction::Acting { .. } => unreachable!(),
+            | Transaction::Swapping { .. } => unreachable!(),
         }
     }
 

@@ -2,6 +2,7 @@
 
 use crate::state::Pending;
 use txs_value_base::{Fault, FaultKind};
+use txs_value_cell::Action;
 use txs_value_data::CellId;
 
 /// What an instruction on cells or the transaction came to.
@@ -13,6 +14,8 @@ pub enum Moved {
     Stays,
     /// The shared state has to be asked.
     Asks(Pending),
+    /// An action is sent outside transactions. Its agent takes the place of itself and so many arguments at the top of the stack.
+    Sends(Action, u16),
     /// A fault of the instruction.
     Faults(FaultKind),
     /// A fault of another place.

@@ -13,7 +13,7 @@ pub struct Origin {
     pub stack: Stack,
 }
 
-/// The transaction of an actor, or the swap that it has in hand, or the action of an agent's.
+/// The transaction of an actor, or the swap that it has in hand.
 #[derive(Drop)]
 pub enum Transaction {
     /// None.
@@ -47,17 +47,6 @@ pub enum Transaction {
         cell: CellId,
         at: u32,
         from: Origin,
-    },
-    /// An agent is in its own body, with the action that it has taken, if it has.
-    Attending {
-        agent: CellId,
-        action: Option<Action>,
-    },
-    /// The function of an agent's action runs, in a stack of its own: that of the agent's body is put aside.
-    Acting {
-        agent: CellId,
-        action: Action,
-        aside: Stack,
     },
 }
 

@@ -110,7 +110,7 @@ defining_of form = only_literal None form
 
 -- a cell that opens with this value
 abbrev pub new_cell : List ℕ → CellSort → Value → CellDefinition
-new_cell name sort v = record { kind = sort.kind; name = name; opening = v; error_mode = sort.error_mode }
+new_cell name sort v = record { kind = sort.kind; name = name; opening = v; error_mode = sort.error_mode; validator = None }
 
 -- one more constant
 abbrev pub with_constant : State → List ℕ → Value → State

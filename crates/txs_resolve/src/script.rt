@@ -107,6 +107,7 @@ fn new_cell(name: &Name, sort: CellSort, opening: Value) -> Result<CellDefinitio
         name: name.share()?,
         opening,
         error_mode: sort.error_mode,
+        validator: None,
     })
 }
 

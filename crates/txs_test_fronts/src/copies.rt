@@ -40,6 +40,11 @@ fn is_quotient(action: &Action) -> bool {
         && action.span == FAULT.span
 }
 
+// Whether that action alone is sent.
+fn send_quotient(sends: &Listed<Action>) -> bool {
+    matches!(sends.as_slice(), [action] if is_quotient(action))
+}
+
 // Whether such an action is copied, and an ask that sends it.
 fn are_sends_copied(alloc: Global) -> bool {
     let action = quotient(alloc, AGENT, FAULT.span);
@@ -115,7 +120,8 @@ fn is_reply_copied(alloc: Global, reply: Reply) -> bool {
     is
 }
 
-// Whether an event of the third actor is copied, as a retry of that ref, or as that agent's first action, which came to that fault.
+// Whether an event of the third actor is copied, as a retry of that ref, or as that agent's first action, which came to that fault
+// and sent that action.
 fn is_event_copied(alloc: Global, kind: EventKind) -> bool {
     let event = Event { actor: 2, kind };
     let copy = copy_event(alloc, &event);
@@ -131,7 +137,8 @@ fn is_event_copied(alloc: Global, kind: EventKind) -> bool {
                 agent,
                 number,
                 new: Err(fault),
-            } => *agent == AGENT && *number == 1 && *fault == FAULT,
+                sends,
+            } => *agent == AGENT && *number == 1 && *fault == FAULT && send_quotient(sends),
             _ => false,
         },
         _ => false,
@@ -164,10 +171,13 @@ fn copies_events(rt: HostRuntime) {
         commute: true,
     };
     let is = is_event_copied(rt.alloc(), retry);
+    let mut sends = Vec::new(rt.alloc());
+    let _pushed = sends.push(quotient(rt.alloc(), AGENT, FAULT.span));
     let act = EventKind::Act {
         agent: AGENT,
         number: 1,
         new: Err(FAULT),
+        sends: Listed::from_vec(sends),
     };
     assert!(rt; is_event_copied(rt.alloc(), act) && is);
 }

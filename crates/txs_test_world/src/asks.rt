@@ -153,6 +153,7 @@ pub fn ask_of(alloc: Global, words: &mut SplitWhitespace<'_>) -> Ask {
                 }),
                 word => Ok(Value::Int(i64::from(number_of(word)))),
             },
+            sends: Listed::from_vec(Vec::new(alloc)),
         },
         name => ask_of_cell(name, cell_of(next_word(words)), words),
     }

@@ -610,7 +610,7 @@ definition_read (Some sort) s name v k n l h = record {
   defined = named_more s.defined (record { name = name; what = ACell (record { kind = sort.kind; number = length s.cells }) }) h.defined tt;
   functions = h.functions;
   threads = h.threads;
-  cells = all_more CellIsRead s.cells (new_cell name sort v) h.cells (record { name = n; mode = k; opening = l });
+  cells = all_more CellIsRead s.cells (new_cell name sort v) h.cells (record { name = n; mode = k; opening = l; validator = refl });
 }
 
 -- a name that can be defined is the name that was asked for

@@ -202,7 +202,7 @@ kind_fits Agent = (omega arith, refl)
 cell_fits : (d : CellDefinition) → CellIsRead d → HoldsDefined [] (plain_of d.opening) → cell_format.fits d
 unfolding cell_format
 cell_fits d h k =
-    ((kind_fits d.kind, (mode_fits d.kind d.error_mode h.mode, (cell_name_fits d.name h.name, constant_fits false [] no_cell (omega arith) d.opening h.opening k))), refl)
+    ((kind_fits d.kind, (mode_fits d.kind d.error_mode h.mode, (cell_name_fits d.name h.name, constant_fits false [] no_cell (omega arith) d.opening h.opening k))), λ i. record { kind = d.kind; name = d.name; opening = d.opening; error_mode = d.error_mode; validator = sym h.validator i })
 
 pub cells_fit : (ds : List CellDefinition) → AllByRecursion CellIsRead ds → OpeningsNameNone ds → AllByRecursion cell_format.fits ds
 cells_fit [] h k = tt

@@ -75,7 +75,7 @@ module _ (functions : List PlainFunction) where
   sound_changed goes k (event.Refused at view g) m s h = h
   sound_changed goes k (event.Send x) m s h = sound_append m.actions (sent_to k (x ∷ [])) h (sound_sent k (x ∷ []) (s, tt))
   sound_changed goes k (event.SendRefused g) m s h = h
-  sound_changed goes k (event.Act g n new) m s h = go (g.number == k)
+  sound_changed goes k (event.Act g n new sends) m s h = sound_append (if g.number == k then acted goes new m else m).actions (sent_to k sends) (go (g.number == k)) (sound_sent k sends s)
     where
       go : (b : Bool) → AreSound functions (if b then acted goes new m else m).actions
       go true = sound_acted goes new m h
@@ -99,7 +99,7 @@ module _ (functions : List PlainFunction) where
 
   -- one more action that was taken and finished
   pub fits_more : (g : CellId) (xs : List Exchange) (number : ℕ) (a : Action) (v : Value) (new : Result Value Fault) → AgentFits functions g xs → SoundAction functions a
-      → AgentFits functions g (xs ++ taking g number a v ∷ exchange (ask.Finish g new) reply.Done ∷ [])
+      → AgentFits functions g (xs ++ taking g number a v ∷ exchange (ask.Finish g new []) reply.Done ∷ [])
   fits_more g [] number a v new h s = (refl, s, new, refl, refl, tt)
   fits_more g (x ∷ []) number a v new h s = absurd h
   fits_more g (x ∷ y ∷ xs) number a v new h s = (h.0, h.1, h.2, h.3, h.4, fits_more g xs number a v new h.5 s)
@@ -205,7 +205,7 @@ module _ (cells : List StoreCell) (threads : ℕ) (g : CellId) where
   not_acts b (event.Refused at view h) n m = refl
   not_acts b (event.Send x) n m = refl
   not_acts b (event.SendRefused h) n m = refl
-  not_acts b (event.Act h i new) n m = go (h.number == g.number) refl
+  not_acts b (event.Act h i new sends) n m = go (h.number == g.number) refl
     where
       go : (t : Bool) → (h.number == g.number) ≡ t → t ≡ false
       go true e = absurd (n (numbers b (world.actor_of threads cells h) m ∙ ap (λ k. threads + agents_below cells k) (numbers h.number g.number e)))

@@ -1,5 +1,5 @@
 -- Agents are explained: each action that they hand in is what its callee means on the state that they found.
-use Rattle.std.proofs.Common.{◌≡◌, ◌+◌, ℕ, zero, suc, Bool, true, false, ◌==◌, List, [], ◌∷◌, length, map, set, get_or, Option, Some, None, refl, sym, ap, ◌∙◌, subst, if◌then◌else◌, ◌⊎◌, inl, inr}
+use Rattle.std.proofs.Common.{◌≡◌, ◌+◌, ℕ, zero, suc, Bool, true, false, ◌&&◌, ◌==◌, List, [], ◌∷◌, length, map, set, get_or, Option, Some, None, refl, sym, ap, ◌∙◌, subst, if◌then◌else◌, ◌⊎◌, inl, inr}
 use Rattle.std.proofs.lemmas.Bool.{false≢true}
 use Rattle.std.proofs.lemmas.List.{get_or-set_other, length-set}
 use Rattle.txs_world_protocol.specs.declared.ask.Ask.{Ask}
@@ -14,7 +14,7 @@ use Rattle.txs_value_cell.specs.declared.cell.CellDefinition.{CellDefinition}
 use Rattle.txs_value_data.specs.declared.value.CellId.{CellId}
 use Rattle.txs_tree_meaning.specs.Tree.{PlainFunction}
 use Rattle.txs_code_meaning.specs.ActorState.{ActorState}
-use Rattle.txs_code_meaning.specs.Machine.{PlainBody, ThreadCode, agent_code, Configuration, Turned, Ended, Failed, Asking, Unfinished, Stuck, and_then, turn}
+use Rattle.txs_code_meaning.specs.Machine.{Library, ThreadCode, agent_code, Configuration, Turned, Ended, Failed, Asking, Unfinished, Stuck, and_then, turn}
 use Rattle.txs_code_meaning.specs.Opening as machine
 use Rattle.txs_code_meaning.proofs.Acts.{stated, exec_run}
 use Rattle.txs_theorem_threads.specs.FollowsAgent.{AgentTold, GoesOn, FollowsAgents}
@@ -32,7 +32,7 @@ use Rattle.txs_theorem_runs.specs.Run.{Stop, Actor, Moved, moved, entry, comes_t
 use Rattle.txs_theorem_runs.specs.Shared.{Shared, book_for, serve_on, may_ask}
 use Rattle.txs_theorem_runs.specs.Told.{exchange_of}
 use Rattle.txs_theorem_runs.proofs.Acting.{map_append, told_fits, told_more}
-use Rattle.txs_theorem_runs.proofs.Adding.{IsQuiet, Brings, served_such}
+use Rattle.txs_theorem_runs.proofs.Adding.{IsQuiet, Brings, sends_nothing, served_such}
 use Rattle.txs_theorem_runs.proofs.Sending.{Sends, play_sends, opening_sends}
 use Rattle.txs_theorem_runs.proofs.Steps.{MovedWell, moves_stand}
 use Rattle.txs_theorem_runs.proofs.Whole.{FreshStands, opening_holds}
@@ -41,7 +41,7 @@ use Rattle.txs_theorem_runs.proofs.Working.{Phase, Works, finish_means, turns_we
 abbrev agent_actor : List CellDefinition → ℕ → CellId → ℕ
 agent_actor cells threads g = world.actor_of threads (cells_of cells) g
 
-module _ (cells : List CellDefinition) (threads : ℕ) (code : List PlainBody) (functions : List PlainFunction) where
+module _ (cells : List CellDefinition) (threads : ℕ) (code : Library) (functions : List PlainFunction) where
   -- ---- what is taken
 
   -- another actor takes no action of an agent's, and gives none back
@@ -73,7 +73,7 @@ module _ (cells : List CellDefinition) (threads : ℕ) (code : List PlainBody) (
     set_by (ask.Peek c) r may = (λ g n. refl, refl)
     set_by (ask.Send x) r may = (λ g n. refl, refl)
     set_by (ask.Take h) r may = one_set h true (hands_out r) (both (b == agent_actor cells threads h) _ may).0
-    set_by (ask.Finish h new) r may = one_set h false (is_done r) (both (b == agent_actor cells threads h) _ may).0
+    set_by (ask.Finish h new sends) r may = one_set h false (is_done r) (both (b == agent_actor cells threads h) _ may).0
     set_by (ask.OpenAt c) r may = (λ g n. refl, refl)
     set_by (ask.CloseAt c p v) r may = (λ g n. refl, refl)
     set_by (ask.Broke c p) r may = (λ g n. refl, refl)
@@ -118,7 +118,7 @@ module _ (cells : List CellDefinition) (threads : ℕ) (code : List PlainBody) (
   quiet_means done (event.Refused at view g) h = tt
   quiet_means done (event.Send x) h = absurd h
   quiet_means done (event.SendRefused g) h = tt
-  quiet_means done (event.Act g n new) h = absurd h
+  quiet_means done (event.Act g n new sends) h = absurd h
   quiet_means done (event.Swap new) h = tt
   quiet_means done (event.Broke at) h = tt
 
@@ -129,12 +129,13 @@ module _ (cells : List CellDefinition) (threads : ℕ) (code : List PlainBody) (
     module _ (st : State) (sound : AllSound functions (st.shared.books 0)) (long : length st.shared.taken ≡ length (cells_of cells)) (all : WorksAll st) (means : Means st.shared.books) (b : ℕ) where
       finishes : (c : Configuration) (s : ActorState) (q : Ask) → (st.actors b).at ≡ Unfinished c → turn (codes b) c ≡ Asking s → s.wants ≡ Some q → may_ask cells threads st.shared.taken b q (st.shared.books (book_for cells q)) ≡ true
           → Brings (ActMeans functions cells) (st.shared.books (book_for cells q)) q
-      finishes c s (ask.Finish g new) at e w may =
+      finishes c s (ask.Finish g new (y ∷ ys)) at e w may = absurd (false≢true (sends_nothing cells threads b st.shared.taken (st.shared.books 0) g new (y ∷ ys) may))
+      finishes c s (ask.Finish g new []) at e w may =
           let m = both (b == agent_actor cells threads g) _ may in
-          let n = both (has_agent (cells_of cells) g) (is_taken st.shared.taken g) m.1 in
+          let n = both (has_agent (cells_of cells) g) (is_taken st.shared.taken g && true) m.1 in
           let i = numbers b (agent_actor cells threads g) m.0 in
           finish_means cells threads code functions follows g n.0 st.shared sound long (st.actors (agent_actor cells threads g)) (all g n.0) c s
-          (subst (λ j. (st.actors j).at ≡ Unfinished c) i at) (subst (λ kd. turn kd c ≡ Asking s) (ap codes i ∙ run_agents g n.0) e) new w n.1
+          (subst (λ j. (st.actors j).at ≡ Unfinished c) i at) (subst (λ kd. turn kd c ≡ Asking s) (ap codes i ∙ run_agents g n.0) e) new w (both (is_taken st.shared.taken g) true n.1).0
       finishes c s ask.Begin at e w may = tt
       finishes c s (ask.Look d p) at e w may = tt
       finishes c s (ask.View cs) at e w may = tt

@@ -166,7 +166,7 @@ module _ (stays : UnwrittenStays) (cells : List CellDefinition) (threads : ℕ) 
     idle_fits (ask.Commit p sets ensured q commuted sends) ok within may = absurd ok
     idle_fits (ask.Fail p q) ok within may = absurd ok
     idle_fits (ask.Take g) ok within may = absurd ok
-    idle_fits (ask.Finish g new) ok within may = absurd ok
+    idle_fits (ask.Finish g new sends) ok within may = absurd ok
     idle_fits (ask.Broke c p) ok within may = absurd ok
 
     looks_fit : (b : Bool) (c : CellId) (p : ℕ) (within : k ≤ length (books 0)) → p ≤ k → Fitting (ask.Look c p) k within xs end ps (Open p) (looks b w a c p (take k (books 0)))
@@ -215,7 +215,7 @@ module _ (stays : UnwrittenStays) (cells : List CellDefinition) (threads : ℕ) 
     open_fits at (ask.Peek c) ok within may = absurd ok
     open_fits at (ask.Send x) ok within may = absurd ok
     open_fits at (ask.Take g) ok within may = absurd ok
-    open_fits at (ask.Finish g new) ok within may = absurd ok
+    open_fits at (ask.Finish g new sends) ok within may = absurd ok
     open_fits at (ask.OpenAt c) ok within may = absurd ok
     open_fits at (ask.CloseAt c p v) ok within may = absurd ok
     open_fits at (ask.Broke c p) ok within may = absurd ok
@@ -271,7 +271,7 @@ module _ (stays : UnwrittenStays) (cells : List CellDefinition) (threads : ℕ) 
     viewing_fits at view (ask.Peek c) ok within may = absurd ok
     viewing_fits at view (ask.Send x) ok within may = absurd ok
     viewing_fits at view (ask.Take g) ok within may = absurd ok
-    viewing_fits at view (ask.Finish g new) ok within may = absurd ok
+    viewing_fits at view (ask.Finish g new sends) ok within may = absurd ok
     viewing_fits at view (ask.OpenAt c) ok within may = absurd ok
     viewing_fits at view (ask.CloseAt c p v) ok within may = absurd ok
     viewing_fits at view (ask.Broke c p) ok within may = absurd ok
@@ -315,7 +315,7 @@ module _ (stays : UnwrittenStays) (cells : List CellDefinition) (threads : ℕ) 
     swapping_fits c at (ask.Peek d) ok within may = absurd ok
     swapping_fits c at (ask.Send x) ok within may = absurd ok
     swapping_fits c at (ask.Take g) ok within may = absurd ok
-    swapping_fits c at (ask.Finish g new) ok within may = absurd ok
+    swapping_fits c at (ask.Finish g new sends) ok within may = absurd ok
     swapping_fits c at (ask.OpenAt d) ok within may = absurd ok
 
     ask_fits : (st : Stage) (q : Ask) → AsksIn st q → AskFits st q

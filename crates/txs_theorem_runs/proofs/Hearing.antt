@@ -26,8 +26,8 @@ use Rattle.txs_value_base.specs.declared.op.Callee.{Callee}
 use Rattle.txs_value_base.specs.declared.op.Callee.TheVariants as callee
 use Rattle.txs_value_data.specs.declared.value.CellId.{CellId}
 use Rattle.txs_value_data.specs.declared.value.Value.{Value}
-use Rattle.txs_code_meaning.specs.ActorState.{ActorState, Reception, Replied, Unreplied, asks, StepResult, Continue, on_step, step_of, heard, read_point, just_done, value_there, newest_value, views, commit_verdict, opened, swap_verdict, send_verdict, Taken, handed_out, begun, begin, fail, buffered_or, look, paired, viewed, view, commit, peek, SwapInHand, open_atom, close_swap, break_swap, reset_atom, sent, send_now, take_action, finish, read_cell, read, set_own, assign_cell, assign, RefUpdate, Alters, Commutes, update_form, kept_open, open_update, close_own, close_update, send_action, send_to, print}
-use Rattle.txs_code_meaning.specs.Machine.{PlainInstr, Push, Load, Store, Pop, Jump, JumpFalse, CoreOf, CallOf, Return, MakeVector, PrintOf, TxBegin, TxEnd, LookOf, PutOf, OpenOf, CloseOf, SendOf, Halt, TakeOf, RunOf, FinishOf, ThreadCode, fetch, Frame, Savepoint, Activity, Outside, Restarting, Running, Applying, Swapping, Acting, is_inside, Configuration, ahead, staying, saved, first_place, arguments_of, Turned, Ended, Failed, Asking, Unfinished, Stuck, told, raise, on, found, on_top, on_args, on_args_of, on_two, push_all, starts, begins, decided, lands, settles, applies, ends, returns_to, opens_atom, opens, swap_decided, closes_swap, closes, started, runs_callee, runs, act, turn}
+use Rattle.txs_code_meaning.specs.ActorState.{ActorState, Reception, Replied, Unreplied, asks, StepResult, Continue, on_step, step_of, heard, read_point, just_done, value_there, newest_value, views, commit_verdict, opened, swap_verdict, send_verdict, Taken, handed_out, begun, begin, fail, buffered_or, look, paired, viewed, view, commit, peek, SwapInHand, open_atom, close_swap, break_swap, reset_atom, sent, send_now, take_action, finish, read_cell, read, set_own, assign_cell, assign, RefUpdate, Alters, Commutes, update_form, kept_open, open_update, close_own, close_update, send_action, send_to, print, InHand, send_or_hold}
+use Rattle.txs_code_meaning.specs.Machine.{PlainInstr, Push, Load, Store, Pop, Jump, JumpFalse, CoreOf, CallOf, Return, MakeVector, PrintOf, TxBegin, TxEnd, LookOf, PutOf, OpenOf, CloseOf, SendOf, Halt, TakeOf, RunOf, FinishOf, ThreadCode, fetch, Frame, Savepoint, Activity, Outside, Restarting, Running, Applying, Swapping, is_inside, Configuration, ahead, staying, saved, first_place, arguments_of, Turned, Ended, Failed, Asking, Unfinished, Stuck, told, raise, on, found, on_top, on_args, on_args_of, on_two, push_all, starts, begins, decided, lands, settles, applies, ends, returns_to, opens_atom, opens, swap_decided, closes_swap, closes, started, runs_callee, runs, act, turn, ends_with, rested}
 use Rattle.txs_code_meaning.specs.declared.instr.OpenForm.{OpenForm}
 use Rattle.txs_code_meaning.specs.declared.instr.OpenForm.TheVariants as open_form
 use Rattle.txs_theorem_runs.specs.Run.{exchange}
@@ -99,7 +99,7 @@ module _ (c : Configuration) (q : Ask) (r : Reply) (ag : IsAgents q) where
 
   finishes : (g : CellId) (new : Result Value Fault) (go : ActorState → Turned Configuration) → HasConsumed (go s0) → Hears (told (finish g new s0) go) (told (finish g new s1) go)
   unfolding finish
-  finishes g new go h = agents (ask.Finish g new) (λ o. told (heard just_done o) go) (λ t. refl) (done_heard go h r)
+  finishes g new go h = agents (ask.Finish g new []) (λ o. told (heard just_done o) go) (λ t. refl) (done_heard go h r)
 
   fails : (f : Fault) (o : Turned Configuration) → Hears (told (fail s0) (λ s. Failed f s)) o
   unfolding fail
@@ -109,13 +109,16 @@ module _ (c : Configuration) (q : Ask) (r : Reply) (ag : IsAgents q) where
   unfolding break_swap
   breaks f swap o = threads (ask.Broke swap.cell swap.at) (λ x. told (heard just_done x) (λ s. Failed f s)) (λ t. refl) (λ h. h) o
 
+  over : (o : Option InHand) (f : Fault) → Hears (ends_with o f s0) (ends_with o f s1)
+  over None f = tt
+  over (Some x) f = finishes x.agent (Err f) (λ s. Unfinished (first_place [] (rested s))) refl
+
   raises : (doing : Activity) (f : Fault) → Hears (raise doing f s0) (raise doing f s1)
-  raises Outside f = tt
+  raises Outside f = over c.state.acting f
   raises (Restarting left) f = tt
   raises (Running left inner from) f = fails f _
   raises (Applying left from work values) f = fails f _
   raises (Swapping swap from) f = breaks f swap _
-  raises (Acting g a) f = finishes g (Err f) (λ s. Unfinished (first_place [] s)) refl
 
   -- a result of no ask, and a step with it
   results : {A : Type 0} (doing : Activity) (x : Result A FaultKind) (span : Span) (go : A → ActorState → Turned Configuration) → ((a : A) → Hears (go a s0) (go a s1))
@@ -205,7 +208,11 @@ module _ (c : Configuration) (q : Ask) (r : Reply) (ag : IsAgents q) where
     where
       by : (inside : Bool) (g : CellId) → Hears (on c.doing (send_action inside (record { agent = g; callee = f; args = vs; span = span }) s0) (goes_on rest)) (on c.doing (send_action inside (record { agent = g; callee = f; args = vs; span = span }) s1) (goes_on rest))
       by true g = tt
-      by false g = sends (record { agent = g; callee = f; args = vs; span = span }) rest _
+      by false g = or_hold c.state.acting (record { agent = g; callee = f; args = vs; span = span })
+        where
+          or_hold : (o : Option InHand) (x : Action) → Hears (on c.doing (send_or_hold o x s0) (goes_on rest)) (on c.doing (send_or_hold o x s1) (goes_on rest))
+          or_hold None x = sends x rest _
+          or_hold (Some y) x = tt
 
   opens_refs : (u : RefUpdate) (inside : Bool) (span : Span) (cell : Value) (vs rest : List Value)
       → Hears (on c.doing (open_update u inside span cell vs s0) (λ v s. Unfinished (ahead (push_all vs (v ∷ cell ∷ rest)) s c))) (on c.doing (open_update u inside span cell vs s1) (λ v s. Unfinished (ahead (push_all vs (v ∷ cell ∷ rest)) s c)))
@@ -227,7 +234,6 @@ module _ (c : Configuration) (q : Ask) (r : Reply) (ag : IsAgents q) where
   opens_atoms (Running left inner from) span vs cell rest = tt
   opens_atoms (Applying left from work values) span vs cell rest = tt
   opens_atoms (Swapping swap from) span vs cell rest = tt
-  opens_atoms (Acting g a) span vs cell rest = tt
 
   opens_any : (f : OpenForm) (span : Span) (vs : List Value) (cell : Value) (rest : List Value) → Hears (opens f span vs cell rest c0) (opens f span vs cell rest c1)
   opens_any open_form.Alter span vs cell rest = opens_refs Alters (is_inside c.doing) span cell vs rest
@@ -244,7 +250,6 @@ module _ (c : Configuration) (q : Ask) (r : Reply) (ag : IsAgents q) where
   closes_swaps (Restarting left) w rest = tt
   closes_swaps (Running left inner from) w rest = tt
   closes_swaps (Applying left from work values) w rest = tt
-  closes_swaps (Acting g a) w rest = tt
 
   closes_refs : (span : Span) (w cell : Value) (rest : List Value) → Hears (on c.doing (close_update span cell w s0) (goes_on rest)) (on c.doing (close_update span cell w s1) (goes_on rest))
   closes_refs span w cell rest = steps c.doing (cell_of (rule (form.Update update.Alter)) true cell) span (close_own c.state.commuting span w) (goes_on rest) (λ d. own d c.state.commuting)
@@ -270,7 +275,6 @@ module _ (c : Configuration) (q : Ask) (r : Reply) (ag : IsAgents q) where
   begins_any span (Running left inner from) = tt
   begins_any span (Applying left from work values) = tt
   begins_any span (Swapping swap from) = tt
-  begins_any span (Acting g a) = tt
 
   lands_now : (left : ℕ) (from : Savepoint) (values : Writes) (o : Turned Configuration) → Hears (lands left from values c0) o
   unfolding commit
@@ -298,7 +302,6 @@ module _ (c : Configuration) (q : Ask) (r : Reply) (ag : IsAgents q) where
   ends_any code (Applying left from [] values) = lands_now left from values _
   ends_any code (Applying left from (k ∷ work) values) = applies_any code k.callee left from k work values
   ends_any code (Swapping swap from) = tt
-  ends_any code (Acting g a) = tt
 
   -- ---- agents
 
@@ -327,17 +330,13 @@ module _ (c : Configuration) (q : Ask) (r : Reply) (ag : IsAgents q) where
       (λ e. subst (λ i. HasConsumed (on c.doing (heard handed_out (asks i s1)) (λ t s. started g t c1 s))) (sym (ap (ask_or q) e))
       (subst (λ x. HasConsumed (on c.doing (heard handed_out x) (λ t s. started g t c1 s))) (sym asks_then) (taken_heard c.doing (λ t s. started g t c1 s) (λ t. started_same g c1 t s0 refl) r)))
 
-  runs_any : (code : ThreadCode) (doing : Activity) (v : Value) (rest : List Value) → Hears (runs code doing v rest c0) (runs code doing v rest c1)
-  runs_any code (Acting g a) v rest = by a.callee
+  runs_any : (code : ThreadCode) (o : Option InHand) (v : Value) (rest : List Value) → Hears (runs code o v rest c0) (runs code o v rest c1)
+  runs_any code None v rest = tt
+  runs_any code (Some x) v rest = by x.action.callee
     where
-      by : (f : Callee) → Hears (runs_callee code f a v rest c0) (runs_callee code f a v rest c1)
-      by (callee.Core op) = results c.doing (core op (v ∷ a.args)) a.span (goes_on rest) (λ w. tt)
+      by : (f : Callee) → Hears (runs_callee code f x.action v rest c0) (runs_callee code f x.action v rest c1)
+      by (callee.Core op) = results c.doing (core op (v ∷ x.action.args)) x.action.span (goes_on rest) (λ w. tt)
       by (callee.Function f) = tt
-  runs_any code Outside v rest = tt
-  runs_any code (Restarting left) v rest = tt
-  runs_any code (Running left inner from) v rest = tt
-  runs_any code (Applying left from work values) v rest = tt
-  runs_any code (Swapping swap from) v rest = tt
 
   -- ---- instructions
 
@@ -376,8 +375,8 @@ module _ (c : Configuration) (q : Ask) (r : Reply) (ag : IsAgents q) where
   acts code (Some (SendOf f n span)) = args_of n c.stack _ _ (λ vs cell rest. sends_to f (is_inside c.doing) span cell vs rest)
   acts code (Some Halt) = tt
   acts code (Some (TakeOf g)) = takes_any g
-  acts code (Some RunOf) = tops c.stack _ _ (λ v rest. runs_any code c.doing v rest)
-  acts code (Some (FinishOf g)) = tops c.stack _ _ (λ v rest. finishes g (Ok v) (λ s. Unfinished (first_place [] s)) refl)
+  acts code (Some RunOf) = tops c.stack _ _ (λ v rest. runs_any code c.state.acting v rest)
+  acts code (Some (FinishOf g)) = tops c.stack _ _ (λ v rest. finishes g (Ok v) (λ s. Unfinished (first_place [] (rested s))) refl)
 
 -- where a turn waits with such an ask, its reply is consumed
 hears_asking : (c : Configuration) (q : Ask) (r : Reply) (ag : IsAgents q) (o p : Turned Configuration) (s : ActorState) → Hears c q r ag o p → o ≡ Asking s → s.wants ≡ Some q → HasConsumed p

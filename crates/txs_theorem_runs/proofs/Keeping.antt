@@ -27,8 +27,8 @@ use Rattle.txs_value_base.specs.declared.op.Callee.{Callee}
 use Rattle.txs_value_base.specs.declared.op.Callee.TheVariants as callee
 use Rattle.txs_value_data.specs.declared.value.CellId.{CellId}
 use Rattle.txs_value_data.specs.declared.value.Value.{Value}
-use Rattle.txs_code_meaning.specs.ActorState.{ActorState, Replied, Unreplied, receives, asks, StepResult, Continue, Break, Redo, Await, Malformed, on_step, step_of, Reading, Says, SaysRetry, SaysNothing, read_as, heard, read_point, just_done, value_there, newest_value, views, Verdict, Landed, Outdated, Undone, Denied, commit_verdict, opened, swap_verdict, send_verdict, Taken, handed_out, begun, begin, fail, buffered_or, look, paired, viewed, view, commit, peek, SwapInHand, open_atom, close_swap, break_swap, reset_atom, sent, send_now, take_action, finish, read_cell, read, set_own, assign_cell, assign, RefUpdate, Alters, Commutes, update_form, kept_open, open_update, close_own, close_update, open_swap, send_action, send_to, print}
-use Rattle.txs_code_meaning.specs.Machine.{PlainInstr, Push, Load, Store, Pop, Jump, JumpFalse, CoreOf, CallOf, Return, MakeVector, PrintOf, TxBegin, TxEnd, LookOf, PutOf, OpenOf, CloseOf, SendOf, Halt, TakeOf, RunOf, FinishOf, ThreadCode, fetch, Frame, Savepoint, Activity, Outside, Restarting, Running, Applying, Swapping, Acting, is_inside, Configuration, ahead, arguments_of, Turned, Ended, Failed, Asking, Unfinished, Stuck, told, raise, try_more, retried, on, found, on_top, on_args, on_args_of, on_two, gives, starts, begins, decided, lands, settles, applies, ends, returns_to, opens_ref, opens_atom, opens, swap_decided, closes_swap, closes, started, runs_callee, runs, act, turn}
+use Rattle.txs_code_meaning.specs.ActorState.{ActorState, Replied, Unreplied, receives, asks, StepResult, Continue, Break, Redo, Await, Malformed, on_step, step_of, Reading, Says, SaysRetry, SaysNothing, read_as, heard, read_point, just_done, value_there, newest_value, views, Verdict, Landed, Outdated, Undone, Denied, commit_verdict, opened, swap_verdict, send_verdict, Taken, handed_out, begun, begin, fail, buffered_or, look, paired, viewed, view, commit, peek, SwapInHand, open_atom, close_swap, break_swap, reset_atom, sent, send_now, take_action, finish, read_cell, read, set_own, assign_cell, assign, RefUpdate, Alters, Commutes, update_form, kept_open, open_update, close_own, close_update, open_swap, send_action, send_to, print, InHand, send_or_hold, now_holding}
+use Rattle.txs_code_meaning.specs.Machine.{PlainInstr, Push, Load, Store, Pop, Jump, JumpFalse, CoreOf, CallOf, Return, MakeVector, PrintOf, TxBegin, TxEnd, LookOf, PutOf, OpenOf, CloseOf, SendOf, Halt, TakeOf, RunOf, FinishOf, ThreadCode, fetch, Frame, Savepoint, Activity, Outside, Restarting, Running, Applying, Swapping, is_inside, Configuration, ahead, arguments_of, Turned, Ended, Failed, Asking, Unfinished, Stuck, told, raise, try_more, retried, on, found, on_top, on_args, on_args_of, on_two, gives, starts, begins, decided, lands, settles, applies, ends, returns_to, opens_ref, opens_atom, opens, swap_decided, closes_swap, closes, started, runs_callee, runs, act, turn, ends_with, rested}
 use Rattle.txs_code_meaning.specs.declared.instr.OpenForm.{OpenForm}
 use Rattle.txs_code_meaning.specs.declared.instr.OpenForm.TheVariants as open_form
 
@@ -42,12 +42,13 @@ SendsOwn P s _ = Unit {0}
 abbrev pub SendsSuch : (Action → Type 0) → Option PlainInstr → Type 0
 SendsSuch P i = (f : Callee) (n : ℕ) (span : Span) → i ≡ Some (SendOf f n span) → (g : CellId) (vs : List Value) → length vs ≡ n → P (record { agent = g; callee = f; args = vs; span = span })
 
--- A property of an actor's state that replies, transactions and waiting keep, where such actions alone are sent.
+-- A property of an actor's state that replies, transactions, actions and waiting keep, where such actions alone are sent.
 pub record IsKept (P : Action → Type 0) (A : ActorState → Type 0) : Type 0 where
   pub on_reply : (s : ActorState) (x : Exchange) (xs : List Exchange) → s.todo ≡ x ∷ xs → A s → A (record s { todo = xs })
   pub on_begin : (s : ActorState) (p : ℕ) → A s → A (record s { at = p; view = p; done = no_work; commuting = None })
   pub on_work : (s : ActorState) (view : ℕ) (w : Work) (o : Option Commute) → w.sends ≡ s.done.sends → A s → A (record s { view = view; done = w; commuting = o })
   pub on_hold : (s : ActorState) (x : Action) → P x → A s → A (record s { done = hold_send x s.done })
+  pub on_acting : (s : ActorState) (o : Option InHand) → A s → A (record s { acting = o })
   pub on_wait : (s : ActorState) (q : Ask) → SendsOwn P s q → A s → A (record s { wants = Some q })
 
 -- any action
@@ -166,7 +167,7 @@ module _ (P : Action → Type 0) (A Z : ActorState → Type 0) (kept : IsKept P 
 
   finish_keeps : (g : CellId) (new : Result Value Fault) (s : ActorState) → A s → InStep (finish g new s)
   unfolding finish
-  finish_keeps g new s h = heard_keeps just_done (ask.Finish g new) s tt h
+  finish_keeps g new s h = heard_keeps just_done (ask.Finish g new []) s tt h
 
   -- ---- forms
 
@@ -222,7 +223,11 @@ module _ (P : Action → Type 0) (A Z : ActorState → Type 0) (kept : IsKept P 
 
   send_action_keeps : (inside : Bool) (x : Action) (s : ActorState) → P x → A s → InStep (send_action inside x s)
   send_action_keeps true x s such h = kept.on_hold s x such h
-  send_action_keeps false x s such h = send_now_keeps x s such h
+  send_action_keeps false x s such h = or_hold s.acting
+    where
+      or_hold : (o : Option InHand) → InStep (send_or_hold o x s)
+      or_hold None = send_now_keeps x s such h
+      or_hold (Some y) = kept.on_acting s (now_holding x s.acting) h
 
   send_keeps : (inside : Bool) (span : Span) (cell : Value) (f : Callee) (vs : List Value) (s : ActorState) → ((g : CellId) → P (record { agent = g; callee = f; args = vs; span = span })) → A s → InStep (send_to inside span cell f vs s)
   send_keeps inside span cell f vs s such h =
@@ -242,13 +247,16 @@ module _ (P : Action → Type 0) (A Z : ActorState → Type 0) (kept : IsKept P 
   told_keeps (Await s) go h k = h
   told_keeps Malformed go h k = tt
 
+  over_keeps : (o : Option InHand) (f : Fault) (s : ActorState) → A s → Holds A Z (ends_with o f s)
+  over_keeps None f s h = h
+  over_keeps (Some x) f s h = told_keeps (finish x.agent (Err f) s) _ (finish_keeps x.agent (Err f) s h) (λ s1 h1. on_end (rested s1) (kept.on_acting s1 None h1))
+
   raise_keeps : (doing : Activity) (f : Fault) (s : ActorState) → A s → Holds A Z (raise doing f s)
-  raise_keeps Outside f s h = h
+  raise_keeps Outside f s h = over_keeps s.acting f s h
   raise_keeps (Restarting left) f s h = h
   raise_keeps (Running left inner from) f s h = told_keeps (fail s) _ (fail_keeps s h) (λ s1 h1. h1)
   raise_keeps (Applying left from work values) f s h = told_keeps (fail s) _ (fail_keeps s h) (λ s1 h1. h1)
   raise_keeps (Swapping swap from) f s h = told_keeps (break_swap swap s) _ (break_swap_keeps swap s h) (λ s1 h1. h1)
-  raise_keeps (Acting g a) f s h = told_keeps (finish g (Err f) s) _ (finish_keeps g (Err f) s h) (λ s1 h1. on_end s1 h1)
 
   try_keeps : (left : ℕ) (from : Savepoint) (s : ActorState) (go : ℕ → Configuration) → A s → ((k : ℕ) → Z (go k).state) → Holds A Z (try_more left from s go)
   try_keeps zero from s go h k = h
@@ -260,7 +268,6 @@ module _ (P : Action → Type 0) (A Z : ActorState → Type 0) (kept : IsKept P 
   retried_keeps (Running left inner from) s h = try_keeps left from s _ h (λ k. on_end s h)
   retried_keeps (Applying left from work values) s h = tt
   retried_keeps (Swapping swap from) s h = tt
-  retried_keeps (Acting g a) s h = tt
 
   on_keeps : {B : Type 0} (doing : Activity) (x : StepResult B) (go : B → ActorState → Turned Configuration) → InStep x → ((b : B) (s : ActorState) → A s → Holds A Z (go b s)) → Holds A Z (on doing x go)
   on_keeps doing (Continue b s) go h k = k b s h
@@ -311,7 +318,6 @@ module _ (P : Action → Type 0) (A Z : ActorState → Type 0) (kept : IsKept P 
     begins_keeps span (Running left inner from) = on_end c.state h
     begins_keeps span (Applying left from work values) = tt
     begins_keeps span (Swapping swap from) = tt
-    begins_keeps span (Acting g a) = tt
 
     decided_keeps : (left : ℕ) (from : Savepoint) (v : Verdict) (s : ActorState) → A s → Holds A Z (decided v left from c s)
     decided_keeps left from Landed s q = on_end s q
@@ -339,7 +345,6 @@ module _ (P : Action → Type 0) (A Z : ActorState → Type 0) (kept : IsKept P 
     ends_keeps (Applying left from [] values) = lands_keeps left from values
     ends_keeps (Applying left from (k ∷ work) values) = applies_keeps k.callee left from k work values
     ends_keeps (Swapping swap from) = tt
-    ends_keeps (Acting g a) = tt
 
     returns_keep : (frames : List Frame) (v : Value) → Holds A Z (returns_to frames v c)
     returns_keep [] v = tt
@@ -354,7 +359,6 @@ module _ (P : Action → Type 0) (A Z : ActorState → Type 0) (kept : IsKept P 
     opens_atom_keep (Running left inner from) span vs cell rest = tt
     opens_atom_keep (Applying left from work values) span vs cell rest = tt
     opens_atom_keep (Swapping swap from) span vs cell rest = tt
-    opens_atom_keep (Acting g a) span vs cell rest = tt
 
     opens_keep : (f : OpenForm) (span : Span) (vs : List Value) (cell : Value) (rest : List Value) → Holds A Z (opens f span vs cell rest c)
     opens_keep open_form.Alter span vs cell rest = opens_ref_keep Alters span vs cell rest
@@ -373,7 +377,6 @@ module _ (P : Action → Type 0) (A Z : ActorState → Type 0) (kept : IsKept P 
     closes_swap_keeps (Restarting left) w rest = tt
     closes_swap_keeps (Running left inner from) w rest = tt
     closes_swap_keeps (Applying left from work values) w rest = tt
-    closes_swap_keeps (Acting g a) w rest = tt
 
     closes_keep : (f : UpdateForm) (span : Span) (w cell : Value) (rest : List Value) → Holds A Z (closes f span w cell rest c)
     closes_keep update.Alter span w cell rest = gives_keeps rest (close_update span cell w c.state) (close_keeps span cell w c.state h)
@@ -382,19 +385,15 @@ module _ (P : Action → Type 0) (A Z : ActorState → Type 0) (kept : IsKept P 
 
     started_keeps : (g : CellId) (o : Option Taken) (s : ActorState) → A s → Holds A Z (started g o c s)
     started_keeps g None s q = on_end s q
-    started_keeps g (Some t) s q = on_end s q
+    started_keeps g (Some t) s q = let o : Option InHand = Some (record { agent = g; action = t.action; sends = [] }) in on_end (record s { acting = o }) (kept.on_acting s o q)
 
     runs_callee_keeps : (f : Callee) (a : Action) (v : Value) (rest : List Value) → Holds A Z (runs_callee code f a v rest c)
     runs_callee_keeps (callee.Core op) a v rest = gives_keeps rest (step_of (core op (v ∷ a.args)) a.span c.state) (result_keeps (core op (v ∷ a.args)) a.span c.state h)
     runs_callee_keeps (callee.Function f) a v rest = on_end c.state h
 
-    runs_keeps : (doing : Activity) (v : Value) (rest : List Value) → Holds A Z (runs code doing v rest c)
-    runs_keeps (Acting g a) v rest = runs_callee_keeps a.callee a v rest
-    runs_keeps Outside v rest = tt
-    runs_keeps (Restarting left) v rest = tt
-    runs_keeps (Running left inner from) v rest = tt
-    runs_keeps (Applying left from work values) v rest = tt
-    runs_keeps (Swapping swap from) v rest = tt
+    runs_keeps : (o : Option InHand) (v : Value) (rest : List Value) → Holds A Z (runs code o v rest c)
+    runs_keeps None v rest = tt
+    runs_keeps (Some x) v rest = runs_callee_keeps x.action.callee x.action v rest
 
     act_keeps : (i : Option PlainInstr) → SendsSuch P i → Holds A Z (act code i c)
     act_keeps None such = tt
@@ -419,8 +418,8 @@ module _ (P : Action → Type 0) (A Z : ActorState → Type 0) (kept : IsKept P 
         sends_keep n c.stack _ (λ vs cell rest many. gives_keeps rest (send_to (is_inside c.doing) span cell f vs c.state) (send_keeps (is_inside c.doing) span cell f vs c.state (λ g. such f n span refl g vs many) h))
     act_keeps (Some Halt) such = h
     act_keeps (Some (TakeOf g)) such = on_keeps c.doing (take_action g c.state) (λ o s. started g o c s) (take_keeps g c.state h) (λ o s q. started_keeps g o s q)
-    act_keeps (Some RunOf) such = top_keeps c.stack _ (λ v rest. runs_keeps c.doing v rest)
-    act_keeps (Some (FinishOf g)) such = top_keeps c.stack _ (λ v rest. told_keeps (finish g (Ok v) c.state) _ (finish_keeps g (Ok v) c.state h) (λ s q. on_end s q))
+    act_keeps (Some RunOf) such = top_keeps c.stack _ (λ v rest. runs_keeps c.state.acting v rest)
+    act_keeps (Some (FinishOf g)) such = top_keeps c.stack _ (λ v rest. told_keeps (finish g (Ok v) c.state) _ (finish_keeps g (Ok v) c.state h) (λ s q. on_end (rested s) (kept.on_acting s None q)))
 
     -- an instruction keeps it
     pub turn_keeps : SendsSuch P (fetch code c.body c.place) → Holds A Z (turn code c)

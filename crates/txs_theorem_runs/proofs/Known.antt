@@ -12,13 +12,13 @@ pub record KnownCode (code : ThreadCode) : Type 1 where
   pub Holds : Configuration → Type 0
   pub opens : Holds (opening code [])
   pub may : (c : Configuration) → Holds c → MayStandHere c.doing (fetch code c.body c.place)
-  pub threads : (c : Configuration) → Holds c → IsThreads c.doing
+  pub threads : (c : Configuration) → Holds c → IsThreads c.state.acting
   pub given : (xs : List Exchange) (c : Configuration) → Holds c → Holds (given xs c)
   pub keeps : (c d : Configuration) → Holds c → turn code c ≡ Unfinished d → Holds d
 
 -- a turn of what is staged, in a state without exchanges to come
-turn_staged : (code : ThreadCode) (c : Configuration) → c.state.todo ≡ [] → MayStandHere c.doing (fetch code c.body c.place) → IsThreads c.doing → TurnIsStaged code c
-turn_staged code c e may ok = subst (λ l. TurnIsStaged code (record c { state = record c.state { todo = l } })) (sym e) (act_staged c code (fetch code c.body c.place) may ok)
+turn_staged : (code : ThreadCode) (c : Configuration) → c.state.todo ≡ [] → MayStandHere c.doing (fetch code c.body c.place) → IsThreads c.state.acting → TurnIsStaged code c
+turn_staged code c e may ok = subst (λ l. TurnIsStaged code (record c { state = record c.state { todo = l } })) (sym e) (act_staged c ok code (fetch code c.body c.place) may)
 
 -- what is known goes on to be known
 pub run_known : (code : ThreadCode) (k : KnownCode code) (m : ℕ) (c d : Configuration) → k.Holds c → run code m c ≡ Unfinished d → k.Holds d

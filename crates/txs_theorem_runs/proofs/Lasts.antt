@@ -24,7 +24,7 @@ use Rattle.txs_theorem_runs.specs.Staged.{StagedCode, IsStaged}
 use Rattle.txs_theorem_runs.specs.Invariant.{ActorInvariant, RunInvariant}
 use Rattle.txs_theorem_runs.specs.Printed.{Prints, HasPrinted, PrintedBeforeLast, RunPrints}
 use Rattle.txs_theorem_runs.specs.Run as run_of
-use Rattle.txs_theorem_runs.specs.Run.{Stop, Actor, Moved, moved, exchange, entry, stop, comes_to, hears, replied, asked, asks_for, turned, turns_from, stops_from, Play, TakesTurn, IsStopped, State, moves, actor_of, play, plays_from, opens}
+use Rattle.txs_theorem_runs.specs.Run.{Stop, Actor, exchange, entry, stop, comes_to, hears, replied, asked, asks_for, turned, turns_from, stops_from, Play, TakesTurn, IsStopped, State, moves, actor_of, play, plays_from, opens}
 use Rattle.txs_theorem_runs.proofs.Fits.{entries_fit}
 use Rattle.txs_theorem_runs.proofs.Growing.{taken_within}
 use Rattle.txs_theorem_runs.proofs.Keeping.{IsKept, Any, Holds, turn_keeps}
@@ -39,6 +39,7 @@ prints_kept out = record {
   on_begin = λ s p h. h;
   on_work = λ s view w o e h. h;
   on_hold = λ s x such h. h;
+  on_acting = λ s o h. h;
   on_wait = λ s q own h. h;
 }
 
@@ -56,6 +57,7 @@ waits_kept out = record {
   on_begin = λ s p h. h;
   on_work = λ s view w o e h. h;
   on_hold = λ s x such h. h;
+  on_acting = λ s o h. h;
   on_wait = λ s q own h. h;
 }
 

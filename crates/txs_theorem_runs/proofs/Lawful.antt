@@ -15,7 +15,7 @@ use Rattle.txs_value_cell.specs.declared.action.Action.{Action}
 use Rattle.txs_value_cell.specs.declared.cell.CellDefinition.{CellDefinition}
 use Rattle.txs_value_data.specs.declared.value.CellId.{CellId}
 use Rattle.txs_code_meaning.specs.ActorState.{ActorState, receives, heard, views, on_step, paired, viewed, view, asks}
-use Rattle.txs_code_meaning.specs.Machine.{PlainInstr, Push, Load, Store, Pop, Jump, JumpFalse, CoreOf, CallOf, Return, MakeVector, PrintOf, TxBegin, TxEnd, LookOf, PutOf, OpenOf, CloseOf, SendOf, Halt, TakeOf, RunOf, FinishOf, ThreadCode, fetch, Savepoint, Activity, Outside, Restarting, Running, Applying, Swapping, Acting, Configuration, Turned, Ended, Failed, Asking, Unfinished, Stuck, on, settles, ends, act, turn}
+use Rattle.txs_code_meaning.specs.Machine.{PlainInstr, Push, Load, Store, Pop, Jump, JumpFalse, CoreOf, CallOf, Return, MakeVector, PrintOf, TxBegin, TxEnd, LookOf, PutOf, OpenOf, CloseOf, SendOf, Halt, TakeOf, RunOf, FinishOf, ThreadCode, fetch, Savepoint, Activity, Outside, Restarting, Running, Applying, Swapping, Configuration, Turned, Ended, Failed, Asking, Unfinished, Stuck, on, settles, ends, act, turn}
 use Rattle.txs_code_meaning.specs.Opening.{given}
 use Rattle.txs_world.proofs.Merging.{joined}
 use Rattle.txs_world_book.specs.Book.{has_cell, has_ref, has_refs, has_agent, are_refs, are_sends, cells_in, may_name, may_end}
@@ -97,7 +97,6 @@ module _ (cells : List CellDefinition) where
   ends_ask code c (Restarting left) i e h = absurd h
   ends_ask code c (Applying left from work values) i e h = absurd h
   ends_ask code c (Swapping swap from) i e h = absurd h
-  ends_ask code c (Acting g x) i e h = absurd h
 
   redo_ends : (doing : Activity) (i : Option PlainInstr) (w : Work) → RedoIn cells doing i w → IsEnd cells i
   redo_ends (Running left zero from) i w h = h.0
@@ -106,7 +105,6 @@ module _ (cells : List CellDefinition) where
   redo_ends (Restarting left) i w h = absurd h
   redo_ends (Applying left from work values) i w h = absurd h
   redo_ends (Swapping swap from) i w h = absurd h
-  redo_ends (Acting g x) i w h = absurd h
 
   -- where a commute phase has to begin again, its view is asked
   pub redo_asks : (code : ThreadCode) (c : Configuration) → c.state.todo ≡ [] → RedoIn cells c.doing (fetch code c.body c.place) c.state.done → AsksView (turn code c)
@@ -149,7 +147,6 @@ module _ (cells : List CellDefinition) where
       forgotten X (Running left inner from) s h = (h.0, tt)
       forgotten X (Applying left from work values) s h = tt
       forgotten X (Swapping swap from) s h = tt
-      forgotten X (Acting g x) s h = tt
 
       pub placed_of : (c : Configuration) (o : Turned Configuration) → TurnIsKnown c o → PlaceKnown o
       placed_of c (Ended s) h = tt
@@ -172,10 +169,9 @@ module _ (cells : List CellDefinition) where
       given_fresh (Running left inner from) c xs h = h
       given_fresh (Applying left from work values) c xs h = tt
       given_fresh (Swapping swap from) c xs h = tt
-      given_fresh (Acting g x) c xs h = tt
 
       pub given_known : (c : Configuration) (x : Exchange) → Known c → ReplyKnown cells x.reply → Known (given (x ∷ []) c)
-      given_known c x h g = (h.0, h.1, h.2, h.3, (h.4.0, h.4.1, todo_more c.state.todo x h.4.2 g), λ t. ((h.5 t).0, go (h.5 t).1))
+      given_known c x h g = (h.0, h.1, h.2, h.3, (h.4.0, h.4.1, todo_more c.state.todo x h.4.2 g, h.4.3), λ t. ((h.5 t).0, go (h.5 t).1))
         where
           go : FreshIn cells (Unit {0}) c.doing c.state ⊎ RedoIn cells c.doing (fetch code c.body c.place) c.state.done
               → FreshIn cells (Unit {0}) c.doing (given (x ∷ []) c).state ⊎ RedoIn cells c.doing (fetch code c.body c.place) c.state.done
@@ -254,7 +250,6 @@ module _ (cells : List CellDefinition) where
       TryNamed books a c (Running left inner from) = (may_name true (books 0) a c.state.at ≡ true) ⊎ RedoIn cells (Running left inner from) (fetch code c.body c.place) c.state.done
       TryNamed books a c (Applying left from work values) = Unit {0}
       TryNamed books a c (Swapping swap from) = Unit {0}
-      TryNamed books a c (Acting g x) = Unit {0}
 
       abbrev pub NamedAt : (ℕ → List Event) → ℕ → Turned Configuration → Type 0
       NamedAt books a (Ended s) = Unit {0}
@@ -269,7 +264,6 @@ module _ (cells : List CellDefinition) where
       view_or books a c (Running left inner from) h = h
       view_or books a c (Applying left from work values) h = inl tt
       view_or books a c (Swapping swap from) h = inl tt
-      view_or books a c (Acting g x) h = inl tt
 
       pub try_of : (books : ℕ → List Event) (a : ℕ) (c : Configuration) (doing : Activity) → NamesView books a (stage_in doing c.state) → TryNamed books a c doing
       try_of books a c Outside h = tt
@@ -277,7 +271,6 @@ module _ (cells : List CellDefinition) where
       try_of books a c (Running left inner from) h = inl h
       try_of books a c (Applying left from work values) h = tt
       try_of books a c (Swapping swap from) h = tt
-      try_of books a c (Acting g x) h = tt
 
       -- after a turn of a commute phase a try is at its end
       try_redo : (X : Type 0) (books : ℕ → List Event) (a : ℕ) (c : Configuration) (doing : Activity) → (X → ⊥) → FreshIn cells X doing c.state ⊎ RedoIn cells doing (fetch code c.body c.place) c.state.done → TryNamed books a c doing
@@ -287,7 +280,6 @@ module _ (cells : List CellDefinition) where
       try_redo X books a c (Running left inner from) n (inr x) = inr x
       try_redo X books a c (Applying left from work values) n h = tt
       try_redo X books a c (Swapping swap from) n h = tt
-      try_redo X books a c (Acting g x) n h = tt
 
       free_or : (doing : Activity) (s : ActorState) → (IsFree cells doing → ⊥) ⊎ (IsViewing (stage_in doing s) → ⊥)
       free_or Outside s = inr (λ x. x)
@@ -295,7 +287,6 @@ module _ (cells : List CellDefinition) where
       free_or (Running left inner from) s = inr (λ x. x)
       free_or (Applying left from work values) s = inl (λ x. x)
       free_or (Swapping swap from) s = inr (λ x. x)
-      free_or (Acting g x) s = inr (λ x. x)
 
       -- books that are as before leave what is named
       try_same : (books bs : ℕ → List Event) (a : ℕ) (c : Configuration) (doing : Activity) → (may_name true (books 0) a c.state.at ≡ true → may_name true (bs 0) a c.state.at ≡ true) → TryNamed books a c doing → TryNamed bs a c doing
@@ -305,7 +296,6 @@ module _ (cells : List CellDefinition) where
       try_same books bs a c (Running left inner from) f (inr x) = inr x
       try_same books bs a c (Applying left from work values) f h = tt
       try_same books bs a c (Swapping swap from) f h = tt
-      try_same books bs a c (Acting g x) f h = tt
 
       named_same : (books bs : ℕ → List Event) (a : ℕ) → ((i : ℕ) → bs i ≡ books i) → (o : Turned Configuration) → NamedAt books a o → NamedAt bs a o
       named_same books bs a e (Ended s) h = tt
@@ -510,7 +500,7 @@ module _ (cells : List CellDefinition) where
           lawful c Idle (ask.Commit p sets ensured q commutes sends) ok m v k = absurd ok
           lawful c Idle (ask.Fail p q) ok m v k = absurd ok
           lawful c Idle (ask.Take g) ok m v k = absurd ok
-          lawful c Idle (ask.Finish g new) ok m v k = absurd ok
+          lawful c Idle (ask.Finish g new sends) ok m v k = absurd ok
           lawful c Idle (ask.Broke d p) ok m v k = absurd ok
           lawful c (Open at) (ask.Look d p) ok m v k =
               thread (has_ref (cells_of cells) d && may_name false (sh.books 0) a p) (joined (has_ref (cells_of cells) d) (may_name false (sh.books 0) a p) k (same_named false (sh.books 0) at p ok m))
@@ -523,7 +513,7 @@ module _ (cells : List CellDefinition) where
           lawful c (Open at) (ask.Peek d) ok m v k = absurd ok
           lawful c (Open at) (ask.Send y) ok m v k = absurd ok
           lawful c (Open at) (ask.Take g) ok m v k = absurd ok
-          lawful c (Open at) (ask.Finish g new) ok m v k = absurd ok
+          lawful c (Open at) (ask.Finish g new sends) ok m v k = absurd ok
           lawful c (Open at) (ask.OpenAt d) ok m v k = absurd ok
           lawful c (Open at) (ask.CloseAt d p w) ok m v k = absurd ok
           lawful c (Open at) (ask.Broke d p) ok m v k = absurd ok
@@ -535,7 +525,7 @@ module _ (cells : List CellDefinition) where
           lawful c (Viewing at view) (ask.Peek d) ok m v k = absurd ok
           lawful c (Viewing at view) (ask.Send y) ok m v k = absurd ok
           lawful c (Viewing at view) (ask.Take g) ok m v k = absurd ok
-          lawful c (Viewing at view) (ask.Finish g new) ok m v k = absurd ok
+          lawful c (Viewing at view) (ask.Finish g new sends) ok m v k = absurd ok
           lawful c (Viewing at view) (ask.OpenAt d) ok m v k = absurd ok
           lawful c (Viewing at view) (ask.CloseAt d p w) ok m v k = absurd ok
           lawful c (Viewing at view) (ask.Broke d p) ok m v k = absurd ok
@@ -554,7 +544,7 @@ module _ (cells : List CellDefinition) where
           lawful c (Swapping d at) (ask.Peek e) ok m v k = absurd ok
           lawful c (Swapping d at) (ask.Send y) ok m v k = absurd ok
           lawful c (Swapping d at) (ask.Take g) ok m v k = absurd ok
-          lawful c (Swapping d at) (ask.Finish g new) ok m v k = absurd ok
+          lawful c (Swapping d at) (ask.Finish g new sends) ok m v k = absurd ok
           lawful c (Swapping d at) (ask.OpenAt e) ok m v k = absurd ok
 
           fresh_or : (c : Configuration) (doing : Activity) (q : Ask) → (IsTry cells doing → IsTry cells c.doing) → (RedoIn cells doing (fetch code c.body c.place) c.state.done → IsView q)
@@ -566,7 +556,6 @@ module _ (cells : List CellDefinition) where
           fresh_or c (Running left inner from) q e r (inl m) (inr f) = inr (r f)
           fresh_or c (Applying left from work values) q e r m f = inl (tt, tt)
           fresh_or c (Swapping swap from) q e r m f = inl (tt, tt)
-          fresh_or c (Acting g y) q e r m f = inl (tt, tt)
 
           pub asks_lawful : (c : Configuration) (s : ActorState) (q : Ask) → x.at ≡ Unfinished c → turn code c ≡ Asking s → s.wants ≡ Some q → MayAsk q
           asks_lawful c s q at e wants =
@@ -623,7 +612,7 @@ module _ (cells : List CellDefinition) where
       opens_lawful fresh = record {
         holds = opening_holds fresh cells threads codes;
         books = λ n. tt;
-        actors = λ a. (tt, locals_known cells (Unit {0}) (Unit {0}) (Unit {0}) (codes a) (Some (codes a).main) [] tt, tt, tt, (nothing_known cells (Unit {0}) (Unit {0}) (Unit {0}) (codes a), tt, tt), λ t. (tt, inl tt));
+        actors = λ a. (tt, locals_known cells (Unit {0}) (Unit {0}) (Unit {0}) (codes a) (Some (codes a).main) [] tt, tt, tt, (nothing_known cells (Unit {0}) (Unit {0}) (Unit {0}) (codes a), tt, tt, tt), λ t. (tt, inl tt));
         named = λ a t. (tt, tt);
       }
 

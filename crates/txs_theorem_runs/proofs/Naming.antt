@@ -206,7 +206,7 @@ module _ (cells : List CellDefinition) (a : ℕ) (books : ℕ → List Event) wh
   names_after Idle (ask.Commit p sets ensured q commuted sends) ok h = absurd ok
   names_after Idle (ask.Fail p q) ok h = absurd ok
   names_after Idle (ask.Take g) ok h = absurd ok
-  names_after Idle (ask.Finish g new) ok h = absurd ok
+  names_after Idle (ask.Finish g new sends) ok h = absurd ok
   names_after Idle (ask.Broke c p) ok h = absurd ok
   names_after (Open at) (ask.Look c p) ok h = look_named at c p h (written c.number p (books 0))
   names_after (Open at) (ask.View cs) ok h = viewed_named at h
@@ -218,7 +218,7 @@ module _ (cells : List CellDefinition) (a : ℕ) (books : ℕ → List Event) wh
   names_after (Open at) (ask.Peek c) ok h = absurd ok
   names_after (Open at) (ask.Send x) ok h = absurd ok
   names_after (Open at) (ask.Take g) ok h = absurd ok
-  names_after (Open at) (ask.Finish g new) ok h = absurd ok
+  names_after (Open at) (ask.Finish g new sends) ok h = absurd ok
   names_after (Open at) (ask.OpenAt c) ok h = absurd ok
   names_after (Open at) (ask.CloseAt c p v) ok h = absurd ok
   names_after (Open at) (ask.Broke c p) ok h = absurd ok
@@ -233,7 +233,7 @@ module _ (cells : List CellDefinition) (a : ℕ) (books : ℕ → List Event) wh
   names_after (Viewing at view) (ask.Peek c) ok h = absurd ok
   names_after (Viewing at view) (ask.Send x) ok h = absurd ok
   names_after (Viewing at view) (ask.Take g) ok h = absurd ok
-  names_after (Viewing at view) (ask.Finish g new) ok h = absurd ok
+  names_after (Viewing at view) (ask.Finish g new sends) ok h = absurd ok
   names_after (Viewing at view) (ask.OpenAt c) ok h = absurd ok
   names_after (Viewing at view) (ask.CloseAt c p v) ok h = absurd ok
   names_after (Viewing at view) (ask.Broke c p) ok h = absurd ok
@@ -284,7 +284,7 @@ module _ (cells : List CellDefinition) (a : ℕ) (books : ℕ → List Event) wh
   view_after Idle (ask.Commit p sets ensured q commuted sends) ok n h = absurd ok
   view_after Idle (ask.Fail p q) ok n h = absurd ok
   view_after Idle (ask.Take g) ok n h = absurd ok
-  view_after Idle (ask.Finish g new) ok n h = absurd ok
+  view_after Idle (ask.Finish g new sends) ok n h = absurd ok
   view_after Idle (ask.Broke c p) ok n h = absurd ok
   view_after (Open at) (ask.Look c p) ok n (inl h) = look_viewed at c p h (written c.number p (books 0))
   view_after (Open at) (ask.Look c p) ok n (inr h) = absurd h
@@ -298,7 +298,7 @@ module _ (cells : List CellDefinition) (a : ℕ) (books : ℕ → List Event) wh
   view_after (Open at) (ask.Peek c) ok n h = absurd ok
   view_after (Open at) (ask.Send x) ok n h = absurd ok
   view_after (Open at) (ask.Take g) ok n h = absurd ok
-  view_after (Open at) (ask.Finish g new) ok n h = absurd ok
+  view_after (Open at) (ask.Finish g new sends) ok n h = absurd ok
   view_after (Open at) (ask.OpenAt c) ok n h = absurd ok
   view_after (Open at) (ask.CloseAt c p v) ok n h = absurd ok
   view_after (Open at) (ask.Broke c p) ok n h = absurd ok

@@ -7,7 +7,7 @@ use Rattle.txs_world_protocol.specs.declared.ask.Reply.TheVariants as reply
 use Rattle.txs_world_protocol.specs.declared.event.Event.{Event}
 use Rattle.txs_value_cell.specs.declared.cell.CellDefinition.{CellDefinition}
 use Rattle.txs_code_meaning.specs.ActorState.{ActorState}
-use Rattle.txs_code_meaning.specs.Machine.{ThreadCode, fetch, Activity, Outside, Restarting, Running, Applying, Swapping, Acting, Configuration, Turned, Ended, Failed, Asking, Unfinished, Stuck, and_then, turn, run}
+use Rattle.txs_code_meaning.specs.Machine.{ThreadCode, fetch, Activity, Outside, Restarting, Running, Applying, Swapping, Configuration, Turned, Ended, Failed, Asking, Unfinished, Stuck, and_then, turn, run}
 use Rattle.txs_code_meaning.specs.Opening.{given, opening}
 use Rattle.txs_world_book.specs.Served.{Served}
 use Rattle.txs_theorem_runs.specs.Invariant.{ActorInvariant}
@@ -94,7 +94,6 @@ module _ (cells : List CellDefinition) (threads : ℕ) (opened : OpeningIsKnown 
   try_named books a c (Running left inner from) h = h
   try_named books a c (Applying left from work values) h = tt
   try_named books a c (Swapping swap from) h = tt
-  try_named books a c (Acting g x) h = tt
 
   may_view : (books : ℕ → List Event) (a : ℕ) (c : Configuration) (doing : Activity) → TryNamed cells threads opened code known books a c doing → NamesView books a (stage_in doing c.state) ⊎ RedoIn cells doing (fetch code c.body c.place) c.state.done
   may_view books a c Outside h = inl tt
@@ -102,7 +101,6 @@ module _ (cells : List CellDefinition) (threads : ℕ) (opened : OpeningIsKnown 
   may_view books a c (Running left inner from) h = h
   may_view books a c (Applying left from work values) h = inl tt
   may_view books a c (Swapping swap from) h = inl tt
-  may_view books a c (Acting g x) h = inl tt
 
   -- where an actor that goes on may name what it has to, it may view
   view_of : (books : ℕ → List Event) (a : ℕ) (o : Turned Configuration) (d : Configuration) → o ≡ Unfinished d → MayNameAt books a o → MayView cells code a books d
@@ -144,7 +142,7 @@ module _ (cells : List CellDefinition) (threads : ℕ) (opened : OpeningIsKnown 
         go more Stuck i r = absurd (subst is_unfinished (sym r) tt)
 
     opening_known : (xs : List Exchange) → TodoKnown cells xs → IsKnownHere (opening code xs)
-    opening_known xs h = (tt, locals_known cells (Unit {0}) (Unit {0}) (Unit {0}) code (Some code.main) [] tt, tt, tt, (nothing_known cells (Unit {0}) (Unit {0}) (Unit {0}) code, tt, h), λ y. (tt, inl tt))
+    opening_known xs h = (tt, locals_known cells (Unit {0}) (Unit {0}) (Unit {0}) code (Some code.main) [] tt, tt, tt, (nothing_known cells (Unit {0}) (Unit {0}) (Unit {0}) code, tt, h, tt), λ y. (tt, inl tt))
 
     module _ (books : ℕ → List Event) (a : ℕ) (es : List Entry) (st : Stage) (q : Ask) (below : nat_lt a threads ≡ true) (values : BooksKnown cells threads opened books) (h : Asks cells threads code books a es st q) where
       known_here : IsKnownHere h.before

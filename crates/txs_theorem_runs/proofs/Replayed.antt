@@ -67,7 +67,7 @@ atom_unswapped v (e ∷ es) zero h =
     quiet (Refused at view g) i = refl
     quiet (Send x) i = refl
     quiet (SendRefused g) i = refl
-    quiet (Act g n new) i = refl
+    quiet (Act g n new sends) i = refl
     quiet (Swap new) i = absurd (false≢true (sym i))
     quiet (Broke at) i = refl
 

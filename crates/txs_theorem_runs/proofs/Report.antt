@@ -3,7 +3,7 @@ use Rattle.std.proofs.Common.{◌≡◌, ℕ, zero, suc, true, nat_lt, List, [],
 use Rattle.std.proofs.lemmas.Bool.Decides.{nat_tests}
 use Rattle.txs_value_base.specs.Places.{nth}
 use Rattle.txs_tree_meaning.specs.Tree.{PlainThread, PlainProgram}
-use Rattle.txs_code_meaning.specs.Machine.{PlainBody, ThreadCode}
+use Rattle.txs_code_meaning.specs.Machine.{Library, ThreadCode}
 use Rattle.txs_theorem_threads.specs.Follows.{Follows}
 use Rattle.txs_theorem_threads.specs.FollowsAgent.{FollowsAgents}
 use Rattle.txs_theorem_threads.specs.FollowsAll.{source_of, FollowsAll}
@@ -36,7 +36,7 @@ code_below (c ∷ cs) (suc a) lt = code_below cs a (grind (arith, nat_tests, lt)
 pub typed_staged : TypedAreStaged
 typed_staged code function_rooms thread_rooms well i c e = standing_staged c (subst (λ o. StandingCode (code_or_none o)) e (typed.typed_actors_stand code function_rooms thread_rooms i well))
 
-module _ (p : PlainProgram) (threads : List ThreadCode) (functions : List PlainBody) (codes : ℕ → ThreadCode) (ys : List Play)
+module _ (p : PlainProgram) (threads : List ThreadCode) (functions : Library) (codes : ℕ → ThreadCode) (ys : List Play)
     (f : FollowsAll threads p) (agents : FollowsAgents functions p.functions) (stage : CodesStaged threads) (by : CodesSendSound p.functions threads) (run : RunsProgram p threads functions codes) where
   threads_send : ThreadsSendSound (length p.threads) codes p.functions
   threads_send a lt =

@@ -1,5 +1,6 @@
 -- What threads send is what a program may send, where each send of their code names such a callee; so it is of all that the books send.
 use Rattle.std.proofs.Common.{◌≡◌, ℕ, suc, Bool, true, false, ◌==◌, nat_lt, List, [], ◌∷◌, length, Option, Some, None, refl, sym, subst, if◌then◌else◌}
+use Rattle.std.proofs.lemmas.Bool.{false≢true}
 use Rattle.txs_world_protocol.specs.declared.ask.Ask.{Ask}
 use Rattle.txs_world_protocol.specs.declared.ask.Ask.TheVariants as ask
 use Rattle.txs_world_protocol.specs.declared.ask.Reply.{Reply}
@@ -8,6 +9,7 @@ use Rattle.txs_world_protocol.specs.declared.event.Event.{Event}
 use Rattle.txs_world_protocol.specs.declared.event.EventKind.{EventKind}
 use Rattle.txs_world_protocol.specs.declared.event.EventKind.TheVariants as event
 use Rattle.txs_value_data.proofs.SameLemmas.{numbers}
+use Rattle.txs_value_cell.specs.declared.action.Action.{Action}
 use Rattle.txs_value_cell.specs.declared.cell.CellDefinition.{CellDefinition}
 use Rattle.txs_tree_meaning.specs.Known.{known}
 use Rattle.txs_tree_meaning.specs.Sound.{SoundCallee}
@@ -17,12 +19,13 @@ use Rattle.txs_code_meaning.specs.Machine.{ThreadCode, fetch, Configuration, Tur
 use Rattle.txs_code_meaning.specs.Opening.{given}
 use Rattle.txs_theorem_threads.specs.FollowsAgent.{SoundAction}
 use Rattle.txs_theorem_threads.specs.Sends.{CodeSendsSound}
+use Rattle.txs_world_book.specs.Book.{is_empty}
 use Rattle.txs_world_book.proofs.Outcomes.{both}
 use Rattle.txs_theorem_runs.specs.Agents.{AreSound, SendsSound, AllSound}
 use Rattle.txs_theorem_runs.specs.Run.{Stop, Actor, Moved, moved, comes_to, replied, exchange, asked, asks_for, turned, turns_from, stops_from, Play, TakesTurn, IsStopped, State, moves, actor_of, play, opens}
 use Rattle.txs_theorem_runs.specs.Shared.{Shared, book_for, serve_on, may_ask}
 use Rattle.txs_theorem_runs.proofs.Acting.{sound_append}
-use Rattle.txs_theorem_runs.proofs.Adding.{IsQuiet, Brings, served_such}
+use Rattle.txs_theorem_runs.proofs.Adding.{IsQuiet, Brings, sends_nothing, served_such}
 use Rattle.txs_theorem_runs.proofs.Keeping.{IsKept, SendsOwn, SendsSuch, Holds, turn_keeps}
 
 module _ (functions : List PlainFunction) where
@@ -49,7 +52,7 @@ module _ (functions : List PlainFunction) where
   own_sound s (ask.Fail p q) own h = tt
   own_sound s (ask.Peek c) own h = tt
   own_sound s (ask.Take g) own h = tt
-  own_sound s (ask.Finish g new) own h = tt
+  own_sound s (ask.Finish g new sends) own h = tt
   own_sound s (ask.OpenAt c) own h = tt
   own_sound s (ask.CloseAt c p v) own h = tt
   own_sound s (ask.Broke c p) own h = tt
@@ -60,6 +63,7 @@ module _ (functions : List PlainFunction) where
     on_begin = λ s p h. (tt, h.1);
     on_work = λ s view w o e h. (subst (AreSound functions) (sym e) h.0, h.1);
     on_hold = λ s x such h. (sound_append functions s.done.sends (x ∷ []) h.0 (such, tt), h.1);
+    on_acting = λ s o h. h;
     on_wait = λ s q own h. (h.0, own_sound s q own h.0);
   }
 
@@ -84,15 +88,19 @@ module _ (functions : List PlainFunction) where
   quiet_sound done (event.Refused at view g) h = tt
   quiet_sound done (event.Send x) h = absurd h
   quiet_sound done (event.SendRefused g) h = tt
-  quiet_sound done (event.Act g n new) h = tt
+  quiet_sound done (event.Act g n new sends) h = absurd h
   quiet_sound done (event.Swap new) h = tt
   quiet_sound done (event.Broke at) h = tt
+
+  none_sound : (xs : List Action) → is_empty xs ≡ true → AreSound functions xs
+  none_sound [] e = tt
+  none_sound (x ∷ xs) e = absurd (false≢true e)
 
   -- threads alone send
   threads_bring : (cells : List CellDefinition) (threads b : ℕ) (taken : List Bool) (book : List Event) (q : Ask) → may_ask cells threads taken b q book ≡ true → (nat_lt b threads ≡ true → AskSound q) → Brings Sent book q
   threads_bring cells threads b taken book (ask.Send x) may s = s (both (nat_lt b threads) _ may).0
   threads_bring cells threads b taken book (ask.Commit p sets ensured q commuted sends) may s = λ ws. s (both (nat_lt b threads) _ may).0
-  threads_bring cells threads b taken book (ask.Finish g new) may s = λ i. tt
+  threads_bring cells threads b taken book (ask.Finish g new sends) may s = λ i. none_sound sends (sends_nothing cells threads b taken book g new sends may)
   threads_bring cells threads b taken book ask.Begin may s = tt
   threads_bring cells threads b taken book (ask.Look c p) may s = tt
   threads_bring cells threads b taken book (ask.View cs) may s = tt

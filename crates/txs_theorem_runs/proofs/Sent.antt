@@ -1,5 +1,5 @@
 -- What threads send is such as their code sends wherever it comes to; so it is of all that the books send, and of what an agent runs next.
-use Rattle.std.proofs.Common.{◌≡◌, ℕ, suc, Bool, true, false, ◌==◌, nat_lt, List, [], ◌∷◌, ◌++◌, length, map, drop, Result, Ok, Err, ap, ◌∙◌, Option, Some, None, refl, sym, subst, if◌then◌else◌}
+use Rattle.std.proofs.Common.{◌≡◌, ℕ, Bool, true, false, ◌==◌, nat_lt, List, [], ◌∷◌, ◌++◌, length, map, drop, Result, Ok, Err, ap, ◌∙◌, Option, Some, None, refl, sym, subst, if◌then◌else◌}
 use Rattle.std.proofs.lemmas.Bool.{false≢true}
 use Rattle.txs_world_protocol.specs.Ask.{Exchange}
 use Rattle.txs_world_protocol.specs.declared.ask.Ask.{Ask}
@@ -20,7 +20,7 @@ use Rattle.txs_code_meaning.specs.ActorState.{ActorState}
 use Rattle.txs_code_meaning.specs.Machine.{ThreadCode, fetch, Configuration, Turned, Ended, Failed, Asking, Unfinished, Stuck, turn, run}
 use Rattle.txs_code_meaning.specs.Opening.{given, opening}
 use Rattle.txs_world_book.proofs.Outcomes.{both}
-use Rattle.txs_world_book.specs.Book.{is_there, is_failed, Mail, no_mail, sent_to, acted, mail_changed, mail_from, mail_after, goes_on, Each}
+use Rattle.txs_world_book.specs.Book.{is_there, is_failed, is_empty, Mail, no_mail, sent_to, acted, mail_changed, mail_from, mail_after, goes_on, Each}
 use Rattle.txs_world.specs.Laws.{ServeKeeps}
 use Rattle.txs_world.specs.Store.{first_action, next_action}
 use Rattle.txs_world_book.specs.declared.cell.StoreCell.{StoreCell}
@@ -29,7 +29,7 @@ use Rattle.txs_theorem_runs.specs.Run.{Stop, Actor, Moved, moved, comes_to, repl
 use Rattle.txs_theorem_runs.specs.Shared.{Shared, book_for, serve_on, may_ask}
 use Rattle.txs_theorem_runs.specs.Staged.{StagedCode}
 use Rattle.txs_theorem_runs.specs.Told.{exchange_of}
-use Rattle.txs_theorem_runs.proofs.Adding.{IsQuiet, Brings, served_such}
+use Rattle.txs_theorem_runs.proofs.Adding.{IsQuiet, Brings, sends_nothing, served_such}
 use Rattle.txs_theorem_runs.proofs.Keeping.{IsKept, SendsOwn, SendsSuch, Holds, turn_keeps}
 use Rattle.txs_theorem_runs.proofs.Steps.{play_holds}
 use Rattle.txs_theorem_runs.proofs.Whole.{FreshStands, opening_holds}
@@ -48,6 +48,7 @@ module _ (P : Action → Type 0) where
   abbrev pub SendsWell : EventKind → Type 0
   SendsWell (event.Commit at view ws sends) = AreSuch sends
   SendsWell (event.Send x) = P x
+  SendsWell (event.Act g n new sends) = AreSuch sends
   SendsWell _ = Unit {0}
 
   -- all that a book sends is such
@@ -87,7 +88,7 @@ module _ (P : Action → Type 0) where
   such_changed goes k (event.Refused at view g) m s h = h
   such_changed goes k (event.Send x) m s h = such_append m.actions (sent_to k (x ∷ [])) h (such_sent k (x ∷ []) (s, tt))
   such_changed goes k (event.SendRefused g) m s h = h
-  such_changed goes k (event.Act g n new) m s h = go (g.number == k)
+  such_changed goes k (event.Act g n new sends) m s h = such_append (if g.number == k then acted goes new m else m).actions (sent_to k sends) (go (g.number == k)) (such_sent k sends s)
     where
       go : (b : Bool) → AreSuch (if b then acted goes new m else m).actions
       go true = such_acted goes new m h
@@ -132,7 +133,7 @@ module _ (P : Action → Type 0) where
   own_sound s (ask.Fail p q) own h = tt
   own_sound s (ask.Peek c) own h = tt
   own_sound s (ask.Take g) own h = tt
-  own_sound s (ask.Finish g new) own h = tt
+  own_sound s (ask.Finish g new sends) own h = tt
   own_sound s (ask.OpenAt c) own h = tt
   own_sound s (ask.CloseAt c p v) own h = tt
   own_sound s (ask.Broke c p) own h = tt
@@ -143,6 +144,7 @@ module _ (P : Action → Type 0) where
     on_begin = λ s p h. (tt, h.1);
     on_work = λ s view w o e h. (subst (AreSuch) (sym e) h.0, h.1);
     on_hold = λ s x such h. (such_append s.done.sends (x ∷ []) h.0 (such, tt), h.1);
+    on_acting = λ s o h. h;
     on_wait = λ s q own h. (h.0, own_sound s q own h.0);
   }
 
@@ -163,15 +165,19 @@ module _ (P : Action → Type 0) where
   quiet_sound done (event.Refused at view g) h = tt
   quiet_sound done (event.Send x) h = absurd h
   quiet_sound done (event.SendRefused g) h = tt
-  quiet_sound done (event.Act g n new) h = tt
+  quiet_sound done (event.Act g n new sends) h = absurd h
   quiet_sound done (event.Swap new) h = tt
   quiet_sound done (event.Broke at) h = tt
+
+  none_such : (xs : List Action) → is_empty xs ≡ true → AreSuch xs
+  none_such [] e = tt
+  none_such (x ∷ xs) e = absurd (false≢true e)
 
   -- threads alone send
   threads_bring : (cells : List CellDefinition) (threads b : ℕ) (taken : List Bool) (book : List Event) (q : Ask) → may_ask cells threads taken b q book ≡ true → (nat_lt b threads ≡ true → AskSound q) → Brings Sent book q
   threads_bring cells threads b taken book (ask.Send x) may s = s (both (nat_lt b threads) _ may).0
   threads_bring cells threads b taken book (ask.Commit p sets ensured q commuted sends) may s = λ ws. s (both (nat_lt b threads) _ may).0
-  threads_bring cells threads b taken book (ask.Finish g new) may s = λ i. tt
+  threads_bring cells threads b taken book (ask.Finish g new sends) may s = λ i. none_such sends (sends_nothing cells threads b taken book g new sends may)
   threads_bring cells threads b taken book ask.Begin may s = tt
   threads_bring cells threads b taken book (ask.Look c p) may s = tt
   threads_bring cells threads b taken book (ask.View cs) may s = tt

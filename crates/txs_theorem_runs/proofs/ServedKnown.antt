@@ -42,7 +42,7 @@ module _ (cells : List CellDefinition) (opens : OpeningIsKnown cells) where
   KindKnown (event.Refused at view g) = Unit {0}
   KindKnown (event.Send x) = ActionKnown cells x
   KindKnown (event.SendRefused g) = Unit {0}
-  KindKnown (event.Act g n new) = ResultKnown cells new
+  KindKnown (event.Act g n new sends) = ResultKnown cells new × SendsKnown cells sends
   KindKnown (event.Swap new) = IsKnown cells new
   KindKnown (event.Broke at) = Unit {0}
 
@@ -73,7 +73,7 @@ module _ (cells : List CellDefinition) (opens : OpeningIsKnown cells) where
   writes_known (event.Refused at view g) h = tt
   writes_known (event.Send x) h = tt
   writes_known (event.SendRefused g) h = tt
-  writes_known (event.Act g n new) h = state_known g new h
+  writes_known (event.Act g n new sends) h = state_known g new h.0
   writes_known (event.Swap new) h = tt
   writes_known (event.Broke at) h = tt
 
@@ -93,7 +93,7 @@ module _ (cells : List CellDefinition) (opens : OpeningIsKnown cells) where
   swapped_known (event.Refused at view g) h = tt
   swapped_known (event.Send x) h = tt
   swapped_known (event.SendRefused g) h = tt
-  swapped_known (event.Act g n new) h = tt
+  swapped_known (event.Act g n new sends) h = tt
   swapped_known (event.Swap new) h = h
   swapped_known (event.Broke at) h = tt
 
@@ -129,7 +129,7 @@ module _ (cells : List CellDefinition) (opens : OpeningIsKnown cells) where
   mail_kept goes k (event.Refused at view a) m g h = h
   mail_kept goes k (event.Send x) m g h = sends_append cells m.actions (sent_to k (x ∷ [])) h (sent_known k (x ∷ []) (g, tt))
   mail_kept goes k (event.SendRefused a) m g h = h
-  mail_kept goes k (event.Act a n new) m g h = go (a.number == k)
+  mail_kept goes k (event.Act a n new sends) m g h = sends_append cells (if a.number == k then acted goes new m else m).actions (sent_to k sends) (go (a.number == k)) (sent_known k sends g.1)
     where
       go : (b : Bool) → SendsKnown cells (if b then acted goes new m else m).actions
       go true = acted_known goes new m h
@@ -202,7 +202,7 @@ module _ (cells : List CellDefinition) (opens : OpeningIsKnown cells) where
     serve_known Tidy Fresh Clean code (ask.Peek c) k = peeks_known (is_atom c) c
     serve_known Tidy Fresh Clean code (ask.Send x) k = sends_known (is_failed store es x.agent) x k
     serve_known Tidy Fresh Clean code (ask.Take g) k = (first_known (is_failed store es g) (mail_after store es g.number).actions _ (newest (opening store) es g.number) (mail_known _ g.number no_mail es h tt) (after_known (opening store) es (length es) opens h g.number), h)
-    serve_known Tidy Fresh Clean code (ask.Finish g new) k = adds_known (event.Act g (suc (mail_after store es g.number).acts) new) reply.Done k tt
+    serve_known Tidy Fresh Clean code (ask.Finish g new sends) k = adds_known (event.Act g (suc (mail_after store es g.number).acts) new sends) reply.Done k tt
     serve_known Tidy Fresh Clean code (ask.OpenAt c) k = (there c, h)
     serve_known Tidy Fresh Clean code (ask.CloseAt c None v) k = closes_known false c v k.1
     serve_known Tidy Fresh Clean code (ask.CloseAt c (Some p) v) k = closes_known (swapped_since p es) c v k.1

@@ -102,7 +102,7 @@ module _ (a : ℕ) (book : List Event) where
   serves cells (ask.Peek c) = peek_serves cells (is_atom c) c _ _
   serves cells (ask.Send x) = sends_serve (is_failed (cells_of cells) book x.agent) x
   serves cells (ask.Take g) = quiet_serves _ (never_full _ _ (next_action (cells_of cells) book g))
-  serves cells (ask.Finish g new) = adds_serves _ reply.Done tt
+  serves cells (ask.Finish g new sends) = adds_serves _ reply.Done tt
   serves cells (ask.OpenAt c) = quiet_serves _ (λ f. f)
   serves cells (ask.CloseAt c None v) = closes_serve false c v
   serves cells (ask.CloseAt c (Some p) v) = closes_serve (swapped_since p book) c v
@@ -295,7 +295,7 @@ module _ (keeps : ServeKeeps) (cells : List CellDefinition) (threads : ℕ) (sh 
   serving_stands (ask.Peek c) may = at_peek c (atom_newest (atom_of cells c (sh.books (home cells c)))) (is_atom c) refl may
   serving_stands (ask.Send x) may = by_store (ask.Send x) refl may
   serving_stands (ask.Take g) may = by_store (ask.Take g) refl may
-  serving_stands (ask.Finish g new) may = by_store (ask.Finish g new) refl may
+  serving_stands (ask.Finish g new sends) may = by_store (ask.Finish g new sends) refl may
   serving_stands (ask.OpenAt c) may = by_atom (ask.OpenAt c) c (tested (has_atom cells c) may) refl (λ r. refl) (serve_on cells a (ask.OpenAt c) (sh.books (home cells c))) (st.atoms c (tested (has_atom cells c) may)) (st.by_threads c (tested (has_atom cells c) may))
   serving_stands (ask.CloseAt c None v) may =
       let hc = (and_both (has_atom cells c) true (tested (has_atom cells c && true) may)).0 in

@@ -28,8 +28,8 @@ use Rattle.txs_value_base.specs.declared.op.Callee.{Callee}
 use Rattle.txs_value_base.specs.declared.op.Callee.TheVariants as callee
 use Rattle.txs_value_data.specs.declared.value.CellId.{CellId}
 use Rattle.txs_value_data.specs.declared.value.Value.{Value}
-use Rattle.txs_code_meaning.specs.ActorState.{ActorState, Reception, Replied, Unreplied, asks, StepResult, Continue, Break, Redo, Await, Malformed, on_step, step_of, heard, read_point, just_done, value_there, newest_value, views, Verdict, Landed, Outdated, Undone, Denied, commit_verdict, opened, swap_verdict, send_verdict, begun, begin, fail, buffered_or, look, paired, viewed, view, commit, peek, SwapInHand, open_atom, close_swap, break_swap, reset_atom, sent, send_now, read_cell, read, set_own, assign_cell, assign, RefUpdate, Alters, Commutes, update_form, kept_open, open_update, close_own, close_update, open_swap, send_action, send_to, print}
-use Rattle.txs_code_meaning.specs.Machine.{PlainInstr, Push, Load, Store, Pop, Jump, JumpFalse, CoreOf, CallOf, Return, MakeVector, PrintOf, TxBegin, TxEnd, LookOf, PutOf, OpenOf, CloseOf, SendOf, Halt, TakeOf, RunOf, FinishOf, ThreadCode, Destination, to_stack, to_commutes, Frame, Savepoint, Activity, Outside, Restarting, Running, Applying, Swapping, Acting, is_inside, Configuration, ahead, staying, saved, called, arguments_of, Turned, Ended, Failed, Asking, Unfinished, Stuck, told, raise, rerun, on, found, on_top, on_args, on_args_of, on_two, push_all, put, starts, begins, decided, lands, settles, applies, ends, doing_after, returns_to, opens_atom, opens, swap_decided, closes_swap, closes, act}
+use Rattle.txs_code_meaning.specs.ActorState.{ActorState, Reception, Replied, Unreplied, asks, StepResult, Continue, Break, Redo, Await, Malformed, on_step, step_of, heard, read_point, just_done, value_there, newest_value, views, Verdict, Landed, Outdated, Undone, Denied, commit_verdict, opened, swap_verdict, send_verdict, begun, begin, fail, buffered_or, look, paired, viewed, view, commit, peek, SwapInHand, open_atom, close_swap, break_swap, reset_atom, sent, send_now, read_cell, read, set_own, assign_cell, assign, RefUpdate, Alters, Commutes, update_form, kept_open, open_update, close_own, close_update, open_swap, send_action, send_to, print, InHand, send_or_hold}
+use Rattle.txs_code_meaning.specs.Machine.{PlainInstr, Push, Load, Store, Pop, Jump, JumpFalse, CoreOf, CallOf, Return, MakeVector, PrintOf, TxBegin, TxEnd, LookOf, PutOf, OpenOf, CloseOf, SendOf, Halt, TakeOf, RunOf, FinishOf, ThreadCode, Destination, to_stack, to_commutes, Frame, Savepoint, Activity, Outside, Restarting, Running, Applying, Swapping, is_inside, Configuration, ahead, staying, saved, called, arguments_of, Turned, Ended, Failed, Asking, Unfinished, Stuck, told, raise, rerun, on, found, on_top, on_args, on_args_of, on_two, push_all, put, starts, begins, decided, lands, settles, applies, ends, doing_after, returns_to, opens_atom, opens, swap_decided, closes_swap, closes, act, ends_with}
 use Rattle.txs_code_meaning.specs.declared.instr.OpenForm.{OpenForm}
 use Rattle.txs_code_meaning.specs.declared.instr.OpenForm.TheVariants as open_form
 use Rattle.txs_theorem_runs.specs.Stages.{Idle, Open, Viewing, Stage, AsksIn, stage_after}
@@ -38,7 +38,7 @@ use Rattle.txs_theorem_runs.specs.Staged.{stage_in, IsStaged, StagedFrom}
 use Rattle.txs_theorem_runs.specs.Run.{exchange}
 use Rattle.txs_theorem_runs.specs.Standing.{MayStandIn, MayStandHere, IsThreads}
 
-module _ (c : Configuration) where
+module _ (c : Configuration) (ok : IsThreads c.state.acting) where
   abbrev s0 : ActorState
   s0 = record c.state { todo = [] }
 
@@ -102,13 +102,20 @@ module _ (c : Configuration) where
       heard_so reply.Full = tt
       heard_so reply.Memory = tt
 
-  raise_staged : (doing : Activity) → IsThreads doing → (f : Fault) → StagedFrom (stage_in doing s0) (raise doing f s0) (λ q r. raise doing f (ans q r))
-  raise_staged Outside ok f = refl
-  raise_staged (Restarting left) ok f = refl
-  raise_staged (Running left inner from) ok f = fails_staged f (Open c.state.at) refl
-  raise_staged (Applying left from work values) ok f = fails_staged f (Viewing c.state.at c.state.view) (refl, refl)
-  raise_staged (Swapping swap from) ok f = breaks_staged f swap
-  raise_staged (Acting g a) ok f = absurd ok
+  over_staged : (o : Option InHand) → IsThreads o → (f : Fault) → StagedFrom Idle (ends_with o f s0) (λ q r. ends_with o f (ans q r))
+  over_staged None h f = refl
+  over_staged (Some x) h f = absurd h
+
+  over_fails : (o : Option InHand) → IsThreads o → (f : Fault) → ends_with o f s0 ≡ Failed f s0
+  over_fails None h f = refl
+  over_fails (Some x) h f = absurd h
+
+  raise_staged : (doing : Activity) (f : Fault) → StagedFrom (stage_in doing s0) (raise doing f s0) (λ q r. raise doing f (ans q r))
+  raise_staged Outside f = over_staged c.state.acting ok f
+  raise_staged (Restarting left) f = refl
+  raise_staged (Running left inner from) f = fails_staged f (Open c.state.at) refl
+  raise_staged (Applying left from work values) f = fails_staged f (Viewing c.state.at c.state.view) (refl, refl)
+  raise_staged (Swapping swap from) f = breaks_staged f swap
 
   rerun_staged : (left : ℕ) (from : Savepoint) → IsStaged Idle (rerun left from s0)
   rerun_staged zero from = refl
@@ -122,18 +129,18 @@ module _ (c : Configuration) where
   staged_from st Stuck go h = tt
 
   -- a result of no ask, and what is done with it
-  result_staged : {A : Type 0} (doing : Activity) → IsThreads doing → (x : Result A FaultKind) (span : Span) (go : A → ActorState → Turned Configuration)
+  result_staged : {A : Type 0} (doing : Activity) (x : Result A FaultKind) (span : Span) (go : A → ActorState → Turned Configuration)
       → ((a : A) → StagedFrom (stage_in doing s0) (go a s0) (λ q r. go a (ans q r)))
       → StagedFrom (stage_in doing s0) (on doing (step_of x span s0) go) (λ q r. on doing (step_of x span (ans q r)) go)
-  result_staged doing ok (Ok a) span go h = h a
-  result_staged doing ok (Err k) span go h = raise_staged doing ok (fault_at k span)
+  result_staged doing (Ok a) span go h = h a
+  result_staged doing (Err k) span go h = raise_staged doing (fault_at k span)
 
   -- a result of no ask, and a step with it
-  step_staged : {A B : Type 0} (doing : Activity) → IsThreads doing → (x : Result A FaultKind) (span : Span) (step : A → ActorState → StepResult B) (go : B → ActorState → Turned Configuration)
+  step_staged : {A B : Type 0} (doing : Activity) (x : Result A FaultKind) (span : Span) (step : A → ActorState → StepResult B) (go : B → ActorState → Turned Configuration)
       → ((a : A) → StagedFrom (stage_in doing s0) (on doing (step a s0) go) (λ q r. on doing (step a (ans q r)) go))
       → StagedFrom (stage_in doing s0) (on doing (on_step (step_of x span s0) step) go) (λ q r. on doing (on_step (step_of x span (ans q r)) step) go)
-  step_staged doing ok (Ok a) span step go h = h a
-  step_staged doing ok (Err k) span step go h = raise_staged doing ok (fault_at k span)
+  step_staged doing (Ok a) span step go h = h a
+  step_staged doing (Err k) span step go h = raise_staged doing (fault_at k span)
 
   -- ---- the stack
 
@@ -235,19 +242,19 @@ module _ (c : Configuration) where
   read_staged : (f : LookForm) (span : Span) (cell : Value) (rest : List Value) (doing : Activity) → c.doing ≡ doing → MayStandIn doing (LookOf f span)
       → StagedFrom (stage_in doing s0) (on doing (read f (is_inside doing) span cell s0) (goes_on rest)) (λ q r. on doing (read f (is_inside doing) span cell (ans q r)) (goes_on rest))
   read_staged f span cell rest Outside e may =
-      step_staged Outside tt (cell_of (rule (form.Look f)) false cell) span (read_cell f false) (goes_on rest) (λ d. outside f d)
+      step_staged Outside (cell_of (rule (form.Look f)) false cell) span (read_cell f false) (goes_on rest) (λ d. outside f d)
     where
       outside : (f : LookForm) (d : CellId) → StagedFrom Idle (on Outside (read_cell f false d s0) (goes_on rest)) (λ q r. on Outside (read_cell f false d (ans q r)) (goes_on rest))
       outside Deref d = peek_staged Outside (ap (λ i. stage_in i s0) e) d rest
       outside Ensure d = tt
   read_staged f span cell rest (Restarting left) e may =
-      step_staged (Restarting left) tt (cell_of (rule (form.Look f)) false cell) span (read_cell f false) (goes_on rest) (λ d. outside f d)
+      step_staged (Restarting left) (cell_of (rule (form.Look f)) false cell) span (read_cell f false) (goes_on rest) (λ d. outside f d)
     where
       outside : (f : LookForm) (d : CellId) → StagedFrom Idle (on (Restarting left) (read_cell f false d s0) (goes_on rest)) (λ q r. on (Restarting left) (read_cell f false d (ans q r)) (goes_on rest))
       outside Deref d = peek_staged (Restarting left) (ap (λ i. stage_in i s0) e) d rest
       outside Ensure d = tt
   read_staged f span cell rest (Running left inner from) e may =
-      step_staged (Running left inner from) tt (cell_of (rule (form.Look f)) true cell) span (read_cell f true) (goes_on rest) (λ d. inside f d)
+      step_staged (Running left inner from) (cell_of (rule (form.Look f)) true cell) span (read_cell f true) (goes_on rest) (λ d. inside f d)
     where
       here : (v : Value) → IsStaged (Open c.state.at) (goes_on rest v s0)
       here v = (refl, ap (λ i. stage_in i s0) e)
@@ -262,7 +269,6 @@ module _ (c : Configuration) where
           (look_staged left inner from d (λ v s. goes_on rest v (record s { done = ensure_ref d s.done })) (ensured d))
   read_staged f span cell rest (Applying left from work values) e may = absurd may
   read_staged f span cell rest (Swapping swap from) e may = absurd may
-  read_staged f span cell rest (Acting g a) e may = absurd may
 
   reset_staged : (doing : Activity) → stage_in c.doing s0 ≡ Idle → (d : CellId) (v : Value) (rest : List Value)
       → StagedFrom Idle (on doing (reset_atom d v s0) (goes_on rest)) (λ q r. on doing (reset_atom d v (ans q r)) (goes_on rest))
@@ -287,34 +293,33 @@ module _ (c : Configuration) where
   set_staged : (left inner : ℕ) (from : Savepoint) → c.doing ≡ Running left inner from → (span : Span) (v : Value) (d : CellId) (rest : List Value)
       → StagedFrom (Open c.state.at) (on (Running left inner from) (set_own span v d s0) (goes_on rest)) (λ q r. on (Running left inner from) (set_own span v d (ans q r)) (goes_on rest))
   set_staged left inner from e span v d rest =
-      step_staged (Running left inner from) tt (set_ref d v c.state.done) span (λ w s1. Continue v (record s1 { done = w })) (goes_on rest) (λ w. (refl, ap (λ i. stage_in i (record s0 { done = w })) e))
+      step_staged (Running left inner from) (set_ref d v c.state.done) span (λ w s1. Continue v (record s1 { done = w })) (goes_on rest) (λ w. (refl, ap (λ i. stage_in i (record s0 { done = w })) e))
 
   -- `ref-set` and `reset!`
   assign_staged : (f : PutForm) (span : Span) (cell v : Value) (rest : List Value) (doing : Activity) → c.doing ≡ doing → MayStandIn doing (PutOf f span)
       → StagedFrom (stage_in doing s0) (on doing (assign f (is_inside doing) span cell v s0) (goes_on rest)) (λ q r. on doing (assign f (is_inside doing) span cell v (ans q r)) (goes_on rest))
   assign_staged f span cell v rest Outside e may =
-      step_staged Outside tt (cell_of (rule (form.Put f)) false cell) span (assign_cell f false span v) (goes_on rest) (λ d. outside f d)
+      step_staged Outside (cell_of (rule (form.Put f)) false cell) span (assign_cell f false span v) (goes_on rest) (λ d. outside f d)
     where
       outside : (f : PutForm) (d : CellId) → StagedFrom Idle (on Outside (assign_cell f false span v d s0) (goes_on rest)) (λ q r. on Outside (assign_cell f false span v d (ans q r)) (goes_on rest))
       outside RefSet d = tt
       outside Reset d = reset_staged Outside (ap (λ i. stage_in i s0) e) d v rest
   assign_staged f span cell v rest (Restarting left) e may =
-      step_staged (Restarting left) tt (cell_of (rule (form.Put f)) false cell) span (assign_cell f false span v) (goes_on rest) (λ d. outside f d)
+      step_staged (Restarting left) (cell_of (rule (form.Put f)) false cell) span (assign_cell f false span v) (goes_on rest) (λ d. outside f d)
     where
       outside : (f : PutForm) (d : CellId) → StagedFrom Idle (on (Restarting left) (assign_cell f false span v d s0) (goes_on rest)) (λ q r. on (Restarting left) (assign_cell f false span v d (ans q r)) (goes_on rest))
       outside RefSet d = tt
       outside Reset d = reset_staged (Restarting left) (ap (λ i. stage_in i s0) e) d v rest
   assign_staged f span cell v rest (Running left inner from) e may =
-      step_staged (Running left inner from) tt (cell_of (rule (form.Put f)) true cell) span (assign_cell f true span v) (goes_on rest) (λ d. inside f d)
+      step_staged (Running left inner from) (cell_of (rule (form.Put f)) true cell) span (assign_cell f true span v) (goes_on rest) (λ d. inside f d)
     where
       inside : (f : PutForm) (d : CellId) → StagedFrom (Open c.state.at) (on (Running left inner from) (assign_cell f true span v d s0) (goes_on rest)) (λ q r. on (Running left inner from) (assign_cell f true span v d (ans q r)) (goes_on rest))
       inside RefSet d = set_staged left inner from e span v d rest
       inside Reset d = tt
   assign_staged f span cell v rest (Applying left from work values) e may = absurd may
   assign_staged f span cell v rest (Swapping swap from) e may = absurd may
-  assign_staged f span cell v rest (Acting g a) e may = absurd may
 
-  send_staged : (doing : Activity) → stage_in c.doing s0 ≡ Idle → ((f : Fault) (s : ActorState) → raise doing f s ≡ Failed f s) → (x : Action) (rest : List Value)
+  send_staged : (doing : Activity) → stage_in c.doing s0 ≡ Idle → ((f : Fault) → raise doing f s0 ≡ Failed f s0) → (x : Action) (rest : List Value)
       → StagedFrom Idle (on doing (send_now x s0) (goes_on rest)) (λ q r. on doing (send_now x (ans q r)) (goes_on rest))
   unfolding send_now
   send_staged doing e fails x rest = one_ask Idle (ask.Send x) (λ o. on doing (on_step (heard send_verdict o) (sent x)) (goes_on rest)) (λ t. refl) tt heard_so
@@ -326,28 +331,33 @@ module _ (c : Configuration) where
       heard_so reply.Done = (refl, e)
       heard_so (reply.Retry f) = tt
       heard_so (reply.Changed f) = tt
-      heard_so (reply.AgentIsFailed g) = subst (IsStaged Idle) (sym (fails _ s0)) refl
+      heard_so (reply.AgentIsFailed g) = subst (IsStaged Idle) (sym (fails _)) refl
       heard_so (reply.Action n y w) = tt
       heard_so reply.Idle = tt
       heard_so (reply.Opened p w) = tt
       heard_so reply.Full = tt
       heard_so reply.Memory = tt
 
+  -- outside of an action a send is made
+  or_hold_staged : (o : Option InHand) → IsThreads o → (doing : Activity) → stage_in c.doing s0 ≡ Idle → ((f : Fault) → raise doing f s0 ≡ Failed f s0) → (x : Action) (rest : List Value)
+      → StagedFrom Idle (on doing (send_or_hold o x s0) (goes_on rest)) (λ q r. on doing (send_or_hold o x (ans q r)) (goes_on rest))
+  or_hold_staged None h doing e fails x rest = send_staged doing e fails x rest
+  or_hold_staged (Some y) h doing e fails x rest = absurd h
+
   -- `send`
   send_to_staged : (f : Callee) (n : ℕ) (span : Span) (cell : Value) (vs rest : List Value) (doing : Activity) → c.doing ≡ doing → MayStandIn doing (SendOf f n span)
       → StagedFrom (stage_in doing s0) (on doing (send_to (is_inside doing) span cell f vs s0) (goes_on rest)) (λ q r. on doing (send_to (is_inside doing) span cell f vs (ans q r)) (goes_on rest))
   send_to_staged f n span cell vs rest Outside e may =
-      step_staged Outside tt (cell_of (rule form.Send) false cell) span (λ g s1. send_action false (record { agent = g; callee = f; args = vs; span = span }) s1) (goes_on rest)
-      (λ g. send_staged Outside (ap (λ i. stage_in i s0) e) (λ x s. refl) (record { agent = g; callee = f; args = vs; span = span }) rest)
+      step_staged Outside (cell_of (rule form.Send) false cell) span (λ g s1. send_action false (record { agent = g; callee = f; args = vs; span = span }) s1) (goes_on rest)
+      (λ g. or_hold_staged c.state.acting ok Outside (ap (λ i. stage_in i s0) e) (over_fails c.state.acting ok) (record { agent = g; callee = f; args = vs; span = span }) rest)
   send_to_staged f n span cell vs rest (Restarting left) e may =
-      step_staged (Restarting left) tt (cell_of (rule form.Send) false cell) span (λ g s1. send_action false (record { agent = g; callee = f; args = vs; span = span }) s1) (goes_on rest)
-      (λ g. send_staged (Restarting left) (ap (λ i. stage_in i s0) e) (λ x s. refl) (record { agent = g; callee = f; args = vs; span = span }) rest)
+      step_staged (Restarting left) (cell_of (rule form.Send) false cell) span (λ g s1. send_action false (record { agent = g; callee = f; args = vs; span = span }) s1) (goes_on rest)
+      (λ g. or_hold_staged c.state.acting ok (Restarting left) (ap (λ i. stage_in i s0) e) (λ x. refl) (record { agent = g; callee = f; args = vs; span = span }) rest)
   send_to_staged f n span cell vs rest (Running left inner from) e may =
-      step_staged (Running left inner from) tt (cell_of (rule form.Send) true cell) span (λ g s1. send_action true (record { agent = g; callee = f; args = vs; span = span }) s1) (goes_on rest)
+      step_staged (Running left inner from) (cell_of (rule form.Send) true cell) span (λ g s1. send_action true (record { agent = g; callee = f; args = vs; span = span }) s1) (goes_on rest)
       (λ g. (refl, ap (λ i. stage_in i (record s0 { done = hold_send (record { agent = g; callee = f; args = vs; span = span }) c.state.done })) e))
   send_to_staged f n span cell vs rest (Applying left from work values) e may = absurd may
   send_to_staged f n span cell vs rest (Swapping swap from) e may = absurd may
-  send_to_staged f n span cell vs rest (Acting g a) e may = absurd may
 
   -- `alter` and `commute` up to the ref's value
   open_ref_staged : (u : RefUpdate) (span : Span) (cell : Value) (vs rest : List Value) (doing : Activity) → c.doing ≡ doing → MayStandIn doing (OpenOf open_form.Alter 0 span)
@@ -356,13 +366,12 @@ module _ (c : Configuration) where
   open_ref_staged u span cell vs rest Outside e may = tt
   open_ref_staged u span cell vs rest (Restarting left) e may = tt
   open_ref_staged u span cell vs rest (Running left inner from) e may =
-      step_staged (Running left inner from) tt (cell_of (rule (form.Update (update_form u))) true cell) span (λ d s1. on_step (look d s1) (λ x s2. Continue x (record s2 { commuting = kept_open u d vs })))
+      step_staged (Running left inner from) (cell_of (rule (form.Update (update_form u))) true cell) span (λ d s1. on_step (look d s1) (λ x s2. Continue x (record s2 { commuting = kept_open u d vs })))
       (λ v s. Unfinished (ahead (push_all vs (v ∷ cell ∷ rest)) s c))
       (λ d. then_staged (Running left inner from) (look d) (λ x s2. Continue x (record s2 { commuting = kept_open u d vs })) (λ v s. Unfinished (ahead (push_all vs (v ∷ cell ∷ rest)) s c))
       (look_staged left inner from d (λ x s2. Unfinished (ahead (push_all vs (x ∷ cell ∷ rest)) (record s2 { commuting = kept_open u d vs }) c)) (λ v. (refl, ap (λ i. stage_in i (record s0 { commuting = kept_open u d vs })) e))))
   open_ref_staged u span cell vs rest (Applying left from work values) e may = absurd may
   open_ref_staged u span cell vs rest (Swapping swap from) e may = absurd may
-  open_ref_staged u span cell vs rest (Acting g a) e may = absurd may
 
   -- what goes on with a step's value may be told otherwise
   on_same : {A : Type 0} (doing : Activity) (x : StepResult A) (f g : A → ActorState → Turned Configuration) → ((a : A) (s : ActorState) → f a s ≡ g a s) → on doing x f ≡ on doing x g
@@ -412,12 +421,11 @@ module _ (c : Configuration) where
       → StagedFrom (stage_in doing s0) (opens_atom doing span vs cell rest (in_state s0)) (λ q r. opens_atom doing span vs cell rest (in_state (ans q r)))
   open_atom_staged span cell vs rest Outside e =
       subst (λ i. StagedFrom Idle (on i (open_swap false span cell s0) (opens_with span vs cell rest)) (λ q r. on i (open_swap false span cell (ans q r)) (opens_with span vs cell rest))) (sym e)
-      (step_staged Outside tt (cell_of (rule (form.Update update.Swap)) false cell) span open_atom (opens_with span vs cell rest) (λ d. opens_staged span vs cell rest d))
+      (step_staged Outside (cell_of (rule (form.Update update.Swap)) false cell) span open_atom (opens_with span vs cell rest) (λ d. opens_staged span vs cell rest d))
   open_atom_staged span cell vs rest (Restarting left) e = tt
   open_atom_staged span cell vs rest (Running left inner from) e = tt
   open_atom_staged span cell vs rest (Applying left from work values) e = tt
   open_atom_staged span cell vs rest (Swapping swap from) e = tt
-  open_atom_staged span cell vs rest (Acting g a) e = tt
 
   abbrev closes_heard : SwapInHand → Savepoint → Value → List Value → Reception → Turned Configuration
   closes_heard swap from w rest o = on (Swapping swap from) (heard swap_verdict o) (λ verdict s. swap_decided verdict from w rest c s)
@@ -456,13 +464,12 @@ module _ (c : Configuration) where
   close_swap_staged w rest (Restarting left) e = tt
   close_swap_staged w rest (Running left inner from) e = tt
   close_swap_staged w rest (Applying left from work values) e = tt
-  close_swap_staged w rest (Acting g a) e = tt
 
   -- `alter` and `commute` with what the callee gave
-  close_update_staged : (span : Span) (w cell : Value) (rest : List Value) (doing : Activity) → c.doing ≡ doing → IsThreads doing
+  close_update_staged : (span : Span) (w cell : Value) (rest : List Value) (doing : Activity) → c.doing ≡ doing
       → StagedFrom (stage_in doing s0) (on doing (close_update span cell w s0) (goes_on rest)) (λ q r. on doing (close_update span cell w (ans q r)) (goes_on rest))
-  close_update_staged span w cell rest doing e ok =
-      step_staged doing ok (cell_of (rule (form.Update update.Alter)) true cell) span (close_own c.state.commuting span w) (goes_on rest) (λ d. own d c.state.commuting)
+  close_update_staged span w cell rest doing e =
+      step_staged doing (cell_of (rule (form.Update update.Alter)) true cell) span (close_own c.state.commuting span w) (goes_on rest) (λ d. own d c.state.commuting)
     where
       same : (doing : Activity) (t : ActorState) → t.at ≡ c.state.at → t.view ≡ c.state.view → stage_in doing t ≡ stage_in doing s0
       same Outside t p q = refl
@@ -470,11 +477,10 @@ module _ (c : Configuration) where
       same (Running left inner from) t p q = ap Open p
       same (Applying left from work values) t p q = rw (p, q) refl
       same (Swapping swap from) t p q = refl
-      same (Acting g a) t p q = refl
 
       own : (d : CellId) (o : Option Commute) → StagedFrom (stage_in doing s0) (on doing (close_own o span w d s0) (goes_on rest)) (λ q r. on doing (close_own o span w d (ans q r)) (goes_on rest))
       own d None =
-          step_staged doing ok (set_ref d w c.state.done) span (λ u s1. Continue w (record s1 { done = u })) (goes_on rest)
+          step_staged doing (set_ref d w c.state.done) span (λ u s1. Continue w (record s1 { done = u })) (goes_on rest)
           (λ u. (refl, ap (λ i. stage_in i (record s0 { done = u })) e ∙ same doing (record s0 { done = u }) refl refl))
       own d (Some k) =
           (refl, ap (λ i. stage_in i (record s0 { done = commute_ref d k.callee k.args w c.state.done; commuting = None })) e ∙ same doing (record s0 { done = commute_ref d k.callee k.args w c.state.done; commuting = None }) refl refl)
@@ -511,7 +517,6 @@ module _ (c : Configuration) where
   begins_staged span (Running left inner from) e = (refl, refl)
   begins_staged span (Applying left from work values) e = tt
   begins_staged span (Swapping swap from) e = tt
-  begins_staged span (Acting g a) e = tt
 
   decided_same : (t : ActorState) (v : Verdict) (left : ℕ) (from : Savepoint) (s : ActorState) → decided v left from c s ≡ decided v left from (in_state t) s
   decided_same t Landed left from s = refl
@@ -608,7 +613,7 @@ module _ (c : Configuration) where
   applies_staged code (callee.Core op) left from k work values e =
       subst (λ i. StagedFrom (Viewing c.state.at c.state.view) (on i (step_of (core op (arguments_of k values)) from.span s0) (λ v s. Unfinished (staying (Applying left from work (with_write values k.cell v)) s c)))
       (λ q r. on i (step_of (core op (arguments_of k values)) from.span (ans q r)) (λ v s. Unfinished (staying (Applying left from work (with_write values k.cell v)) s c)))) (sym e)
-      (result_staged (Applying left from (k ∷ work) values) tt (core op (arguments_of k values)) from.span (λ v s. Unfinished (staying (Applying left from work (with_write values k.cell v)) s c)) (λ v. (refl, refl)))
+      (result_staged (Applying left from (k ∷ work) values) (core op (arguments_of k values)) from.span (λ v s. Unfinished (staying (Applying left from work (with_write values k.cell v)) s c)) (λ v. (refl, refl)))
   applies_staged code (callee.Function f) left from k work values e = (refl, ap (λ i. stage_in i s0) e)
 
   ends_staged : (code : ThreadCode) (doing : Activity) → c.doing ≡ doing → StagedFrom (stage_in doing s0) (ends code doing (in_state s0)) (λ q r. ends code doing (in_state (ans q r)))
@@ -619,7 +624,6 @@ module _ (c : Configuration) where
   ends_staged code (Applying left from [] values) e = lands_staged left from values (Viewing c.state.at c.state.view) (refl, refl) (phased_heard c.doing left from values)
   ends_staged code (Applying left from (k ∷ work) values) e = applies_staged code k.callee left from k work values e
   ends_staged code (Swapping swap from) e = tt
-  ends_staged code (Acting g a) e = tt
 
   -- ---- instructions
 
@@ -631,7 +635,6 @@ module _ (c : Configuration) where
   stage_returned to_commutes v (Applying left from [] values) = refl
   stage_returned to_commutes v (Applying left from (k ∷ work) values) = refl
   stage_returned to_commutes v (Swapping swap from) = refl
-  stage_returned to_commutes v (Acting g a) = refl
 
   returns_staged : (frames : List Frame) (v : Value) → StagedFrom (stage_in c.doing s0) (returns_to frames v (in_state s0)) (λ q r. returns_to frames v (in_state (ans q r)))
   returns_staged [] v = tt
@@ -652,7 +655,6 @@ module _ (c : Configuration) where
       same (Running left inner from) = refl
       same (Applying left from work values) = refl
       same (Swapping swap from) = refl
-      same (Acting g a) = refl
 
   opens_any : (f : OpenForm) (n : ℕ) (span : Span) → MayStandIn c.doing (OpenOf f n span) → (vs : List Value) (cell : Value) (rest : List Value)
       → StagedFrom (stage_in c.doing s0) (opens f span vs cell rest (in_state s0)) (λ q r. opens f span vs cell rest (in_state (ans q r)))
@@ -664,7 +666,6 @@ module _ (c : Configuration) where
       any_open (Running left inner from) h = h
       any_open (Applying left from work values) h = h
       any_open (Swapping swap from) h = h
-      any_open (Acting g a) h = h
   opens_any (open_form.Commute k) n span may vs cell rest = open_ref_staged (Commutes k) span cell vs rest c.doing refl (any_open c.doing may)
     where
       any_open : (doing : Activity) → MayStandIn doing (OpenOf (open_form.Commute k) n span) → MayStandIn doing (OpenOf open_form.Alter 0 span)
@@ -673,48 +674,47 @@ module _ (c : Configuration) where
       any_open (Running left inner from) h = h
       any_open (Applying left from work values) h = h
       any_open (Swapping swap from) h = h
-      any_open (Acting g a) h = h
   opens_any (open_form.Swap k) n span may vs cell rest = open_atom_staged span cell vs rest c.doing refl
 
-  closes_any : (f : UpdateForm) (span : Span) → IsThreads c.doing → (w cell : Value) (rest : List Value)
+  closes_any : (f : UpdateForm) (span : Span) (w cell : Value) (rest : List Value)
       → StagedFrom (stage_in c.doing s0) (closes f span w cell rest (in_state s0)) (λ q r. closes f span w cell rest (in_state (ans q r)))
-  closes_any update.Alter span ok w cell rest = close_update_staged span w cell rest c.doing refl ok
-  closes_any update.Commute span ok w cell rest = close_update_staged span w cell rest c.doing refl ok
-  closes_any update.Swap span ok w cell rest = close_swap_staged w rest c.doing refl
+  closes_any update.Alter span w cell rest = close_update_staged span w cell rest c.doing refl
+  closes_any update.Commute span w cell rest = close_update_staged span w cell rest c.doing refl
+  closes_any update.Swap span w cell rest = close_swap_staged w rest c.doing refl
 
-  pub act_staged : (code : ThreadCode) (i : Option PlainInstr) → MayStandHere c.doing i → IsThreads c.doing → StagedFrom (stage_in c.doing s0) (act code i (in_state s0)) (λ q r. act code i (in_state (ans q r)))
-  act_staged code None may ok = tt
-  act_staged code (Some (Push v)) may ok = (refl, refl)
-  act_staged code (Some (Load i)) may ok = found_staged (nth c.locals i)
-  act_staged code (Some (Store i)) may ok = top_staged (stage_in c.doing s0) c.stack _ (λ v rest q r. Unfinished (record (ahead rest (ans q r) c) { locals = put c.locals i v })) (λ v rest. (refl, refl))
-  act_staged code (Some Pop) may ok = top_staged (stage_in c.doing s0) c.stack _ (λ v rest q r. Unfinished (ahead rest (ans q r) c)) (λ v rest. (refl, refl))
-  act_staged code (Some (Jump to)) may ok = (refl, refl)
-  act_staged code (Some (JumpFalse to)) may ok = top_staged (stage_in c.doing s0) c.stack _ (λ v rest q r. Unfinished (record (in_state (ans q r)) { place = choose v (c.place + 1) to; stack = rest })) (λ v rest. (refl, refl))
-  act_staged code (Some (CoreOf op n span)) may ok =
+  pub act_staged : (code : ThreadCode) (i : Option PlainInstr) → MayStandHere c.doing i → StagedFrom (stage_in c.doing s0) (act code i (in_state s0)) (λ q r. act code i (in_state (ans q r)))
+  act_staged code None may = tt
+  act_staged code (Some (Push v)) may = (refl, refl)
+  act_staged code (Some (Load i)) may = found_staged (nth c.locals i)
+  act_staged code (Some (Store i)) may = top_staged (stage_in c.doing s0) c.stack _ (λ v rest q r. Unfinished (record (ahead rest (ans q r) c) { locals = put c.locals i v })) (λ v rest. (refl, refl))
+  act_staged code (Some Pop) may = top_staged (stage_in c.doing s0) c.stack _ (λ v rest q r. Unfinished (ahead rest (ans q r) c)) (λ v rest. (refl, refl))
+  act_staged code (Some (Jump to)) may = (refl, refl)
+  act_staged code (Some (JumpFalse to)) may = top_staged (stage_in c.doing s0) c.stack _ (λ v rest q r. Unfinished (record (in_state (ans q r)) { place = choose v (c.place + 1) to; stack = rest })) (λ v rest. (refl, refl))
+  act_staged code (Some (CoreOf op n span)) may =
       args_staged (stage_in c.doing s0) n c.stack [] _ (λ vs rest q r. on c.doing (step_of (core op vs) span (ans q r)) (goes_on rest))
-      (λ vs rest. result_staged c.doing ok (core op vs) span (goes_on rest) (λ v. (refl, refl)))
-  act_staged code (Some (CallOf f n)) may ok =
+      (λ vs rest. result_staged c.doing (core op vs) span (goes_on rest) (λ v. (refl, refl)))
+  act_staged code (Some (CallOf f n)) may =
       args_staged (stage_in c.doing s0) n c.stack [] _ (λ vs rest q r. Unfinished (called code f vs to_stack (c.place + 1) rest (in_state (ans q r)))) (λ vs rest. (refl, refl))
-  act_staged code (Some Return) may ok = top_staged (stage_in c.doing s0) c.stack _ (λ v rest q r. returns_to c.frames v (in_state (ans q r))) (λ v rest. returns_staged c.frames v)
-  act_staged code (Some (MakeVector n span)) may ok =
+  act_staged code (Some Return) may = top_staged (stage_in c.doing s0) c.stack _ (λ v rest q r. returns_to c.frames v (in_state (ans q r))) (λ v rest. returns_staged c.frames v)
+  act_staged code (Some (MakeVector n span)) may =
       args_staged (stage_in c.doing s0) n c.stack [] _ (λ vs rest q r. on c.doing (step_of (vector_of vs) span (ans q r)) (goes_on rest))
-      (λ vs rest. result_staged c.doing ok (vector_of vs) span (goes_on rest) (λ v. (refl, refl)))
-  act_staged code (Some (PrintOf n)) may ok =
+      (λ vs rest. result_staged c.doing (vector_of vs) span (goes_on rest) (λ v. (refl, refl)))
+  act_staged code (Some (PrintOf n)) may =
       args_staged (stage_in c.doing s0) n c.stack [] _ (λ vs rest q r. on c.doing (print (is_inside c.doing) vs (ans q r)) (goes_on rest)) (λ vs rest. print_staged (is_inside c.doing) vs rest)
-  act_staged code (Some (TxBegin span)) may ok = begins_staged span c.doing refl
-  act_staged code (Some TxEnd) may ok = ends_staged code c.doing refl
-  act_staged code (Some (LookOf f span)) may ok =
+  act_staged code (Some (TxBegin span)) may = begins_staged span c.doing refl
+  act_staged code (Some TxEnd) may = ends_staged code c.doing refl
+  act_staged code (Some (LookOf f span)) may =
       top_staged (stage_in c.doing s0) c.stack _ (λ cell rest q r. on c.doing (read f (is_inside c.doing) span cell (ans q r)) (goes_on rest)) (λ cell rest. read_staged f span cell rest c.doing refl may)
-  act_staged code (Some (PutOf f span)) may ok =
+  act_staged code (Some (PutOf f span)) may =
       two_staged (stage_in c.doing s0) c.stack _ (λ w cell rest q r. on c.doing (assign f (is_inside c.doing) span cell w (ans q r)) (goes_on rest)) (λ w cell rest. assign_staged f span cell w rest c.doing refl may)
-  act_staged code (Some (OpenOf f n span)) may ok =
+  act_staged code (Some (OpenOf f n span)) may =
       args_of_staged (stage_in c.doing s0) n c.stack _ (λ vs cell rest q r. opens f span vs cell rest (in_state (ans q r))) (λ vs cell rest. opens_any f n span may vs cell rest)
-  act_staged code (Some (CloseOf f span)) may ok =
-      two_staged (stage_in c.doing s0) c.stack _ (λ w cell rest q r. closes f span w cell rest (in_state (ans q r))) (λ w cell rest. closes_any f span ok w cell rest)
-  act_staged code (Some (SendOf f n span)) may ok =
+  act_staged code (Some (CloseOf f span)) may =
+      two_staged (stage_in c.doing s0) c.stack _ (λ w cell rest q r. closes f span w cell rest (in_state (ans q r))) (λ w cell rest. closes_any f span w cell rest)
+  act_staged code (Some (SendOf f n span)) may =
       args_of_staged (stage_in c.doing s0) n c.stack _ (λ vs cell rest q r. on c.doing (send_to (is_inside c.doing) span cell f vs (ans q r)) (goes_on rest))
       (λ vs cell rest. send_to_staged f n span cell vs rest c.doing refl may)
-  act_staged code (Some Halt) may ok = refl
-  act_staged code (Some (TakeOf g)) may ok = absurd may
-  act_staged code (Some RunOf) may ok = absurd may
-  act_staged code (Some (FinishOf g)) may ok = absurd may
+  act_staged code (Some Halt) may = refl
+  act_staged code (Some (TakeOf g)) may = absurd may
+  act_staged code (Some RunOf) may = absurd may
+  act_staged code (Some (FinishOf g)) may = absurd may

@@ -29,12 +29,12 @@ use Rattle.txs_value_base.specs.declared.op.Callee.TheVariants as callee
 use Rattle.txs_value_data.specs.declared.value.CellId.{CellId}
 use Rattle.txs_value_data.specs.declared.value.Value.{Value}
 use Rattle.txs_value_data.specs.declared.value.Value.TheVariants.{Nil, Truth, Int, Key, Text, Vector, Cell}
-use Rattle.txs_code_meaning.specs.ActorState.{ActorState, Replied, Unreplied, receives, asks, StepResult, Continue, Break, Redo, Await, Malformed, on_step, step_of, Reading, Says, SaysRetry, SaysNothing, read_as, heard, read_point, just_done, value_there, newest_value, views, Verdict, Landed, Outdated, Undone, Denied, commit_verdict, opened, swap_verdict, send_verdict, begun, begin, fail, buffered_or, look, paired, viewed, view, commit, peek, SwapInHand, open_atom, close_swap, break_swap, reset_atom, sent, send_now, read_cell, read, set_own, assign_cell, assign, RefUpdate, Alters, Commutes, update_form, kept_open, open_update, close_own, close_update, open_swap, send_action, send_to, print}
-use Rattle.txs_code_meaning.specs.Machine.{PlainInstr, Push, Load, Store, Pop, Jump, JumpFalse, CoreOf, CallOf, Return, MakeVector, PrintOf, TxBegin, TxEnd, LookOf, PutOf, OpenOf, CloseOf, SendOf, Halt, TakeOf, RunOf, FinishOf, ThreadCode, instr_at, fetch, Destination, to_stack, to_commutes, Frame, Savepoint, Activity, Outside, Restarting, Running, Applying, Swapping, Acting, is_inside, Configuration, ahead, called, arguments_of, Turned, Ended, Failed, Asking, Unfinished, Stuck, told, raise, rerun, retried, on, found, on_top, on_args, on_args_of, on_two, push_all, put, gives, begins, decided, lands, settles, applies, ends, stack_after, doing_after, returns_to, opens_ref, opens_atom, opens, swap_decided, closes_swap, closes, act, turn, run}
+use Rattle.txs_code_meaning.specs.ActorState.{ActorState, Replied, Unreplied, receives, asks, StepResult, Continue, Break, Redo, Await, Malformed, on_step, step_of, Reading, Says, SaysRetry, SaysNothing, read_as, heard, read_point, just_done, value_there, newest_value, views, Verdict, Landed, Outdated, Undone, Denied, commit_verdict, opened, swap_verdict, send_verdict, begun, begin, fail, buffered_or, look, paired, viewed, view, commit, peek, SwapInHand, open_atom, close_swap, break_swap, reset_atom, sent, send_now, read_cell, read, set_own, assign_cell, assign, RefUpdate, Alters, Commutes, update_form, kept_open, open_update, close_own, close_update, open_swap, send_action, send_to, print, InHand, send_or_hold}
+use Rattle.txs_code_meaning.specs.Machine.{PlainInstr, Push, Load, Store, Pop, Jump, JumpFalse, CoreOf, CallOf, Return, MakeVector, PrintOf, TxBegin, TxEnd, LookOf, PutOf, OpenOf, CloseOf, SendOf, Halt, TakeOf, RunOf, FinishOf, ThreadCode, instr_at, fetch, Destination, to_stack, to_commutes, Frame, Savepoint, Activity, Outside, Restarting, Running, Applying, Swapping, is_inside, Configuration, ahead, called, arguments_of, Turned, Ended, Failed, Asking, Unfinished, Stuck, told, raise, rerun, retried, on, found, on_top, on_args, on_args_of, on_two, push_all, put, gives, begins, decided, lands, settles, applies, ends, stack_after, doing_after, returns_to, opens_ref, opens_atom, opens, swap_decided, closes_swap, closes, act, turn, run, ends_with}
 use Rattle.txs_code_meaning.specs.Opening.{given, opening}
 use Rattle.txs_code_meaning.specs.PlainCode.{CodeBody, PlainCode, parameters_of, plain_instr, plain_instrs, plain_bodies, thread_code}
 use Rattle.txs_code_meaning.specs.WellTyped as typed
-use Rattle.txs_code_meaning.specs.WellTyped.{form_of, IsNamed, FunctionKind, Functions, Owner, a_thread, a_function, IsImpure, FormMayStand, KindMayStand, MayCall, IsPureFunction, IsPureCallee, Stages, stage_at, LeadsTo, FitsStage, IsStaging, WellTypedBody, WellTypedThreads, WellTypedFunctions, WellTyped}
+use Rattle.txs_code_meaning.specs.WellTyped.{form_of, FunctionKind, Functions, Owner, a_thread, a_function, IsImpure, MayCall, IsPureFunction, IsPureCallee, Stages, stage_at, LeadsTo, FitsStage, IsStaging, WellTypedThreads, WellTypedFunctions}
 use Rattle.txs_code_meaning.specs.declared.instr.Instr.{Instr}
 use Rattle.txs_code_meaning.specs.declared.instr.Instr.TheVariants as instr
 use Rattle.txs_code_meaning.specs.declared.instr.OpenForm.{OpenForm}
@@ -329,7 +329,7 @@ module _ (code : PlainCode) (main : CodeBody) (kinds : List FunctionKind) where
   CommutingPure (Some k) = IsPureCallee kinds k.callee
 
   abbrev StateOk : ActorState → Type 0
-  StateOk s = CommutesPure s.done.commutes × CommutingPure s.commuting
+  StateOk s = CommutesPure s.done.commutes × CommutingPure s.commuting × IsThreads s.acting
 
   abbrev EndHere : ℕ → ℕ → Type 0
   EndHere n at = EndThere (fetch tc n at)
@@ -357,7 +357,6 @@ module _ (code : PlainCode) (main : CodeBody) (kinds : List FunctionKind) where
   DoingOk c (Running left inner from) = SavedAt from
   DoingOk c (Applying left from work values) = SavedAt from × CommutesPure work × PlaceIn EndHere c
   DoingOk c (Swapping swap from) = SavedAt from × PlaceIn SwapHere c
-  DoingOk c (Acting g x) = ⊥
 
   abbrev Holds : Configuration → Type 0
   Holds c = Somewhere c.body c.place × FramesAt c.frames × DoingOk c c.doing × StateOk c.state
@@ -374,7 +373,7 @@ module _ (code : PlainCode) (main : CodeBody) (kinds : List FunctionKind) where
   abbrev StepOk : {A : Type 0} → StepResult A → Type 0
   StepOk (Continue a s) = StateOk s
   StepOk (Redo s) = StateOk s
-  StepOk (Break f s) = Unit {0}
+  StepOk (Break f s) = StateOk s
   StepOk (Await s) = Unit {0}
   StepOk Malformed = Unit {0}
 
@@ -398,17 +397,17 @@ module _ (code : PlainCode) (main : CodeBody) (kinds : List FunctionKind) where
   then_ok : {A B : Type 0} (x : StepResult A) (go : A → ActorState → StepResult B) → StepOk x → ((a : A) (s : ActorState) → StateOk s → StepOk (go a s)) → StepOk (on_step x go)
   then_ok (Continue a s) go h k = k a s h
   then_ok (Redo s) go h k = h
-  then_ok (Break f s) go h k = tt
+  then_ok (Break f s) go h k = h
   then_ok (Await s) go h k = tt
   then_ok Malformed go h k = tt
 
   result_ok : {A : Type 0} (x : Result A FaultKind) (span : Span) (s : ActorState) → StateOk s → StepOk (step_of x span s)
   result_ok (Ok a) span s h = h
-  result_ok (Err k) span s h = tt
+  result_ok (Err k) span s h = h
 
   begin_ok : (s : ActorState) → StateOk s → StepOk (begin s)
   unfolding begin
-  begin_ok s h = then_ok (heard read_point (asks ask.Begin s)) begun (heard_ok read_point ask.Begin s h) (λ p s1 h1. (tt, tt))
+  begin_ok s h = then_ok (heard read_point (asks ask.Begin s)) begun (heard_ok read_point ask.Begin s h) (λ p s1 h1. (tt, tt, h1.2))
 
   look_ok : (d : CellId) (s : ActorState) → StateOk s → StepOk (look d s)
   unfolding look
@@ -452,7 +451,7 @@ module _ (code : PlainCode) (main : CodeBody) (kinds : List FunctionKind) where
   sent_ok x Landed s h = h
   sent_ok x Outdated s h = tt
   sent_ok x Undone s h = tt
-  sent_ok x Denied s h = tt
+  sent_ok x Denied s h = h
 
   send_now_ok : (x : Action) (s : ActorState) → StateOk s → StepOk (send_now x s)
   unfolding send_now
@@ -472,7 +471,7 @@ module _ (code : PlainCode) (main : CodeBody) (kinds : List FunctionKind) where
   set_ok span v d s h = go (is_commuted s.done d.number)
     where
       go : (b : Bool) → StepOk (on_step (step_of (if b then Err SetAfterCommute else Ok (record s.done { values = with_write s.done.values d v; sets = with_cell s.done.sets d })) span s) (λ w s1. Continue v (record s1 { done = w })))
-      go true = tt
+      go true = h
       go false = h
 
   assign_cell_ok : (f : PutForm) (inside : Bool) (span : Span) (v : Value) (d : CellId) (s : ActorState) → StateOk s → StepOk (assign_cell f inside span v d s)
@@ -498,7 +497,7 @@ module _ (code : PlainCode) (main : CodeBody) (kinds : List FunctionKind) where
   open_ok u p false span cell vs s h = tt
   open_ok u p true span cell vs s h =
       then_ok (step_of (cell_of (rule (form.Update (update_form u))) true cell) span s) _ (result_ok (cell_of (rule (form.Update (update_form u))) true cell) span s h)
-      (λ d s1 h1. then_ok (look d s1) _ (look_ok d s1 h1) (λ x s2 h2. (h2.0, kept_ok u d vs p)))
+      (λ d s1 h1. then_ok (look d s1) _ (look_ok d s1 h1) (λ x s2 h2. (h2.0, kept_ok u d vs p, h2.2)))
 
   commutes_append : (cs js : List Commute) → CommutesPure cs → CommutesPure js → CommutesPure (cs ++ js)
   commutes_append [] js h g = g
@@ -506,7 +505,7 @@ module _ (code : PlainCode) (main : CodeBody) (kinds : List FunctionKind) where
 
   close_own_ok : (o : Option Commute) (span : Span) (w : Value) (d : CellId) (s : ActorState) → CommutingPure o → StateOk s → StepOk (close_own o span w d s)
   close_own_ok None span w d s p h = set_ok span w d s h
-  close_own_ok (Some k) span w d s p h = (commutes_append s.done.commutes _ h.0 (p, tt), tt)
+  close_own_ok (Some k) span w d s p h = (commutes_append s.done.commutes _ h.0 (p, tt), tt, h.2)
 
   close_ok : (span : Span) (cell w : Value) (s : ActorState) → StateOk s → StepOk (close_update span cell w s)
   close_ok span cell w s h =
@@ -520,7 +519,11 @@ module _ (code : PlainCode) (main : CodeBody) (kinds : List FunctionKind) where
 
   send_action_ok : (inside : Bool) (x : Action) (s : ActorState) → StateOk s → StepOk (send_action inside x s)
   send_action_ok true x s h = h
-  send_action_ok false x s h = send_now_ok x s h
+  send_action_ok false x s h = or_hold s.acting h.2
+    where
+      or_hold : (o : Option InHand) → IsThreads o → StepOk (send_or_hold o x s)
+      or_hold None k = send_now_ok x s h
+      or_hold (Some y) k = absurd k
 
   send_ok : (inside : Bool) (span : Span) (cell : Value) (f : Callee) (vs : List Value) (s : ActorState) → StateOk s → StepOk (send_to inside span cell f vs s)
   send_ok inside span cell f vs s h =
@@ -556,13 +559,16 @@ module _ (code : PlainCode) (main : CodeBody) (kinds : List FunctionKind) where
   told_lands (Await s) f = tt
   told_lands Malformed f = tt
 
-  raise_lands : (c : Configuration) (doing : Activity) → DoingOk c doing → (f : Fault) (s : ActorState) → Lands (raise doing f s)
-  raise_lands c Outside ok f s = tt
-  raise_lands c (Restarting left) ok f s = tt
-  raise_lands c (Running left inner from) ok f s = told_lands (fail s) f
-  raise_lands c (Applying left from work values) ok f s = told_lands (fail s) f
-  raise_lands c (Swapping swap from) ok f s = told_lands (break_swap swap s) f
-  raise_lands c (Acting g x) ok f s = absurd ok
+  over_lands : (o : Option InHand) → IsThreads o → (f : Fault) (s : ActorState) → Lands (ends_with o f s)
+  over_lands None h f s = tt
+  over_lands (Some x) h f s = absurd h
+
+  raise_lands : (c : Configuration) (doing : Activity) → DoingOk c doing → (f : Fault) (s : ActorState) → StateOk s → Lands (raise doing f s)
+  raise_lands c Outside ok f s h = over_lands s.acting h.2 f s
+  raise_lands c (Restarting left) ok f s h = tt
+  raise_lands c (Running left inner from) ok f s h = told_lands (fail s) f
+  raise_lands c (Applying left from work values) ok f s h = told_lands (fail s) f
+  raise_lands c (Swapping swap from) ok f s h = told_lands (break_swap swap s) f
 
   rerun_lands : (left : ℕ) (from : Savepoint) (s : ActorState) → SavedAt from → StateOk s → Lands (rerun left from s)
   rerun_lands zero from s g h = tt
@@ -574,11 +580,10 @@ module _ (code : PlainCode) (main : CodeBody) (kinds : List FunctionKind) where
   retried_lands c (Running left inner from) s ok h = rerun_lands left from s ok h
   retried_lands c (Applying left from work values) s ok h = tt
   retried_lands c (Swapping swap from) s ok h = tt
-  retried_lands c (Acting g x) s ok h = tt
 
   on_lands : {A : Type 0} (c : Configuration) (doing : Activity) → DoingOk c doing → (x : StepResult A) (go : A → ActorState → Turned Configuration) → StepOk x → ((a : A) (s : ActorState) → StateOk s → Lands (go a s)) → Lands (on doing x go)
   on_lands c doing ok (Continue a s) go h k = k a s h
-  on_lands c doing ok (Break f s) go h k = raise_lands c doing ok f s
+  on_lands c doing ok (Break f s) go h k = raise_lands c doing ok f s h
   on_lands c doing ok (Redo s) go h k = retried_lands c doing s ok h
   on_lands c doing ok (Await s) go h k = tt
   on_lands c doing ok Malformed go h k = tt
@@ -606,7 +611,6 @@ module _ (code : PlainCode) (main : CodeBody) (kinds : List FunctionKind) where
   after_ok c to_commutes v (Applying left from [] values) h = h
   after_ok c to_commutes v (Applying left from (k ∷ work) values) h = (h.0, h.1.1, h.2)
   after_ok c to_commutes v (Swapping swap from) h = h
-  after_ok c to_commutes v (Acting g x) h = h
 
   choose_at : (P : ℕ → Type 0) (v : Value) (x y : ℕ) → P x → P y → P (choose v x y)
   choose_at P Nil x y h g = g
@@ -664,7 +668,6 @@ module _ (code : PlainCode) (main : CodeBody) (kinds : List FunctionKind) where
       ends_land next end (Applying left from [] values) e ok = lands_land next left from values ok.0
       ends_land next end (Applying left from (k ∷ work) values) e ok = applies_land end k.callee left from k work values ok.1.0 ok.0 ok.1.1 ok.1 e
       ends_land next end (Swapping swap from) e ok = tt
-      ends_land next end (Acting g x) e ok = tt
 
       -- ---- swaps
 
@@ -681,7 +684,6 @@ module _ (code : PlainCode) (main : CodeBody) (kinds : List FunctionKind) where
       closes_swap_lands next (Restarting left) ok w rest = tt
       closes_swap_lands next (Running left inner from) ok w rest = tt
       closes_swap_lands next (Applying left from work values) ok w rest = tt
-      closes_swap_lands next (Acting g x) ok w rest = tt
 
       -- ---- where what is going on says nothing of the place
 
@@ -695,7 +697,6 @@ module _ (code : PlainCode) (main : CodeBody) (kinds : List FunctionKind) where
         begins_lands next span (Running left inner from) ok = (next, h.1, ok, h.3)
         begins_lands next span (Applying left from work values) ok = tt
         begins_lands next span (Swapping swap from) ok = tt
-        begins_lands next span (Acting g x) ok = tt
 
         opens_ref_lands : Somewhere c.body (c.place + 1) → (u : RefUpdate) → UpdatePure u → (span : Span) (vs : List Value) (cell : Value) (rest : List Value) → Lands (opens_ref u span vs cell rest c)
         opens_ref_lands next u p span vs cell rest =
@@ -708,7 +709,6 @@ module _ (code : PlainCode) (main : CodeBody) (kinds : List FunctionKind) where
         opens_atom_lands next (Running left inner from) span vs cell rest = tt
         opens_atom_lands next (Applying left from work values) span vs cell rest = tt
         opens_atom_lands next (Swapping swap from) span vs cell rest = tt
-        opens_atom_lands next (Acting g x) span vs cell rest = tt
 
         -- behind an open stands its callee, which is pure
         opened_pure : (n at t k : ℕ) (f : Callee) → At n at (typed.opened t k (open_form.Commute f)) → IsPureCallee kinds f
@@ -1070,7 +1070,6 @@ module _ (code : PlainCode) (main : CodeBody) (kinds : List FunctionKind) where
                   back : (d : Configuration) (f : Frame) (frames : List Frame) → d.body ≡ f.body → d.place ≡ f.place → d.frames ≡ frames → CalleeIn SwapHere (f ∷ frames) → PlaceIn SwapHere d
                   back d f frames j k l (inl home) = inl (subst (λ n. SwapHere n d.place) (sym j) (subst (λ at. SwapHere f.body at) (sym k) home))
                   back d f frames j k l (inr q) = inr (subst (λ n. PureAt n d.place) (sym j) (subst (λ at. PureAt f.body at) (sym k) q.0), subst (CalleeIn SwapHere) (sym l) q.1)
-          go (Acting g x) e ok = absurd ok
 
       -- ---- which instruction stands here
 
@@ -1186,15 +1185,6 @@ module _ (code : PlainCode) (main : CodeBody) (kinds : List FunctionKind) where
                   here (Swapping swap from) (fetch tc c.body c.place)
                   (fetched_so (MayStandIn (Swapping swap from)) c.body c.place w.1.owner w.1.body w.0 w.1.here (λ i span x. swap_plain swap from w.0 w.2 w.1.owner w.1.body.stages c.place i span x) (fetch tc c.body c.place) refl)
               phase (inr p) = here (Swapping swap from) (fetch tc c.body c.place) (purely (MayStandIn (Swapping swap from)) p.0 (may_swap swap from))
-          go (Acting g x) ok = absurd ok
-
-    threads_all : (c : Configuration) (doing : Activity) → DoingOk c doing → IsThreads doing
-    threads_all c Outside ok = tt
-    threads_all c (Restarting left) ok = tt
-    threads_all c (Running left inner from) ok = tt
-    threads_all c (Applying left from work values) ok = tt
-    threads_all c (Swapping swap from) ok = tt
-    threads_all c (Acting g x) ok = ok
 
     given_ok : (xs : List Exchange) (c : Configuration) (doing : Activity) → DoingOk c doing → DoingOk (given xs c) doing
     given_ok xs c Outside ok = ok
@@ -1202,14 +1192,13 @@ module _ (code : PlainCode) (main : CodeBody) (kinds : List FunctionKind) where
     given_ok xs c (Running left inner from) ok = ok
     given_ok xs c (Applying left from work values) ok = ok
     given_ok xs c (Swapping swap from) ok = ok
-    given_ok xs c (Acting g x) ok = ok
 
     known_all : Body 0 a_thread → KnownCode tc
     known_all b = record {
       Holds = Holds;
-      opens = ((typed.plain 0, record { owner = a_thread; body = b; here = b.staging.first }), tt, tt, (tt, tt));
+      opens = ((typed.plain 0, record { owner = a_thread; body = b; here = b.staging.first }), tt, tt, (tt, tt, tt));
       may = λ c k. may_all c k;
-      threads = λ c k. threads_all c c.doing k.2;
+      threads = λ c k. k.3.2;
       given = λ xs c k. (k.0, k.1, given_ok xs c c.doing k.2, k.3);
       keeps = λ c d k e. subst Lands e (lands_all c k);
     }
@@ -1323,7 +1312,7 @@ is_unfinished Stuck = ⊥
 none_stands : StandingCode (code_or_none None)
 unfolding unfinished_or
 none_stands zero xs c e =
-    subst (λ d. MayStandHere d.doing (fetch (code_or_none None) d.body d.place) × IsThreads d.doing) (ap (unfinished_or (opening (code_or_none None) xs)) e) (tt, tt)
+    subst (λ d. MayStandHere d.doing (fetch (code_or_none None) d.body d.place) × IsThreads d.state.acting) (ap (unfinished_or (opening (code_or_none None) xs)) e) (tt, tt)
 none_stands (suc m) xs c e = absurd (subst is_unfinished (sym e) tt)
 
 abbrev mapped : (CodeBody → ThreadCode) → Option CodeBody → Option ThreadCode

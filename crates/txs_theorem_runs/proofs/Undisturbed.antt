@@ -170,7 +170,7 @@ module _ (cells : List CellDefinition) (books : ℕ → List Event) (a : ℕ) wh
     ask_calm (ask.Send x) within = sends_calm (is_failed (cells_of cells) (take k (books 0)) x.agent) x within
     ask_calm (ask.Take g) within =
         quietly (ask.Take g) k within Rest ps rest xs (takes (next_action (cells_of cells) (take k (books 0)) g) (suc (mail_after (cells_of cells) (take k (books 0)) g.number).acts) (newest (opening (cells_of cells)) (take k (books 0)) g.number)) (λ n. n)
-    ask_calm (ask.Finish g new) within = adding (ask.Finish g new) k within Rest ps rest xs (event.Act g (suc (mail_after (cells_of cells) (take k (books 0)) g.number).acts) new) reply.Done (λ n u r. rest xs n)
+    ask_calm (ask.Finish g new sends) within = adding (ask.Finish g new sends) k within Rest ps rest xs (event.Act g (suc (mail_after (cells_of cells) (take k (books 0)) g.number).acts) new sends) reply.Done (λ n u r. rest xs n)
     ask_calm (ask.OpenAt c) within =
         quietly (ask.OpenAt c) k within Rest ps rest xs (reply.Opened (length (take k (books (book_for cells (ask.OpenAt c))))) (atom_newest (atom_of cells c (take k (books (book_for cells (ask.OpenAt c))))))) (λ n. n)
     ask_calm (ask.CloseAt c None v) within = closes_calm false c None v within

@@ -35,8 +35,8 @@ use Rattle.txs_value_data.specs.declared.value.CellKind.{CellKind}
 use Rattle.txs_value_data.specs.declared.value.CellKind.TheVariants.{Ref, Atom, Agent}
 use Rattle.txs_value_data.specs.declared.value.Value.{Value}
 use Rattle.txs_value_data.specs.declared.value.Value.TheVariants.{Nil, Truth, Int, Key, Text, Vector, Cell}
-use Rattle.txs_code_meaning.specs.ActorState.{ActorState, Reception, Replied, Unreplied, receives, asks, StepResult, Continue, Break, Redo, Await, Malformed, on_step, step_of, Reading, Says, SaysRetry, SaysNothing, read_as, heard, read_point, just_done, value_there, newest_value, views, Verdict, Landed, Outdated, Undone, Denied, commit_verdict, opened, swap_verdict, send_verdict, Taken, handed_out, begun, begin, fail, buffered_or, look, with_first, paired, viewed, view, commit, peek, SwapInHand, open_atom, close_swap, break_swap, reset_atom, sent, send_now, take_action, finish, read_cell, read, set_own, assign_cell, assign, RefUpdate, Alters, Commutes, update_form, kept_open, open_update, close_own, close_update, open_swap, send_action, send_to, print}
-use Rattle.txs_code_meaning.specs.Machine.{PlainInstr, Push, Load, Store, Pop, Jump, JumpFalse, CoreOf, CallOf, Return, MakeVector, PrintOf, TxBegin, TxEnd, LookOf, PutOf, OpenOf, CloseOf, SendOf, Halt, TakeOf, RunOf, FinishOf, PlainBody, ThreadCode, fetch, nils, locals_of, Destination, to_stack, to_commutes, Frame, Savepoint, Activity, Outside, Restarting, Running, Applying, Swapping, Acting, is_inside, Configuration, ahead, staying, saved, value_or_nil, arguments_of, Turned, Ended, Failed, Asking, Unfinished, Stuck, told, raise, rerun, retried, on, found, on_top, on_args, on_args_of, on_two, push_all, put, gives, starts, begins, decided, lands, settles, applies, ends, applied, stack_after, doing_after, returns_to, opens_ref, opens_atom, opens, swap_decided, closes_swap, closes, started, runs_callee, runs, act, turn}
+use Rattle.txs_code_meaning.specs.ActorState.{ActorState, Reception, Replied, Unreplied, receives, asks, StepResult, Continue, Break, Redo, Await, Malformed, on_step, step_of, Reading, Says, SaysRetry, SaysNothing, read_as, heard, read_point, just_done, value_there, newest_value, views, Verdict, Landed, Outdated, Undone, Denied, commit_verdict, opened, swap_verdict, send_verdict, Taken, handed_out, begun, begin, fail, buffered_or, look, with_first, paired, viewed, view, commit, peek, SwapInHand, open_atom, close_swap, break_swap, reset_atom, sent, send_now, take_action, finish, read_cell, read, set_own, assign_cell, assign, RefUpdate, Alters, Commutes, update_form, kept_open, open_update, close_own, close_update, open_swap, send_action, send_to, print, InHand, send_or_hold, now_holding}
+use Rattle.txs_code_meaning.specs.Machine.{PlainInstr, Push, Load, Store, Pop, Jump, JumpFalse, CoreOf, CallOf, Return, MakeVector, PrintOf, TxBegin, TxEnd, LookOf, PutOf, OpenOf, CloseOf, SendOf, Halt, TakeOf, RunOf, FinishOf, PlainBody, ThreadCode, fetch, nils, locals_of, Destination, to_stack, to_commutes, Frame, Savepoint, Activity, Outside, Restarting, Running, Applying, Swapping, is_inside, Configuration, ahead, staying, saved, value_or_nil, arguments_of, Turned, Ended, Failed, Asking, Unfinished, Stuck, told, raise, rerun, retried, on, found, on_top, on_args, on_args_of, on_two, push_all, put, gives, starts, begins, decided, lands, settles, applies, ends, applied, stack_after, doing_after, returns_to, opens_ref, opens_atom, opens, swap_decided, closes_swap, closes, started, runs_callee, runs, act, turn, ends_with}
 use Rattle.txs_code_meaning.specs.declared.instr.OpenForm.{OpenForm}
 use Rattle.txs_code_meaning.specs.declared.instr.OpenForm.TheVariants as open_form
 use Rattle.txs_world_book.proofs.Outcomes.{both}
@@ -107,8 +107,13 @@ module _ (cells : List CellDefinition) where
   TodoKnown [] = Unit {0}
   TodoKnown (x ∷ xs) = ReplyKnown x.reply × TodoKnown xs
 
+  -- an agent's action that is run
+  abbrev pub ActingKnown : Option InHand → Type 0
+  ActingKnown None = Unit {0}
+  ActingKnown (Some x) = AllKnown cells x.action.args
+
   abbrev pub StateKnown : ActorState → Type 0
-  StateKnown s = WorkKnown s.done × CommutingKnown s.commuting × TodoKnown s.todo
+  StateKnown s = WorkKnown s.done × CommutingKnown s.commuting × TodoKnown s.todo × ActingKnown s.acting
 
   abbrev pub FramesKnown : List Frame → Type 0
   FramesKnown [] = Unit {0}
@@ -123,7 +128,6 @@ module _ (cells : List CellDefinition) where
   ActivityKnown (Running left inner from) = SavepointKnown from
   ActivityKnown (Applying left from work values) = SavepointKnown from × CommutesKnown work × WritesKnown values
   ActivityKnown (Swapping swap from) = (has_atom cells swap.cell ≡ true) × SavepointKnown from
-  ActivityKnown (Acting g x) = AllKnown cells x.args
 
   -- none of these refs was set
   abbrev pub AllUnset : Work → List CellId → Type 0
@@ -348,7 +352,6 @@ module _ (cells : List CellDefinition) where
   IsFree (Running left inner from) = Unit {0}
   IsFree (Applying left from work values) = ⊥
   IsFree (Swapping swap from) = Unit {0}
-  IsFree (Acting g x) = Unit {0}
 
   -- what is going on is a try
   abbrev pub IsTry : Activity → Type 0
@@ -357,7 +360,6 @@ module _ (cells : List CellDefinition) where
   IsTry (Running left inner from) = Unit {0}
   IsTry (Applying left from work values) = ⊥
   IsTry (Swapping swap from) = ⊥
-  IsTry (Acting g x) = ⊥
 
   -- there are some
   abbrev pub AreSome : List CellId → Type 0
@@ -371,7 +373,6 @@ module _ (cells : List CellDefinition) where
   ApartIn (Running left inner from) w = Unit {0}
   ApartIn (Applying left from work values) w = AllUnset w (cells_in values) × WorkUnset w work × AreSome (commuted w)
   ApartIn (Swapping swap from) w = Unit {0}
-  ApartIn (Acting g x) w = Unit {0}
 
   -- a try has no view but its read point, and this holds
   abbrev pub FreshIn : Type 0 → Activity → ActorState → Type 0
@@ -380,7 +381,6 @@ module _ (cells : List CellDefinition) where
   FreshIn X (Running left inner from) s = (s.view ≡ s.at) × X
   FreshIn X (Applying left from work values) s = Unit {0}
   FreshIn X (Swapping swap from) s = Unit {0}
-  FreshIn X (Acting g x) s = Unit {0}
 
   abbrev pub IsEnd : Option PlainInstr → Type 0
   IsEnd (Some TxEnd) = Unit {0}
@@ -394,7 +394,6 @@ module _ (cells : List CellDefinition) where
   RedoIn (Running left (suc inner) from) i w = ⊥
   RedoIn (Applying left from work values) i w = ⊥
   RedoIn (Swapping swap from) i w = ⊥
-  RedoIn (Acting g x) i w = ⊥
 
   -- Tidy says that the instructions stand where they may, Fresh that the try at hand has no view but its read point, and Clean that the
   -- turn doesn't begin in a commute phase
@@ -415,7 +414,7 @@ module _ (cells : List CellDefinition) where
     AskKnown (ask.Peek c) = has_cell store c ≡ true
     AskKnown (ask.Send x) = ActionKnown x
     AskKnown (ask.Take g) = Unit {0}
-    AskKnown (ask.Finish g new) = ResultKnown new
+    AskKnown (ask.Finish g new sends) = ResultKnown new × SendsKnown sends
     AskKnown (ask.OpenAt c) = has_atom cells c ≡ true
     AskKnown (ask.CloseAt c p v) = (has_atom cells c ≡ true) × IsKnown cells v
     AskKnown (ask.Broke c p) = has_atom cells c ≡ true
@@ -433,10 +432,10 @@ module _ (cells : List CellDefinition) where
 
     -- a state in the middle of a turn
     abbrev MidKnown : ActorState → Type 0
-    MidKnown s = WorkKnown s.done × CommutingKnown s.commuting × TodoKnown s.todo × (Fresh → s.view ≡ s.at)
+    MidKnown s = WorkKnown s.done × CommutingKnown s.commuting × TodoKnown s.todo × (Fresh → s.view ≡ s.at) × ActingKnown s.acting
 
     known_of : (s : ActorState) → MidKnown s → StateKnown s
-    known_of s h = (h.0, h.1, h.2)
+    known_of s h = (h.0, h.1, h.2, h.4)
 
     free_apart : (doing : Activity) (w : Work) → (Tidy → IsFree doing) → Tidy → ApartIn doing w
     free_apart Outside w h t = tt
@@ -444,7 +443,6 @@ module _ (cells : List CellDefinition) where
     free_apart (Running left inner from) w h t = tt
     free_apart (Applying left from work values) w h t = absurd (h t)
     free_apart (Swapping swap from) w h t = tt
-    free_apart (Acting g x) w h t = tt
 
     look_free : (f : LookForm) (span : Span) (doing : Activity) → MayStandIn doing (LookOf f span) → IsFree doing
     look_free f span Outside h = tt
@@ -452,7 +450,6 @@ module _ (cells : List CellDefinition) where
     look_free f span (Running left inner from) h = tt
     look_free f span (Applying left from work values) h = h
     look_free f span (Swapping swap from) h = tt
-    look_free f span (Acting g x) h = tt
 
     put_free : (f : PutForm) (span : Span) (doing : Activity) → MayStandIn doing (PutOf f span) → IsFree doing
     put_free f span Outside h = tt
@@ -460,7 +457,6 @@ module _ (cells : List CellDefinition) where
     put_free f span (Running left inner from) h = tt
     put_free f span (Applying left from work values) h = h
     put_free f span (Swapping swap from) h = tt
-    put_free f span (Acting g x) h = tt
 
     open_free : (f : OpenForm) (n : ℕ) (span : Span) (doing : Activity) → MayStandIn doing (OpenOf f n span) → IsFree doing
     open_free f n span Outside h = tt
@@ -468,7 +464,6 @@ module _ (cells : List CellDefinition) where
     open_free f n span (Running left inner from) h = tt
     open_free f n span (Applying left from work values) h = h
     open_free f n span (Swapping swap from) h = tt
-    open_free f n span (Acting g x) h = tt
 
     close_free : (f : UpdateForm) (span : Span) (doing : Activity) → MayStandIn doing (CloseOf f span) → IsFree doing
     close_free f span Outside h = tt
@@ -476,7 +471,6 @@ module _ (cells : List CellDefinition) where
     close_free f span (Running left inner from) h = tt
     close_free f span (Applying left from work values) h = h
     close_free f span (Swapping swap from) h = tt
-    close_free f span (Acting g x) h = tt
 
     send_free : (f : Callee) (n : ℕ) (span : Span) (doing : Activity) → MayStandIn doing (SendOf f n span) → IsFree doing
     send_free f n span Outside h = tt
@@ -484,7 +478,6 @@ module _ (cells : List CellDefinition) where
     send_free f n span (Running left inner from) h = tt
     send_free f n span (Applying left from work values) h = h
     send_free f n span (Swapping swap from) h = tt
-    send_free f n span (Acting g x) h = tt
 
     -- ---- the cells of forms
 
@@ -551,17 +544,17 @@ module _ (cells : List CellDefinition) where
     read_known P SaysNothing s k h = tt
 
     received_known : {B : Type 0} (P : B → Type 0) (reads : Reply → Reading B) → ((r : Reply) → ReplyKnown r → ReadingKnown P (reads r))
-        → (q : Ask) (s : ActorState) (todo : List Exchange) → AskKnown q → WorkKnown s.done → CommutingKnown s.commuting → TodoKnown todo → (Fresh → s.view ≡ s.at) → StepKnown P (heard reads (receives q s todo))
-    received_known P reads k q s [] a w o h f = a
-    received_known P reads k q s (x ∷ xs) a w o h f = go (same_ask q x.ask)
+        → (q : Ask) (s : ActorState) (todo : List Exchange) → AskKnown q → WorkKnown s.done → CommutingKnown s.commuting → TodoKnown todo → (Fresh → s.view ≡ s.at) → ActingKnown s.acting → StepKnown P (heard reads (receives q s todo))
+    received_known P reads k q s [] a w o h f y = a
+    received_known P reads k q s (x ∷ xs) a w o h f y = go (same_ask q x.ask)
       where
         go : (b : Bool) → StepKnown P (heard reads (if b then Replied x.reply (record s { todo = xs }) else Unreplied (record s { wants = Some q })))
-        go true = read_known P (reads x.reply) (record s { todo = xs }) (k x.reply h.0) (w, o, h.1, f)
+        go true = read_known P (reads x.reply) (record s { todo = xs }) (k x.reply h.0) (w, o, h.1, f, y)
         go false = a
 
     heard_known : {B : Type 0} (P : B → Type 0) (reads : Reply → Reading B) → ((r : Reply) → ReplyKnown r → ReadingKnown P (reads r)) → (q : Ask) (s : ActorState) → AskKnown q → MidKnown s → StepKnown P (heard reads (asks q s))
     unfolding asks
-    heard_known P reads k q s a h = received_known P reads k q s s.todo a h.0 h.1 h.2 h.3
+    heard_known P reads k q s a h = received_known P reads k q s s.todo a h.0 h.1 h.2 h.3 h.4
 
     then_known : {B C : Type 0} (P : B → Type 0) (Q : C → Type 0) (x : StepResult B) (go : B → ActorState → StepResult C) → StepKnown P x → ((b : B) (s : ActorState) → P b → MidKnown s → StepKnown Q (go b s)) → StepKnown Q (on_step x go)
     then_known P Q (Continue b s) go h k = k b s h.0 h.1
@@ -800,7 +793,7 @@ module _ (cells : List CellDefinition) where
 
     finish_known : (g : CellId) (new : Result Value Fault) (s : ActorState) → ResultKnown new → MidKnown s → StepKnown Anything (finish g new s)
     unfolding finish
-    finish_known g new s k h = heard_known Anything just_done says_done (ask.Finish g new) s k h
+    finish_known g new s k h = heard_known Anything just_done says_done (ask.Finish g new []) s (k, tt) h
 
     -- ---- forms
 
@@ -829,7 +822,7 @@ module _ (cells : List CellDefinition) where
         (cell_known RefThere (cell_of (rule (form.Look Ensure)) inside v) span s (kind_known Ref (rule (form.Look Ensure)) inside v refl k) h) (λ d s1 r h1. here inside d s1 r h1)
       where
         here : (inside : Bool) (d : CellId) (s : ActorState) → has_ref store d ≡ true → MidKnown s → StepKnown (IsKnown cells) (read_cell Ensure inside d s)
-        here true d s r h = then_known (IsKnown cells) (IsKnown cells) (look d s) _ (look_known d s r h) (λ x s1 i h1. (i, (ensured_known d s1.done r h1.0, h1.1, h1.2, h1.3)))
+        here true d s r h = then_known (IsKnown cells) (IsKnown cells) (look d s) _ (look_known d s r h) (λ x s1 i h1. (i, (ensured_known d s1.done r h1.0, h1.1, h1.2, h1.3, h1.4)))
         here false d s r h = tt
 
     set_own_known : (span : Span) (v : Value) (d : CellId) (s : ActorState) → has_ref store d ≡ true → IsKnown cells v → MidKnown s → StepKnown (IsKnown cells) (set_own span v d s)
@@ -837,7 +830,7 @@ module _ (cells : List CellDefinition) where
       where
         go : (b : Bool) → StepKnown (IsKnown cells) (on_step (step_of (if b then Err SetAfterCommute else Ok (record s.done { values = with_write s.done.values d v; sets = with_cell s.done.sets d })) span s) (λ w s1. Continue v (record s1 { done = w })))
         go true = h
-        go false = (k, (record { values = writes_put s.done.values d v r k h.0.values; ensures = h.0.ensures; commutes = h.0.commutes; sends = h.0.sends }, h.1, h.2, h.3))
+        go false = (k, (record { values = writes_put s.done.values d v r k h.0.values; ensures = h.0.ensures; commutes = h.0.commutes; sends = h.0.sends }, h.1, h.2, h.3, h.4))
 
     assign_known : (f : PutForm) (inside : Bool) (span : Span) (cell v : Value) (s : ActorState) → IsKnown cells cell → IsKnown cells v → MidKnown s → StepKnown (IsKnown cells) (assign f inside span cell v s)
     assign_known RefSet inside span cell v s kc k h =
@@ -868,12 +861,12 @@ module _ (cells : List CellDefinition) where
     open_known u true span cell vs s kc k h =
         then_known RefThere (IsKnown cells) (step_of (cell_of (rule (form.Update (update_form u))) true cell) span s) (λ d s1. on_step (look d s1) (λ x s2. Continue x (record s2 { commuting = kept_open u d vs })))
         (cell_known RefThere (cell_of (rule (form.Update (update_form u))) true cell) span s (kind_known Ref (rule (form.Update (update_form u))) true cell (update_rule u) kc) h)
-        (λ d s1 r h1. then_known (IsKnown cells) (IsKnown cells) (look d s1) _ (look_known d s1 r h1) (λ x s2 i h2. (i, (h2.0, kept_known u d vs r k, h2.2, h2.3))))
+        (λ d s1 r h1. then_known (IsKnown cells) (IsKnown cells) (look d s1) _ (look_known d s1 r h1) (λ x s2 i h2. (i, (h2.0, kept_known u d vs r k, h2.2, h2.3, h2.4))))
 
     close_own_known : (o : Option Commute) (span : Span) (w : Value) (d : CellId) (s : ActorState) → CommutingKnown o → has_ref store d ≡ true → IsKnown cells w → MidKnown s → StepKnown (IsKnown cells) (close_own o span w d s)
     close_own_known None span w d s ko r k h = set_own_known span w d s r k h
     close_own_known (Some o) span w d s ko r k h =
-        (k, (record { values = writes_put s.done.values d w r k h.0.values; ensures = h.0.ensures; commutes = commutes_append s.done.commutes _ h.0.commutes ((r, ko.1), tt); sends = h.0.sends }, tt, h.2, h.3))
+        (k, (record { values = writes_put s.done.values d w r k h.0.values; ensures = h.0.ensures; commutes = commutes_append s.done.commutes _ h.0.commutes ((r, ko.1), tt); sends = h.0.sends }, tt, h.2, h.3, h.4))
 
     close_known : (span : Span) (cell w : Value) (s : ActorState) → IsKnown cells cell → IsKnown cells w → MidKnown s → StepKnown (IsKnown cells) (close_update span cell w s)
     close_known span cell w s kc k h =
@@ -888,8 +881,16 @@ module _ (cells : List CellDefinition) where
 
     send_action_known : (inside : Bool) (x : Action) (s : ActorState) → ActionKnown x → MidKnown s → StepKnown (IsKnown cells) (send_action inside x s)
     send_action_known true x s k h =
-        (agent_there x.agent k.0, (record { values = h.0.values; ensures = h.0.ensures; commutes = h.0.commutes; sends = sends_append s.done.sends (x ∷ []) h.0.sends (k, tt) }, h.1, h.2, h.3))
-    send_action_known false x s k h = send_now_known x s k h
+        (agent_there x.agent k.0, (record { values = h.0.values; ensures = h.0.ensures; commutes = h.0.commutes; sends = sends_append s.done.sends (x ∷ []) h.0.sends (k, tt) }, h.1, h.2, h.3, h.4))
+    send_action_known false x s k h = or_hold s.acting
+      where
+        held : (o : Option InHand) → ActingKnown o → ActingKnown (now_holding x o)
+        held None g = g
+        held (Some y) g = g
+
+        or_hold : (o : Option InHand) → StepKnown (IsKnown cells) (send_or_hold o x s)
+        or_hold None = send_now_known x s k h
+        or_hold (Some y) = (agent_there x.agent k.0, (h.0, h.1, h.2, h.3, held s.acting h.4))
 
     send_known : (inside : Bool) (span : Span) (cell : Value) (f : Callee) (vs : List Value) (s : ActorState) → IsKnown cells cell → AllKnown cells vs → MidKnown s → StepKnown (IsKnown cells) (send_to inside span cell f vs s)
     send_known inside span cell f vs s kc k h =
@@ -951,13 +952,16 @@ module _ (cells : List CellDefinition) where
     told_known (Await s) go h k = h
     told_known Malformed go h k = tt
 
+    over_known : (o : Option InHand) (f : Fault) (s : ActorState) → MidKnown s → TurnKnown (ends_with o f s)
+    over_known None f s h = tt
+    over_known (Some x) f s h = told_known (finish x.agent (Err f) s) _ (finish_known x.agent (Err f) s tt h) (λ s1 h1. (tt, tt, tt, tt, (h1.0, h1.1, h1.2, tt), λ t. (tt, inl tt)))
+
     raise_known : (doing : Activity) (f : Fault) (s : ActorState) → ActivityKnown doing → MidKnown s → TurnKnown (raise doing f s)
-    raise_known Outside f s g h = tt
+    raise_known Outside f s g h = over_known s.acting f s h
     raise_known (Restarting left) f s g h = tt
     raise_known (Running left inner from) f s g h = told_known (fail s) _ (fail_known s h) (λ s1 h1. tt)
     raise_known (Applying left from work values) f s g h = told_known (fail s) _ (fail_known s h) (λ s1 h1. tt)
     raise_known (Swapping swap from) f s g h = told_known (break_swap swap s) _ (break_swap_known swap s g.0 h) (λ s1 h1. tt)
-    raise_known (Acting a x) f s g h = told_known (finish a (Err f) s) _ (finish_known a (Err f) s tt h) (λ s1 h1. (tt, tt, tt, tt, known_of s1 h1, λ t. (tt, inl tt)))
 
     rerun_known : (left : ℕ) (from : Savepoint) (s : ActorState) → SavepointKnown from → MidKnown s → TurnKnown (rerun left from s)
     rerun_known zero from s g h = tt
@@ -969,7 +973,6 @@ module _ (cells : List CellDefinition) where
     retried_known (Running left inner from) s g h = rerun_known left from s g h
     retried_known (Applying left from work values) s g h = tt
     retried_known (Swapping swap from) s g h = tt
-    retried_known (Acting a x) s g h = tt
 
     on_known : {B : Type 0} (P : B → Type 0) (doing : Activity) (r : StepResult B) (go : B → ActorState → Turned Configuration) → ActivityKnown doing → StepKnown P r → ((b : B) (s : ActorState) → P b → MidKnown s → TurnKnown (go b s)) → TurnKnown (on doing r go)
     on_known P doing (Continue b s) go g h k = k b s h.0 h.1
@@ -1002,7 +1005,7 @@ module _ (cells : List CellDefinition) where
 
     module _ (c : Configuration) (h : ConfigurationKnown (Unit {0}) c) (start : Fresh → c.state.view ≡ c.state.at) (runs_fresh : Tidy → IsTry c.doing → c.state.view ≡ c.state.at → Fresh) (clean : IsFree c.doing → Clean) where
       mid : MidKnown c.state
-      mid = (h.4.0, h.4.1, h.4.2, start)
+      mid = (h.4.0, h.4.1, h.4.2, start, h.4.3)
 
       -- a try that had no view has none
       still_fresh : (doing : Activity) (s : ActorState) → FreshIn Clean doing c.state → (IsTry doing → c.state.view ≡ c.state.at → Fresh) → (Fresh → s.view ≡ s.at) → FreshIn Clean doing s
@@ -1011,7 +1014,6 @@ module _ (cells : List CellDefinition) where
       still_fresh (Running left inner from) s f r g = (g (r tt f.0), f.1)
       still_fresh (Applying left from work values) s f r g = tt
       still_fresh (Swapping swap from) s f r g = tt
-      still_fresh (Acting a x) s f r g = tt
 
       -- an ask, and what is done with its reply
       asked_known : (q : Ask) (go : Reception → Turned Configuration) → TurnKnown (go (Unreplied (record c.state { wants = Some q })))
@@ -1054,7 +1056,7 @@ module _ (cells : List CellDefinition) where
       tries_with left span s = Unfinished (record (ahead c.stack s c) { doing = Running left 0 (saved span c) })
 
       begun_heard : Clean → (left : ℕ) (span : Span) (r : Reply) (xs : List Exchange) → ReplyKnown r → TodoKnown xs → TurnKnown (on c.doing (on_step (heard read_point (Replied r (record c.state { todo = xs }))) begun) (λ u s. tries_with left span s))
-      begun_heard cl left span (reply.At p) xs k t = (h.0, h.1, h.2, (h.0, h.1, h.2), (nothing_known, tt, t), λ u. (tt, inl (refl, cl)))
+      begun_heard cl left span (reply.At p) xs k t = (h.0, h.1, h.2, (h.0, h.1, h.2), (nothing_known, tt, t, h.4.3), λ u. (tt, inl (refl, cl)))
       begun_heard cl left span (reply.Is v) xs k t = tt
       begun_heard cl left span (reply.Views p vs) xs k t = tt
       begun_heard cl left span reply.Done xs k t = tt
@@ -1077,22 +1079,21 @@ module _ (cells : List CellDefinition) where
       begins_known span (Running left inner from) g cl fr = (h.0, h.1, h.2, g, h.4, λ t. (tt, inl (fr t)))
       begins_known span (Applying left from work values) g cl fr = tt
       begins_known span (Swapping swap from) g cl fr = tt
-      begins_known span (Acting a x) g cl fr = tt
 
       -- a commit, whose values are of refs that weren't set; where the commutes are made again, the try is as it was
       module _ (left : ℕ) (from : Savepoint) (g : SavepointKnown from) (values : Writes) (k : WritesKnown values) (u : Tidy → AllUnset c.state.done (cells_in values)) (end : Tidy → ((c.state.view ≡ c.state.at) × Clean) ⊎ (IsEnd (fetch code c.body c.place) × AreSome (commuted c.state.done))) where
         rerun_lies : (xs : List Exchange) → TodoKnown xs → TurnKnown (rerun left from (record c.state { todo = xs }))
-        rerun_lies xs t = rerun_known left from (record c.state { todo = xs }) g (h.4.0, h.4.1, t, start)
+        rerun_lies xs t = rerun_known left from (record c.state { todo = xs }) g (h.4.0, h.4.1, t, start, h.4.3)
 
         again_lies : (n : ℕ) (xs : List Exchange) → TodoKnown xs → TurnKnown (decided Outdated n from c (record c.state { todo = xs }))
         again_lies zero xs t = tt
-        again_lies (suc n) xs t = (h.0, h.1, h.2, g, (h.4.0, h.4.1, t), λ y. (tt, end y))
+        again_lies (suc n) xs t = (h.0, h.1, h.2, g, (h.4.0, h.4.1, t, h.4.3), λ y. (tt, end y))
 
         landed_heard : (r : Reply) (xs : List Exchange) → ReplyKnown r → TodoKnown xs → TurnKnown (on c.doing (heard commit_verdict (Replied r (record c.state { todo = xs }))) (λ verdict s. decided verdict left from c s))
         landed_heard (reply.At p) xs kr t = tt
         landed_heard (reply.Is v) xs kr t = tt
         landed_heard (reply.Views p vs) xs kr t = tt
-        landed_heard reply.Done xs kr t = (h.0, h.1, h.2, tt, (h.4.0, h.4.1, t), λ y. (tt, inl tt))
+        landed_heard reply.Done xs kr t = (h.0, h.1, h.2, tt, (h.4.0, h.4.1, t, h.4.3), λ y. (tt, inl tt))
         landed_heard (reply.Retry d) xs kr t = rerun_lies xs t
         landed_heard (reply.Changed d) xs kr t = again_lies left xs t
         landed_heard (reply.AgentIsFailed a) xs kr t = tt
@@ -1122,7 +1123,7 @@ module _ (cells : List CellDefinition) where
             h.1,
             h.2,
             (g, phase_known (commuted c.state.done) c.state.done.commutes h.4.0.commutes, (asc, k.1)),
-            (h.4.0, h.4.1, t),
+            (h.4.0, h.4.1, t, h.4.3),
             λ u. ((subst (λ l. AllUnset c.state.done l) (sym k.0) unset, phase_unset c.state.done (commuted c.state.done) c.state.done.commutes unset, some), inl tt),
           )
 
@@ -1176,7 +1177,6 @@ module _ (cells : List CellDefinition) where
       ends_known (Applying left from [] values) e i g u cl w = lands_known left from g.0 values g.2 (λ t. (u t).0) (λ t. inr (i, (u t).2))
       ends_known (Applying left from (k ∷ work) values) e i g u cl w = applies_known k.callee left from k work values g.0 g.1.0 g.1.1 g.2 u e
       ends_known (Swapping swap from) e i g u cl w = tt
-      ends_known (Acting a x) e i g u cl w = tt
 
       -- ---- calls
 
@@ -1187,7 +1187,6 @@ module _ (cells : List CellDefinition) where
       applied_known v (Applying left from [] values) k g = g
       applied_known v (Applying left from (w ∷ work) values) k g = (g.0, g.1.1, writes_put values w.cell v g.1.0.0 k g.2)
       applied_known v (Swapping swap from) k g = g
-      applied_known v (Acting a x) k g = g
 
       applied_apart : (v : Value) (doing : Activity) (w : Work) → ApartIn doing w → ApartIn (applied v doing) w
       applied_apart v Outside w u = u
@@ -1196,7 +1195,6 @@ module _ (cells : List CellDefinition) where
       applied_apart v (Applying left from [] values) w u = u
       applied_apart v (Applying left from (k ∷ work) values) w u = (unset_put w values k.cell v u.0 u.1.0, u.1.1, u.2)
       applied_apart v (Swapping swap from) w u = u
-      applied_apart v (Acting a x) w u = u
 
       applied_fresh : (v : Value) (doing : Activity) → FreshIn Clean doing c.state → FreshIn Clean (applied v doing) c.state
       applied_fresh v Outside u = u
@@ -1205,7 +1203,6 @@ module _ (cells : List CellDefinition) where
       applied_fresh v (Applying left from [] values) u = u
       applied_fresh v (Applying left from (k ∷ work) values) u = u
       applied_fresh v (Swapping swap from) u = u
-      applied_fresh v (Acting a x) u = u
 
       after_known : (awaits : Destination) (v : Value) → IsKnown cells v → ActivityKnown (doing_after awaits v c.doing)
       after_known to_stack v k = h.3
@@ -1242,7 +1239,6 @@ module _ (cells : List CellDefinition) where
       opens_atom_known (Running left inner from) span vs cell rest kvs kc kr = tt
       opens_atom_known (Applying left from work values) span vs cell rest kvs kc kr = tt
       opens_atom_known (Swapping swap from) span vs cell rest kvs kc kr = tt
-      opens_atom_known (Acting a x) span vs cell rest kvs kc kr = tt
 
       opens_known : (Tidy → IsFree c.doing) → (Tidy → FreshIn Clean c.doing c.state) → (f : OpenForm) (span : Span) (vs : List Value) (cell : Value) (rest : List Value) → AllKnown cells vs → IsKnown cells cell → AllKnown cells rest → TurnKnown (opens f span vs cell rest c)
       opens_known free fr open_form.Alter span vs cell rest kvs kc kr = opens_ref_known free fr Alters span vs cell rest kvs kc kr
@@ -1262,7 +1258,6 @@ module _ (cells : List CellDefinition) where
       closes_swap_known (Restarting left) w rest g k kr = tt
       closes_swap_known (Running left inner from) w rest g k kr = tt
       closes_swap_known (Applying left from work values) w rest g k kr = tt
-      closes_swap_known (Acting a x) w rest g k kr = tt
 
       closes_known : (Tidy → IsFree c.doing) → (Tidy → FreshIn Clean c.doing c.state) → (f : UpdateForm) (span : Span) (w cell : Value) (rest : List Value) → IsKnown cells w → IsKnown cells cell → AllKnown cells rest → TurnKnown (closes f span w cell rest c)
       closes_known free fr update.Alter span w cell rest k kc kr = gives_known free fr rest (close_update span cell w c.state) kr (close_known span cell w c.state kc k mid)
@@ -1273,19 +1268,15 @@ module _ (cells : List CellDefinition) where
 
       started_known : (Tidy → ⊥) → (g : CellId) (o : Option Taken) (s : ActorState) → TakenKnown o → MidKnown s → TurnKnown (started g o c s)
       started_known never g None s k q = (h.0, h.1, h.2, h.3, known_of s q, λ t. absurd (never t))
-      started_known never g (Some y) s k q = ((k.1, h.0), h.1, h.2, k.0, known_of s q, λ t. (tt, inl tt))
+      started_known never g (Some y) s k q = ((k.1, h.0), h.1, h.2, h.3, (q.0, q.1, q.2, k.0), λ t. absurd (never t))
 
       runs_callee_known : (Tidy → FreshIn Clean c.doing c.state) → (f : Callee) (x : Action) (v : Value) (rest : List Value) → AllKnown cells x.args → IsKnown cells v → AllKnown cells rest → TurnKnown (runs_callee code f x v rest c)
       runs_callee_known fr (callee.Core op) x v rest ka k kr = result_lies fr rest (core op (v ∷ x.args)) x.span kr (core_known cells op (v ∷ x.args) (k, ka))
       runs_callee_known fr (callee.Function f) x v rest ka k kr = (tt, locals_known (nth code.functions f) (v ∷ x.args) (k, ka), (kr, h.1, h.2), h.3, h.4, λ t. ((h.5 t).0, inl (fr t)))
 
-      runs_known : (Tidy → FreshIn Clean c.doing c.state) → (doing : Activity) (v : Value) (rest : List Value) → ActivityKnown doing → IsKnown cells v → AllKnown cells rest → TurnKnown (runs code doing v rest c)
-      runs_known fr (Acting a x) v rest g k kr = runs_callee_known fr x.callee x v rest g k kr
-      runs_known fr Outside v rest g k kr = tt
-      runs_known fr (Restarting left) v rest g k kr = tt
-      runs_known fr (Running left inner from) v rest g k kr = tt
-      runs_known fr (Applying left from work values) v rest g k kr = tt
-      runs_known fr (Swapping swap from) v rest g k kr = tt
+      runs_known : (Tidy → FreshIn Clean c.doing c.state) → (o : Option InHand) (v : Value) (rest : List Value) → ActingKnown o → IsKnown cells v → AllKnown cells rest → TurnKnown (runs code o v rest c)
+      runs_known fr None v rest g k kr = tt
+      runs_known fr (Some x) v rest g k kr = runs_callee_known fr x.action.callee x.action v rest g k kr
 
       -- ---- an instruction
 
@@ -1303,14 +1294,12 @@ module _ (cells : List CellDefinition) where
           go (Restarting left) (inl x) cl = tt
           go (Applying left from work values) (inl x) cl = tt
           go (Swapping swap from) (inl x) cl = tt
-          go (Acting a y) (inl x) cl = tt
           go (Running left zero from) (inr x) cl = absurd (n (subst IsEnd e x.0))
           go (Running left (suc inner) from) (inr x) cl = absurd x
           go Outside (inr x) cl = absurd x
           go (Restarting left) (inr x) cl = absurd x
           go (Applying left from work values) (inr x) cl = absurd x
           go (Swapping swap from) (inr x) cl = absurd x
-          go (Acting a y) (inr x) cl = absurd x
 
       act_known : (i : Option PlainInstr) → fetch code c.body c.place ≡ i → InstrKnown i → (Tidy → MayStandHere c.doing i) → TurnKnown (act code i c)
       act_known None e i m = tt
@@ -1339,8 +1328,8 @@ module _ (cells : List CellDefinition) where
           args_of_known n c.stack _ h.0 (λ vs cell rest kvs kc kr. gives_known (λ t. send_free f n span c.doing (m t)) (fresh_or (Some (SendOf f n span)) e (λ x. x)) rest (send_to (is_inside c.doing) span cell f vs c.state) kr (send_known (is_inside c.doing) span cell f vs c.state kc kvs mid))
       act_known (Some Halt) e i m = tt
       act_known (Some (TakeOf g)) e i m = on_known TakenKnown c.doing (take_action g c.state) (λ o s. started g o c s) h.3 (take_known g c.state mid) (λ o s k q. started_known m g o s k q)
-      act_known (Some RunOf) e i m = top_known c.stack _ h.0 (λ v rest kv kr. runs_known (fresh_or (Some RunOf) e (λ x. x)) c.doing v rest h.3 kv kr)
-      act_known (Some (FinishOf g)) e i m = top_known c.stack _ h.0 (λ v rest kv kr. told_known (finish g (Ok v) c.state) _ (finish_known g (Ok v) c.state kv mid) (λ s q. (tt, tt, tt, tt, known_of s q, λ t. (tt, inl tt))))
+      act_known (Some RunOf) e i m = top_known c.stack _ h.0 (λ v rest kv kr. runs_known (fresh_or (Some RunOf) e (λ x. x)) c.state.acting v rest h.4.3 kv kr)
+      act_known (Some (FinishOf g)) e i m = top_known c.stack _ h.0 (λ v rest kv kr. told_known (finish g (Ok v) c.state) _ (finish_known g (Ok v) c.state kv mid) (λ s q. (tt, tt, tt, tt, (q.0, q.1, q.2, tt), λ t. (tt, inl tt))))
 
       pub turn_known : CodeIsKnown cells code → (Tidy → MayStandHere c.doing (fetch code c.body c.place)) → TurnKnown (turn code c)
       turn_known i m = act_known (fetch code c.body c.place) refl (i c.body c.place) m

@@ -18,7 +18,7 @@ use Rattle.txs_value_data.specs.declared.value.CellId.{CellId}
 use Rattle.txs_value_data.specs.declared.value.Value.{Value}
 use Rattle.txs_tree_meaning.specs.Tree.{PlainFunction}
 use Rattle.txs_code_meaning.specs.ActorState.{ActorState}
-use Rattle.txs_code_meaning.specs.Machine.{PlainBody, ThreadCode, agent_code, Configuration, Turned, Ended, Failed, Asking, Unfinished, Stuck, and_then, turn, run}
+use Rattle.txs_code_meaning.specs.Machine.{Library, ThreadCode, agent_code, Configuration, Turned, Ended, Failed, Asking, Unfinished, Stuck, and_then, turn, run}
 use Rattle.txs_code_meaning.specs.Opening.{given, opening, agent_target}
 use Rattle.txs_code_meaning.proofs.Acts.{run_more, exec_run, stated}
 use Rattle.txs_code_meaning.proofs.Later.{more_to_come}
@@ -35,6 +35,7 @@ use Rattle.txs_theorem_runs.specs.Run as run_of
 use Rattle.txs_theorem_runs.specs.Shared.{Shared, book_for, may_ask, shared_after}
 use Rattle.txs_theorem_runs.specs.Told.{Entry, exchange_of}
 use Rattle.txs_theorem_runs.proofs.Acting.{map_append, next_sound, fits_more, one_agent, no_thread, agent_within, others_act_not}
+use Rattle.txs_theorem_runs.proofs.Adding.{sends_nothing}
 use Rattle.txs_theorem_runs.proofs.Growing.{Grown}
 use Rattle.txs_theorem_runs.proofs.Hearing.{consumes_actions}
 use Rattle.txs_theorem_runs.proofs.Keeping.{IsKept, Any, Holds, turn_keeps}
@@ -54,6 +55,7 @@ empty_kept = record {
   on_begin = λ s p h. h;
   on_work = λ s view w o e h. h;
   on_hold = λ s x such h. h;
+  on_acting = λ s o h. h;
   on_wait = λ s q own h. h;
 }
 
@@ -67,7 +69,7 @@ consumed Stuck h = tt
 turn_consumed : (code : ThreadCode) (c : Configuration) → c.state.todo ≡ [] → HasConsumed (turn code c)
 turn_consumed code c h = consumed (turn code c) (turn_keeps Any Empty Empty empty_kept (λ s k. k) (λ s out k. k) code c h (λ f n span e g vs many. tt))
 
-module _ (cells : List CellDefinition) (threads : ℕ) (code : List PlainBody) (functions : List PlainFunction) where
+module _ (cells : List CellDefinition) (threads : ℕ) (code : Library) (functions : List PlainFunction) where
   abbrev pub actor : CellId → ℕ
   actor g = world.actor_of threads (cells_of cells) g
 
@@ -154,7 +156,7 @@ module _ (cells : List CellDefinition) (threads : ℕ) (code : List PlainBody) (
               found = ev;
               comes = λ n new m. (
                   let r = (follows g).ends_so (map exchange_of x.entries) number (suc x.turns) n y v new (resting f) (next_sound functions (cells_of cells) book g y sound en) (asks_next c s (ask.Take g) at e w) m in
-                  (r.0, subst (λ l. AsksNext (ask.Finish g new) (agent_target code g r.0 l)) (sym (map_append x.entries (entry (ask.Take g) (reply.Action number y v) (length book)))) r.1));
+                  (r.0, subst (λ l. AsksNext (ask.Finish g new []) (agent_target code g r.0 l)) (sym (map_append x.entries (entry (ask.Take g) (reply.Action number y v) (length book)))) r.1));
             },
           ))
 
@@ -169,21 +171,21 @@ module _ (cells : List CellDefinition) (threads : ℕ) (code : List PlainBody) (
       told : (h : HasTaken cells code functions book g x.entries) → map exchange_of x.entries ≡ map exchange_of h.done ++ exchange (ask.Take g) (reply.Action h.number h.action h.state) ∷ []
       told h = ap (map exchange_of) h.entries ∙ map_append h.done (entry (ask.Take g) (reply.Action h.number h.action h.state) h.at)
 
-      pub finish_means : (new : Result Value Fault) → s.wants ≡ Some (ask.Finish g new) → is_taken sh.taken g ≡ true → (i : ℕ) → ActMeans functions cells book (event.Act g i new)
+      pub finish_means : (new : Result Value Fault) → s.wants ≡ Some (ask.Finish g new []) → is_taken sh.taken g ≡ true → (i : ℕ) → ActMeans functions cells book (event.Act g i new [])
       finish_means new w t i =
           let h = busy t in
           let m = (follows g).only (map exchange_of h.done) h.number (suc x.turns) h.action h.state new h.finished h.sound
-          (subst (λ l. AsksNext (ask.Finish g new) (agent_target code g (suc x.turns) l)) (told h) (asks_next c s (ask.Finish g new) at e w)) in
+          (subst (λ l. AsksNext (ask.Finish g new []) (agent_target code g (suc x.turns) l)) (told h) (asks_next c s (ask.Finish g new []) at e w)) in
           (h.action, h.next, m.0, subst (λ v. action_meaning m.0 functions h.action v ≡ Some new) (sym h.found) m.1)
 
-      finishes_well : (new : Result Value Fault) → s.wants ≡ Some (ask.Finish g new) → is_taken sh.taken g ≡ true → (d : Event) (b : Bool)
-          → Works (shared_after cells (ask.Finish g new) (if b then served reply.Done (book ++ d ∷ []) else served reply.Full book) sh) g (replied tc c (ask.Finish g new) (if b then served reply.Done (book ++ d ∷ []) else served reply.Full book).reply (length book) x)
+      finishes_well : (new : Result Value Fault) → s.wants ≡ Some (ask.Finish g new []) → is_taken sh.taken g ≡ true → (d : Event) (b : Bool)
+          → Works (shared_after cells (ask.Finish g new []) (if b then served reply.Done (book ++ d ∷ []) else served reply.Full book) sh) g (replied tc c (ask.Finish g new []) (if b then served reply.Done (book ++ d ∷ []) else served reply.Full book).reply (length book) x)
       finishes_well new w t d false = record { ran = k.ran; consumed = k.consumed; phase = k.phase }
       finishes_well new w t d true =
-          heard c (ask.Finish g new) reply.Done (length book) _ at (consumes_actions tc c s (ask.Finish g new) reply.Done (empty c at) e w tt)
+          heard c (ask.Finish g new []) reply.Done (length book) _ at (consumes_actions tc c s (ask.Finish g new []) reply.Done (empty c at) e w tt)
           (inl (
             get_or-set_same sh.taken g.number false false within,
-            subst (λ xs. AgentFits functions g xs) (sym (map_append x.entries (entry (ask.Finish g new) reply.Done (length book)) ∙ ap (λ l. l ++ exchange (ask.Finish g new) reply.Done ∷ []) (told (busy t)) ∙ two (map exchange_of (busy t).done) _ _))
+            subst (λ xs. AgentFits functions g xs) (sym (map_append x.entries (entry (ask.Finish g new []) reply.Done (length book)) ∙ ap (λ l. l ++ exchange (ask.Finish g new []) reply.Done ∷ []) (told (busy t)) ∙ two (map exchange_of (busy t).done) _ _))
                 (fits_more functions g (map exchange_of (busy t).done) (busy t).number (busy t).action (busy t).state new (busy t).finished (busy t).sound),
           ))
         where
@@ -199,8 +201,8 @@ module _ (cells : List CellDefinition) (threads : ℕ) (code : List PlainBody) (
       take_asked : (h : CellId) → g ≡ h → is_taken sh.taken h ≡ false → s.wants ≡ Some (ask.Take h) → AskedWell (ask.Take h)
       take_asked h p = subst (λ i. is_taken sh.taken i ≡ false → s.wants ≡ Some (ask.Take i) → AskedWell (ask.Take i)) p (λ f w. takes_well w f _ _ refl (next_action (cells_of cells) book g) refl)
 
-      finish_asked : (h : CellId) (new : Result Value Fault) → g ≡ h → is_taken sh.taken h ≡ true → s.wants ≡ Some (ask.Finish h new) → AskedWell (ask.Finish h new)
-      finish_asked h new p = subst (λ i. is_taken sh.taken i ≡ true → s.wants ≡ Some (ask.Finish i new) → AskedWell (ask.Finish i new)) p (λ t w. finishes_well new w t _ (nat_lt (length book) most_events))
+      finish_asked : (h : CellId) (new : Result Value Fault) → g ≡ h → is_taken sh.taken h ≡ true → s.wants ≡ Some (ask.Finish h new []) → AskedWell (ask.Finish h new [])
+      finish_asked h new p = subst (λ i. is_taken sh.taken i ≡ true → s.wants ≡ Some (ask.Finish i new []) → AskedWell (ask.Finish i new [])) p (λ t w. finishes_well new w t _ (nat_lt (length book) most_events))
 
       free : (b : Bool) → not b ≡ true → b ≡ false
       free true h = absurd (false≢true h)
@@ -214,10 +216,11 @@ module _ (cells : List CellDefinition) (threads : ℕ) (code : List PlainBody) (
           let b = both (actor g == actor h) _ may in
           let d = both (has_agent (cells_of cells) h) (not (is_taken sh.taken h)) b.1 in
           take_asked h (one_agent (cells_of cells) threads g h has d.0 (numbers (actor g) (actor h) b.0)) (free (is_taken sh.taken h) d.1) w
-      lawful_asked (ask.Finish h new) may w =
+      lawful_asked (ask.Finish h new []) may w =
           let b = both (actor g == actor h) _ may in
-          let d = both (has_agent (cells_of cells) h) (is_taken sh.taken h) b.1 in
-          finish_asked h new (one_agent (cells_of cells) threads g h has d.0 (numbers (actor g) (actor h) b.0)) d.1 w
+          let d = both (has_agent (cells_of cells) h) (is_taken sh.taken h && true) b.1 in
+          finish_asked h new (one_agent (cells_of cells) threads g h has d.0 (numbers (actor g) (actor h) b.0)) (both (is_taken sh.taken h) true d.1).0 w
+      lawful_asked (ask.Finish h new (y ∷ ys)) may w = absurd (false≢true (sends_nothing cells threads (actor g) sh.taken (sh.books (book_for cells (ask.Finish h new (y ∷ ys)))) h new (y ∷ ys) may))
       lawful_asked ask.Begin may w = absurd (no_threads _ may)
       lawful_asked (ask.Look d p) may w = absurd (no_threads _ may)
       lawful_asked (ask.View cs) may w = absurd (no_threads _ may)

@@ -15,7 +15,7 @@ use Rattle.txs_value_data.specs.declared.value.CellId.{CellId}
 use Rattle.txs_value_data.specs.declared.value.Value.{Value}
 use Rattle.txs_tree_meaning.specs.Tree.{PlainFunction}
 use Rattle.txs_code_meaning.specs.ActorState.{ActorState}
-use Rattle.txs_code_meaning.specs.Machine.{PlainBody, ThreadCode, agent_code, Configuration, Turned, Ended, Failed, Asking, Unfinished, Stuck, turn, run}
+use Rattle.txs_code_meaning.specs.Machine.{ThreadCode, agent_code, Configuration, Turned, Ended, Failed, Asking, Unfinished, Stuck, turn, run, Library}
 use Rattle.txs_code_meaning.specs.Opening.{given, opening, agent_target}
 use Rattle.txs_theorem_threads.specs.FollowsAgent.{action_meaning, SoundAction, AgentFits, AsksNext, GoesOn, FollowsAgents}
 use Rattle.txs_theorem_threads.specs.Sends.{CodeSendsSound}
@@ -32,7 +32,7 @@ use Rattle.txs_theorem_runs.specs.Run.{Actor, State, Play, plays, exchange, entr
 -- what an agent alone asks
 abbrev pub IsAgents : Ask → Type 0
 IsAgents (ask.Take g) = Unit {0}
-IsAgents (ask.Finish g new) = Unit {0}
+IsAgents (ask.Finish g new sends) = Unit {0}
 IsAgents _ = ⊥
 
 -- wherever a turn came to, all replies are consumed
@@ -53,7 +53,7 @@ ConsumesActions =
 
 -- an action that is handed in is what its callee means on the state that the agent had then, of the action that was the first in its mail
 abbrev pub ActMeans : List PlainFunction → List CellDefinition → List Event → EventKind → Type 0
-ActMeans functions cells done (event.Act g number new) =
+ActMeans functions cells done (event.Act g number new sends) =
     (x : Action) × (next_action (cells_of cells) done g ≡ Some x) × (n : ℕ) × (action_meaning n functions x (newest (world.opening (cells_of cells)) done g.number) ≡ Some new)
 ActMeans functions cells done _ = Unit {0}
 
@@ -70,6 +70,7 @@ AreSound functions (x ∷ xs) = SoundAction functions x × AreSound functions xs
 abbrev pub SendsSound : List PlainFunction → EventKind → Type 0
 SendsSound functions (event.Commit at view ws sends) = AreSound functions sends
 SendsSound functions (event.Send x) = SoundAction functions x
+SendsSound functions (event.Act g number new sends) = AreSound functions sends
 SendsSound functions _ = Unit {0}
 
 -- every action that a book sends is one that a program may send
@@ -83,7 +84,7 @@ abbrev pub HasFinished : List PlainFunction → CellId → List Entry → Type 0
 HasFinished functions g es = AgentFits functions g (map exchange_of es)
 
 -- An agent has an action in hand: the first in its mail, with the agent's state; it took it after it had finished all others.
-pub record HasTaken (cells : List CellDefinition) (code : List PlainBody) (functions : List PlainFunction) (book : List Event) (g : CellId) (es : List Entry) : Type 0 where
+pub record HasTaken (cells : List CellDefinition) (code : Library) (functions : List PlainFunction) (book : List Event) (g : CellId) (es : List Entry) : Type 0 where
   pub done : List Entry
   pub number : ℕ
   pub at : ℕ
@@ -95,24 +96,24 @@ pub record HasTaken (cells : List CellDefinition) (code : List PlainBody) (funct
   pub next : next_action (cells_of cells) book g ≡ Some action
   pub found : newest (world.opening (cells_of cells)) book g.number ≡ state
   -- where the action has a meaning, the agent's code comes to hand it in
-  pub comes : (n : ℕ) (new : Result Value Fault) → action_meaning n functions action state ≡ Some new → (j : ℕ) × AsksNext (ask.Finish g new) (agent_target code g j (map exchange_of es))
+  pub comes : (n : ℕ) (new : Result Value Fault) → action_meaning n functions action state ≡ Some new → (j : ℕ) × AsksNext (ask.Finish g new []) (agent_target code g j (map exchange_of es))
 
 -- An agent is explained: it is where its code comes to on what it was told, and has consumed it; it hasn't ended, and has printed nothing; what it took
 -- it has finished, but for one action at most, which it has in hand.
-pub record AgentExplained (cells : List CellDefinition) (code : List PlainBody) (functions : List PlainFunction) (book : List Event) (g : CellId) (x : Actor) : Type 0 where
+pub record AgentExplained (cells : List CellDefinition) (code : Library) (functions : List PlainFunction) (book : List Event) (g : CellId) (x : Actor) : Type 0 where
   pub ran : run (agent_code code g) x.turns (opening (agent_code code g) (map exchange_of x.entries)) ≡ x.at
   pub consumed : HasConsumed x.at
   pub goes_on : GoesOn (outcome_at x.at)
   pub actions : HasFinished functions g x.entries ⊎ HasTaken cells code functions book g x.entries
 
 -- Agents are explained: what the book sends a program may send, each action that is handed in means what it came to, and each agent is explained.
-pub record AgentsExplain (cells : List CellDefinition) (threads : ℕ) (code : List PlainBody) (functions : List PlainFunction) (st : State) : Type 0 where
+pub record AgentsExplain (cells : List CellDefinition) (threads : ℕ) (code : Library) (functions : List PlainFunction) (st : State) : Type 0 where
   pub sends : AllSound functions (st.shared.books 0)
   pub acts : ActsMean functions cells (st.shared.books 0)
   pub agents : (g : CellId) → has_agent (cells_of cells) g ≡ true → AgentExplained cells code functions (st.shared.books 0) g (st.actors (actor_of threads (cells_of cells) g))
 
 -- each agent's actor runs the agent's code
-abbrev pub RunsAgents : List CellDefinition → ℕ → (ℕ → ThreadCode) → List PlainBody → Type 0
+abbrev pub RunsAgents : List CellDefinition → ℕ → (ℕ → ThreadCode) → Library → Type 0
 RunsAgents cells threads codes code = (g : CellId) → has_agent (cells_of cells) g ≡ true → codes (actor_of threads (cells_of cells) g) ≡ agent_code code g
 
 -- the code of each thread sends only what a program may send
@@ -122,6 +123,6 @@ ThreadsSendSound threads codes functions = (a : ℕ) → nat_lt a threads ≡ tr
 -- So it is of every list of plays of any actors, where the agents' code follows the functions, and the threads' code sends only what a program may send.
 abbrev pub RunActsMean : Type 0
 RunActsMean =
-    (cells : List CellDefinition) (threads : ℕ) (codes : ℕ → ThreadCode) (code : List PlainBody) (functions : List PlainFunction) (ys : List Play)
+    (cells : List CellDefinition) (threads : ℕ) (codes : ℕ → ThreadCode) (code : Library) (functions : List PlainFunction) (ys : List Play)
     → FollowsAgents code functions → RunsAgents cells threads codes code → ThreadsSendSound threads codes functions
     → AgentsExplain cells threads code functions (plays cells threads codes ys)

@@ -76,7 +76,7 @@ RunExplained = (cells : List CellDefinition) (threads : ℕ) (codes : ℕ → Th
 
 -- an actor that no thread has runs nothing
 abbrev pub code_or_none : Option ThreadCode → ThreadCode
-code_or_none None = record { functions = []; main = record { locals = 0; instrs = Halt ∷ [] } }
+code_or_none None = record { functions = []; validators = []; main = record { locals = 0; instrs = Halt ∷ [] } }
 code_or_none (Some c) = c
 
 -- the code of each actor: that of the thread with its number

@@ -5,7 +5,7 @@ use Rattle.txs_value_base.specs.Places.{nth}
 use Rattle.txs_value_cell.specs.declared.cell.CellDefinition.{CellDefinition}
 use Rattle.txs_tree_meaning.specs.Thread.{thread_meaning}
 use Rattle.txs_tree_meaning.specs.Tree.{PlainThread, PlainProgram}
-use Rattle.txs_code_meaning.specs.Machine.{PlainBody, ThreadCode}
+use Rattle.txs_code_meaning.specs.Machine.{ThreadCode, Library}
 use Rattle.txs_code_meaning.specs.PlainCode.{PlainCode, thread_code}
 use Rattle.txs_code_meaning.specs.WellTyped.{WellTyped}
 use Rattle.txs_theorem_threads.specs.FollowsAgent.{FollowsAgents}
@@ -32,14 +32,14 @@ RunTraced =
     → ActorTraced cells threads (plays cells threads codes ys).shared.books a ((plays cells threads codes ys).actors a)
 
 -- the actors of a program's run: each thread runs its code, and behind the threads each agent runs its own, over the functions
-pub record RunsProgram (p : PlainProgram) (threads : List ThreadCode) (functions : List PlainBody) (codes : ℕ → ThreadCode) : Type 0 where
+pub record RunsProgram (p : PlainProgram) (threads : List ThreadCode) (functions : Library) (codes : ℕ → ThreadCode) : Type 0 where
   pub threads_run : (i : ℕ) (c : ThreadCode) → nth threads i ≡ Some c → codes i ≡ c
   pub agents_run : RunsAgents p.cells (length p.threads) codes functions
 
 -- A run's report is explained: the books are legal and each thread means what it did; what the threads sent a program may send, and each action
 -- means what it came to; the trace of each actor names its own events and no others; commits that were refused were undisturbed; and so were the
 -- transactions that the threads mean.
-pub record ReportExplained (p : PlainProgram) (functions : List PlainBody) (st : State) : Type 0 where
+pub record ReportExplained (p : PlainProgram) (functions : Library) (st : State) : Type 0 where
   pub threads : ProgramExplains p st
   pub agents : AgentsExplain p.cells (length p.threads) functions p.functions st
   pub traced : (a : ℕ) → ActorTraced p.cells (length p.threads) st.shared.books a (st.actors a)
@@ -59,6 +59,6 @@ TypedAreStaged = (code : PlainCode) (function_rooms thread_rooms : List ℕ) →
 -- A report is explained of each run of a program's threads and agents, where their code follows the program, asks in its stages, and sends only what a program may send
 abbrev pub RunReported : Type 0
 RunReported =
-    (p : PlainProgram) (threads : List ThreadCode) (functions : List PlainBody) (codes : ℕ → ThreadCode) (ys : List Play)
+    (p : PlainProgram) (threads : List ThreadCode) (functions : Library) (codes : ℕ → ThreadCode) (ys : List Play)
     → FollowsAll threads p → FollowsAgents functions p.functions → CodesStaged threads → CodesSendSound p.functions threads → RunsProgram p threads functions codes
     → ReportExplained p functions (plays p.cells (length p.threads) codes ys)

@@ -17,7 +17,6 @@ stage_in (machine.Restarting left) s = Idle
 stage_in (machine.Running left inner from) s = Open s.at
 stage_in (machine.Applying left from work values) s = Viewing s.at s.view
 stage_in (machine.Swapping swap from) s = Swapping swap.cell swap.at
-stage_in (machine.Acting agent action) s = Idle
 
 -- the stage of a configuration
 abbrev pub stage_of : Configuration → Stage

@@ -1,9 +1,10 @@
 -- Where the instructions of a thread may stand.
 use Rattle.std.specs.Prelude.{◌≡◌, ℕ, List, Option, Some, None}
 use Rattle.txs_world_protocol.specs.Ask.{Exchange}
-use Rattle.txs_code_meaning.specs.Machine.{PlainInstr, LookOf, PutOf, OpenOf, CloseOf, SendOf, TakeOf, RunOf, FinishOf, ThreadCode, fetch, Activity, Outside, Restarting, Running, Applying, Swapping, Acting, Configuration, Unfinished, run}
+use Rattle.txs_code_meaning.specs.Machine.{PlainInstr, LookOf, PutOf, OpenOf, CloseOf, SendOf, TakeOf, RunOf, FinishOf, ThreadCode, fetch, Activity, Applying, Swapping, Configuration, Unfinished, run}
 use Rattle.txs_code_meaning.specs.Opening.{opening}
 use Rattle.txs_theorem_runs.specs.Staged.{StagedCode}
+use Rattle.txs_code_meaning.specs.ActorState.{InHand}
 
 -- A form on a cell stands outside every transaction or in one, and in no commute phase and no swap, whose callees are pure; and
 -- an agent's own instructions are none of a thread's.
@@ -20,7 +21,6 @@ MayStandIn (Swapping swap from) (LookOf f span) = ⊥
 MayStandIn (Swapping swap from) (PutOf f span) = ⊥
 MayStandIn (Swapping swap from) (OpenOf f n span) = ⊥
 MayStandIn (Swapping swap from) (SendOf f n span) = ⊥
-MayStandIn (Acting g a) i = ⊥
 MayStandIn doing i = Unit {0}
 
 -- the instruction at hand may stand here
@@ -28,18 +28,14 @@ abbrev pub MayStandHere : Activity → Option PlainInstr → Type 0
 MayStandHere doing None = Unit {0}
 MayStandHere doing (Some i) = MayStandIn doing i
 
--- a thread isn't an agent's action
-abbrev pub IsThreads : Activity → Type 0
-IsThreads (Acting g a) = ⊥
-IsThreads Outside = Unit {0}
-IsThreads (Restarting left) = Unit {0}
-IsThreads (Running left inner from) = Unit {0}
-IsThreads (Applying left from work values) = Unit {0}
-IsThreads (Swapping swap from) = Unit {0}
+-- a thread runs no agent's action
+abbrev pub IsThreads : Option InHand → Type 0
+IsThreads None = Unit {0}
+IsThreads (Some h) = ⊥
 
 -- code whose instructions stand where they may, wherever it comes to, whatever it is told
 abbrev pub StandingCode : ThreadCode → Type 0
-StandingCode code = (m : ℕ) (xs : List Exchange) (c : Configuration) → run code m (opening code xs) ≡ Unfinished c → MayStandHere c.doing (fetch code c.body c.place) × IsThreads c.doing
+StandingCode code = (m : ℕ) (xs : List Exchange) (c : Configuration) → run code m (opening code xs) ≡ Unfinished c → MayStandHere c.doing (fetch code c.body c.place) × IsThreads c.state.acting
 
 -- such code asks in its stages
 abbrev pub StandingIsStaged : Type 0

@@ -29,7 +29,7 @@ SaidAt s p (Fail at view) rest xs = rest xs
 SaidAt s p (Refused at view g) rest xs = Front (λ x. s.refusal p.book p.at at g x) rest xs
 SaidAt s p (Send x) rest xs = rest xs
 SaidAt s p (SendRefused g) rest xs = rest xs
-SaidAt s p (Act g n new) rest xs = rest xs
+SaidAt s p (Act g n new sends) rest xs = rest xs
 SaidAt s p (Swap new) rest xs = rest xs
 SaidAt s p (Broke at) rest xs = rest xs
 

@@ -3,7 +3,7 @@ use Rattle.std.proofs.Common.{◌≡◌, ℕ, Bool, true, false, ◌||◌, ◌==
 use Rattle.std.specs.Prelude.{not}
 use Rattle.std.proofs.lemmas.Bool.{eqb-true, false≢true}
 use Rattle.txs_world_protocol.specs.Ask.{Writes}
-use Rattle.txs_value_cell.specs.Cells.{World}
+use Rattle.txs_value_cell.specs.Cells.{World, Validators}
 use Rattle.txs_value_cell.specs.declared.action.Action.{Action}
 use Rattle.txs_frame.specs.Frame.{Work, has_number}
 use Rattle.txs_value_base.specs.declared.op.Callee.{Callee}
@@ -62,8 +62,8 @@ met_suits functions n x R sound marks met =
     (tree_carried n functions sound marks R R (length functions) (calls_carried n functions sound marks R R (length functions)) x.body true x.wanted x.locals tx_start (body_within functions x.body (length x.locals) met.body_sound) met.body_marked) in
     subst (Stays q R R P tx_start) met.means h.2 tt
 
-module _ (functions : List PlainFunction) (n : ℕ) (x : TxRun) (R C : World) (writes : Writes) (sends : List Action) (sound : SoundFunctions [] functions) (marks : MarkedFunctions functions)
-    (did : Committed functions n x R C writes sends) (covered : is_covered x.state ≡ true) (agree : AgreeOn x.state.done R C) where
+module _ (functions : List PlainFunction) (validators : Validators) (n : ℕ) (x : TxRun) (R C : World) (writes : Writes) (sends : List Action) (sound : SoundFunctions [] functions) (marks : MarkedFunctions functions)
+    (did : Committed functions validators n x R C writes sends) (covered : is_covered x.state ≡ true) (agree : AgreeOn x.state.done R C) where
   abbrev q : Applies (Unit {0})
   q = quietly n functions (length functions) nowhere
 
@@ -90,13 +90,13 @@ module _ (functions : List PlainFunction) (n : ℕ) (x : TxRun) (R C : World) (w
         unused = not_used x.state.used parts.0;
         agree = λ k there. agree k (held_at x.state.done x.state.reads k parts.1 there);
         remakes = λ k there.
-            remakes P (purely n functions) (λ c us u. q c us u) q (λ c us s p. itself_carried (q c us tt)) (λ c us v p e. e) x.state.done C writes tt tt suits did.writes_same k there;
+            remakes P validators nowhere (purely n functions) (λ c us u. q c us u) q (λ c us s p. itself_carried (q c us tt)) (λ c us v p e. e) x.state.done C writes tt tt suits did.writes_same k there;
       }
 
   goes : Goes q R C P x.wanted (Completes x.result x.state) (meaning C)
   goes = subst (λ z. Goes q R C P x.wanted z (meaning C)) did.met.means (body_carried.1 [] near_start)
 
-  pub serial : IsSerial functions n x C writes sends
+  pub serial : IsSerial functions validators n x C writes sends
   serial =
       let r = goes fine in record {
         result = r.0;
@@ -111,4 +111,4 @@ module _ (functions : List PlainFunction) (n : ℕ) (x : TxRun) (R C : World) (w
       }
 
 pub covered_is_serial : CoveredIsSerial
-covered_is_serial functions n x R C writes sends sound marks did covered agree = serial functions n x R C writes sends sound marks did covered agree
+covered_is_serial functions validators n x R C writes sends sound marks did covered agree = serial functions validators n x R C writes sends sound marks did covered agree

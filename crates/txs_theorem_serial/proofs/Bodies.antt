@@ -102,8 +102,8 @@ module _ (n : ℕ) (functions : List PlainFunction) (sound : SoundFunctions [] f
     looks : (w : Bool) (form : LookForm) (inside : Bool) (m : Mark) (v : Value) (s : TxState) → Carried q R C P w s ((in_transaction R).look form inside m v s) (λ xs. (in_transaction C).look form inside m v (moved xs s))
     looks w form inside m v s = cell_carried q R C P w (cell_of (rule (form_of.Look form)) true v) m.span (tx_look R form) (tx_look C form) s (λ c. look_carried q R C P w form c s)
 
-    puts : (w : Bool) (form : PutForm) (inside : Bool) (m : Mark) (v u : Value) (s : TxState) → Carried q R C P w s ((in_transaction R).put form inside m v u s) (λ xs. (in_transaction C).put form inside m v u (moved xs s))
-    puts w form inside m v u s = cell_carried q R C P w (cell_of (rule (form_of.Put form)) true v) m.span (λ c t. tx_put form m.span c u t) (λ c t. tx_put form m.span c u t) s (λ c. put_carried q R C P w form m.span c u s)
+    puts : (w : Bool) (form : PutForm) (inside : Bool) (m : Mark) (v u : Value) (f g : Applies TxState) (s : TxState) → Carried q R C P w s ((in_transaction R).put form inside m v u f s) (λ xs. (in_transaction C).put form inside m v u g (moved xs s))
+    puts w form inside m v u f g s = cell_carried q R C P w (cell_of (rule (form_of.Put form)) true v) m.span (λ c t. tx_put form m.span c u t) (λ c t. tx_put form m.span c u t) s (λ c. put_carried q R C P w form m.span c u s)
 
     updates : (w : Bool) (form : UpdateForm) (inside : Bool) (m : Mark) → (w ≡ true → m.wanted ≡ true) → (v : Value) (callee : Callee) → IsPure (known functions) callee × Below b callee → (vs : List Value) (s : TxState)
         → Carried q R C P w s ((in_transaction R).update form inside m v callee vs (apply (callR b inside) m.span) s) (λ xs. (in_transaction C).update form inside m v callee vs (apply (callC b inside) m.span) (moved xs s))
@@ -161,10 +161,10 @@ module _ (n : ℕ) (functions : List PlainFunction) (sound : SoundFunctions [] f
           (tree_carried cell inside true env s p.1 k.1) (λ c s1. looks w form inside m c s1)
       tree_carried (Put form cell value m) inside w env s p k =
           bind_carried q R C P w s (onR inside cell env s) (λ xs. onC inside cell env (moved xs s))
-          (λ c s1. bind (onR inside value env s1) (λ v s2. (in_transaction R).put form inside m c v s2)) (λ c s1. bind (onC inside value env s1) (λ v s2. (in_transaction C).put form inside m c v s2))
+          (λ c s1. bind (onR inside value env s1) (λ v s2. (in_transaction R).put form inside m c v (apply (callR b inside) m.span) s2)) (λ c s1. bind (onC inside value env s1) (λ v s2. (in_transaction C).put form inside m c v (apply (callC b inside) m.span) s2))
           (tree_carried cell inside true env s p.1 k.1)
-          (λ c s1. bind_carried q R C P w s1 (onR inside value env s1) (λ xs. onC inside value env (moved xs s1)) (λ v s2. (in_transaction R).put form inside m c v s2) (λ v s2. (in_transaction C).put form inside m c v s2)
-          (tree_carried value inside true env s1 p.2 k.2) (λ v s2. puts w form inside m c v s2))
+          (λ c s1. bind_carried q R C P w s1 (onR inside value env s1) (λ xs. onC inside value env (moved xs s1)) (λ v s2. (in_transaction R).put form inside m c v (apply (callR b inside) m.span) s2) (λ v s2. (in_transaction C).put form inside m c v (apply (callC b inside) m.span) s2)
+          (tree_carried value inside true env s1 p.2 k.2) (λ v s2. puts w form inside m c v (apply (callR b inside) m.span) (apply (callC b inside) m.span) s2))
       tree_carried (Update form cell callee args m) inside w env s p k =
           bind_carried q R C P w s (onR inside cell env s) (λ xs. onC inside cell env (moved xs s))
           (λ c s1. bind (eval_all (in_transaction R) (callR b) n inside args env s1) (λ vs s2. (in_transaction R).update form inside m c callee vs (apply (callR b inside) m.span) s2))

@@ -16,7 +16,7 @@ use Rattle.txs_tree_meaning.specs.Known.{known}
 use Rattle.txs_tree_meaning.specs.Meaning.{Completion, Completes, Recurs, Faults, Retries, Waits, OutOfTurns, Invalid, bind, give, result_of, Applies, Effects, turns, eval, call_at}
 use Rattle.txs_tree_meaning.specs.Pure.{no_effects}
 use Rattle.txs_tree_meaning.specs.Sound.{in_dosync, SoundTree, SoundFunctions}
-use Rattle.txs_tree_meaning.specs.Transaction.{TxState, current, taken, done_as, tx_update, in_transaction, tx_start, tx_meaning}
+use Rattle.txs_tree_meaning.specs.Transaction.{TxState, current, taken, done_as, on_cell, tx_put, tx_update, in_transaction, tx_start, tx_meaning}
 use Rattle.txs_tree_meaning.specs.Tree.{Mark, Tree, PlainFunction}
 use Rattle.txs_value_data.specs.declared.value.Value.{Value}
 use Rattle.txs_theorem_threads.proofs.Callees.{pure_callees, callees_in, function_callees}
@@ -99,7 +99,7 @@ quiet_alike : (n : ℕ) (functions : List PlainFunction) (cf cg : Bool → ℕ �
 quiet_alike n functions cf cg = record {
   print = λ inside vs s t m r. tt;
   look = λ form inside m c s t q i r. tt;
-  put = λ form inside m c v s t q i r. tt;
+  put = λ form inside m c v s t q i h r. tt;
   update = λ form inside m c callee vs s t q i p h r. tt;
   send = λ inside m c callee vs s t i p r. tt;
   dosync = λ inside m e env s t i p h a r. tt;
@@ -134,7 +134,7 @@ tx_alike : (R : World) (n : ℕ) (functions : List PlainFunction) (cf cg : Bool 
 tx_alike R n functions cf cg = record {
   print = λ inside vs s t m r. tt;
   look = λ form inside m c s t may i r. from_same TxState (λ u. (in_transaction R).look form inside m c u) s t r;
-  put = λ form inside m c w s t may i r. from_same TxState (λ u. (in_transaction R).put form inside m c w u) s t r;
+  put = λ form inside m c w s t may i a r. from_same TxState (λ u. on_cell (form_of.Put form) true m.span c (λ d t1. tx_put form m.span d w t1) u) s t r;
   update = λ form inside m c callee vs s t may i p a r. from_alike TxState _ _ (update_alike R form m callee vs _ _ (a (λ f. tt)) c) s t r;
   send = λ inside m c callee vs s t i p r. from_same TxState (λ u. (in_transaction R).send inside m c callee vs u) s t r;
   dosync = λ inside m e env s t i p b a r. b tt s t r;

@@ -9,7 +9,7 @@ use Rattle.txs_world_protocol.specs.declared.ask.Ask.{Ask}
 use Rattle.txs_world_protocol.specs.declared.ask.Ask.TheVariants as ask
 use Rattle.txs_world_protocol.specs.declared.event.EventKind.{EventKind}
 use Rattle.txs_world_protocol.specs.declared.event.EventKind.TheVariants as event
-use Rattle.txs_value_cell.specs.Cells.{World}
+use Rattle.txs_value_cell.specs.Cells.{World, Validators, validators_of}
 use Rattle.txs_value_cell.specs.Forms.{rule, may_stand, cell_of}
 use Rattle.txs_value_cell.specs.declared.action.Action.{Action}
 use Rattle.txs_value_cell.specs.declared.cell.CellDefinition.{CellDefinition}
@@ -37,7 +37,7 @@ use Rattle.txs_tree_meaning.specs.Known.{known}
 use Rattle.txs_tree_meaning.specs.Meaning.{Completion, Completes, Recurs, Faults, Retries, Waits, OutOfTurns, Invalid, bind, again, closed, give, result_of, allowed, Applies, turns, apply, eval, eval_all, eval_let, eval_do, call_at}
 use Rattle.txs_tree_meaning.specs.Pure.{nowhere}
 use Rattle.txs_tree_meaning.specs.Sound.{Zone, in_function, in_thread, in_dosync, SoundTree, SoundAll, SoundLet, SoundDo, SoundFunctions}
-use Rattle.txs_tree_meaning.specs.Thread.{TxRun, ThreadState, with_tx, eats, meant, reads, resets, faulted, faultless, swaps, sends, over, Transacting, run_of, ends_tx, is_retry, uneaten, eats_tx, Surroundings, thread_look, thread_put, thread_update, on_events, thread_meaning}
+use Rattle.txs_tree_meaning.specs.Thread.{TxRun, ThreadState, with_tx, eats, meant, reads, resets, faulted, faultless, swaps, sends, sends_or_holds, over, Transacting, run_of, ends_tx, is_retry, uneaten, eats_tx, Surroundings, thread_look, thread_put, thread_update, on_events, thread_meaning}
 use Rattle.txs_tree_meaning.specs.Transaction.{TxState, value_or, valued, merged, redone, final_writes, tx_meaning}
 use Rattle.txs_tree_meaning.specs.Tree.{Mark, Tree, Const, Local, If, Do, Let, Loop, Recur, Core, Call, VectorOf, Println, Dosync, Look, Put, Update, Send, Trees, none, more, count, PlainFunction}
 use Rattle.txs_tree_meaning.proofs.Callable.{both, function_at, nth-take, tree-widened}
@@ -70,10 +70,13 @@ Any a = Unit {0}
 abbrev given : Writes → Completion (Unit {0}) Writes
 given ws = Completes ws tt
 
-module _ (functions : List PlainFunction) (n : ℕ) where
+module _ (cells : List CellDefinition) (functions : List PlainFunction) (n : ℕ) where
+  abbrev validators : Validators
+  validators = validators_of cells
+
   -- ---- transactions of more events
 
-  run_on : (k : EventKind) (R Q C : World) (rest next : List TxRun → Type 0) (xs ys : List TxRun) → ((zs : List TxRun) → rest zs → next (zs ++ ys)) → RunOf functions n k R Q C rest xs → RunOf functions n k R Q C next (xs ++ ys)
+  run_on : (k : EventKind) (R Q C : World) (rest next : List TxRun → Type 0) (xs ys : List TxRun) → ((zs : List TxRun) → rest zs → next (zs ++ ys)) → RunOf functions validators n k R Q C rest xs → RunOf functions validators n k R Q C next (xs ++ ys)
   run_on (event.Read c) R Q C rest next xs ys h r = h xs r
   run_on (event.Commit at view ws sends) R Q C rest next [] ys h r = absurd r
   run_on (event.Commit at view ws sends) R Q C rest next (x ∷ xs) ys h r = (r.0, h xs r.1)
@@ -83,25 +86,25 @@ module _ (functions : List PlainFunction) (n : ℕ) where
   run_on (event.Refused at view g) R Q C rest next (x ∷ xs) ys h r = (r.0, h xs r.1)
   run_on (event.Send x) R Q C rest next xs ys h r = h xs r
   run_on (event.SendRefused g) R Q C rest next xs ys h r = h xs r
-  run_on (event.Act g k new) R Q C rest next xs ys h r = h xs r
+  run_on (event.Act g k new sends) R Q C rest next xs ys h r = h xs r
   run_on (event.Swap new) R Q C rest next xs ys h r = h xs r
   run_on (event.Broke at) R Q C rest next xs ys h r = h xs r
 
-  runs_both : (es fs : List SeenEvent) (xs ys : List TxRun) → RunsOf functions n es xs → RunsOf functions n fs ys → RunsOf functions n (es ++ fs) (xs ++ ys)
+  runs_both : (es fs : List SeenEvent) (xs ys : List TxRun) → RunsOf functions validators n es xs → RunsOf functions validators n fs ys → RunsOf functions validators n (es ++ fs) (xs ++ ys)
   runs_both [] fs [] ys h k = k
   runs_both [] fs (x ∷ xs) ys h k = absurd h
-  runs_both (e ∷ es) fs xs ys h k = run_on e.kind e.R e.Q e.C (λ zs. RunsOf functions n es zs) (λ zs. RunsOf functions n (es ++ fs) zs) xs ys (λ zs r. runs_both es fs zs ys r k) h
+  runs_both (e ∷ es) fs xs ys h k = run_on e.kind e.R e.Q e.C (λ zs. RunsOf functions validators n es zs) (λ zs. RunsOf functions validators n (es ++ fs) zs) xs ys (λ zs r. runs_both es fs zs ys r k) h
 
   module _ (es0 : List SeenEvent) where
     abbrev NotedIn : List SeenEvent → List TxRun → Type 0
-    NotedIn todo txs = Noted functions n es0 todo txs
+    NotedIn todo txs = Noted functions validators n es0 todo txs
 
     abbrev NotedAt : ThreadState → Type 0
     NotedAt t = NotedIn t.todo t.txs
 
     -- one more event is eaten, with its transaction, if it is such a one
     abbrev Next : EventKind → World → World → World → List SeenEvent → List TxRun → Type 0
-    Next k R Q C es txs = (xs : List TxRun) → RunOf functions n k R Q C IsNone xs → NotedIn es (txs ++ xs)
+    Next k R Q C es txs = (xs : List TxRun) → RunOf functions validators n k R Q C IsNone xs → NotedIn es (txs ++ xs)
 
     next_event : (e : SeenEvent) (es : List SeenEvent) (txs : List TxRun) → NotedIn (e ∷ es) txs → Next e.kind e.R e.Q e.C es txs
     next_event e es txs h xs r = record {
@@ -111,7 +114,7 @@ module _ (functions : List PlainFunction) (n : ℕ) where
     }
 
     -- an event without a transaction
-    without : (k : EventKind) (R Q C : World) (es : List SeenEvent) (txs : List TxRun) → Next k R Q C es txs → RunOf functions n k R Q C IsNone [] → NotedIn es txs
+    without : (k : EventKind) (R Q C : World) (es : List SeenEvent) (txs : List TxRun) → Next k R Q C es txs → RunOf functions validators n k R Q C IsNone [] → NotedIn es txs
     without k R Q C es txs next r = subst (λ xs. NotedIn es xs) (append-nil txs) (next [] r)
 
     -- wherever it is, the events that were eaten have their transactions
@@ -254,7 +257,7 @@ module _ (functions : List PlainFunction) (n : ℕ) where
         test false = tt
     send_reaches a span _ R Q C t next = tt
 
-    module _ (cells : List CellDefinition) (sound : SoundFunctions [] functions) (marks : MarkedFunctions functions) where
+    module _ (sound : SoundFunctions [] functions) (marks : MarkedFunctions functions) where
       abbrev x : Surroundings
       x = record { cells = cells; tries = suc reruns; turns = n; functions = functions }
 
@@ -268,7 +271,7 @@ module _ (functions : List PlainFunction) (n : ℕ) where
 
       module _ (b : ℕ) (le : b ≤ length functions) (m : Mark) (e : Tree) (env : List Value) (body_sound : SoundTree (known functions) in_dosync (length env) None e) (body_marked : Marked m.wanted e) where
         abbrev d : Transacting
-        d = record { mark = m; body = e; locals = env; on = tx_meaning n functions b e env }
+        d = record { mark = m; body = e; locals = env; on = tx_meaning n functions b e env; validators = validators }
 
         abbrev f : Applies ThreadState
         f = apply (call b true) m.span
@@ -298,14 +301,14 @@ module _ (functions : List PlainFunction) (n : ℕ) where
         quiet_bound Invalid go h = tt
 
         -- the final writes leave the state as it was
-        finals : (w : Work) → AllCommutes (IsPure (known functions)) w.commutes → (C : World) (t : ThreadState) → final_writes f w C t ≡ carried t (final_writes q w C tt)
+        finals : (w : Work) → AllCommutes (IsPure (known functions)) w.commutes → (C : World) (t : ThreadState) → final_writes f validators m.span w C t ≡ carried t (final_writes q validators m.span w C tt)
         finals w suits C t =
             let P : Callee → Type 0 = IsPure (known functions) in
             ap (λ z. bind z (λ ws s1. Completes (merged (set_writes w) ws) s1))
             (redone_carried P t f q (λ c us p. callee_carried (on_events x) n true functions sound b m.span c us t p) (phase_work w) (phase_some P w suits) (valued (commuted w) C)).0
             ∙ bound t (redone q (phase_work w) (valued (commuted w) C) tt) (λ ws. merged (set_writes w) ws)
 
-        quiet_finals : (w : Work) → AllCommutes (IsPure (known functions)) w.commutes → (C : World) (t : ThreadState) → IsQuiet (final_writes q w C tt)
+        quiet_finals : (w : Work) → AllCommutes (IsPure (known functions)) w.commutes → (C : World) (t : ThreadState) → IsQuiet (final_writes q validators m.span w C tt)
         quiet_finals w suits C t =
             let P : Callee → Type 0 = IsPure (known functions) in
             quiet_bound (redone q (phase_work w) (valued (commuted w) C) tt) (λ ws. merged (set_writes w) ws)
@@ -320,12 +323,12 @@ module _ (functions : List PlainFunction) (n : ℕ) where
             ap (λ z. bind z (λ v s1. redone (purely n functions) cs (with_write ws c.cell v) s1)) (quiet_deeper n functions sound b (length functions) le m.span nowhere c.callee us r.0 r.2)
             ∙ redone_deeper cs (with_write ws c.cell r.0) xs r.3
 
-        finals_deeper : (w : Work) (C : World) (ws : Writes) → final_writes q w C tt ≡ Completes ws tt → final_writes (purely n functions) w C tt ≡ Completes ws tt
+        finals_deeper : (w : Work) (C : World) (ws : Writes) → final_writes q validators m.span w C tt ≡ Completes ws tt → final_writes (purely n functions) validators nowhere w C tt ≡ Completes ws tt
         finals_deeper w C ws h =
             let r = splits (redone q (phase_work w) (valued (commuted w) C) tt) (λ vs s1. Completes (merged (set_writes w) vs) s1) ws tt h in
             ap (λ z. bind z (λ vs s1. Completes (merged (set_writes w) vs) s1)) (redone_deeper (phase_work w) (valued (commuted w) C) r.0 r.2) ∙ r.3
 
-        commit_meant : (writes : Writes) (sent : List Action) (R C : World) (ws : Writes) (v : Value) (s : TxState) → d.on R ≡ Completes v s → final_writes q s.done C tt ≡ Completes ws tt → (same_writes ws writes && same_actions s.done.sends sent) ≡ true → Committed functions n (run_of d v s) R C writes sent
+        commit_meant : (writes : Writes) (sent : List Action) (R C : World) (ws : Writes) (v : Value) (s : TxState) → d.on R ≡ Completes v s → final_writes q validators m.span s.done C tt ≡ Completes ws tt → (same_writes ws writes && same_actions s.done.sends sent) ≡ true → Committed functions validators n (run_of d v s) R C writes sent
         commit_meant writes sent R C ws v s h k same =
             let parts = both (same_writes ws writes) (same_actions s.done.sends sent) same in record {
               met = met R v s h;
@@ -339,15 +342,15 @@ module _ (functions : List PlainFunction) (n : ℕ) where
         -- a commit
         module _ (at view : ℕ) (writes : Writes) (sent : List Action) (R Q C : World) (t : ThreadState) (next : Next (event.Commit at view writes sent) R Q C t.todo t.txs) where
           commit_ends : (z : Completion TxState Value) → d.on R ≡ z
-              → Within {A = Value} t.txs (over t z (λ v s. faultless (final_writes f s.done C t) (λ ws t1. meant (same_writes ws writes && same_actions s.done.sends sent) v (with_tx (run_of d v s) t1))) (λ g. Invalid))
+              → Within {A = Value} t.txs (over t z (λ v s. faultless (final_writes f validators m.span s.done C t) (λ ws t1. meant (same_writes ws writes && same_actions s.done.sends sent) v (with_tx (run_of d v s) t1))) (λ g. Invalid))
           commit_ends (Completes v s) h =
-              subst (λ y. Within {A = Value} t.txs (faultless y (λ ws t1. meant (same_writes ws writes && same_actions s.done.sends sent) v (with_tx (run_of d v s) t1)))) (sym (finals s.done (suits R v s h) C t)) (after (final_writes q s.done C tt) refl)
+              subst (λ y. Within {A = Value} t.txs (faultless y (λ ws t1. meant (same_writes ws writes && same_actions s.done.sends sent) v (with_tx (run_of d v s) t1)))) (sym (finals s.done (suits R v s h) C t)) (after (final_writes q validators m.span s.done C tt) refl)
             where
-              tested : (ws : Writes) → final_writes q s.done C tt ≡ Completes ws tt → (c : Bool) → (same_writes ws writes && same_actions s.done.sends sent) ≡ c → Within {A = Value} t.txs (meant c v (with_tx (run_of d v s) t))
+              tested : (ws : Writes) → final_writes q validators m.span s.done C tt ≡ Completes ws tt → (c : Bool) → (same_writes ws writes && same_actions s.done.sends sent) ≡ c → Within {A = Value} t.txs (meant c v (with_tx (run_of d v s) t))
               tested ws k true e = next (run_of d v s ∷ []) (commit_meant writes sent R C ws v s h k e, tt)
               tested ws k false e = tt
 
-              after : (y : Completion (Unit {0}) Writes) → final_writes q s.done C tt ≡ y → Within {A = Value} t.txs (faultless (carried t y) (λ ws t1. meant (same_writes ws writes && same_actions s.done.sends sent) v (with_tx (run_of d v s) t1)))
+              after : (y : Completion (Unit {0}) Writes) → final_writes q validators m.span s.done C tt ≡ y → Within {A = Value} t.txs (faultless (carried t y) (λ ws t1. meant (same_writes ws writes && same_actions s.done.sends sent) v (with_tx (run_of d v s) t1)))
               after (Completes ws tt) k = tested ws k (same_writes ws writes && same_actions s.done.sends sent) refl
               after (Recurs vs u) k = tt
               after (Faults g u) k = tt
@@ -367,8 +370,8 @@ module _ (functions : List PlainFunction) (n : ℕ) where
           here : NotedAt t
           here = without (event.Fail at view) R Q C t.todo t.txs next tt
 
-          fail_ends : (z : Completion TxState Value) → d.on R ≡ z → Within {A = Value} t.txs (over t z (λ v s. faulted (final_writes f s.done Q t) (λ g t1. Faults g t1)) (λ g. Faults g t))
-          fail_ends (Completes v s) h = subst (λ y. Within {A = Value} t.txs (faulted y (λ g t1. Faults g t1))) (sym (finals s.done (suits R v s h) Q t)) (after (final_writes q s.done Q tt))
+          fail_ends : (z : Completion TxState Value) → d.on R ≡ z → Within {A = Value} t.txs (over t z (λ v s. faulted (final_writes f validators m.span s.done Q t) (λ g t1. Faults g t1)) (λ g. Faults g t))
+          fail_ends (Completes v s) h = subst (λ y. Within {A = Value} t.txs (faulted y (λ g t1. Faults g t1))) (sym (finals s.done (suits R v s h) Q t)) (after (final_writes q validators m.span s.done Q tt))
             where
               after : (y : Completion (Unit {0}) Writes) → Within {A = Value} t.txs (faulted (carried t y) (λ g t1. Faults g t1))
               after (Completes ws u) = tt
@@ -387,11 +390,11 @@ module _ (functions : List PlainFunction) (n : ℕ) where
 
         -- a refusal
         module _ (at view : ℕ) (agent : CellId) (R Q C : World) (t : ThreadState) (next : Next (event.Refused at view agent) R Q C t.todo t.txs) where
-          refused_ends : (z : Completion TxState Value) → d.on R ≡ z → Within {A = Value} t.txs (over t z (λ v s. faultless (final_writes f s.done Q t) (λ ws t1. Faults (fault_at AgentFailed d.mark.span) (with_tx (run_of d v s) t1))) (λ g. Invalid))
+          refused_ends : (z : Completion TxState Value) → d.on R ≡ z → Within {A = Value} t.txs (over t z (λ v s. faultless (final_writes f validators m.span s.done Q t) (λ ws t1. Faults (fault_at AgentFailed d.mark.span) (with_tx (run_of d v s) t1))) (λ g. Invalid))
           refused_ends (Completes v s) h =
-              subst (λ y. Within {A = Value} t.txs (faultless y (λ ws t1. Faults (fault_at AgentFailed d.mark.span) (with_tx (run_of d v s) t1)))) (sym (finals s.done (suits R v s h) Q t)) (after (final_writes q s.done Q tt) refl)
+              subst (λ y. Within {A = Value} t.txs (faultless y (λ ws t1. Faults (fault_at AgentFailed d.mark.span) (with_tx (run_of d v s) t1)))) (sym (finals s.done (suits R v s h) Q t)) (after (final_writes q validators m.span s.done Q tt) refl)
             where
-              after : (y : Completion (Unit {0}) Writes) → final_writes q s.done Q tt ≡ y → Within {A = Value} t.txs (faultless (carried t y) (λ ws t1. Faults (fault_at AgentFailed d.mark.span) (with_tx (run_of d v s) t1)))
+              after : (y : Completion (Unit {0}) Writes) → final_writes q validators m.span s.done Q tt ≡ y → Within {A = Value} t.txs (faultless (carried t y) (λ ws t1. Faults (fault_at AgentFailed d.mark.span) (with_tx (run_of d v s) t1)))
               after (Completes ws tt) k = next (run_of d v s ∷ []) (record { met = met R v s h; writes = ws; writes_there = finals_deeper s.done Q ws k }, tt)
               after (Recurs vs u) k = tt
               after (Faults g u) k = tt
@@ -413,7 +416,7 @@ module _ (functions : List PlainFunction) (n : ℕ) where
         ends_reaches _ R Q C t next = tt
 
         -- a retry has no transaction
-        retry_none : (k : EventKind) (R Q C : World) → is_retry k ≡ true → RunOf functions n k R Q C IsNone []
+        retry_none : (k : EventKind) (R Q C : World) → is_retry k ≡ true → RunOf functions validators n k R Q C IsNone []
         retry_none (event.Retry since c commute) R Q C h = tt
         retry_none _ R Q C h = absurd (false≢true h)
 
@@ -443,19 +446,19 @@ module _ (functions : List PlainFunction) (n : ℕ) where
             look_at Deref c = eats_reaches (home cells c) (λ e t1. reads c e.kind e.C t1) (λ e t1 next. read_reaches c e.kind e.R e.Q e.C t1 next) t.todo t g g
             look_at Ensure c = tt
 
-        puts : (form : PutForm) (inside : Bool) (m : Mark) (v w : Value) (t : ThreadState) → NotedAt t → Reaches Any ((on_events x b).put form inside m v w t)
-        puts form inside m v w t g =
-            allowed_reaches (may_stand (rule (form_of.Put form)).stands false) _ (on_reaches (cell_of (rule (form_of.Put form)) false v) m.span (λ c t1. thread_put x form c w t1) t g (λ c. put_at form c))
+        puts : (form : PutForm) (inside : Bool) (m : Mark) (v w : Value) (f : Applies ThreadState) (t : ThreadState) → NotedAt t → Reaches Any ((on_events x b).put form inside m v w f t)
+        puts form inside m v w f t g =
+            allowed_reaches (may_stand (rule (form_of.Put form)).stands false) _ (on_reaches (cell_of (rule (form_of.Put form)) false v) m.span (λ c t1. thread_put x form m.span c w f t1) t g (λ c. put_at form c))
           where
-            put_at : (form1 : PutForm) (c : CellId) → Reaches Any (thread_put x form1 c w t)
+            put_at : (form1 : PutForm) (c : CellId) → Reaches Any (thread_put x form1 m.span c w f t)
             put_at RefSet c = tt
             put_at Reset c = eats_reaches (home cells c) (λ e t1. resets w e.kind t1) (λ e t1 next. reset_reaches w e.kind e.R e.Q e.C t1 next) t.todo t g g
 
         updates : (form : UpdateForm) (inside : Bool) (m : Mark) (v : Value) (callee : Callee) → IsPure (known functions) callee → (vs : List Value) (t : ThreadState) → NotedAt t → Reaches Any ((on_events x b).update form inside m v callee vs (apply (call b inside) m.span) t)
         updates form inside m v callee pure vs t g =
-            allowed_reaches (may_stand (rule (form_of.Update form)).stands false) _ (on_reaches (cell_of (rule (form_of.Update form)) false v) m.span (λ c t1. thread_update x form c callee vs (apply (call b inside) m.span) t1) t g (λ c. update_at form c))
+            allowed_reaches (may_stand (rule (form_of.Update form)).stands false) _ (on_reaches (cell_of (rule (form_of.Update form)) false v) m.span (λ c t1. thread_update x form m.span c callee vs (apply (call b inside) m.span) t1) t g (λ c. update_at form c))
           where
-            update_at : (form1 : UpdateForm) (c : CellId) → Reaches Any (thread_update x form1 c callee vs (apply (call b inside) m.span) t)
+            update_at : (form1 : UpdateForm) (c : CellId) → Reaches Any (thread_update x form1 m.span c callee vs (apply (call b inside) m.span) t)
             update_at Alter c = tt
             update_at Commute c = tt
             update_at Swap c =
@@ -464,8 +467,12 @@ module _ (functions : List PlainFunction) (n : ℕ) where
 
         sent : (inside : Bool) (m : Mark) (v : Value) (callee : Callee) (vs : List Value) (t : ThreadState) → NotedAt t → Reaches Any ((on_events x b).send inside m v callee vs t)
         sent inside m v callee vs t g =
-            on_reaches (cell_of (rule form_of.Send) false v) m.span (λ c t1. eats 0 (λ e t2. sends (record { agent = c; callee = callee; args = vs; span = m.span }) m.span e.kind t2) t1.todo t1) t g
-            (λ c. eats_reaches 0 (λ e t2. sends (record { agent = c; callee = callee; args = vs; span = m.span }) m.span e.kind t2) (λ e t1 next. send_reaches (record { agent = c; callee = callee; args = vs; span = m.span }) m.span e.kind e.R e.Q e.C t1 next) t.todo t g g)
+            on_reaches (cell_of (rule form_of.Send) false v) m.span (λ c t1. sends_or_holds t1.held (record { agent = c; callee = callee; args = vs; span = m.span }) m.span t1) t g (λ c. send_at c t.held)
+          where
+            send_at : (c : CellId) (o : Option (List Action)) → Reaches Any (sends_or_holds o (record { agent = c; callee = callee; args = vs; span = m.span }) m.span t)
+            send_at c None =
+                eats_reaches 0 (λ e t2. sends (record { agent = c; callee = callee; args = vs; span = m.span }) m.span e.kind t2) (λ e t1 next. send_reaches (record { agent = c; callee = callee; args = vs; span = m.span }) m.span e.kind e.R e.Q e.C t1 next) t.todo t g g
+            send_at c (Some held) = (tt, g)
 
         -- ---- trees
 
@@ -502,8 +509,8 @@ module _ (functions : List PlainFunction) (n : ℕ) where
           tree_reaches (Look form cell m) inside w zone k tail h r env l t g =
               bind_reaches Any Any (on inside cell env t) (λ c t1. (on_events x b).look form inside m c t1) (tree_reaches cell inside true zone k None h.1 r.1 env l t g) (λ c t1 p g1. looks form inside m c t1 g1)
           tree_reaches (Put form cell value m) inside w zone k tail h r env l t g =
-              bind_reaches Any Any (on inside cell env t) (λ c t1. bind (on inside value env t1) (λ v t2. (on_events x b).put form inside m c v t2)) (tree_reaches cell inside true zone k None h.1 r.1 env l t g)
-              (λ c t1 p g1. bind_reaches Any Any (on inside value env t1) (λ v t2. (on_events x b).put form inside m c v t2) (tree_reaches value inside true zone k None h.2 r.2 env l t1 g1) (λ v t2 p2 g2. puts form inside m c v t2 g2))
+              bind_reaches Any Any (on inside cell env t) (λ c t1. bind (on inside value env t1) (λ v t2. (on_events x b).put form inside m c v (apply (call b inside) m.span) t2)) (tree_reaches cell inside true zone k None h.1 r.1 env l t g)
+              (λ c t1 p g1. bind_reaches Any Any (on inside value env t1) (λ v t2. (on_events x b).put form inside m c v (apply (call b inside) m.span) t2) (tree_reaches value inside true zone k None h.2 r.2 env l t1 g1) (λ v t2 p2 g2. puts form inside m c v (apply (call b inside) m.span) t2 g2))
           tree_reaches (Update form cell callee args m) inside w zone k tail h r env l t g =
               bind_reaches Any Any (on inside cell env t) (λ c t1. bind (eval_all (on_events x b) (call b) n inside args env t1) (λ vs t2. (on_events x b).update form inside m c callee vs (apply (call b inside) m.span) t2)) (tree_reaches cell inside true zone k None h.1 r.1 env l t g)
               (λ c t1 p g1. bind_reaches (Many (count args)) Any (eval_all (on_events x b) (call b) n inside args env t1) (λ vs t2. (on_events x b).update form inside m c callee vs (apply (call b inside) m.span) t2) (all_reaches args inside zone k h.3 r.2 env l t1 g1) (λ vs t2 p2 g2. updates form inside m c callee (sound_pure (known functions) callee (suc (count args)) h.2) vs t2 g2))
@@ -546,20 +553,20 @@ module _ (functions : List PlainFunction) (n : ℕ) where
       calls_reach zero le inside f vs t g = tt
       calls_reach (suc b) le inside f vs t g = call_reaches b (omega (arith, le)) (calls_reach b (omega (arith, le))) inside f vs t g
 
-      main_reaches : (main : Tree) → SoundTree (known functions) in_thread 0 None main → Marked false main → Reaches Any (closed (eval (on_events x (length functions)) (call (length functions)) n false main [] (record { todo = es0; printed = []; txs = [] })))
+      main_reaches : (main : Tree) → SoundTree (known functions) in_thread 0 None main → Marked false main → Reaches Any (closed (eval (on_events x (length functions)) (call (length functions)) n false main [] (record { todo = es0; printed = []; held = None; txs = [] })))
       main_reaches main h r =
-          let start : ThreadState = record { todo = es0; printed = []; txs = [] } in
+          let start : ThreadState = record { todo = es0; printed = []; held = None; txs = [] } in
           again_reaches Any (eval (on_events x (length functions)) (call (length functions)) n false main [] start) (λ vs t. Invalid)
           (tree_reaches (length functions) (omega arith) (calls_reach (length functions) (omega arith)) main false false in_thread 0 None h r [] refl start (record { eaten = []; split = refl; runs = tt })) (λ vs t g. tt)
 
-ended : (functions : List PlainFunction) (n : ℕ) (es : List SeenEvent) (c : Completion ThreadState Value) → Reaches functions n es Any c → EndsNoted functions n es c
-ended functions n es (Completes v t) h = h.1
-ended functions n es (Recurs vs t) h = tt
-ended functions n es (Faults f t) h = h
-ended functions n es (Retries t) h = tt
-ended functions n es (Waits t) h = h
-ended functions n es (OutOfTurns t) h = h
-ended functions n es Invalid h = tt
+ended : (cells : List CellDefinition) (functions : List PlainFunction) (n : ℕ) (es : List SeenEvent) (c : Completion ThreadState Value) → Reaches cells functions n es Any c → EndsNoted functions (validators_of cells) n es c
+ended cells functions n es (Completes v t) h = h.1
+ended cells functions n es (Recurs vs t) h = tt
+ended cells functions n es (Faults f t) h = h
+ended cells functions n es (Retries t) h = tt
+ended cells functions n es (Waits t) h = h
+ended cells functions n es (OutOfTurns t) h = h
+ended cells functions n es Invalid h = tt
 
 pub threads_note : ThreadsNote
-threads_note p n es sound marks marked = ended p.functions n es (thread_meaning p n es) (main_reaches p.functions n es p.cells sound.functions marks p.main sound.main marked)
+threads_note p n es sound marks marked = ended p.cells p.functions n es (thread_meaning p n es) (main_reaches p.cells p.functions n es sound.functions marks p.main sound.main marked)

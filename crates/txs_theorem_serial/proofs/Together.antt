@@ -11,7 +11,7 @@ use Rattle.txs_world_book.specs.Book.{Each, Legal, LegalKind, Untouched, after, 
 use Rattle.txs_world_book.specs.Served.{cells_of}
 use Rattle.txs_world_book.proofs.Growth.{after_front}
 use Rattle.txs_world_book.proofs.Older.{after_unwritten, named, ends}
-use Rattle.txs_value_cell.specs.Cells.{World}
+use Rattle.txs_value_cell.specs.Cells.{World, validators_of}
 use Rattle.txs_value_cell.specs.declared.action.Action.{Action}
 use Rattle.txs_value_cell.specs.declared.cell.CellDefinition.{CellDefinition}
 use Rattle.txs_frame.specs.Frame.{Work, has_number}
@@ -102,22 +102,22 @@ module _ (functions : List PlainFunction) (turns : ℕ) (cells : List CellDefini
 
   -- a commit at its place
   commit_serial : (n k at view : ℕ) (ws : Writes) (sends : List Action) (e : Event) (x : TxRun) → nth (books n) k ≡ Some e → e.kind ≡ Commit at view ws sends
-      → Committed functions turns x (world_of cells n (books n) at) (world_of cells n (books n) k) ws sends → Untouched (take k (books n)) at x.state.done.sets × Untouched (take k (books n)) at x.state.done.ensures
-      → n ≡ 0 → is_covered x.state ≡ true → IsSerial functions turns x (world_of cells 0 (books 0) k) ws sends
+      → Committed functions (validators_of cells) turns x (world_of cells n (books n) at) (world_of cells n (books n) k) ws sends → Untouched (take k (books n)) at x.state.done.sets × Untouched (take k (books n)) at x.state.done.ensures
+      → n ≡ 0 → is_covered x.state ≡ true → IsSerial functions (validators_of cells) turns x (world_of cells 0 (books 0) k) ws sends
   commit_serial zero k at view ws sends e x there is did calm home covered =
-      covered_is_serial functions turns x (world_of cells 0 (books 0) at) (world_of cells 0 (books 0) k) ws sends sound marks did covered
+      covered_is_serial functions (validators_of cells) turns x (world_of cells 0 (books 0) at) (world_of cells 0 (books 0) k) ws sends sound marks did covered
       (worlds_agree (opening (cells_of cells)) (books 0) at k e x.state.done there (earlier k at view ws sends e there is) calm.0 calm.1)
   commit_serial (suc n) k at view ws sends e x there is did calm home covered = absurd (omega (arith, home))
 
   abbrev Rest : List Place → List TxRun → Type 0
-  Rest ps xs = RunsOf functions turns (seen_of cells books ps) xs × SaidOf (undisturbed cells books) books ps xs
+  Rest ps xs = RunsOf functions (validators_of cells) turns (seen_of cells books ps) xs × SaidOf (undisturbed cells books) books ps xs
 
   abbrev Serial : List Place → List TxRun → Type 0
   Serial ps xs = SaidOf (serial_if_covered functions turns cells books) books ps xs
 
   -- the event at a place, and then those behind it
-  step : (p : Place) (ps : List Place) (e : Event) → nth (books p.book) p.at ≡ Some e → ((ys : List TxRun) → RunsOf functions turns (seen_of cells books ps) ys → SaidOf (undisturbed cells books) books ps ys → Serial ps ys) → (d : EventKind) → e.kind ≡ d → (xs : List TxRun)
-      → RunOf functions turns d (seen_in cells p.book (books p.book) p.at d).R (seen_in cells p.book (books p.book) p.at d).Q (seen_in cells p.book (books p.book) p.at d).C (λ ys. RunsOf functions turns (seen_of cells books ps) ys) xs
+  step : (p : Place) (ps : List Place) (e : Event) → nth (books p.book) p.at ≡ Some e → ((ys : List TxRun) → RunsOf functions (validators_of cells) turns (seen_of cells books ps) ys → SaidOf (undisturbed cells books) books ps ys → Serial ps ys) → (d : EventKind) → e.kind ≡ d → (xs : List TxRun)
+      → RunOf functions (validators_of cells) turns d (seen_in cells p.book (books p.book) p.at d).R (seen_in cells p.book (books p.book) p.at d).Q (seen_in cells p.book (books p.book) p.at d).C (λ ys. RunsOf functions (validators_of cells) turns (seen_of cells books ps) ys) xs
       → SaidAt (undisturbed cells books) p d (λ ys. SaidOf (undisturbed cells books) books ps ys) xs → SaidAt (serial_if_covered functions turns cells books) p d (λ ys. Serial ps ys) xs
   step p ps e there next (Read c) is xs r u = next xs r u
   step p ps e there next (Commit at view ws sends) is [] r u = absurd r
@@ -128,16 +128,16 @@ module _ (functions : List PlainFunction) (turns : ℕ) (cells : List CellDefini
   step p ps e there next (Refused at view g) is (x ∷ xs) r u = (tt, next xs r.1 u.1)
   step p ps e there next (Send x) is xs r u = next xs r u
   step p ps e there next (SendRefused g) is xs r u = next xs r u
-  step p ps e there next (Act g n new) is xs r u = next xs r u
+  step p ps e there next (Act g n new sends) is xs r u = next xs r u
   step p ps e there next (Swap new) is xs r u = next xs r u
   step p ps e there next (Broke at) is xs r u = next xs r u
 
-  serial_runs : (ps : List Place) (xs : List TxRun) → RunsOf functions turns (seen_of cells books ps) xs → SaidOf (undisturbed cells books) books ps xs → Serial ps xs
+  serial_runs : (ps : List Place) (xs : List TxRun) → RunsOf functions (validators_of cells) turns (seen_of cells books ps) xs → SaidOf (undisturbed cells books) books ps xs → Serial ps xs
   serial_runs [] xs r u = r
   serial_runs (p ∷ ps) xs r u = go (nth (books p.book) p.at) refl r u (λ ys s v. serial_runs ps ys s v)
     where
-      go : (o : Option Event) → nth (books p.book) p.at ≡ o → RunsOf functions turns (seen_before cells books p o (seen_of cells books ps)) xs → SaidIf (undisturbed cells books) p o (λ ys. SaidOf (undisturbed cells books) books ps ys) xs
-          → ((ys : List TxRun) → RunsOf functions turns (seen_of cells books ps) ys → SaidOf (undisturbed cells books) books ps ys → Serial ps ys) → SaidIf (serial_if_covered functions turns cells books) p o (λ ys. Serial ps ys) xs
+      go : (o : Option Event) → nth (books p.book) p.at ≡ o → RunsOf functions (validators_of cells) turns (seen_before cells books p o (seen_of cells books ps)) xs → SaidIf (undisturbed cells books) p o (λ ys. SaidOf (undisturbed cells books) books ps ys) xs
+          → ((ys : List TxRun) → RunsOf functions (validators_of cells) turns (seen_of cells books ps) ys → SaidOf (undisturbed cells books) books ps ys → Serial ps ys) → SaidIf (serial_if_covered functions turns cells books) p o (λ ys. Serial ps ys) xs
       go None e s v next = next xs s v
       go (Some d) e s v next = step p ps d e next d.kind refl xs s v
 
@@ -181,7 +181,7 @@ module _ (functions : List PlainFunction) (turns : ℕ) (cells : List CellDefini
     index : ℕ
     run : TxRun
     stands : nth xs index ≡ Some run
-    serial : IsSerial functions turns run (world_of cells 0 (books 0) k) ws sends
+    serial : IsSerial functions (validators_of cells) turns run (world_of cells 0 (books 0) k) ws sends
 
   behind : (x : TxRun) (xs : List TxRun) → Found xs → Found (x ∷ xs)
   behind x xs f = record { index = suc f.index; run = f.run; stands = f.stands; serial = f.serial }
@@ -197,7 +197,7 @@ module _ (functions : List PlainFunction) (turns : ℕ) (cells : List CellDefini
   later p (Refused a1 v1 g) ps (x ∷ xs) next s v = behind x xs (next xs s.1 v.1)
   later p (Send x) ps xs next s v = next xs s v
   later p (SendRefused g) ps xs next s v = next xs s v
-  later p (Act g n new) ps xs next s v = next xs s v
+  later p (Act g n new sends) ps xs next s v = next xs s v
   later p (Swap new) ps xs next s v = next xs s v
   later p (Broke a1) ps xs next s v = next xs s v
 
@@ -208,7 +208,7 @@ module _ (functions : List PlainFunction) (turns : ℕ) (cells : List CellDefini
   -- this event
   front : (p : Place) (ps : List Place) (xs : List TxRun) → p.book ≡ 0 → p.at ≡ k → SaidAt S p (Commit at view ws sends) (λ ys. SaidOf S books ps ys) xs → SaidAt all_covered p (Commit at view ws sends) (λ ys. SaidOf all_covered books ps ys) xs → Found xs
   front p ps [] home place s v = absurd s
-  front p ps (x ∷ xs) home place s v = record { index = 0; run = x; stands = refl; serial = subst (λ j. IsSerial functions turns x (world_of cells 0 (books 0) j) ws sends) place (s.0 home v.0) }
+  front p ps (x ∷ xs) home place s v = record { index = 0; run = x; stands = refl; serial = subst (λ j. IsSerial functions (validators_of cells) turns x (world_of cells 0 (books 0) j) ws sends) place (s.0 home v.0) }
 
   here : (p : Place) (ps : List Place) (xs : List TxRun) → p.book ≡ 0 → p.at ≡ k → SaidOf S books (p ∷ ps) xs → SaidOf all_covered books (p ∷ ps) xs → Found xs
   here p ps xs home place s v =
@@ -234,7 +234,7 @@ module _ (functions : List PlainFunction) (cells : List CellDefinition) (threads
     (sound : SoundFunctions [] functions) (marks : MarkedFunctions functions) (legal : Legal (cells_of cells) threads (books 0))
     (did : (a : ℕ) → a < threads → ThreadDid functions (turns a) cells books a (traces a) (runs a) × SaidOf all_covered books (traces a) (runs a)) where
   -- each event of the store's book
-  alone_at : (k : ℕ) (e : Event) → nth (books 0) k ≡ Some e → (d : EventKind) → e.kind ≡ d → CommitAlone functions runs e.actor (after (opening (cells_of cells)) (books 0) k) d
+  alone_at : (k : ℕ) (e : Event) → nth (books 0) k ≡ Some e → (d : EventKind) → e.kind ≡ d → CommitAlone functions (validators_of cells) runs e.actor (after (opening (cells_of cells)) (books 0) k) d
   unfolding among
   alone_at k e there (Commit at view ws sends) is =
       let a = e.actor in
@@ -247,7 +247,7 @@ module _ (functions : List PlainFunction) (cells : List CellDefinition) (threads
       (turns a, f.index, f.run, f.stands, f.serial)
   alone_at k e there _ is = tt
 
-  all_alone : (W : World) (es : List Event) → ((k : ℕ) (e : Event) → nth es k ≡ Some e → CommitAlone functions runs e.actor (after W es k) e.kind) → OneByOne functions runs W es
+  all_alone : (W : World) (es : List Event) → ((k : ℕ) (e : Event) → nth es k ≡ Some e → CommitAlone functions (validators_of cells) runs e.actor (after W es k) e.kind) → OneByOne functions (validators_of cells) runs W es
   all_alone W [] h = tt
   all_alone W (e ∷ es) h = (h 0 e refl, all_alone (changed e.kind W) es (λ k d there. h (suc k) d there))
 

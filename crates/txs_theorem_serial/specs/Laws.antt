@@ -1,7 +1,7 @@
 -- What holds of committed transactions.
 use Rattle.std.specs.Prelude.{◌≡◌, ◌<◌, ℕ, true, false, List, []}
 use Rattle.txs_world_protocol.specs.Ask.{Writes}
-use Rattle.txs_value_cell.specs.Cells.{World}
+use Rattle.txs_value_cell.specs.Cells.{World, Validators, validators_of}
 use Rattle.txs_value_cell.specs.declared.action.Action.{Action}
 use Rattle.txs_tree_meaning.specs.Sound.{SoundFunctions}
 use Rattle.txs_world_protocol.specs.SeenEvent.{SeenEvent}
@@ -21,14 +21,14 @@ use Rattle.txs_theorem_serial.specs.Serial.{is_covered, IsSerial, Committed, Agr
 -- a covered transaction is serial, where the world of its start and that of its commit agree on what it set or ensured
 abbrev pub CoveredIsSerial : Type 0
 CoveredIsSerial =
-    (functions : List PlainFunction) (n : ℕ) (x : TxRun) (R C : World) (writes : Writes) (sends : List Action)
-    → SoundFunctions [] functions → MarkedFunctions functions → Committed functions n x R C writes sends → is_covered x.state ≡ true → AgreeOn x.state.done R C
-    → IsSerial functions n x C writes sends
+    (functions : List PlainFunction) (validators : Validators) (n : ℕ) (x : TxRun) (R C : World) (writes : Writes) (sends : List Action)
+    → SoundFunctions [] functions → MarkedFunctions functions → Committed functions validators n x R C writes sends → is_covered x.state ≡ true → AgreeOn x.state.done R C
+    → IsSerial functions validators n x C writes sends
 
 -- where a thread ends, waits, or needs more turns, each commit and refusal that it has eaten has its transaction
 abbrev pub ThreadsNote : Type 0
 ThreadsNote =
-    (p : ThreadSource) (n : ℕ) (es : List SeenEvent) → SoundSource p → MarkedFunctions p.functions → Marked false p.main → EndsNoted p.functions n es (thread_meaning p n es)
+    (p : ThreadSource) (n : ℕ) (es : List SeenEvent) → SoundSource p → MarkedFunctions p.functions → Marked false p.main → EndsNoted p.functions (validators_of p.cells) n es (thread_meaning p n es)
 
 -- of what a thread did each covered transaction is serial
 abbrev pub CommitsSerial : Type 0
@@ -43,4 +43,4 @@ RunsAreSerial =
     (functions : List PlainFunction) (cells : List CellDefinition) (threads : ℕ) (books : ℕ → List Event) (turns : ℕ → ℕ) (traces : ℕ → List Place) (runs : ℕ → List TxRun)
     → SoundFunctions [] functions → MarkedFunctions functions → Legal (cells_of cells) threads (books 0)
     → ((a : ℕ) → a < threads → ThreadDid functions (turns a) cells books a (traces a) (runs a) × SaidOf all_covered books (traces a) (runs a))
-    → OneByOne functions runs (opening (cells_of cells)) (books 0)
+    → OneByOne functions (validators_of cells) runs (opening (cells_of cells)) (books 0)

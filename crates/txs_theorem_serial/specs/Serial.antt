@@ -4,13 +4,13 @@ use Rattle.txs_world_protocol.specs.Ask.{Writes}
 use Rattle.txs_world_protocol.specs.SeenEvent.{SeenEvent}
 use Rattle.txs_world_protocol.specs.declared.event.EventKind.{EventKind}
 use Rattle.txs_world_protocol.specs.declared.event.EventKind.TheVariants.{Read, Commit, Retry, Fail, Refused, Send, SendRefused, Act, Swap, Broke}
-use Rattle.txs_value_cell.specs.Cells.{World}
+use Rattle.txs_value_cell.specs.Cells.{World, Validators}
 use Rattle.txs_value_cell.specs.declared.action.Action.{Action}
 use Rattle.txs_frame.specs.Frame.{Work, has_number}
 use Rattle.txs_theorem_threads.specs.Noted.{IsNone, Front}
 use Rattle.txs_tree_meaning.specs.Known.{known}
 use Rattle.txs_tree_meaning.specs.Meaning.{Completion, Completes, Recurs, Faults, Retries, Waits, OutOfTurns, Invalid, Applies}
-use Rattle.txs_tree_meaning.specs.Pure.{pure_meaning}
+use Rattle.txs_tree_meaning.specs.Pure.{nowhere, pure_meaning}
 use Rattle.txs_tree_meaning.specs.Sound.{in_dosync, SoundTree}
 use Rattle.txs_tree_meaning.specs.Thread.{TxRun, ThreadState}
 use Rattle.txs_tree_meaning.specs.Transaction.{TxState, tx_meaning, final_writes}
@@ -38,11 +38,11 @@ purely n functions callee vs u = pure_meaning n functions callee vs
 
 -- A transaction is serial on a world: the body on that world, with its commutes there, gives these writes and these sends, and the
 -- result, if that is wanted.
-pub record IsSerial (functions : List PlainFunction) (n : ℕ) (x : TxRun) (C : World) (writes : Writes) (sends : List Action) : Type 0 where
+pub record IsSerial (functions : List PlainFunction) (validators : Validators) (n : ℕ) (x : TxRun) (C : World) (writes : Writes) (sends : List Action) : Type 0 where
   pub result : Value
   pub state : TxState
   pub means : tx_meaning n functions (length functions) x.body x.locals C ≡ Completes result state
-  pub writes_same : final_writes (purely n functions) state.done C tt ≡ Completes writes tt
+  pub writes_same : final_writes (purely n functions) validators nowhere state.done C tt ≡ Completes writes tt
   pub sends_same : state.done.sends ≡ sends
   pub result_same : x.wanted ≡ true → result ≡ x.result
 
@@ -53,16 +53,16 @@ pub record Met (functions : List PlainFunction) (n : ℕ) (x : TxRun) (R : World
   pub means : tx_meaning n functions (length functions) x.body x.locals R ≡ Completes x.result x.state
 
 -- It was committed: on the world R it did what it did, and with its commutes on the world C it gives these writes, and these sends.
-pub record Committed (functions : List PlainFunction) (n : ℕ) (x : TxRun) (R C : World) (writes : Writes) (sends : List Action) : Type 0 where
+pub record Committed (functions : List PlainFunction) (validators : Validators) (n : ℕ) (x : TxRun) (R C : World) (writes : Writes) (sends : List Action) : Type 0 where
   pub met : Met functions n x R
-  pub writes_same : final_writes (purely n functions) x.state.done C tt ≡ Completes writes tt
+  pub writes_same : final_writes (purely n functions) validators nowhere x.state.done C tt ≡ Completes writes tt
   pub sends_same : x.state.done.sends ≡ sends
 
 -- It was refused: on the world R it did what it did, and its commutes have values on the world Q.
-pub record Declined (functions : List PlainFunction) (n : ℕ) (x : TxRun) (R Q : World) : Type 0 where
+pub record Declined (functions : List PlainFunction) (validators : Validators) (n : ℕ) (x : TxRun) (R Q : World) : Type 0 where
   pub met : Met functions n x R
   pub writes : Writes
-  pub writes_there : final_writes (purely n functions) x.state.done Q tt ≡ Completes writes tt
+  pub writes_there : final_writes (purely n functions) validators nowhere x.state.done Q tt ≡ Completes writes tt
 
 -- two worlds agree on what a transaction set or ensured
 abbrev pub AgreeOn : Work → World → World → Type 0
@@ -71,35 +71,35 @@ AgreeOn w R C = (k : ℕ) → is_held w k ≡ true → R k ≡ C k
 -- ---- the transactions of a thread
 
 -- the transaction of an event that is a commit or a refusal, and those of the events after it
-abbrev pub RunOf : List PlainFunction → ℕ → EventKind → World → World → World → (List TxRun → Type 0) → List TxRun → Type 0
-RunOf functions n (Read c) R Q C rest xs = rest xs
-RunOf functions n (Commit at view ws sends) R Q C rest xs = Front (λ x. Committed functions n x R C ws sends) rest xs
-RunOf functions n (Retry since c commute) R Q C rest xs = rest xs
-RunOf functions n (Fail at view) R Q C rest xs = rest xs
-RunOf functions n (Refused at view g) R Q C rest xs = Front (λ x. Declined functions n x R Q) rest xs
-RunOf functions n (Send x) R Q C rest xs = rest xs
-RunOf functions n (SendRefused g) R Q C rest xs = rest xs
-RunOf functions n (Act g k new) R Q C rest xs = rest xs
-RunOf functions n (Swap new) R Q C rest xs = rest xs
-RunOf functions n (Broke at) R Q C rest xs = rest xs
+abbrev pub RunOf : List PlainFunction → Validators → ℕ → EventKind → World → World → World → (List TxRun → Type 0) → List TxRun → Type 0
+RunOf functions validators n (Read c) R Q C rest xs = rest xs
+RunOf functions validators n (Commit at view ws sends) R Q C rest xs = Front (λ x. Committed functions validators n x R C ws sends) rest xs
+RunOf functions validators n (Retry since c commute) R Q C rest xs = rest xs
+RunOf functions validators n (Fail at view) R Q C rest xs = rest xs
+RunOf functions validators n (Refused at view g) R Q C rest xs = Front (λ x. Declined functions validators n x R Q) rest xs
+RunOf functions validators n (Send x) R Q C rest xs = rest xs
+RunOf functions validators n (SendRefused g) R Q C rest xs = rest xs
+RunOf functions validators n (Act g k new sends) R Q C rest xs = rest xs
+RunOf functions validators n (Swap new) R Q C rest xs = rest xs
+RunOf functions validators n (Broke at) R Q C rest xs = rest xs
 
 -- these are the transactions of these events, one for each commit and each refusal, in order
-abbrev pub RunsOf : List PlainFunction → ℕ → List SeenEvent → List TxRun → Type 0
-RunsOf functions n [] xs = IsNone xs
-RunsOf functions n (e ∷ es) xs = RunOf functions n e.kind e.R e.Q e.C (λ ys. RunsOf functions n es ys) xs
+abbrev pub RunsOf : List PlainFunction → Validators → ℕ → List SeenEvent → List TxRun → Type 0
+RunsOf functions validators n [] xs = IsNone xs
+RunsOf functions validators n (e ∷ es) xs = RunOf functions validators n e.kind e.R e.Q e.C (λ ys. RunsOf functions validators n es ys) xs
 
 -- A thread has eaten these events, before those to come, and these are their transactions.
-pub record Noted (functions : List PlainFunction) (n : ℕ) (es todo : List SeenEvent) (txs : List TxRun) : Type 0 where
+pub record Noted (functions : List PlainFunction) (validators : Validators) (n : ℕ) (es todo : List SeenEvent) (txs : List TxRun) : Type 0 where
   pub eaten : List SeenEvent
   pub split : es ≡ eaten ++ todo
-  pub runs : RunsOf functions n eaten txs
+  pub runs : RunsOf functions validators n eaten txs
 
 -- so it is where a thread ends, waits, or needs more turns
-abbrev pub EndsNoted : List PlainFunction → ℕ → List SeenEvent → Completion ThreadState Value → Type 0
-EndsNoted functions n es (Completes v t) = Noted functions n es t.todo t.txs
-EndsNoted functions n es (Recurs vs t) = Unit {0}
-EndsNoted functions n es (Faults f t) = Noted functions n es t.todo t.txs
-EndsNoted functions n es (Retries t) = Unit {0}
-EndsNoted functions n es (Waits t) = Noted functions n es t.todo t.txs
-EndsNoted functions n es (OutOfTurns t) = Noted functions n es t.todo t.txs
-EndsNoted functions n es Invalid = Unit {0}
+abbrev pub EndsNoted : List PlainFunction → Validators → ℕ → List SeenEvent → Completion ThreadState Value → Type 0
+EndsNoted functions validators n es (Completes v t) = Noted functions validators n es t.todo t.txs
+EndsNoted functions validators n es (Recurs vs t) = Unit {0}
+EndsNoted functions validators n es (Faults f t) = Noted functions validators n es t.todo t.txs
+EndsNoted functions validators n es (Retries t) = Unit {0}
+EndsNoted functions validators n es (Waits t) = Noted functions validators n es t.todo t.txs
+EndsNoted functions validators n es (OutOfTurns t) = Noted functions validators n es t.todo t.txs
+EndsNoted functions validators n es Invalid = Unit {0}

@@ -14,7 +14,7 @@ use Rattle.txs_tree_meaning.specs.Thread.{TxRun, ThreadState}
 use Rattle.txs_code_meaning.specs.ActorState.{ActorState, Reception, Replied, Unreplied, asks}
 use Rattle.txs_theorem_threads.proofs.Fitted.{reply_then}
 use Rattle.txs_theorem_threads.proofs.Related.{Link, Related}
-use Rattle.txs_theorem_threads.proofs.Worlds.{Fitting, Splits, IsShort, answered_by}
+use Rattle.txs_theorem_threads.proofs.Worlds.{Fitting, Splits, IsShort, answered_by, held_in}
 use Rattle.txs_theorem_threads.specs.EndsSo.{in_hand}
 use Rattle.txs_theorem_threads.specs.Noted.{Commits}
 use Rattle.txs_theorem_threads.specs.OnReplies.{retrying}
@@ -75,10 +75,14 @@ pub record Account (cells : List CellDefinition) : Type 1 where
   pub shortage : (txs : List TxRun) (ph : Phase) (s : ActorState) (es : List SeenEvent) (y : List SeenEvent → Completion ThreadState Value) → fits txs ph s.todo es → HasWaitedOn s.printed txs (halted (y []))
       → ((Q : World) → IsShort (halted (y (in_hand cells Q ph)))) → short s (halted (y (es ++ tail)))
 
+-- an actor and a thread: the same was printed, and the same sends are held
+abbrev pub IsBeside : ActorState → ThreadState → Type 0
+IsBeside s t = (t.printed ≡ s.printed) × (held_in s.acting ≡ t.held)
+
 -- outside of transactions: the same was printed, and what is to come fits, with what was noted
 abbrev pub account_link : (cells : List CellDefinition) → Account cells → Link ActorState ThreadState
 account_link cells a = record {
-  rel = λ s t. (t.printed ≡ s.printed) × (es : List SeenEvent) × (t.todo ≡ es ++ a.tail) × a.fits t.txs Out s.todo es;
+  rel = λ s t. IsBeside s t × (es : List SeenEvent) × (t.todo ≡ es ++ a.tail) × a.fits t.txs Out s.todo es;
   faults = λ s t. (t.printed ≡ s.printed) × (ph : Phase) × (es : List SeenEvent) × (t.todo ≡ es ++ a.tail) × a.fits t.txs ph s.todo es;
   waits = a.waits;
   out_of_turns = a.short;
@@ -86,8 +90,8 @@ account_link cells a = record {
   waits_loose = a.waits_loose;
   out_of_turns_loose = a.short_loose;
   retries_loose = λ s h o. absurd h;
-  faults_of = λ s t r. (r.0, Out, r.1, r.2, r.3);
-  out_of_turns_of = λ s t r. a.short_here s t r.1 r.3 r.2 r.0;
+  faults_of = λ s t r. (r.0.0, Out, r.1, r.2, r.3);
+  out_of_turns_of = λ s t r. a.short_here s t r.1 r.3 r.2 r.0.0;
   invalid = λ b. Unit {0};
   invalid_both = tt;
   invalid_loose = λ h b. tt;

@@ -39,7 +39,7 @@ left_over : (cells : List CellDefinition) (ph : Phase) (s : ActorState) (t : Thr
 left_over cells ph s t es td fits = subst (RepliesFit cells ph s.todo) (sym (td ∙ append-nil es)) fits
 
 agrees : (cells : List CellDefinition) (x : Completion ActorState Value) (y : Completion ThreadState Value) → Related (account_link cells (exact cells)) x y → Agrees cells x y
-agrees cells (Completes v s) (Completes w t) h = (t, ap (λ u. Completes u t) (sym h.0), h.1.0, left_over cells Out s t h.1.1 h.1.2 h.1.3)
+agrees cells (Completes v s) (Completes w t) h = (t, ap (λ u. Completes u t) (sym h.0), h.1.0.0, left_over cells Out s t h.1.1 h.1.2 h.1.3)
 agrees cells (Completes v s) _ h = absurd h
 agrees cells (Recurs vs s) y h = tt
 agrees cells (Faults f s) (Faults g t) h = (t, ap (λ u. Faults u t) (sym h.0), h.1.0, (h.1.1, left_over cells h.1.1 s t h.1.2 h.1.3 h.1.4))

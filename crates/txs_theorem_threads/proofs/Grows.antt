@@ -30,8 +30,8 @@ use Rattle.txs_value_data.specs.declared.value.CellId.{CellId}
 use Rattle.txs_value_data.specs.declared.value.Value.{Value}
 use Rattle.txs_code_meaning.specs.declared.instr.OpenForm.{OpenForm}
 use Rattle.txs_code_meaning.specs.declared.instr.OpenForm.TheVariants as open_form
-use Rattle.txs_code_meaning.specs.ActorState.{ActorState, Reception, Replied, Unreplied, receives, asks, StepResult, Continue, Break, Redo, Await, Malformed, on_step, step_of, Reading, Says, SaysRetry, SaysNothing, read_as, heard, read_point, just_done, value_there, newest_value, views, Verdict, Landed, Outdated, Undone, Denied, commit_verdict, opened, swap_verdict, send_verdict, sent, Taken, handed_out, begun, begin, fail, buffered_or, look, paired, viewed, view, commit, peek, SwapInHand, open_atom, close_swap, break_swap, reset_atom, send_now, take_action, finish, cell_at, read_cell, read, set_own, assign_cell, assign, RefUpdate, Alters, Commutes, update_form, open_update, close_own, close_update, open_swap, send_action, send_to, print}
-use Rattle.txs_code_meaning.specs.Machine.{PlainInstr, Push, Load, Store, Pop, Jump, JumpFalse, CoreOf, CallOf, Return, MakeVector, PrintOf, TxBegin, TxEnd, LookOf, PutOf, OpenOf, CloseOf, SendOf, Halt, TakeOf, RunOf, FinishOf, ThreadCode, fetch, Frame, Savepoint, Activity, Outside, Restarting, Running, Applying, Swapping, Acting, is_inside, Configuration, Outcome, Turned, Ended, Failed, Asking, Unfinished, Stuck, and_then, told, raise, try_more, retried, on, found, on_top, on_args, gives, starts, begins, decided, lands, settles, arguments_of, applies, ends, returns_to, opens_ref, opens_atom, opens, swap_decided, closes_swap, closes, started, runs_callee, runs, act, turn, exec}
+use Rattle.txs_code_meaning.specs.ActorState.{ActorState, Reception, Replied, Unreplied, receives, asks, StepResult, Continue, Break, Redo, Await, Malformed, on_step, step_of, Reading, Says, SaysRetry, SaysNothing, read_as, heard, read_point, just_done, value_there, newest_value, views, Verdict, Landed, Outdated, Undone, Denied, commit_verdict, opened, swap_verdict, send_verdict, sent, Taken, handed_out, begun, begin, fail, buffered_or, look, paired, viewed, view, commit, peek, SwapInHand, open_atom, close_swap, break_swap, reset_atom, send_now, take_action, finish, cell_at, read_cell, read, set_own, assign_cell, assign, RefUpdate, Alters, Commutes, update_form, open_update, close_own, close_update, open_swap, send_action, send_to, print, InHand, send_or_hold}
+use Rattle.txs_code_meaning.specs.Machine.{PlainInstr, Push, Load, Store, Pop, Jump, JumpFalse, CoreOf, CallOf, Return, MakeVector, PrintOf, TxBegin, TxEnd, LookOf, PutOf, OpenOf, CloseOf, SendOf, Halt, TakeOf, RunOf, FinishOf, ThreadCode, fetch, Frame, Savepoint, Activity, Outside, Restarting, Running, Applying, Swapping, is_inside, Configuration, Outcome, Turned, Ended, Failed, Asking, Unfinished, Stuck, and_then, told, raise, try_more, retried, on, found, on_top, on_args, gives, starts, begins, decided, lands, settles, arguments_of, applies, ends, returns_to, opens_ref, opens_atom, opens, swap_decided, closes_swap, closes, started, runs_callee, runs, act, turn, exec, ends_with}
 use Rattle.txs_code_meaning.proofs.Alike.{then_alike}
 
 pub record Grows (s t : ActorState) : Type 0 where
@@ -174,7 +174,7 @@ take_grows g s = ask_grows handed_out (ask.Take g) s
 
 finish_grows : (g : CellId) (new : Result Value Fault) (s : ActorState) → StepGrows s (finish g new s)
 unfolding finish
-finish_grows g new s = ask_grows just_done (ask.Finish g new) s
+finish_grows g new s = ask_grows just_done (ask.Finish g new []) s
 
 print_grows : (b : Bool) (vs : List Value) (s : ActorState) → StepGrows s (print b vs s)
 unfolding print
@@ -223,7 +223,11 @@ open_swap_grows false span v s = step_grows (cell_at (form.Update update_of.Swap
 
 send_action_grows : (b : Bool) (a : Action) (s : ActorState) → StepGrows s (send_action b a s)
 send_action_grows true a s = still s _ refl refl
-send_action_grows false a s = send_now_grows a s
+send_action_grows false a s = or_hold s.acting
+  where
+    or_hold : (o : Option InHand) → StepGrows s (send_or_hold o a s)
+    or_hold None = send_now_grows a s
+    or_hold (Some h) = still s _ refl refl
 
 send_grows : (b : Bool) (span : Span) (v : Value) (c : Callee) (vs : List Value) (s : ActorState) → StepGrows s (send_to b span v c vs s)
 send_grows b span v c vs s = step_grows (cell_at form.Send b span v s) _ s (cell_grows form.Send b span v s) (λ g t. send_action_grows b (record { agent = g; callee = c; args = vs; span = span }) t)
@@ -256,13 +260,16 @@ told_grows (Redo t) go s g h = tt
 told_grows (Await t) go s g h = g
 told_grows Malformed go s g h = tt
 
+over_grows : (o : Option InHand) (f : Fault) (s : ActorState) → TurnGrows s (ends_with o f s)
+over_grows None f s = still s s refl refl
+over_grows (Some h) f s = told_grows (finish h.agent (Err f) s) _ s (finish_grows h.agent (Err f) s) (λ t. still t _ refl refl)
+
 raise_grows : (doing : Activity) (f : Fault) (s : ActorState) → TurnGrows s (raise doing f s)
-raise_grows Outside f s = still s s refl refl
+raise_grows Outside f s = over_grows s.acting f s
 raise_grows (Restarting left) f s = still s s refl refl
 raise_grows (Running left inner from) f s = told_grows (fail s) _ s (fail_grows s) (λ t. still t t refl refl)
 raise_grows (Applying left from work values) f s = told_grows (fail s) _ s (fail_grows s) (λ t. still t t refl refl)
 raise_grows (Swapping swap from) f s = told_grows (break_swap swap s) _ s (break_swap_grows swap s) (λ t. still t t refl refl)
-raise_grows (Acting agent action) f s = told_grows (finish agent (Err f) s) _ s (finish_grows agent (Err f) s) (λ t. still t t refl refl)
 
 -- one more try
 abbrev StateKept : ActorState → (ℕ → Configuration) → Type 0
@@ -278,7 +285,6 @@ retried_grows (Restarting left) s = tt
 retried_grows (Running left inner from) s = try_grows left from s _ (λ k. still s s refl refl)
 retried_grows (Applying left from work values) s = tt
 retried_grows (Swapping swap from) s = tt
-retried_grows (Acting agent action) s = tt
 
 on_grows : {A : Type 0} (doing : Activity) (x : StepResult A) (go : A → ActorState → Turned Configuration) (s : ActorState) → StepGrows s x → ((a : A) (t : ActorState) → TurnGrows t (go a t)) → TurnGrows s (on doing x go)
 on_grows doing (Continue a t) go s g h = turn_after s t (go a t) g (h a t)
@@ -308,7 +314,6 @@ begins_grows (Restarting left) span c = starts_grows left span c
 begins_grows (Running left inner from) span c = still c.state c.state refl refl
 begins_grows (Applying left from work values) span c = tt
 begins_grows (Swapping swap from) span c = tt
-begins_grows (Acting agent action) span c = tt
 
 decided_grows : (verdict : Verdict) (left : ℕ) (from : Savepoint) (c : Configuration) (s : ActorState) → TurnGrows s (decided verdict left from c s)
 decided_grows Landed left from c s = still s s refl refl
@@ -336,7 +341,6 @@ ends_grows code (Running left zero from) c = settles_grows (commuted c.state.don
 ends_grows code (Applying left from [] values) c = lands_grows left from values c
 ends_grows code (Applying left from (k ∷ work) values) c = applies_grows code k.callee left from k work values c
 ends_grows code (Swapping swap from) c = tt
-ends_grows code (Acting agent action) c = tt
 
 returns_grows : (frames : List Frame) (v : Value) (c : Configuration) → TurnGrows c.state (returns_to frames v c)
 returns_grows [] v c = tt
@@ -352,7 +356,6 @@ opens_atom_grows (Restarting left) span vs cell rest c = tt
 opens_atom_grows (Running left inner from) span vs cell rest c = tt
 opens_atom_grows (Applying left from work values) span vs cell rest c = tt
 opens_atom_grows (Swapping swap from) span vs cell rest c = tt
-opens_atom_grows (Acting agent action) span vs cell rest c = tt
 
 opens_grows : (f : OpenForm) (span : Span) (vs : List Value) (cell : Value) (rest : List Value) (c : Configuration) → TurnGrows c.state (opens f span vs cell rest c)
 opens_grows open_form.Alter span vs cell rest c = opens_ref_grows Alters span vs cell rest c
@@ -371,7 +374,6 @@ closes_swap_grows Outside w rest c = tt
 closes_swap_grows (Restarting left) w rest c = tt
 closes_swap_grows (Running left inner from) w rest c = tt
 closes_swap_grows (Applying left from work values) w rest c = tt
-closes_swap_grows (Acting agent action) w rest c = tt
 
 closes_grows : (f : UpdateForm) (span : Span) (w cell : Value) (rest : List Value) (c : Configuration) → TurnGrows c.state (closes f span w cell rest c)
 closes_grows update_of.Alter span w cell rest c = gives_grows c rest (close_update span cell w c.state) (close_update_grows span cell w c.state)
@@ -380,19 +382,15 @@ closes_grows update_of.Swap span w cell rest c = closes_swap_grows c.doing w res
 
 started_grows : (g : CellId) (o : Option Taken) (c : Configuration) (s : ActorState) → TurnGrows s (started g o c s)
 started_grows g None c s = still s s refl refl
-started_grows g (Some t) c s = still s s refl refl
+started_grows g (Some t) c s = still s _ refl refl
 
 runs_callee_grows : (code : ThreadCode) (callee : Callee) (a : Action) (v : Value) (rest : List Value) (c : Configuration) → TurnGrows c.state (runs_callee code callee a v rest c)
 runs_callee_grows code (callee_of.Core op) a v rest c = gives_grows c rest (step_of (core op (v ∷ a.args)) a.span c.state) (of_grows (core op (v ∷ a.args)) a.span c.state)
 runs_callee_grows code (callee_of.Function f) a v rest c = still c.state c.state refl refl
 
-runs_grows : (code : ThreadCode) (doing : Activity) (v : Value) (rest : List Value) (c : Configuration) → TurnGrows c.state (runs code doing v rest c)
-runs_grows code (Acting g a) v rest c = runs_callee_grows code a.callee a v rest c
-runs_grows code Outside v rest c = tt
-runs_grows code (Restarting left) v rest c = tt
-runs_grows code (Running left inner from) v rest c = tt
-runs_grows code (Applying left from work values) v rest c = tt
-runs_grows code (Swapping swap from) v rest c = tt
+runs_grows : (code : ThreadCode) (o : Option InHand) (v : Value) (rest : List Value) (c : Configuration) → TurnGrows c.state (runs code o v rest c)
+runs_grows code None v rest c = tt
+runs_grows code (Some h) v rest c = runs_callee_grows code h.action.callee h.action v rest c
 
 act_grows : (code : ThreadCode) (i : Option PlainInstr) (c : Configuration) → TurnGrows c.state (act code i c)
 act_grows code None c = tt
@@ -416,8 +414,8 @@ act_grows code (Some (CloseOf f span)) c = top_grows c.state c.stack _ (λ w und
 act_grows code (Some (SendOf callee args span)) c = args_grows c.state args c.stack [] _ (λ vs under. top_grows c.state under _ (λ cell rest. gives_grows c rest (send_to (is_inside c.doing) span cell callee vs c.state) (send_grows (is_inside c.doing) span cell callee vs c.state)))
 act_grows code (Some Halt) c = still c.state c.state refl refl
 act_grows code (Some (TakeOf g)) c = on_grows c.doing (take_action g c.state) _ c.state (take_grows g c.state) (λ o t. started_grows g o c t)
-act_grows code (Some RunOf) c = top_grows c.state c.stack _ (λ v rest. runs_grows code c.doing v rest c)
-act_grows code (Some (FinishOf g)) c = top_grows c.state c.stack _ (λ v rest. told_grows (finish g (Ok v) c.state) _ c.state (finish_grows g (Ok v) c.state) (λ t. still t t refl refl))
+act_grows code (Some RunOf) c = top_grows c.state c.stack _ (λ v rest. runs_grows code c.state.acting v rest c)
+act_grows code (Some (FinishOf g)) c = top_grows c.state c.stack _ (λ v rest. told_grows (finish g (Ok v) c.state) _ c.state (finish_grows g (Ok v) c.state) (λ t. still t _ refl refl))
 
 -- ---- runs
 

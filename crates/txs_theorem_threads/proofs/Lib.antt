@@ -17,6 +17,7 @@ pub mod Owned
 pub mod Placed
 pub mod Quiet
 pub mod Related
+pub mod Resting
 pub mod Same
 pub mod Sound
 pub mod Threads

@@ -161,7 +161,8 @@ module _ (S : Type 0) (H : Bool → S → Type 0) where
 pub record SoundForms (S : Type 0) (fx : Effects S) (Holds : Suits → Bool → S → Type 0) : Type 1 where
   pub print : (P : Suits) (inside : Bool) (vs : List Value) (s : S) → MayStand (zone_of inside) Outside → Holds P inside s → MeantAs (Holds P) inside None Any (fx.print inside vs s)
   pub look : (P : Suits) (form : LookForm) (inside : Bool) (m : Mark) (c : Value) (s : S) → MayStand (zone_of inside) (rule (form_of.Look form)).stands → Holds P inside s → MeantAs (Holds P) inside None Any (fx.look form inside m c s)
-  pub put : (P : Suits) (form : PutForm) (inside : Bool) (m : Mark) (c v : Value) (s : S) → MayStand (zone_of inside) (rule (form_of.Put form)).stands → Holds P inside s → MeantAs (Holds P) inside None Any (fx.put form inside m c v s)
+  pub put : (P O : Suits) (form : PutForm) (inside : Bool) (m : Mark) (c v : Value) (f : Applies S) (s : S) → MayStand (zone_of inside) (rule (form_of.Put form)).stands → ((d : Callee) (ws : List Value) → O d (length ws) → Proper S f d ws) →
+      Holds P inside s → MeantAs (Holds P) inside None Any (fx.put form inside m c v f s)
   pub update : (P : Suits) (form : UpdateForm) (inside : Bool) (m : Mark) (c : Value) (callee : Callee) (vs : List Value) (f : Applies S) (s : S) → MayStand (zone_of inside) (rule (form_of.Update form)).stands → P callee (suc (length vs)) → ((v : Value) → Proper S f callee (v ∷ vs)) →
       Holds P inside s → MeantAs (Holds P) inside None Any (fx.update form inside m c callee vs f s)
   pub send : (P : Suits) (inside : Bool) (m : Mark) (c : Value) (callee : Callee) (vs : List Value) (s : S) → Holds P inside s → MeantAs (Holds P) inside None Any (fx.send inside m c callee vs s)
@@ -224,7 +225,7 @@ module _ (S : Type 0) (fx : Effects S) (Holds : Suits → Bool → S → Type 0)
     eval_meant P w (Put form cell value m) inside d tail h env l s g =
         bind_meant S (Holds P) inside tail Any Any (eval fx call n inside cell env s) _ (eval_meant P w cell inside d None h.1 env l s g)
         (λ c s1 p g1. bind_meant S (Holds P) inside tail Any Any (eval fx call n inside value env s1) _ (eval_meant P w value inside d None h.2 env l s1 g1)
-        (λ v s2 q g2. loose S (Holds P) inside tail (fx.put form inside m c v s2) (forms.put P form inside m c v s2 h.0 g2)))
+        (λ v s2 q g2. loose S (Holds P) inside tail (fx.put form inside m c v (apply (call inside) m.span) s2) (forms.put P (λ d k. SoundCallee ks d k) form inside m c v (apply (call inside) m.span) s2 h.0 (λ d ws q2. callees inside m.span d ws q2) g2)))
     eval_meant P w (Update form cell callee args m) inside d tail h env l s g =
         bind_meant S (Holds P) inside tail Any Any (eval fx call n inside cell env s) _ (eval_meant P w cell inside d None h.1 env l s g)
         (λ c s1 p g1. bind_meant S (Holds P) inside tail (Many (count args)) Any (eval_all fx call n inside args env s1) _ (all_meant P w args inside d h.3 env l s1 g1)

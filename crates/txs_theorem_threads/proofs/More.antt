@@ -3,6 +3,7 @@ use Rattle.std.proofs.Common.{ℕ, zero, suc, Bool, true, false, List, [], ◌�
 use Rattle.std.proofs.lemmas.Bool.{false≢true}
 use Rattle.txs_world_protocol.specs.Ask.{Writes, Exchange}
 use Rattle.txs_frame.specs.Frame.{commuted, phase_work}
+use Rattle.txs_value_cell.specs.Cells.{Validators, validators_of}
 use Rattle.txs_value_data.specs.Limits.{reruns}
 use Rattle.txs_value_base.specs.declared.fault.Span.{Span}
 use Rattle.txs_value_cell.specs.declared.form.UpdateForm.{UpdateForm}
@@ -11,7 +12,7 @@ use Rattle.txs_value_base.specs.declared.op.Callee.{Callee}
 use Rattle.txs_value_data.specs.declared.value.CellId.{CellId}
 use Rattle.txs_value_data.specs.declared.value.Value.{Value}
 use Rattle.txs_tree_meaning.specs.Known.{known}
-use Rattle.txs_tree_meaning.specs.Meaning.{Completion, Completes, Recurs, Faults, Retries, Waits, OutOfTurns, Invalid, bind, allowed, Applies, eval, call_at}
+use Rattle.txs_tree_meaning.specs.Meaning.{Completion, Completes, Recurs, Faults, Retries, Waits, OutOfTurns, Invalid, bind, allowed, Applies, eval, call_at, apply}
 use Rattle.txs_tree_meaning.specs.Sound.{SoundSource, in_thread}
 use Rattle.txs_tree_meaning.specs.Transaction.{redone}
 use Rattle.txs_tree_meaning.specs.Tree.{PlainFunction, ThreadSource}
@@ -73,30 +74,30 @@ concludes_alike Denied span v go go1 h s = (refl, refl)
 lands_alike : (span : Span) (v : Value) (go go1 : Start → ActorState → Completion ActorState Value) → GoesAlike go go1 → (ws : Writes) → BothAlike (lands_on span v go ws) (lands_on span v go1 ws)
 lands_alike span v go go1 h ws s = bind_same ActorState (res (commit ws s)) (λ d s1. concludes d span v go s1) (λ d s1. concludes d span v go1 s1) (λ d s1. concludes_alike d span v go go1 h s1)
 
-closing_alike : (cs : List CellId) (span : Span) (f g : Applies ActorState) → Applied ActorState ActorState (same_link ActorState) f g → (v : Value) (go go1 : Start → ActorState → Completion ActorState Value) → GoesAlike go go1 → BothAlike (closing cs span f v go) (closing cs span g v go1)
-closing_alike [] span f g a v go go1 h s = lands_alike span v go go1 h [] s
-closing_alike (c ∷ cs) span f g a v go go1 h s =
+closing_alike : (validators : Validators) (cs : List CellId) (span : Span) (f g : Applies ActorState) → Applied ActorState ActorState (same_link ActorState) f g → (v : Value) (go go1 : Start → ActorState → Completion ActorState Value) → GoesAlike go go1 → BothAlike (closing validators cs span f v go) (closing validators cs span g v go1)
+closing_alike validators [] span f g a v go go1 h s = lands_alike span v go go1 h [] s
+closing_alike validators (c ∷ cs) span f g a v go go1 h s =
     bind_same ActorState (res (view s)) (λ ws s1. telling fail (redone f (phase_work s1.done) ws s1) (λ xs s2. lands_on span v go xs s2)) (λ ws s1. telling fail (redone g (phase_work s1.done) ws s1) (λ xs s2. lands_on span v go1 xs s2))
     (λ ws s1. telling_alike fail (redone f (phase_work s1.done) ws s1) (redone g (phase_work s1.done) ws s1) (λ xs s2. lands_on span v go xs s2) (λ xs s2. lands_on span v go1 xs s2)
     (redone_alike ActorState f g a (phase_work s1.done) ws s1) (λ xs s2. lands_alike span v go go1 h xs s2))
 
-attempt_alike : (from : Start) (span : Span) (x y : ActorState → Completion ActorState Value) → BothAlike x y → (f g : Applies ActorState) → Applied ActorState ActorState (same_link ActorState) f g → (go go1 : Start → ActorState → Completion ActorState Value) → GoesAlike go go1 → BothAlike (attempt from span x f go) (attempt from span y g go1)
-attempt_alike Anew span x y b f g a go go1 h s =
-    bind_same ActorState (res (begin s)) (λ u s1. telling fail (x s1) (λ v s2. closing (commuted s2.done) span f v go s2)) (λ u s1. telling fail (y s1) (λ v s2. closing (commuted s2.done) span g v go1 s2))
-    (λ u s1. telling_alike fail (x s1) (y s1) (λ v s2. closing (commuted s2.done) span f v go s2) (λ v s2. closing (commuted s2.done) span g v go1 s2) (b s1) (λ v s2. closing_alike (commuted s2.done) span f g a v go go1 h s2))
-attempt_alike (Behind v) span x y b f g a go go1 h s = closing_alike (commuted s.done) span f g a v go go1 h s
+attempt_alike : (validators : Validators) (from : Start) (span : Span) (x y : ActorState → Completion ActorState Value) → BothAlike x y → (f g : Applies ActorState) → Applied ActorState ActorState (same_link ActorState) f g → (go go1 : Start → ActorState → Completion ActorState Value) → GoesAlike go go1 → BothAlike (attempt validators from span x f go) (attempt validators from span y g go1)
+attempt_alike validators Anew span x y b f g a go go1 h s =
+    bind_same ActorState (res (begin s)) (λ u s1. telling fail (x s1) (λ v s2. closing validators (commuted s2.done) span f v go s2)) (λ u s1. telling fail (y s1) (λ v s2. closing validators (commuted s2.done) span g v go1 s2))
+    (λ u s1. telling_alike fail (x s1) (y s1) (λ v s2. closing validators (commuted s2.done) span f v go s2) (λ v s2. closing validators (commuted s2.done) span g v go1 s2) (b s1) (λ v s2. closing_alike validators (commuted s2.done) span f g a v go go1 h s2))
+attempt_alike validators (Behind v) span x y b f g a go go1 h s = closing_alike validators (commuted s.done) span f g a v go go1 h s
 
 -- tries whose bodies and callees are alike
-tries_alike : (k : ℕ) (span : Span) (x y : ActorState → Completion ActorState Value) → BothAlike x y → (f g : Applies ActorState) → Applied ActorState ActorState (same_link ActorState) f g → GoesAlike (tries k span x f) (tries k span y g)
-tries_alike zero span x y b f g a from s = (refl, refl)
-tries_alike (suc k) span x y b f g a from s =
-    retrying_alike (attempt from span x f (tries k span x f) s) (attempt from span y g (tries k span y g) s) (tries k span x f Anew) (tries k span y g Anew)
-    (attempt_alike from span x y b f g a (tries k span x f) (tries k span y g) (tries_alike k span x y b f g a) s)
-    (tries_alike k span x y b f g a Anew)
+tries_alike : (validators : Validators) (k : ℕ) (span : Span) (x y : ActorState → Completion ActorState Value) → BothAlike x y → (f g : Applies ActorState) → Applied ActorState ActorState (same_link ActorState) f g → GoesAlike (tries validators k span x f) (tries validators k span y g)
+tries_alike validators zero span x y b f g a from s = (refl, refl)
+tries_alike validators (suc k) span x y b f g a from s =
+    retrying_alike (attempt validators from span x f (tries validators k span x f) s) (attempt validators from span y g (tries validators k span y g) s) (tries validators k span x f Anew) (tries validators k span y g Anew)
+    (attempt_alike validators from span x y b f g a (tries validators k span x f) (tries validators k span y g) (tries_alike validators k span x y b f g a) s)
+    (tries_alike validators k span x y b f g a Anew)
 
-joined_alike : (inside : Bool) (k : ℕ) (span : Span) (x y : ActorState → Completion ActorState Value) → BothAlike x y → (f g : Applies ActorState) → Applied ActorState ActorState (same_link ActorState) f g → BothAlike (joined inside k span x f) (joined inside k span y g)
-joined_alike true k span x y b f g a s = b s
-joined_alike false k span x y b f g a s = tries_alike k span x y b f g a Anew s
+joined_alike : (validators : Validators) (inside : Bool) (k : ℕ) (span : Span) (x y : ActorState → Completion ActorState Value) → BothAlike x y → (f g : Applies ActorState) → Applied ActorState ActorState (same_link ActorState) f g → BothAlike (joined validators inside k span x f) (joined validators inside k span y g)
+joined_alike validators true k span x y b f g a s = b s
+joined_alike validators false k span x y b f g a s = tries_alike validators k span x y b f g a Anew s
 
 -- ---- updates
 
@@ -107,14 +108,14 @@ swap_concludes_alike Undone w go go1 h s = refl
 swap_concludes_alike Denied w go go1 h s = refl
 
 -- swaps whose callees are alike
-swaps_alike : (k : ℕ) (span : Span) (c : Value) (f g : Value → ActorState → Completion ActorState Value) → ((v : Value) → BothAlike (f v) (g v)) → BothAlike (swaps_on k span c f) (swaps_on k span c g)
+swaps_alike : (k : ℕ) (span : Span) (c : Value) (f g : CellId → Value → ActorState → Completion ActorState Value) → ((x : CellId) (v : Value) → BothAlike (f x v) (g x v)) → BothAlike (swaps_on k span c f) (swaps_on k span c g)
 swaps_alike zero span c f g h s = refl
 swaps_alike (suc k) span c f g h s =
     bind_same ActorState (res (open_swap false span c s))
-    (λ o s1. telling (break_swap o.0) (f o.1 s1) (λ w s2. bind (res (close_swap o.0 w s2)) (λ d s3. swap_concludes d w (swaps_on k span c f) s3)))
-    (λ o s1. telling (break_swap o.0) (g o.1 s1) (λ w s2. bind (res (close_swap o.0 w s2)) (λ d s3. swap_concludes d w (swaps_on k span c g) s3)))
-    (λ o s1. telling_alike (break_swap o.0) (f o.1 s1) (g o.1 s1)
-    (λ w s2. bind (res (close_swap o.0 w s2)) (λ d s3. swap_concludes d w (swaps_on k span c f) s3)) (λ w s2. bind (res (close_swap o.0 w s2)) (λ d s3. swap_concludes d w (swaps_on k span c g) s3)) (h o.1 s1)
+    (λ o s1. telling (break_swap o.0) (f o.0.cell o.1 s1) (λ w s2. bind (res (close_swap o.0 w s2)) (λ d s3. swap_concludes d w (swaps_on k span c f) s3)))
+    (λ o s1. telling (break_swap o.0) (g o.0.cell o.1 s1) (λ w s2. bind (res (close_swap o.0 w s2)) (λ d s3. swap_concludes d w (swaps_on k span c g) s3)))
+    (λ o s1. telling_alike (break_swap o.0) (f o.0.cell o.1 s1) (g o.0.cell o.1 s1)
+    (λ w s2. bind (res (close_swap o.0 w s2)) (λ d s3. swap_concludes d w (swaps_on k span c f) s3)) (λ w s2. bind (res (close_swap o.0 w s2)) (λ d s3. swap_concludes d w (swaps_on k span c g) s3)) (h o.0.cell o.1 s1)
     (λ w s2. bind_same ActorState (res (close_swap o.0 w s2)) (λ d s3. swap_concludes d w (swaps_on k span c f) s3) (λ d s3. swap_concludes d w (swaps_on k span c g) s3)
     (λ d s3. swap_concludes_alike d w (swaps_on k span c f) (swaps_on k span c g) (swaps_alike k span c f g h) s3)))
 
@@ -128,25 +129,25 @@ allowed_alike : (b : Bool) (x y : Completion ActorState Value) → Related (same
 allowed_alike true x y h = h
 allowed_alike false x y h = refl
 
-updates_alike : (form : UpdateForm) (inside : Bool) (span : Span) (c : Value) (callee : Callee) (vs : List Value) (f g : Applies ActorState) → Applied ActorState ActorState (same_link ActorState) f g → BothAlike (updates form inside span c callee vs f) (updates form inside span c callee vs g)
-updates_alike Alter inside span c callee vs f g a s = updates_ref_alike Alters inside span c callee vs f g a s
-updates_alike Commute inside span c callee vs f g a s = updates_ref_alike (Commutes callee) inside span c callee vs f g a s
-updates_alike Swap inside span c callee vs f g a s =
-    allowed_alike (not inside) (swaps_on (suc (length s.todo)) span c (λ v s1. f callee (v ∷ vs) s1) s) (swaps_on (suc (length s.todo)) span c (λ v s1. g callee (v ∷ vs) s1) s)
-    (swaps_alike (suc (length s.todo)) span c (λ v s1. f callee (v ∷ vs) s1) (λ v s1. g callee (v ∷ vs) s1) (λ v s1. a callee (v ∷ vs) s1 s1 refl) s)
+updates_alike : (validators : Validators) (form : UpdateForm) (inside : Bool) (span : Span) (c : Value) (callee : Callee) (vs : List Value) (f g : Applies ActorState) → Applied ActorState ActorState (same_link ActorState) f g → BothAlike (updates validators form inside span c callee vs f) (updates validators form inside span c callee vs g)
+updates_alike validators Alter inside span c callee vs f g a s = updates_ref_alike Alters inside span c callee vs f g a s
+updates_alike validators Commute inside span c callee vs f g a s = updates_ref_alike (Commutes callee) inside span c callee vs f g a s
+updates_alike validators Swap inside span c callee vs f g a s =
+    allowed_alike (not inside) (swaps_on (suc (length s.todo)) span c (λ x v s1. f callee (v ∷ vs) s1) s) (swaps_on (suc (length s.todo)) span c (λ x v s1. g callee (v ∷ vs) s1) s)
+    (swaps_alike (suc (length s.todo)) span c (λ x v s1. f callee (v ∷ vs) s1) (λ x v s1. g callee (v ∷ vs) s1) (λ x v s1. a callee (v ∷ vs) s1 s1 refl) s)
 
 -- ---- threads
 
-module _ (nl nr : ℕ) (functions : List PlainFunction) where
+module _ (validators : Validators) (nl nr : ℕ) (functions : List PlainFunction) where
   -- the forms on replies, whose callees may have more turns
-  replies_alike : (d : ℕ) → Alike ActorState ActorState (same_link ActorState) on_replies on_replies (call_at (λ e. on_replies) nl functions d) (call_at (λ e. on_replies) nr functions d) nl nr (λ i. Unit {0}) (pure_callees (known functions))
+  replies_alike : (d : ℕ) → Alike ActorState ActorState (same_link ActorState) (on_replies validators) (on_replies validators) (call_at (λ e. on_replies validators) nl functions d) (call_at (λ e. on_replies validators) nr functions d) nl nr (λ i. Unit {0}) (pure_callees (known functions))
   replies_alike d = record {
-    print = λ inside vs s t m r. from_same ActorState (λ u. on_replies.print inside vs u) s t r;
-    look = λ form inside m c s t may i r. from_same ActorState (λ u. on_replies.look form inside m c u) s t r;
-    put = λ form inside m c w s t may i r. from_same ActorState (λ u. on_replies.put form inside m c w u) s t r;
-    update = λ form inside m c callee vs s t may i p a r. from_alike ActorState _ _ (updates_alike form inside m.span c callee vs _ _ (a (λ f. tt))) s t r;
-    send = λ inside m c callee vs s t i p r. from_same ActorState (λ u. on_replies.send inside m c callee vs u) s t r;
-    dosync = λ inside m e env s t i p b a r. from_alike ActorState _ _ (joined_alike inside (suc reruns) m.span _ _ (λ s1. b tt s1 s1 refl) _ _ (a (λ f. tt) tt)) s t r;
+    print = λ inside vs s t m r. from_same ActorState (λ u. (on_replies validators).print inside vs u) s t r;
+    look = λ form inside m c s t may i r. from_same ActorState (λ u. (on_replies validators).look form inside m c u) s t r;
+    put = λ form inside m c w s t may i a r. from_same ActorState (λ u. (on_replies validators).put form inside m c w (apply (call_at (λ e. on_replies validators) nr functions d inside) m.span) u) s t r;
+    update = λ form inside m c callee vs s t may i p a r. from_alike ActorState _ _ (updates_alike validators form inside m.span c callee vs _ _ (a (λ f. tt))) s t r;
+    send = λ inside m c callee vs s t i p r. from_same ActorState (λ u. (on_replies validators).send inside m c callee vs u) s t r;
+    dosync = λ inside m e env s t i p b a r. from_alike ActorState _ _ (joined_alike validators inside (suc reruns) m.span _ _ (λ s1. b tt s1 s1 refl) _ _ (a (λ f. tt) tt)) s t r;
   }
 
 long_ended : (x : Completion ActorState Value) → HasEnded x → IsLong ActorState x
@@ -163,12 +164,13 @@ pub more_turns : (p : ThreadSource) → SoundSource p → (todo : List Exchange)
 more_turns p sound todo nl nr le e =
     let d = length p.functions in
     let w = pure_callees (known p.functions) in
-    let cf = call_at (λ x. on_replies) nl p.functions d in
-    let cg = call_at (λ x. on_replies) nr p.functions d in
+    let validators : Validators = validators_of p.cells in
+    let cf = call_at (λ x. on_replies validators) nl p.functions d in
+    let cg = call_at (λ x. on_replies validators) nr p.functions d in
     let more : Turns ActorState ActorState (same_link ActorState) nl nr = inr (le, λ s t r o. tt) in
     same_long ActorState (source p nl todo) (source p nr todo)
-    (closed_related ActorState ActorState (same_link ActorState) (eval on_replies cf nl false p.main [] (fresh todo)) (eval on_replies cg nr false p.main [] (fresh todo))
-    (eval_related ActorState ActorState (same_link ActorState) on_replies on_replies cf cg nl nr (λ i. Unit {0}) w more (replies_alike nl nr p.functions d)
-    (calls_related ActorState ActorState (same_link ActorState) (λ x. on_replies) (λ x. on_replies) nl nr p.functions (λ i. Unit {0}) w more (replies_alike nl nr p.functions) (function_callees p.functions sound.functions) d)
+    (closed_related ActorState ActorState (same_link ActorState) (eval (on_replies validators) cf nl false p.main [] (fresh todo)) (eval (on_replies validators) cg nr false p.main [] (fresh todo))
+    (eval_related ActorState ActorState (same_link ActorState) (on_replies validators) (on_replies validators) cf cg nl nr (λ i. Unit {0}) w more (replies_alike validators nl nr p.functions d)
+    (calls_related ActorState ActorState (same_link ActorState) (λ x. on_replies validators) (λ x. on_replies validators) nl nr p.functions (λ i. Unit {0}) w more (replies_alike validators nl nr p.functions) (function_callees p.functions sound.functions) d)
     p.main false [] (fresh todo) (fresh todo) (callees_in (known p.functions) p.main in_thread false 0 None sound.main) tt refl))
     (long_ended (source p nl todo) e)

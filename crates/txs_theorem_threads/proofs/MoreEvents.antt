@@ -6,7 +6,7 @@ use Rattle.txs_world_protocol.specs.SeenEvent.{SeenEvent, home}
 use Rattle.txs_world_protocol.specs.declared.event.EventKind.{EventKind}
 use Rattle.txs_world_protocol.specs.declared.event.EventKind.TheVariants as event
 use Rattle.txs_frame.specs.Frame.{Work, set_ref, commuted, commute_ref, set_writes, phase_work}
-use Rattle.txs_value_cell.specs.Cells.{World}
+use Rattle.txs_value_cell.specs.Cells.{World, Validators, validators_of}
 use Rattle.txs_value_cell.specs.Forms.{rule, cell_of}
 use Rattle.txs_value_data.specs.Limits.{reruns}
 use Rattle.txs_value_base.specs.declared.fault.Fault.{Fault}
@@ -17,11 +17,12 @@ use Rattle.txs_value_cell.specs.declared.form.PutForm.{PutForm}
 use Rattle.txs_value_cell.specs.declared.form.PutForm.TheVariants.{RefSet, Reset}
 use Rattle.txs_value_cell.specs.declared.form.UpdateForm.{UpdateForm}
 use Rattle.txs_value_cell.specs.declared.form.UpdateForm.TheVariants.{Alter, Commute, Swap}
+use Rattle.txs_value_base.specs.declared.fault.Span.{Span}
 use Rattle.txs_value_base.specs.declared.op.Callee.{Callee}
 use Rattle.txs_value_data.specs.declared.value.CellId.{CellId}
 use Rattle.txs_value_data.specs.declared.value.Value.{Value}
 use Rattle.txs_tree_meaning.specs.Known.{known}
-use Rattle.txs_tree_meaning.specs.Meaning.{Completion, Completes, Recurs, Faults, Retries, Waits, OutOfTurns, Invalid, bind, result_of, Applies, eval, call_at}
+use Rattle.txs_tree_meaning.specs.Meaning.{Completion, Completes, Recurs, Faults, Retries, Waits, OutOfTurns, Invalid, bind, result_of, Applies, eval, call_at, apply}
 use Rattle.txs_tree_meaning.specs.Sound.{SoundSource, SoundFunctions, in_thread}
 use Rattle.txs_tree_meaning.specs.Thread.{ThreadState, with_tx, eats, meant, faulted, faultless, swaps, over, Transacting, run_of, ends_tx, is_retry, eats_tx, on_events, around, thread_meaning, uneaten}
 use Rattle.txs_tree_meaning.specs.Transaction.{TxState, current, taken, done_as, tx_update, in_transaction, tx_start, tx_meaning, valued, merged, commute_writes, final_writes}
@@ -51,7 +52,7 @@ module _ (nl nr : ℕ) (le : nl ≤ nr) (functions : List PlainFunction) (sound 
   tx_alike R d = record {
     print = λ inside vs s t m r. refl;
     look = λ form inside m c s t may i r. from_same TxState (λ u. (in_transaction R).look form inside m c u) s t r;
-    put = λ form inside m c w s t may i r. from_same TxState (λ u. (in_transaction R).put form inside m c w u) s t r;
+    put = λ form inside m c w s t may i a r. from_same TxState (λ u. (in_transaction R).put form inside m c w (apply (call_at (λ e. in_transaction R) nr functions d inside) m.span) u) s t r;
     update = λ form inside m c callee vs s t may i p a r. from_alike TxState _ _
         (λ u. bind_same TxState (result_of (cell_of (rule (form_of.Update form)) true c) m.span u) _ _ (λ x t1. update_alike R form m x callee vs _ _ (a (λ f. tt)) t1)) s t r;
     send = λ inside m c callee vs s t i p r. from_same TxState (λ u. (in_transaction R).send inside m c callee vs u) s t r;
@@ -116,8 +117,8 @@ over_alike t (OutOfTurns x) y f g broke h k = tt
 over_alike t Invalid Invalid f g broke h k = refl
 over_alike t Invalid _ f g broke h k = absurd (false≢true h)
 
-final_alike : (f g : Applies ThreadState) → Applied ThreadState ThreadState (same_link ThreadState) f g → (w : Work) (C : World) (t : ThreadState) → Related (same_link ThreadState) (final_writes f w C t) (final_writes g w C t)
-final_alike f g a w C t =
+final_alike : (validators : Validators) (span : Span) (f g : Applies ThreadState) → Applied ThreadState ThreadState (same_link ThreadState) f g → (w : Work) (C : World) (t : ThreadState) → Related (same_link ThreadState) (final_writes f validators span w C t) (final_writes g validators span w C t)
+final_alike validators span f g a w C t =
     let now : Writes → ThreadState → Completion ThreadState Writes = λ ws t1. Completes (merged (set_writes w) ws) t1 in
     bind_related ThreadState ThreadState (same_link ThreadState) (commute_writes f w C t) (commute_writes g w C t) now now (redone_alike ThreadState f g a (phase_work w) (valued (commuted w) C) t) (λ ws s1 t1 r1. from_same ThreadState (now ws) s1 t1 r1)
 
@@ -139,20 +140,20 @@ uneaten_alike l Invalid _ h = absurd (false≢true h)
 
 -- ---- transactions on events
 
-module _ (m : Mark) (node : Tree) (env : List Value) (x y : World → Completion TxState Value) (f g : Applies ThreadState) (b : (R : World) → Related (same_link TxState) (x R) (y R)) (a : Applied ThreadState ThreadState (same_link ThreadState) f g) where
+module _ (validators : Validators) (m : Mark) (node : Tree) (env : List Value) (x y : World → Completion TxState Value) (f g : Applies ThreadState) (b : (R : World) → Related (same_link TxState) (x R) (y R)) (a : Applied ThreadState ThreadState (same_link ThreadState) f g) where
   -- the dosync, with this meaning of its body
   abbrev with_body : (World → Completion TxState Value) → Transacting
-  with_body on = record { mark = m; body = node; locals = env; on = on }
+  with_body on = record { mark = m; body = node; locals = env; on = on; validators = validators }
 
   ends_alike : (e : EventKind) (R Q C : World) (t : ThreadState) → Related (same_link ThreadState) (ends_tx (with_body x) f e R Q C t) (ends_tx (with_body y) g e R Q C t)
   ends_alike (event.Commit at view writes sent) R Q C t =
       over_alike t (x R) (y R) _ _ (λ e. Invalid) (b R)
-      (λ v z. faultless_alike (final_writes f z.done C t) (final_writes g z.done C t) _ _ (final_alike f g a z.done C t) (λ ws t1. itself ThreadState (meant (same_writes ws writes && same_actions z.done.sends sent) v (with_tx (run_of (with_body x) v z) t1))))
+      (λ v z. faultless_alike (final_writes f validators m.span z.done C t) (final_writes g validators m.span z.done C t) _ _ (final_alike validators m.span f g a z.done C t) (λ ws t1. itself ThreadState (meant (same_writes ws writes && same_actions z.done.sends sent) v (with_tx (run_of (with_body x) v z) t1))))
   ends_alike (event.Fail at view) R Q C t =
-      over_alike t (x R) (y R) _ _ (λ e. Faults e t) (b R) (λ v z. faulted_alike (final_writes f z.done Q t) (final_writes g z.done Q t) (λ e t1. Faults e t1) (final_alike f g a z.done Q t))
+      over_alike t (x R) (y R) _ _ (λ e. Faults e t) (b R) (λ v z. faulted_alike (final_writes f validators m.span z.done Q t) (final_writes g validators m.span z.done Q t) (λ e t1. Faults e t1) (final_alike validators m.span f g a z.done Q t))
   ends_alike (event.Refused at view agent) R Q C t =
       over_alike t (x R) (y R) _ _ (λ e. Invalid) (b R)
-      (λ v z. faultless_alike (final_writes f z.done Q t) (final_writes g z.done Q t) _ _ (final_alike f g a z.done Q t) (λ ws t1. (refl, refl)))
+      (λ v z. faultless_alike (final_writes f validators m.span z.done Q t) (final_writes g validators m.span z.done Q t) _ _ (final_alike validators m.span f g a z.done Q t) (λ ws t1. (refl, refl)))
   ends_alike _ R Q C t = refl
 
   eats_tx_alike : (k : ℕ) (es : List SeenEvent) (t : ThreadState) → Related (same_link ThreadState) (eats_tx k (with_body x) f es t) (eats_tx k (with_body y) g es t)
@@ -190,9 +191,9 @@ module _ (p : ThreadSource) (sound : SoundSource p) (nl nr : ℕ) (le : nl ≤ n
   look_alike Deref d inside m c t = itself ThreadState ((on_events (around p nl) d).look Deref inside m c t)
   look_alike Ensure d inside m c t = refl
 
-  put_alike : (form : PutForm) (d : ℕ) (inside : Bool) (m : Mark) (c w : Value) (t : ThreadState) → Related (same_link ThreadState) ((on_events (around p nl) d).put form inside m c w t) ((on_events (around p nr) d).put form inside m c w t)
-  put_alike RefSet d inside m c w t = refl
-  put_alike Reset d inside m c w t = itself ThreadState ((on_events (around p nl) d).put Reset inside m c w t)
+  put_alike : (form : PutForm) (d : ℕ) (inside : Bool) (m : Mark) (c w : Value) (f g : Applies ThreadState) (t : ThreadState) → Related (same_link ThreadState) ((on_events (around p nl) d).put form inside m c w f t) ((on_events (around p nr) d).put form inside m c w g t)
+  put_alike RefSet d inside m c w f g t = refl
+  put_alike Reset d inside m c w f g t = itself ThreadState ((on_events (around p nl) d).put Reset inside m c w f t)
 
   updates_alike : (form : UpdateForm) (d : ℕ) (inside : Bool) (m : Mark) (c : Value) (callee : Callee) (vs : List Value) (f g : Applies ThreadState) → Applied ThreadState ThreadState (same_link ThreadState) f g → (t : ThreadState)
       → Related (same_link ThreadState) ((on_events (around p nl) d).update form inside m c callee vs f t) ((on_events (around p nr) d).update form inside m c callee vs g t)
@@ -203,16 +204,16 @@ module _ (p : ThreadSource) (sound : SoundSource p) (nl nr : ℕ) (le : nl ≤ n
       (λ x t1. eats_alike (home p.cells x) _ _ (λ e t2. swaps_alike x (λ v t3. f callee (v ∷ vs) t3) (λ v t3. g callee (v ∷ vs) t3) (λ v t3. a callee (v ∷ vs) t3 t3 refl) e.kind e.R e.C t2) t1.todo t1)
 
   dosync_alike : (d : ℕ) (m : Mark) (e : Tree) (env : List Value) → Keeps (pure_callees (known p.functions)) true e → (f g : Applies ThreadState) → Applied ThreadState ThreadState (same_link ThreadState) f g → (t : ThreadState)
-      → Related (same_link ThreadState) (eats_tx (suc reruns) (record { mark = m; body = e; locals = env; on = tx_meaning nl p.functions d e env }) f t.todo t)
-      (eats_tx (suc reruns) (record { mark = m; body = e; locals = env; on = tx_meaning nr p.functions d e env }) g t.todo t)
+      → Related (same_link ThreadState) (eats_tx (suc reruns) (record { mark = m; body = e; locals = env; on = tx_meaning nl p.functions d e env; validators = validators_of p.cells }) f t.todo t)
+      (eats_tx (suc reruns) (record { mark = m; body = e; locals = env; on = tx_meaning nr p.functions d e env; validators = validators_of p.cells }) g t.todo t)
   dosync_alike d m e env pure f g a t =
-      eats_tx_alike m e env (tx_meaning nl p.functions d e env) (tx_meaning nr p.functions d e env) f g (tx_more nl nr le p.functions sound.functions d e env pure) a (suc reruns) t.todo t
+      eats_tx_alike (validators_of p.cells) m e env (tx_meaning nl p.functions d e env) (tx_meaning nr p.functions d e env) f g (tx_more nl nr le p.functions sound.functions d e env pure) a (suc reruns) t.todo t
 
   events_alike : (d : ℕ) → Alike ThreadState ThreadState (same_link ThreadState) (on_events (around p nl) d) (on_events (around p nr) d) (call_at (on_events (around p nl)) nl p.functions d) (call_at (on_events (around p nr)) nr p.functions d) nl nr (λ i. Unit {0}) (pure_callees (known p.functions))
   events_alike d = record {
     print = λ inside vs s t m r. from_same ThreadState (λ u. (on_events (around p nl) d).print inside vs u) s t r;
     look = λ form inside m c s t may i r. from_alike ThreadState _ _ (look_alike form d inside m c) s t r;
-    put = λ form inside m c w s t may i r. from_alike ThreadState _ _ (put_alike form d inside m c w) s t r;
+    put = λ form inside m c w s t may i a r. from_alike ThreadState _ _ (put_alike form d inside m c w (apply (call_at (on_events (around p nl)) nl p.functions d inside) m.span) (apply (call_at (on_events (around p nr)) nr p.functions d inside) m.span)) s t r;
     update = λ form inside m c callee vs s t may i pure a r. from_alike ThreadState _ _ (updates_alike form d inside m c callee vs _ _ (a (λ f. tt))) s t r;
     send = λ inside m c callee vs s t i pure r. from_same ThreadState (λ u. (on_events (around p nl) d).send inside m c callee vs u) s t r;
     dosync = λ inside m e env s t i pure b a r. from_alike ThreadState _ _ (dosync_alike d m e env pure _ _ (a (λ f. tt) tt)) s t r;
@@ -226,7 +227,7 @@ module _ (p : ThreadSource) (sound : SoundSource p) (nl nr : ℕ) (le : nl ≤ n
       let gx = on_events (around p nr) in
       let cf = call_at fx nl p.functions d in
       let cg = call_at gx nr p.functions d in
-      let t0 : ThreadState = record { todo = es; printed = []; txs = [] } in
+      let t0 : ThreadState = record { todo = es; printed = []; held = None; txs = [] } in
       let enough : Turns ThreadState ThreadState (same_link ThreadState) nl nr = inr (le, λ s t r o. tt) in
       closed_related ThreadState ThreadState (same_link ThreadState) (eval (fx d) cf nl false p.main [] t0) (eval (gx d) cg nr false p.main [] t0)
       (eval_related ThreadState ThreadState (same_link ThreadState) (fx d) (gx d) cf cg nl nr (λ i. Unit {0}) w enough (events_alike d)

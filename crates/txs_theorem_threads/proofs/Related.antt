@@ -159,7 +159,8 @@ Applied S T k f g = (c : Callee) (vs : List Value) (s : S) (t : T) → k.rel s t
 pub record Alike (S T : Type 0) (k : Link S T) (fx : Effects S) (gx : Effects T) (cf : Bool → ℕ → List Value → S → Completion S Value) (cg : Bool → ℕ → List Value → T → Completion T Value) (nl nr : ℕ) (Mode : Bool → Type 0) (w : Rules) : Type 0 where
   pub print : (inside : Bool) (vs : List Value) (s : S) (t : T) → Mode inside → k.rel s t → Related k (fx.print inside vs s) (gx.print inside vs t)
   pub look : (form : LookForm) (inside : Bool) (m : Mark) (c : Value) (s : S) (t : T) → w.form inside (form_of.Look form) → Mode inside → k.rel s t → Related k (fx.look form inside m c s) (gx.look form inside m c t)
-  pub put : (form : PutForm) (inside : Bool) (m : Mark) (c v : Value) (s : S) (t : T) → w.form inside (form_of.Put form) → Mode inside → k.rel s t → Related k (fx.put form inside m c v s) (gx.put form inside m c v t)
+  pub put : (form : PutForm) (inside : Bool) (m : Mark) (c v : Value) (s : S) (t : T) → w.form inside (form_of.Put form) → Mode inside → (((f : ℕ) → w.call inside f) → Applied S T k (apply (cf inside) m.span) (apply (cg inside) m.span)) → k.rel s t →
+      Related k (fx.put form inside m c v (apply (cf inside) m.span) s) (gx.put form inside m c v (apply (cg inside) m.span) t)
   pub update : (form : UpdateForm) (inside : Bool) (m : Mark) (c : Value) (callee : Callee) (vs : List Value) (s : S) (t : T) → w.form inside (form_of.Update form) → Mode inside → w.callee callee → (((f : ℕ) → w.call inside f) → Applied S T k (apply (cf inside) m.span) (apply (cg inside) m.span)) → k.rel s t →
       Related k (fx.update form inside m c callee vs (apply (cf inside) m.span) s) (gx.update form inside m c callee vs (apply (cg inside) m.span) t)
   pub send : (inside : Bool) (m : Mark) (c : Value) (callee : Callee) (vs : List Value) (s : S) (t : T) → Mode inside → w.callee callee → k.rel s t → Related k (fx.send inside m c callee vs s) (gx.send inside m c callee vs t)
@@ -206,7 +207,7 @@ module _ (S T : Type 0) (k : Link S T) (fx : Effects S) (gx : Effects T) (cf : B
         bind_related S T k (eval fx cf nl inside cell env s) (eval gx cg nr inside cell env t) _ _ (eval_related cell inside env s t p.1 m r) (λ c s1 t1 r1. alike.look form inside k1 c s1 t1 p.0 m r1)
     eval_related (Put form cell value k1) inside env s t p m r =
         bind_related S T k (eval fx cf nl inside cell env s) (eval gx cg nr inside cell env t) _ _ (eval_related cell inside env s t p.1 m r)
-        (λ c s1 t1 r1. bind_related S T k (eval fx cf nl inside value env s1) (eval gx cg nr inside value env t1) _ _ (eval_related value inside env s1 t1 p.2 m r1) (λ v s2 t2 r2. alike.put form inside k1 c v s2 t2 p.0 m r2))
+        (λ c s1 t1 r1. bind_related S T k (eval fx cf nl inside value env s1) (eval gx cg nr inside value env t1) _ _ (eval_related value inside env s1 t1 p.2 m r1) (λ v s2 t2 r2. alike.put form inside k1 c v s2 t2 p.0 m (applied k1.span inside m) r2))
     eval_related (Update form cell callee args k1) inside env s t p m r =
         bind_related S T k (eval fx cf nl inside cell env s) (eval gx cg nr inside cell env t) _ _ (eval_related cell inside env s t p.1 m r)
         (λ c s1 t1 r1. bind_related S T k (eval_all fx cf nl inside args env s1) (eval_all gx cg nr inside args env t1) _ _ (all_related args inside env s1 t1 p.3 m r1) (λ vs s2 t2 r2. alike.update form inside k1 c callee vs s2 t2 p.0 m p.2 (applied k1.span inside m) r2))

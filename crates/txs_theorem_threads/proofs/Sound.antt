@@ -8,7 +8,7 @@ use Rattle.txs_world_protocol.specs.declared.ask.Reply.{Reply}
 use Rattle.txs_world_protocol.specs.declared.ask.Reply.TheVariants as reply
 use Rattle.txs_frame.specs.Frame.{with_cell, is_commuted, commuted, phase_work, set_writes}
 use Rattle.txs_frame.specs.declared.frame.Commute.{Commute}
-use Rattle.txs_value_cell.specs.Cells.{World}
+use Rattle.txs_value_cell.specs.Cells.{World, Validators, validators_of}
 use Rattle.txs_value_cell.specs.Forms.{rule, cell_of}
 use Rattle.txs_value_data.specs.Limits.{reruns}
 use Rattle.txs_value_cell.specs.declared.action.Action.{Action}
@@ -33,7 +33,7 @@ use Rattle.txs_tree_meaning.specs.Meaning.{Completion, Completes, Recurs, Faults
 use Rattle.txs_tree_meaning.specs.Sound.{MayStand, SoundCallee, SoundSource}
 use Rattle.txs_tree_meaning.specs.Transaction.{value_or, valued, redone}
 use Rattle.txs_tree_meaning.specs.Tree.{Mark, Tree, ThreadSource}
-use Rattle.txs_code_meaning.specs.ActorState.{ActorState, Replied, asks, StepResult, Continue, on_step, step_of, heard, value_there, newest_value, just_done, read_point, views, opened, commit_verdict, swap_verdict, send_verdict, begun, begin, fail, buffered_or, look, paired, viewed, view, commit, peek, SwapInHand, open_atom, close_swap, break_swap, reset_atom, sent, send_now, set_own, close_own, read_cell, assign_cell, send_action, print}
+use Rattle.txs_code_meaning.specs.ActorState.{ActorState, Replied, asks, StepResult, Continue, on_step, step_of, heard, value_there, newest_value, just_done, read_point, views, opened, commit_verdict, swap_verdict, send_verdict, begun, begin, fail, buffered_or, look, paired, viewed, view, commit, peek, SwapInHand, open_atom, close_swap, break_swap, reset_atom, sent, send_now, InHand, send_or_hold, set_own, close_own, read_cell, assign_cell, send_action, print}
 use Rattle.txs_code_meaning.specs.Opening.{fresh}
 use Rattle.txs_theorem_threads.proofs.Meant.{Suits, MeantAs, where_inside, Any, Proper, none_some, zone_of, bind_meant, SoundForms, main_meant}
 use Rattle.txs_theorem_threads.proofs.Quiet.{carried, Each, each_both, each_phase}
@@ -71,6 +71,9 @@ redone_proper P f h (c ∷ cs) all ws =
     go Invalid p same rest = absurd p
 
 module _ (cells : List CellDefinition) where
+  abbrev validators : Validators
+  validators = validators_of cells
+
   -- The exchanges to come fit some events: outside a transaction, or in a try on some world, and then the callees of its commutes suit.
   abbrev Holds : Suits → Bool → ActorState → Type 0
   Holds P true s = (R : World) × (es : List SeenEvent) × RepliesFit cells (In R) s.todo es × Each (Suited P) s.done.commutes
@@ -181,21 +184,21 @@ module _ (cells : List CellDefinition) where
     module _ (span : Span) (v : Value) (callee : Callee) (vs : List Value) (f : Applies ActorState) (p : (x : Value) → Proper ActorState f callee (x ∷ vs)) where
       -- again from the open, with fewer exchanges than times left
       abbrev Swaps : ℕ → Type 0
-      Swaps k = (s : ActorState) → length s.todo < k → H false s → MeantAs H false None Any (swaps_on k span v (λ x s1. f callee (x ∷ vs) s1) s)
+      Swaps k = (s : ActorState) → length s.todo < k → H false s → MeantAs H false None Any (swaps_on k span v (λ a x s1. f callee (x ∷ vs) s1) s)
 
       closed_swap : (k : ℕ) → Swaps k → (c : CellId) (W : World) (es : List SeenEvent) (w : SwapInHand) (x : Value) (s : ActorState) → length s.todo < k → (r : Reply) (xs : List Exchange) → length xs < length s.todo →
           ReplyFits cells (WithSwap c W) (ask.CloseAt w.cell (Some w.at) x) r (λ ph1 es1. RepliesFit cells ph1 xs es1) es →
-          MeantAs H false None Any (bind (res (heard swap_verdict (Replied r (record s { todo = xs })))) (λ d s3. swap_concludes d x (swaps_on k span v (λ y s1. f callee (y ∷ vs) s1)) s3))
+          MeantAs H false None Any (bind (res (heard swap_verdict (Replied r (record s { todo = xs })))) (λ d s3. swap_concludes d x (swaps_on k span v (λ a y s1. f callee (y ∷ vs) s1)) s3))
       closed_swap k next c W [] w x s l reply.Done xs m g = absurd g
       closed_swap k next c W (e ∷ es) w x s l reply.Done xs m g = (tt, (es, g.2))
       closed_swap k next c W es w x s l (reply.Changed d) xs m g = next (record s { todo = xs }) (omega (arith, l, m)) (es, g)
       closed_swap k next c W es w x s l _ xs m g = absurd g
 
       closes_swap : (k : ℕ) → Swaps k → (c : CellId) (W : World) (es : List SeenEvent) (w : SwapInHand) (x : Value) (s : ActorState) → length s.todo < k → RepliesFit cells (WithSwap c W) s.todo es →
-          MeantAs H false None Any (bind (res (close_swap w x s)) (λ d s3. swap_concludes d x (swaps_on k span v (λ y s1. f callee (y ∷ vs) s1)) s3))
+          MeantAs H false None Any (bind (res (close_swap w x s)) (λ d s3. swap_concludes d x (swaps_on k span v (λ a y s1. f callee (y ∷ vs) s1)) s3))
       unfolding close_swap
       closes_swap k next c W es w x s l h =
-          answered_less cells (RepliesFit cells) (fit_splits cells) (WithSwap c W) es (ask.CloseAt w.cell (Some w.at) x) s (λ y. MeantAs H false None Any (bind (res (heard swap_verdict y)) (λ d s3. swap_concludes d x (swaps_on k span v (λ y1 s1. f callee (y1 ∷ vs) s1)) s3))) h tt
+          answered_less cells (RepliesFit cells) (fit_splits cells) (WithSwap c W) es (ask.CloseAt w.cell (Some w.at) x) s (λ y. MeantAs H false None Any (bind (res (heard swap_verdict y)) (λ d s3. swap_concludes d x (swaps_on k span v (λ a y1 s1. f callee (y1 ∷ vs) s1)) s3))) h tt
           (λ r xs m g. closed_swap k next c W es w x s l r xs m g)
 
       broken_swap : (c : CellId) (W : World) (es : List SeenEvent) (w : SwapInHand) (s : ActorState) → RepliesFit cells (WithSwap c W) s.todo es → (go : Unit {0} → ActorState → Completion ActorState Value) → ((s1 : ActorState) → MeantAs H false None Any (go tt s1)) → MeantAs H false None Any (bind (res (break_swap w s)) go)
@@ -209,11 +212,11 @@ module _ (cells : List CellDefinition) where
 
       -- the callee with the swap in hand
       in_swap : (k : ℕ) → Swaps k → (c : CellId) (W : World) (es : List SeenEvent) (w : SwapInHand) (x : Value) (s : ActorState) → length s.todo < k → RepliesFit cells (WithSwap c W) s.todo es →
-          MeantAs H false None Any (telling (break_swap w) (f callee (x ∷ vs) s) (λ y s2. bind (res (close_swap w y s2)) (λ d s3. swap_concludes d y (swaps_on k span v (λ y1 s1. f callee (y1 ∷ vs) s1)) s3)))
+          MeantAs H false None Any (telling (break_swap w) (f callee (x ∷ vs) s) (λ y s2. bind (res (close_swap w y s2)) (λ d s3. swap_concludes d y (swaps_on k span v (λ a y1 s1. f callee (y1 ∷ vs) s1)) s3)))
       in_swap k next c W es w x s l h = subst (λ z. MeantAs H false None Any (telling (break_swap w) z after)) (sym ((p x).same s)) (applied (p x).answer (p x).proper)
         where
           after : Value → ActorState → Completion ActorState Value
-          after y s2 = bind (res (close_swap w y s2)) (λ d s3. swap_concludes d y (swaps_on k span v (λ y1 s1. f callee (y1 ∷ vs) s1)) s3)
+          after y s2 = bind (res (close_swap w y s2)) (λ d s3. swap_concludes d y (swaps_on k span v (λ a y1 s1. f callee (y1 ∷ vs) s1)) s3)
 
           applied : (q : Completion (Unit {0}) Value) → IsProper q → MeantAs H false None Any (telling (break_swap w) (carried s q) after)
           applied (Completes y u) z = closes_swap k next c W es w y s l h
@@ -225,7 +228,7 @@ module _ (cells : List CellDefinition) where
           applied Invalid z = absurd z
 
       abbrev opens_then : ℕ → (SwapInHand × Value) → ActorState → Completion ActorState Value
-      opens_then k o s1 = telling (break_swap o.0) (f callee (o.1 ∷ vs) s1) (λ w s2. bind (res (close_swap o.0 w s2)) (λ d s3. swap_concludes d w (swaps_on k span v (λ x s4. f callee (x ∷ vs) s4)) s3))
+      opens_then k o s1 = telling (break_swap o.0) (f callee (o.1 ∷ vs) s1) (λ w s2. bind (res (close_swap o.0 w s2)) (λ d s3. swap_concludes d w (swaps_on k span v (λ a x s4. f callee (x ∷ vs) s4)) s3))
 
       opened_swap : (k : ℕ) → Swaps k → (c : CellId) (es : List SeenEvent) (s : ActorState) → length s.todo < suc k → (r : Reply) (xs : List Exchange) → length xs < length s.todo → ReplyFits cells Out (ask.OpenAt c) r (λ ph1 es1. RepliesFit cells ph1 xs es1) es →
           MeantAs H false None Any (bind (res (on_step (heard opened (Replied r (record s { todo = xs }))) (λ x s1. Continue (record { cell = c; at = x.0 }, x.1) s1))) (opens_then k))
@@ -356,11 +359,11 @@ module _ (cells : List CellDefinition) where
           (λ r xs m. viewed_meant h.0 h.1 v (commuted s.done) s h.3 r xs m)
 
       -- a body's end
-      closing_meant : (cs : List CellId) (v : Value) (s : ActorState) → Holds O true s → TryMeant (closing cs span f v go s)
+      closing_meant : (cs : List CellId) (v : Value) (s : ActorState) → Holds O true s → TryMeant (closing validators cs span f v go s)
       closing_meant [] v s h = lands_in h.0 h.1 v s [] h.2
       closing_meant (c ∷ cs) v s h = view_meant v s h
 
-      body_meant : (x : Completion ActorState Value) → MeantAs (Holds O) true None Any x → TryMeant (telling fail x (λ v s2. closing (commuted s2.done) span f v go s2))
+      body_meant : (x : Completion ActorState Value) → MeantAs (Holds O) true None Any x → TryMeant (telling fail x (λ v s2. closing validators (commuted s2.done) span f v go s2))
       body_meant (Completes v s) h = closing_meant (commuted s.done) v s h.1
       body_meant (Recurs vs s) h = absurd (none_some (length vs) h.0)
       body_meant (Faults e s) h = fails_in h.0 h.1 s h.2 (λ u s1. Faults e s1) (λ s1. tt)
@@ -370,15 +373,15 @@ module _ (cells : List CellDefinition) where
       body_meant Invalid h = absurd h
 
       abbrev try_then : Unit {0} → ActorState → Completion ActorState Value
-      try_then u s1 = telling fail (body s1) (λ v s2. closing (commuted s2.done) span f v go s2)
+      try_then u s1 = telling fail (body s1) (λ v s2. closing validators (commuted s2.done) span f v go s2)
 
       begun_meant : (es : List SeenEvent) (s : ActorState) (r : Reply) (xs : List Exchange) → ReplyFits cells Out ask.Begin r (λ ph1 es1. RepliesFit cells ph1 xs es1) es → TryMeant (bind (res (on_step (heard read_point (Replied r (record s { todo = xs }))) begun)) try_then)
       begun_meant es s (reply.At p) xs m =
-          let s1 : ActorState = record { todo = xs; printed = s.printed; at = p; view = p; done = record { values = []; sets = []; ensures = []; commutes = []; sends = [] }; commuting = None; wants = s.wants } in
+          let s1 : ActorState = record { todo = xs; printed = s.printed; at = p; view = p; done = record { values = []; sets = []; ensures = []; commutes = []; sends = [] }; commuting = None; acting = s.acting; wants = s.wants } in
           body_meant (body s1) (bodies s1 (m.0, es, m.1, tt))
       begun_meant es s _ xs m = absurd m
 
-      attempt_meant : (from : Start) (s : ActorState) → Ready from s → TryMeant (attempt from span body f go s)
+      attempt_meant : (from : Start) (s : ActorState) → Ready from s → TryMeant (attempt validators from span body f go s)
       unfolding begin
       attempt_meant Anew s h = answered cells (RepliesFit cells) (fit_splits cells) Out h.0 ask.Begin s (λ x. TryMeant (bind (res (on_step (heard read_point x) begun)) try_then)) h.1 tt (λ r xs m. begun_meant h.0 s r xs m)
       attempt_meant (Behind v) s h = closing_meant (commuted s.done) v s h
@@ -392,28 +395,29 @@ module _ (cells : List CellDefinition) where
     retrying_meant (OutOfTurns s) go m next = tt
     retrying_meant Invalid go m next = absurd m
 
-    tries_meant : (k : ℕ) → GoMeant (tries k span body f)
+    tries_meant : (k : ℕ) → GoMeant (tries validators k span body f)
     tries_meant zero from s h = tt
-    tries_meant (suc k) from s h = retrying_meant (attempt from span body f (tries k span body f) s) (tries k span body f Anew) (attempt_meant (tries k span body f) (tries_meant k) from s h) (λ s1 g. tries_meant k Anew s1 g)
+    tries_meant (suc k) from s h = retrying_meant (attempt validators from span body f (tries validators k span body f) s) (tries validators k span body f Anew) (attempt_meant (tries validators k span body f) (tries_meant k) from s h) (λ s1 g. tries_meant k Anew s1 g)
 
   -- ---- the forms
 
-  sound_print : (P : Suits) (inside : Bool) (vs : List Value) (s : ActorState) → MayStand (zone_of inside) Outside → Holds P inside s → MeantAs (Holds P) inside None Any (on_replies.print inside vs s)
+  sound_print : (P : Suits) (inside : Bool) (vs : List Value) (s : ActorState) → MayStand (zone_of inside) Outside → Holds P inside s → MeantAs (Holds P) inside None Any ((on_replies validators).print inside vs s)
   unfolding print
   sound_print P true vs s e h = absurd e
   sound_print P false vs s e h = (tt, h)
 
-  sound_look : (P : Suits) (form : LookForm) (inside : Bool) (m : Mark) (c : Value) (s : ActorState) → MayStand (zone_of inside) (rule (form_of.Look form)).stands → Holds P inside s → MeantAs (Holds P) inside None Any (on_replies.look form inside m c s)
+  sound_look : (P : Suits) (form : LookForm) (inside : Bool) (m : Mark) (c : Value) (s : ActorState) → MayStand (zone_of inside) (rule (form_of.Look form)).stands → Holds P inside s → MeantAs (Holds P) inside None Any ((on_replies validators).look form inside m c s)
   sound_look P Deref true m c s e h = on_cell_meant P true (cell_of (rule (form_of.Look Deref)) true c) m.span (read_cell Deref true) s h (λ x. look_meant P x s h)
   sound_look P Deref false m c s e h = on_cell_meant P false (cell_of (rule (form_of.Look Deref)) false c) m.span (read_cell Deref false) s h (λ x. peek_meant P x s h)
   sound_look P Ensure true m c s e h = on_cell_meant P true (cell_of (rule (form_of.Look Ensure)) true c) m.span (read_cell Ensure true) s h (λ x. ensure_meant P x s h)
   sound_look P Ensure false m c s e h = absurd e
 
-  sound_put : (P : Suits) (form : PutForm) (inside : Bool) (m : Mark) (c v : Value) (s : ActorState) → MayStand (zone_of inside) (rule (form_of.Put form)).stands → Holds P inside s → MeantAs (Holds P) inside None Any (on_replies.put form inside m c v s)
-  sound_put P RefSet true m c v s e h = on_cell_meant P true (cell_of (rule (form_of.Put RefSet)) true c) m.span (assign_cell RefSet true m.span v) s h (λ x. set_meant P m.span v x s h)
-  sound_put P RefSet false m c v s e h = absurd e
-  sound_put P Reset true m c v s e h = absurd e
-  sound_put P Reset false m c v s e h = on_cell_meant P false (cell_of (rule (form_of.Put Reset)) false c) m.span (assign_cell Reset false m.span v) s h (λ x. reset_meant P x v s h)
+  sound_put : (P O : Suits) (form : PutForm) (inside : Bool) (m : Mark) (c v : Value) (f : Applies ActorState) (s : ActorState) → MayStand (zone_of inside) (rule (form_of.Put form)).stands → ((d : Callee) (ws : List Value) → O d (length ws) → Proper ActorState f d ws) →
+      Holds P inside s → MeantAs (Holds P) inside None Any ((on_replies validators).put form inside m c v f s)
+  sound_put P O RefSet true m c v f s e p h = on_cell_meant P true (cell_of (rule (form_of.Put RefSet)) true c) m.span (assign_cell RefSet true m.span v) s h (λ x. set_meant P m.span v x s h)
+  sound_put P O RefSet false m c v f s e p h = absurd e
+  sound_put P O Reset true m c v f s e p h = absurd e
+  sound_put P O Reset false m c v f s e p h = on_cell_meant P false (cell_of (rule (form_of.Put Reset)) false c) m.span (assign_cell Reset false m.span v) s h (λ x. reset_meant P x v s h)
 
   some_commute : (a b : Commute) → Some a ≡ Some b → a ≡ b
   some_commute a b e = cc
@@ -423,7 +427,7 @@ module _ (cells : List CellDefinition) where
   IsThere (Some k) = Unit {0}
 
   sound_update : (P : Suits) (form : UpdateForm) (inside : Bool) (m : Mark) (c : Value) (callee : Callee) (vs : List Value) (f : Applies ActorState) (s : ActorState) → MayStand (zone_of inside) (rule (form_of.Update form)).stands → P callee (suc (length vs)) → ((v : Value) → Proper ActorState f callee (v ∷ vs)) →
-      Holds P inside s → MeantAs (Holds P) inside None Any (on_replies.update form inside m c callee vs f s)
+      Holds P inside s → MeantAs (Holds P) inside None Any ((on_replies validators).update form inside m c callee vs f s)
   sound_update P update_of.Alter true m c callee vs f s e suits p h =
       ref_meant P (cell_of (rule (form_of.Update update_of.Alter)) true c) m.span (λ x. None) (λ x k q. absurd (subst IsThere (sym q) tt)) callee vs f p s h
   sound_update P update_of.Commute true m c callee vs f s e suits p h =
@@ -434,19 +438,23 @@ module _ (cells : List CellDefinition) where
   sound_update P update_of.Alter false m c callee vs f s e suits p h = absurd e
   sound_update P update_of.Commute false m c callee vs f s e suits p h = absurd e
 
-  sound_send : (P : Suits) (inside : Bool) (m : Mark) (c : Value) (callee : Callee) (vs : List Value) (s : ActorState) → Holds P inside s → MeantAs (Holds P) inside None Any (on_replies.send inside m c callee vs s)
+  sound_send : (P : Suits) (inside : Bool) (m : Mark) (c : Value) (callee : Callee) (vs : List Value) (s : ActorState) → Holds P inside s → MeantAs (Holds P) inside None Any ((on_replies validators).send inside m c callee vs s)
   sound_send P true m c callee vs s h =
       on_cell_meant P true (cell_of (rule form_of.Send) true c) m.span (λ g s1. send_action true (record { agent = g; callee = callee; args = vs; span = m.span }) s1) s h (λ g. (tt, h))
   sound_send P false m c callee vs s h =
-      on_cell_meant P false (cell_of (rule form_of.Send) false c) m.span (λ g s1. send_action false (record { agent = g; callee = callee; args = vs; span = m.span }) s1) s h (λ g. send_meant P (record { agent = g; callee = callee; args = vs; span = m.span }) s h)
+      on_cell_meant P false (cell_of (rule form_of.Send) false c) m.span (λ g s1. send_action false (record { agent = g; callee = callee; args = vs; span = m.span }) s1) s h (λ g. or_hold (record { agent = g; callee = callee; args = vs; span = m.span }) s.acting)
+    where
+      or_hold : (a : Action) (o : Option InHand) → MeantAs (Holds P) false None Any (res (send_or_hold o a s))
+      or_hold a None = send_meant P a s h
+      or_hold a (Some x) = (tt, h)
 
   sound_dosync : (P O : Suits) (inside : Bool) (m : Mark) (e : Tree) (env : List Value) (body : ActorState → Completion ActorState Value) (f : Applies ActorState) (s : ActorState) → ((s1 : ActorState) → Holds P true s1 → MeantAs (Holds P) true None Any (body s1)) → ((s1 : ActorState) → Holds O true s1 → MeantAs (Holds O) true None Any (body s1)) →
-      ((c : Callee) (ws : List Value) → O c (length ws) → Proper ActorState f c ws) → Holds P inside s → MeantAs (Holds P) inside None Any (on_replies.dosync inside m e env body f s)
+      ((c : Callee) (ws : List Value) → O c (length ws) → Proper ActorState f c ws) → Holds P inside s → MeantAs (Holds P) inside None Any ((on_replies validators).dosync inside m e env body f s)
   sound_dosync P O true m e env body f s joins own callees h = joins s h
   sound_dosync P O false m e env body f s joins own callees h = tries_meant P O m.span body f own callees (suc reruns) Anew s h
 
   -- the forms on replies that fit
-  sound_forms : SoundForms ActorState on_replies Holds
+  sound_forms : SoundForms ActorState (on_replies validators) Holds
   sound_forms = record {
     print = sound_print;
     look = sound_look;
@@ -469,4 +477,4 @@ module _ (cells : List CellDefinition) where
 pub ever_meant : (p : ThreadSource) → SoundSource p → IsEverMeant p
 ever_meant p sound n todo es f =
     let suits : Suits = λ c k. SoundCallee (known p.functions) c k in
-    outside_meant p.cells suits (source p n todo) (main_meant ActorState on_replies (Holds p.cells) (sound_forms p.cells) false (fresh todo) (λ P. (es, f)) p.functions sound.functions n p.main [] sound.main)
+    outside_meant p.cells suits (source p n todo) (main_meant ActorState (on_replies (validators_of p.cells)) (Holds p.cells) (sound_forms p.cells) false (fresh todo) (λ P. (es, f)) p.functions sound.functions n p.main [] sound.main)

@@ -1,5 +1,5 @@
 -- A sound thread's tree on replies that fit is the thread on their events.
-use Rattle.std.proofs.Common.{ℕ, zero, suc, Bool, true, false, List, [], Some, None, Result, Ok, Err, refl, sym, ap, subst, length, inl, ◌≡◌, ◌∷◌, ◌++◌, ◌∙◌, ◌==◌, if◌then◌else◌}
+use Rattle.std.proofs.Common.{ℕ, zero, suc, Bool, true, false, List, [], Option, Some, None, Result, Ok, Err, refl, sym, ap, subst, length, inl, ◌≡◌, ◌∷◌, ◌++◌, ◌∙◌, ◌==◌, if◌then◌else◌}
 use Rattle.std.proofs.lemmas.Bool.{false≢true}
 use Rattle.txs_world_protocol.proofs.AskLemmas.{same_value-itself, same_ask-itself}
 use Rattle.txs_world_protocol.specs.Ask.{Exchange, same_cell, same_value, same_action}
@@ -11,7 +11,7 @@ use Rattle.txs_world_protocol.specs.declared.ask.Reply.{Reply}
 use Rattle.txs_world_protocol.specs.declared.event.EventKind.TheVariants as event
 use Rattle.txs_world_protocol.specs.declared.event.EventKind.{EventKind}
 use Rattle.txs_value_data.proofs.SameLemmas.{number-itself, same_cell-itself}
-use Rattle.txs_value_cell.specs.Cells.{World}
+use Rattle.txs_value_cell.specs.Cells.{World, Validators, validators_of}
 use Rattle.txs_value_cell.specs.Forms.{rule, cell_of, may_stand}
 use Rattle.txs_value_data.specs.Limits.{reruns}
 use Rattle.txs_value_base.specs.Places.{fault_at}
@@ -36,18 +36,18 @@ use Rattle.txs_value_data.specs.declared.value.Value.TheVariants.{Nil, Cell}
 use Rattle.txs_tree_meaning.specs.Known.{Known, known}
 use Rattle.txs_tree_meaning.specs.Meaning.{Completion, Completes, Recurs, Faults, Retries, Waits, OutOfTurns, Invalid, bind, closed, result_of, Effects, apply, eval, call_at}
 use Rattle.txs_tree_meaning.specs.Sound.{SoundSource}
-use Rattle.txs_tree_meaning.specs.Thread.{ThreadState, eats, meant, reads, resets, faulted, faultless, swaps, sends, Transacting, eats_tx, thread_look, thread_put, around, on_events, thread_meaning, uneaten}
+use Rattle.txs_tree_meaning.specs.Thread.{ThreadState, eats, meant, reads, resets, faulted, faultless, swaps, with_sends, sends, sends_or_holds, Transacting, eats_tx, thread_look, thread_put, around, on_events, thread_meaning, uneaten}
 use Rattle.txs_tree_meaning.specs.Transaction.{tx_meaning}
 use Rattle.txs_tree_meaning.specs.Tree.{Mark, Tree, ThreadSource}
-use Rattle.txs_code_meaning.specs.ActorState.{ActorState, Reception, Replied, Unreplied, asks, Continue, heard, on_step, step_of, newest_value, peek, just_done, reset_atom, opened, SwapInHand, open_atom, swap_verdict, close_swap, break_swap, send_verdict, sent, send_now, send_action, Verdict, read_cell, assign_cell, print}
+use Rattle.txs_code_meaning.specs.ActorState.{InHand, now_holding, ActorState, Reception, Replied, Unreplied, asks, Continue, heard, on_step, step_of, newest_value, peek, just_done, reset_atom, opened, SwapInHand, open_atom, swap_verdict, close_swap, break_swap, send_verdict, sent, send_now, send_or_hold, send_action, Verdict, read_cell, assign_cell, print}
 use Rattle.txs_code_meaning.specs.Opening.{fresh}
-use Rattle.txs_theorem_threads.proofs.Account.{Account, account_link, after_reply, answered_in}
+use Rattle.txs_theorem_threads.proofs.Account.{Account, IsBeside, account_link, after_reply, answered_in}
 use Rattle.txs_theorem_threads.proofs.Callees.{Keeps, IsPure}
 use Rattle.txs_theorem_threads.proofs.Placed.{MayCallAt, placed, thread_placed, function_placed}
 use Rattle.txs_theorem_threads.proofs.Quiet.{carried, IsQuiet, quietly, callee_carried}
 use Rattle.txs_theorem_threads.proofs.Related.{Link, Related, Applied, closed_related, Alike, eval_related, calls_related}
 use Rattle.txs_theorem_threads.proofs.Tries.{tries_related}
-use Rattle.txs_theorem_threads.proofs.Worlds.{IsShort, on_cell_related, tx_related}
+use Rattle.txs_theorem_threads.proofs.Worlds.{IsShort, held_in, on_cell_related, tx_related}
 use Rattle.txs_theorem_threads.specs.EndsSo.{in_hand}
 use Rattle.txs_theorem_threads.specs.Behaves.{source}
 use Rattle.txs_theorem_threads.specs.OnReplies.{res, telling, tries, swap_concludes, swaps_on, on_replies, Anew}
@@ -83,6 +83,11 @@ module _ (c : CellId) (f : Value → ThreadState → Completion ThreadState Valu
   broke_as (event.Broke at) v y made e says = ap (λ z. faulted (f z t) (λ g t1. Faults g t1)) e ∙ ap (λ r. faulted r (λ g t1. Faults g t1)) made
   broke_as _ v y made e says = absurd says
 
+-- what is held with one send more
+holding_same : (act : Action) (o : Option InHand) → held_in (now_holding act o) ≡ with_sends (act ∷ []) (held_in o)
+holding_same act None = refl
+holding_same act (Some h) = refl
+
 module _ (cells : List CellDefinition) (a : Account cells) where
   abbrev k : Link ActorState ThreadState
   k = account_link cells a
@@ -104,26 +109,26 @@ module _ (cells : List CellDefinition) (a : Account cells) where
   asks_once book go q x s t un r h =
       subst (λ l. Related k (x (asks q s)) (at_events book go t l)) (sym r.2)
       (answered_in cells a t.txs Out r.1 q s (λ y. Related k (x y) (at_events book go t (r.1 ++ a.tail))) r.3
-      (subst (λ y. Related k y (at_events book go t (r.1 ++ a.tail))) (sym (un (record s { wants = Some q }))) (a.waiting t.txs Out (record s { wants = Some q }) r.1 (at_events book go t) r.3 (refl, r.0, refl)))
+      (subst (λ y. Related k y (at_events book go t (r.1 ++ a.tail))) (sym (un (record s { wants = Some q }))) (a.waiting t.txs Out (record s { wants = Some q }) r.1 (at_events book go t) r.3 (refl, r.0.0, refl)))
       (λ rep xs m. h r.1 rep xs m))
 
   -- a value at the event that is eaten
-  event_gives : (book : ℕ) (go : SeenEvent → ThreadState → Completion ThreadState Value) (P : SeenEvent → Type 0) (v : Value) (s : ActorState) (t : ThreadState) (es : List SeenEvent) → t.printed ≡ s.printed → OnEvent book P (a.fits t.txs Out s.todo) es
+  event_gives : (book : ℕ) (go : SeenEvent → ThreadState → Completion ThreadState Value) (P : SeenEvent → Type 0) (v : Value) (s : ActorState) (t : ThreadState) (es : List SeenEvent) → IsBeside s t → OnEvent book P (a.fits t.txs Out s.todo) es
       → ((e : SeenEvent) (t1 : ThreadState) → P e → go e t1 ≡ Completes v t1) → Related k (Completes v s) (at_events book go t (es ++ a.tail))
   event_gives book go P v s t es pr m h =
       eats_event book go P (a.fits t.txs Out s.todo) (Completes v s) es (record t { todo = es ++ a.tail }) m
       (λ e es1 p fits. subst (λ z. Related k (Completes v s) (uneaten (e ∷ es1 ++ a.tail) z)) (sym (h e (record t { todo = es1 ++ a.tail }) p)) (refl, (pr, es1, refl, fits)))
 
   -- a fault there
-  event_breaks : (book : ℕ) (go : SeenEvent → ThreadState → Completion ThreadState Value) (P : SeenEvent → Type 0) (y : Fault) (s : ActorState) (t : ThreadState) (es : List SeenEvent) → t.printed ≡ s.printed → OnEvent book P (a.fits t.txs Out s.todo) es
+  event_breaks : (book : ℕ) (go : SeenEvent → ThreadState → Completion ThreadState Value) (P : SeenEvent → Type 0) (y : Fault) (s : ActorState) (t : ThreadState) (es : List SeenEvent) → IsBeside s t → OnEvent book P (a.fits t.txs Out s.todo) es
       → ((e : SeenEvent) (t1 : ThreadState) → P e → go e t1 ≡ Faults y t1) → Related k (Faults y s) (at_events book go t (es ++ a.tail))
   event_breaks book go P y s t es pr m h =
       eats_event book go P (a.fits t.txs Out s.todo) (Faults y s) es (record t { todo = es ++ a.tail }) m
-      (λ e es1 p fits. subst (λ z. Related k (Faults y s) (uneaten (e ∷ es1 ++ a.tail) z)) (sym (h e (record t { todo = es1 ++ a.tail }) p)) (refl, (pr, Out, es1, refl, fits)))
+      (λ e es1 p fits. subst (λ z. Related k (Faults y s) (uneaten (e ∷ es1 ++ a.tail) z)) (sym (h e (record t { todo = es1 ++ a.tail }) p)) (refl, (pr.0, Out, es1, refl, fits)))
 
   -- ---- reads, sets of atoms, sends
 
-  peek_answered : (c : CellId) (s : ActorState) (t : ThreadState) (es : List SeenEvent) (r : Reply) (xs : List Exchange) → t.printed ≡ s.printed → ReplyFits cells Out (ask.Peek c) r (λ ph1 es1. a.fits t.txs ph1 xs es1) es
+  peek_answered : (c : CellId) (s : ActorState) (t : ThreadState) (es : List SeenEvent) (r : Reply) (xs : List Exchange) → IsBeside s t → ReplyFits cells Out (ask.Peek c) r (λ ph1 es1. a.fits t.txs ph1 xs es1) es
       → Related k (res (heard newest_value (Replied r (record s { todo = xs })))) (at_events (home cells c) (λ e t1. reads c e.kind e.C t1) t (es ++ a.tail))
   peek_answered c s t es (reply.Is v) xs pr m =
       event_gives (home cells c) (λ e t1. reads c e.kind e.C t1) (λ e. SaysRead c e.kind × (e.C c.number ≡ v)) v (record s { todo = xs }) t es pr m (λ e t1 p. read_as c v e.kind e.C t1 p.0 p.1)
@@ -133,7 +138,7 @@ module _ (cells : List CellDefinition) (a : Account cells) where
   unfolding peek
   peek_related c s t r = asks_once (home cells c) (λ e t1. reads c e.kind e.C t1) (ask.Peek c) (λ h. res (heard newest_value h)) s t (λ u. refl) r (λ es rep xs m. peek_answered c s t es rep xs r.0 m)
 
-  reset_answered : (c : CellId) (v : Value) (s : ActorState) (t : ThreadState) (es : List SeenEvent) (r : Reply) (xs : List Exchange) → t.printed ≡ s.printed → ReplyFits cells Out (ask.CloseAt c None v) r (λ ph1 es1. a.fits t.txs ph1 xs es1) es
+  reset_answered : (c : CellId) (v : Value) (s : ActorState) (t : ThreadState) (es : List SeenEvent) (r : Reply) (xs : List Exchange) → IsBeside s t → ReplyFits cells Out (ask.CloseAt c None v) r (λ ph1 es1. a.fits t.txs ph1 xs es1) es
       → Related k (res (on_step (heard just_done (Replied r (record s { todo = xs }))) (λ u s1. Continue v s1))) (at_events (home cells c) (λ e t1. resets v e.kind t1) t (es ++ a.tail))
   reset_answered c v s t es reply.Done xs pr m =
       event_gives (home cells c) (λ e t1. resets v e.kind t1) (λ e. SaysSwap v e.kind) v (record s { todo = xs }) t es pr m (λ e t1 p. reset_as v e.kind t1 p)
@@ -144,7 +149,7 @@ module _ (cells : List CellDefinition) (a : Account cells) where
   reset_related c v s t r =
       asks_once (home cells c) (λ e t1. resets v e.kind t1) (ask.CloseAt c None v) (λ h. res (on_step (heard just_done h) (λ u s1. Continue v s1))) s t (λ u. refl) r (λ es rep xs m. reset_answered c v s t es rep xs r.0 m)
 
-  send_answered : (act : Action) (s : ActorState) (t : ThreadState) (es : List SeenEvent) (r : Reply) (xs : List Exchange) → t.printed ≡ s.printed → ReplyFits cells Out (ask.Send act) r (λ ph1 es1. a.fits t.txs ph1 xs es1) es
+  send_answered : (act : Action) (s : ActorState) (t : ThreadState) (es : List SeenEvent) (r : Reply) (xs : List Exchange) → IsBeside s t → ReplyFits cells Out (ask.Send act) r (λ ph1 es1. a.fits t.txs ph1 xs es1) es
       → Related k (res (on_step (heard send_verdict (Replied r (record s { todo = xs }))) (sent act))) (at_events 0 (λ e t1. sends act act.span e.kind t1) t (es ++ a.tail))
   send_answered act s t es reply.Done xs pr m =
       event_gives 0 (λ e t1. sends act act.span e.kind t1) (λ e. SaysSent act e.kind) (Cell act.agent) (record s { todo = xs }) t es pr m (λ e t1 p. sent_as act act.span e.kind t1 p)
@@ -156,14 +161,22 @@ module _ (cells : List CellDefinition) (a : Account cells) where
   unfolding send_now
   send_related act s t r = asks_once 0 (λ e t1. sends act act.span e.kind t1) (ask.Send act) (λ h. res (on_step (heard send_verdict h) (sent act))) s t (λ u. refl) r (λ es rep xs m. send_answered act s t es rep xs r.0 m)
 
+  -- outside of an action a send is made, and in one it is held
+  send_action_related : (act : Action) (s : ActorState) (t : ThreadState) → k.rel s t → Related k (res (send_action false act s)) (sends_or_holds t.held act act.span t)
+  send_action_related act s t r = subst (λ o. Related k (res (send_action false act s)) (sends_or_holds o act act.span t)) r.0.1 (go s.acting)
+    where
+      go : (o : Option InHand) → Related k (res (send_or_hold o act s)) (sends_or_holds (held_in o) act act.span t)
+      go None = send_related act s t r
+      go (Some h) = (refl, ((r.0.0, holding_same act s.acting ∙ ap (with_sends (act ∷ [])) r.0.1), r.1, r.2, r.3))
+
   print_related : (vs : List Value) (s : ActorState) (t : ThreadState) → k.rel s t → Related k (res (print false vs s)) (Completes Nil (record t { printed = t.printed ++ printed_line vs }))
   unfolding print
-  print_related vs s t r = (refl, (ap (λ l. l ++ printed_line vs) r.0, r.1, r.2, r.3))
+  print_related vs s t r = (refl, ((ap (λ l. l ++ printed_line vs) r.0.0, r.0.1), r.1, r.2, r.3))
 
   -- ---- swaps
 
-  module _ (span : Span) (cv : Value) (c : CellId) (f : Value → ActorState → Completion ActorState Value) (g : Value → ThreadState → Completion ThreadState Value) (q : Value → Completion (Unit {0}) Value)
-      (left : (v : Value) (s : ActorState) → (f v s ≡ carried s (q v)) × IsQuiet (q v)) (right : (v : Value) (t : ThreadState) → (g v t ≡ carried t (q v)) × IsQuiet (q v)) where
+  module _ (span : Span) (cv : Value) (c : CellId) (f : CellId → Value → ActorState → Completion ActorState Value) (g : Value → ThreadState → Completion ThreadState Value) (q : Value → Completion (Unit {0}) Value)
+      (left : (v : Value) (s : ActorState) → (f c v s ≡ carried s (q v)) × IsQuiet (q v)) (right : (v : Value) (t : ThreadState) → (g v t ≡ carried t (q v)) × IsQuiet (q v)) where
     -- what the thread does on an event
     abbrev swapped : SeenEvent → ThreadState → Completion ThreadState Value
     swapped e t = swaps c g e.kind e.R e.C t
@@ -183,7 +196,7 @@ module _ (cells : List CellDefinition) (a : Account cells) where
       abbrev after_callee : Value → ActorState → Completion ActorState Value
       after_callee w s = bind (res (close_swap in_hand_now w s)) (after_close w)
 
-      close_answered : (w : Value) (u : Unit {0}) (s : ActorState) (t : ThreadState) (es : List SeenEvent) (r : Reply) (xs : List Exchange) → q v ≡ Completes w u → t.printed ≡ s.printed → ReplyFits cells (WithSwap c W) (ask.CloseAt c (Some at) w) r (λ ph1 es1. a.fits t.txs ph1 xs es1) es
+      close_answered : (w : Value) (u : Unit {0}) (s : ActorState) (t : ThreadState) (es : List SeenEvent) (r : Reply) (xs : List Exchange) → q v ≡ Completes w u → IsBeside s t → ReplyFits cells (WithSwap c W) (ask.CloseAt c (Some at) w) r (λ ph1 es1. a.fits t.txs ph1 xs es1) es
           → Related k (bind (res (heard swap_verdict (Replied r (record s { todo = xs })))) (after_close w)) (at_events (home cells c) swapped t (es ++ a.tail))
       close_answered w u s t es reply.Done xs z pr m =
           event_gives (home cells c) swapped (λ e. (c ≡ c) × (W c.number ≡ e.C c.number) × SaysSwap w e.kind) w (record s { todo = xs }) t es pr m
@@ -191,24 +204,24 @@ module _ (cells : List CellDefinition) (a : Account cells) where
       close_answered w u s t es (reply.Changed x) xs z pr m = next (record s { todo = xs }) (record t { todo = es ++ a.tail }) (pr, es, refl, m)
       close_answered w u s t es _ xs z pr m = tt
 
-      close_related : (w : Value) (u : Unit {0}) (s : ActorState) (t : ThreadState) (es : List SeenEvent) → q v ≡ Completes w u → t.printed ≡ s.printed → a.fits t.txs (WithSwap c W) s.todo es → Related k (after_callee w s) (at_events (home cells c) swapped t (es ++ a.tail))
+      close_related : (w : Value) (u : Unit {0}) (s : ActorState) (t : ThreadState) (es : List SeenEvent) → q v ≡ Completes w u → IsBeside s t → a.fits t.txs (WithSwap c W) s.todo es → Related k (after_callee w s) (at_events (home cells c) swapped t (es ++ a.tail))
       unfolding close_swap
       close_related w u s t es z pr fits =
           answered_in cells a t.txs (WithSwap c W) es (ask.CloseAt c (Some at) w) s (λ h. Related k (bind (res (heard swap_verdict h)) (after_close w)) (at_events (home cells c) swapped t (es ++ a.tail))) fits
-          (a.waiting t.txs (WithSwap c W) (record s { wants = _ }) es (at_events (home cells c) swapped t) fits (refl, pr, refl)) (λ r xs m. close_answered w u s t es r xs z pr m)
+          (a.waiting t.txs (WithSwap c W) (record s { wants = _ }) es (at_events (home cells c) swapped t) fits (refl, pr.0, refl)) (λ r xs m. close_answered w u s t es r xs z pr m)
 
-      break_answered : (y : Fault) (u : Unit {0}) (s : ActorState) (t : ThreadState) (es : List SeenEvent) (r : Reply) (xs : List Exchange) → q v ≡ Faults y u → t.printed ≡ s.printed → ReplyFits cells (WithSwap c W) (ask.Broke c at) r (λ ph1 es1. a.fits t.txs ph1 xs es1) es
+      break_answered : (y : Fault) (u : Unit {0}) (s : ActorState) (t : ThreadState) (es : List SeenEvent) (r : Reply) (xs : List Exchange) → q v ≡ Faults y u → IsBeside s t → ReplyFits cells (WithSwap c W) (ask.Broke c at) r (λ ph1 es1. a.fits t.txs ph1 xs es1) es
           → Related k (bind (res (heard just_done (Replied r (record s { todo = xs })))) (λ x s1. Faults y s1)) (at_events (home cells c) swapped t (es ++ a.tail))
       break_answered y u s t es reply.Done xs z pr m =
           event_breaks (home cells c) swapped (λ e. (c ≡ c) × (W ≡ e.R) × SaysBroke e.kind) y (record s { todo = xs }) t es pr m
           (λ e t1 h. broke_as c g e.R e.C t1 e.kind v y ((right v t1).0 ∙ ap (carried t1) z) (ap (λ Z. Z c.number) (sym h.1) ∙ there) h.2)
       break_answered y u s t es _ xs z pr m = tt
 
-      break_related : (y : Fault) (u : Unit {0}) (s : ActorState) (t : ThreadState) (es : List SeenEvent) → q v ≡ Faults y u → t.printed ≡ s.printed → a.fits t.txs (WithSwap c W) s.todo es → Related k (bind (res (break_swap in_hand_now s)) (λ x s1. Faults y s1)) (at_events (home cells c) swapped t (es ++ a.tail))
+      break_related : (y : Fault) (u : Unit {0}) (s : ActorState) (t : ThreadState) (es : List SeenEvent) → q v ≡ Faults y u → IsBeside s t → a.fits t.txs (WithSwap c W) s.todo es → Related k (bind (res (break_swap in_hand_now s)) (λ x s1. Faults y s1)) (at_events (home cells c) swapped t (es ++ a.tail))
       unfolding break_swap
       break_related y u s t es z pr fits =
           answered_in cells a t.txs (WithSwap c W) es (ask.Broke c at) s (λ h. Related k (bind (res (heard just_done h)) (λ x s1. Faults y s1)) (at_events (home cells c) swapped t (es ++ a.tail))) fits
-          (a.waiting t.txs (WithSwap c W) (record s { wants = _ }) es (at_events (home cells c) swapped t) fits (refl, pr, refl)) (λ r xs m. break_answered y u s t es r xs z pr m)
+          (a.waiting t.txs (WithSwap c W) (record s { wants = _ }) es (at_events (home cells c) swapped t) fits (refl, pr.0, refl)) (λ r xs m. break_answered y u s t es r xs z pr m)
 
       -- a swap whose callee needs turns needs them at its end
       swap_short : (u : Unit {0}) (t : ThreadState) (Q : World) → q v ≡ OutOfTurns u → IsShort (halted (at_events (home cells c) swapped t (in_hand cells Q (WithSwap c W))))
@@ -218,26 +231,26 @@ module _ (cells : List CellDefinition) (a : Account cells) where
           subst (λ r. IsShort (halted r))
           (sym (ap (λ b. if b then breaks (g (W c.number) t1) else Invalid) (number-itself (home cells c)) ∙ ap (λ x. breaks (g x t1)) there ∙ ap breaks ((right v t1).0 ∙ ap (carried t1) z))) tt
 
-      callee_comes : (z : Completion (Unit {0}) Value) (s : ActorState) (t : ThreadState) (es : List SeenEvent) → q v ≡ z → IsQuiet z → t.printed ≡ s.printed → a.fits t.txs (WithSwap c W) s.todo es
+      callee_comes : (z : Completion (Unit {0}) Value) (s : ActorState) (t : ThreadState) (es : List SeenEvent) → q v ≡ z → IsQuiet z → IsBeside s t → a.fits t.txs (WithSwap c W) s.todo es
           → Related k (telling (break_swap in_hand_now) (carried s z) after_callee) (at_events (home cells c) swapped t (es ++ a.tail))
       callee_comes (Completes w u) s t es z quiet pr fits = close_related w u s t es z pr fits
       callee_comes (Recurs vs u) s t es z quiet pr fits = tt
       callee_comes (Faults y u) s t es z quiet pr fits = break_related y u s t es z pr fits
       callee_comes (Retries u) s t es z quiet pr fits = absurd quiet
       callee_comes (Waits u) s t es z quiet pr fits = absurd quiet
-      callee_comes (OutOfTurns u) s t es z quiet pr fits = a.shortage t.txs (WithSwap c W) s es (at_events (home cells c) swapped t) fits (refl, pr, refl) (λ Q. swap_short u t Q z)
+      callee_comes (OutOfTurns u) s t es z quiet pr fits = a.shortage t.txs (WithSwap c W) s es (at_events (home cells c) swapped t) fits (refl, pr.0, refl) (λ Q. swap_short u t Q z)
       callee_comes Invalid s t es z quiet pr fits = tt
 
-      opened_comes : (s : ActorState) (t : ThreadState) (es : List SeenEvent) → t.printed ≡ s.printed → a.fits t.txs (WithSwap c W) s.todo es → Related k (telling (break_swap in_hand_now) (f v s) after_callee) (at_events (home cells c) swapped t (es ++ a.tail))
+      opened_comes : (s : ActorState) (t : ThreadState) (es : List SeenEvent) → IsBeside s t → a.fits t.txs (WithSwap c W) s.todo es → Related k (telling (break_swap in_hand_now) (f c v s) after_callee) (at_events (home cells c) swapped t (es ++ a.tail))
       opened_comes s t es pr fits =
           let l = left v s in
           subst (λ y. Related k (telling (break_swap in_hand_now) y after_callee) (at_events (home cells c) swapped t (es ++ a.tail))) (sym l.0) (callee_comes (q v) s t es refl l.1 pr fits)
 
     -- what comes after the open
     abbrev after_open : ℕ → SwapInHand × Value → ActorState → Completion ActorState Value
-    after_open n o s = telling (break_swap o.0) (f o.1 s) (λ w s1. bind (res (close_swap o.0 w s1)) (λ d s2. swap_concludes d w (swaps_on n span cv f) s2))
+    after_open n o s = telling (break_swap o.0) (f o.0.cell o.1 s) (λ w s1. bind (res (close_swap o.0 w s1)) (λ d s2. swap_concludes d w (swaps_on n span cv f) s2))
 
-    open_answered : (n : ℕ) (next : FollowsSwap n) (s : ActorState) (t : ThreadState) (es : List SeenEvent) (r : Reply) (xs : List Exchange) → t.printed ≡ s.printed → ReplyFits cells Out (ask.OpenAt c) r (λ ph1 es1. a.fits t.txs ph1 xs es1) es
+    open_answered : (n : ℕ) (next : FollowsSwap n) (s : ActorState) (t : ThreadState) (es : List SeenEvent) (r : Reply) (xs : List Exchange) → IsBeside s t → ReplyFits cells Out (ask.OpenAt c) r (λ ph1 es1. a.fits t.txs ph1 xs es1) es
         → Related k (bind (res (on_step (heard opened (Replied r (record s { todo = xs }))) (λ x s1. Continue (record { cell = c; at = x.0 }, x.1) s1))) (after_open n)) (at_events (home cells c) swapped t (es ++ a.tail))
     open_answered n next s t es (reply.Opened p v) xs pr m = opened_comes n next p m.0 v m.1 (record s { todo = xs }) t es pr m.2
     open_answered n next s t es _ xs pr m = tt
@@ -254,12 +267,12 @@ module _ (cells : List CellDefinition) (a : Account cells) where
         subst (λ rc. Related k (bind (res (on_step (step_of rc span s) open_atom)) (after_open n)) (eats (home cells c) swapped t.todo t)) (sym e) (open_related n (swap_related e n) s t r)
 
   -- a swap on a value that may be no atom
-  swap_of : (span : Span) (cv : Value) (f : Value → ActorState → Completion ActorState Value) (g : Value → ThreadState → Completion ThreadState Value) (q : Value → Completion (Unit {0}) Value)
-      (left : (v : Value) (s : ActorState) → (f v s ≡ carried s (q v)) × IsQuiet (q v)) (right : (v : Value) (t : ThreadState) → (g v t ≡ carried t (q v)) × IsQuiet (q v)) (n : ℕ) (rc : Result CellId FaultKind) → cell_of (rule (form_of.Update update_of.Swap)) false cv ≡ rc
-      → (s : ActorState) (t : ThreadState) → k.rel s t → Related k (swaps_on (suc n) span cv f s) (bind (result_of rc span t) (λ c t1. eats (home cells c) (λ e t2. swaps c g e.kind e.R e.C t2) t1.todo t1))
-  swap_of span cv f g q left right n (Ok c) e s t r = swap_related span cv c f g q left right e (suc n) s t r
+  swap_of : (span : Span) (cv : Value) (f : CellId → Value → ActorState → Completion ActorState Value) (g : CellId → Value → ThreadState → Completion ThreadState Value) (q : CellId → Value → Completion (Unit {0}) Value)
+      (left : (c : CellId) (v : Value) (s : ActorState) → (f c v s ≡ carried s (q c v)) × IsQuiet (q c v)) (right : (c : CellId) (v : Value) (t : ThreadState) → (g c v t ≡ carried t (q c v)) × IsQuiet (q c v)) (n : ℕ) (rc : Result CellId FaultKind) → cell_of (rule (form_of.Update update_of.Swap)) false cv ≡ rc
+      → (s : ActorState) (t : ThreadState) → k.rel s t → Related k (swaps_on (suc n) span cv f s) (bind (result_of rc span t) (λ c t1. eats (home cells c) (λ e t2. swaps c (g c) e.kind e.R e.C t2) t1.todo t1))
+  swap_of span cv f g q left right n (Ok c) e s t r = swap_related span cv c f (g c) (q c) (left c) (right c) e (suc n) s t r
   swap_of span cv f g q left right n (Err y) e s t r =
-      subst (λ rc. Related k (bind (res (on_step (step_of rc span s) open_atom)) (λ o s1. telling (break_swap o.0) (f o.1 s1) (λ w s2. bind (res (close_swap o.0 w s2)) (λ d s3. swap_concludes d w (swaps_on n span cv f) s3)))) (Faults (fault_at y span) t)) (sym e)
+      subst (λ rc. Related k (bind (res (on_step (step_of rc span s) open_atom)) (λ o s1. telling (break_swap o.0) (f o.0.cell o.1 s1) (λ w s2. bind (res (close_swap o.0 w s2)) (λ d s3. swap_concludes d w (swaps_on n span cv f) s3)))) (Faults (fault_at y span) t)) (sym e)
       (refl, k.faults_of s t r)
 
 -- ---- threads
@@ -271,8 +284,11 @@ module _ (p : ThreadSource) (sound : SoundSource p) (a : Account p.cells) (n : �
   abbrev ks : List Known
   ks = known p.functions
 
+  abbrev validators : Validators
+  validators = validators_of p.cells
+
   abbrev left_calls : ℕ → Bool → ℕ → List Value → ActorState → Completion ActorState Value
-  left_calls d = call_at (λ e. on_replies) n p.functions d
+  left_calls d = call_at (λ e. on_replies validators) n p.functions d
 
   abbrev right_calls : ℕ → Bool → ℕ → List Value → ThreadState → Completion ThreadState Value
   right_calls d = call_at (on_events (around p n)) n p.functions d
@@ -281,7 +297,7 @@ module _ (p : ThreadSource) (sound : SoundSource p) (a : Account p.cells) (n : �
   thread_forms d = on_events (around p n) d
 
   abbrev left_callee : (d : ℕ) (inside : Bool) (span : Span) (c : Callee) (vs : List Value) (s : ActorState) → IsPure ks c → (apply (left_calls d inside) span c vs s ≡ carried s (quietly n p.functions d span c vs tt)) × IsQuiet (quietly n p.functions d span c vs tt)
-  left_callee d inside span c vs s pure = callee_carried (λ e. on_replies) n inside p.functions sound.functions d span c vs s pure
+  left_callee d inside span c vs s pure = callee_carried (λ e. on_replies validators) n inside p.functions sound.functions d span c vs s pure
 
   abbrev right_callee : (d : ℕ) (inside : Bool) (span : Span) (c : Callee) (vs : List Value) (t : ThreadState) → IsPure ks c → (apply (right_calls d inside) span c vs t ≡ carried t (quietly n p.functions d span c vs tt)) × IsQuiet (quietly n p.functions d span c vs tt)
   right_callee d inside span c vs t pure = callee_carried (on_events (around p n)) n inside p.functions sound.functions d span c vs t pure
@@ -289,7 +305,7 @@ module _ (p : ThreadSource) (sound : SoundSource p) (a : Account p.cells) (n : �
   true_false : true ≡ false → ⊥
   true_false e = false≢true (sym e)
 
-  thread_alike : (d : ℕ) → Alike ActorState ThreadState link on_replies (thread_forms d) (left_calls d) (right_calls d) n n (λ i. i ≡ false) (placed ks)
+  thread_alike : (d : ℕ) → Alike ActorState ThreadState link (on_replies validators) (thread_forms d) (left_calls d) (right_calls d) n n (λ i. i ≡ false) (placed ks)
   thread_alike d = record {
     print = th_print;
     look = th_look;
@@ -299,57 +315,58 @@ module _ (p : ThreadSource) (sound : SoundSource p) (a : Account p.cells) (n : �
     dosync = th_dosync;
   }
     where
-      th_print : (inside : Bool) (vs : List Value) (s : ActorState) (t : ThreadState) → inside ≡ false → link.rel s t → Related link (on_replies.print inside vs s) ((thread_forms d).print inside vs t)
+      th_print : (inside : Bool) (vs : List Value) (s : ActorState) (t : ThreadState) → inside ≡ false → link.rel s t → Related link ((on_replies validators).print inside vs s) ((thread_forms d).print inside vs t)
       th_print true vs s t i r = absurd (true_false i)
       th_print false vs s t i r = print_related p.cells a vs s t r
 
-      th_look : (form : LookForm) (inside : Bool) (m : Mark) (c : Value) (s : ActorState) (t : ThreadState) → may_stand (rule (form_of.Look form)).stands inside ≡ true → inside ≡ false → link.rel s t → Related link (on_replies.look form inside m c s) ((thread_forms d).look form inside m c t)
+      th_look : (form : LookForm) (inside : Bool) (m : Mark) (c : Value) (s : ActorState) (t : ThreadState) → may_stand (rule (form_of.Look form)).stands inside ≡ true → inside ≡ false → link.rel s t → Related link ((on_replies validators).look form inside m c s) ((thread_forms d).look form inside m c t)
       th_look form true m c s t q i r = absurd (true_false i)
       th_look Ensure false m c s t q i r = absurd (false≢true q)
       th_look Deref false m c s t q i r =
           on_cell_related ThreadState link (cell_of (rule (form_of.Look Deref)) false c) m.span (read_cell Deref false) (thread_look (around p n) Deref) s t r (λ x e. peek_related p.cells a x s t r)
 
-      th_put : (form : PutForm) (inside : Bool) (m : Mark) (c w : Value) (s : ActorState) (t : ThreadState) → may_stand (rule (form_of.Put form)).stands inside ≡ true → inside ≡ false → link.rel s t → Related link (on_replies.put form inside m c w s) ((thread_forms d).put form inside m c w t)
-      th_put form true m c w s t q i r = absurd (true_false i)
-      th_put RefSet false m c w s t q i r = absurd (false≢true q)
-      th_put Reset false m c w s t q i r =
-          on_cell_related ThreadState link (cell_of (rule (form_of.Put Reset)) false c) m.span (assign_cell Reset false m.span w) (λ x t1. thread_put (around p n) Reset x w t1) s t r (λ x e. reset_related p.cells a x w s t r)
+      th_put : (form : PutForm) (inside : Bool) (m : Mark) (c w : Value) (s : ActorState) (t : ThreadState) → may_stand (rule (form_of.Put form)).stands inside ≡ true → inside ≡ false → (((x : ℕ) → MayCallAt ks inside x) → Applied ActorState ThreadState link (apply (left_calls d inside) m.span) (apply (right_calls d inside) m.span)) → link.rel s t
+          → Related link ((on_replies validators).put form inside m c w (apply (left_calls d inside) m.span) s) ((thread_forms d).put form inside m c w (apply (right_calls d inside) m.span) t)
+      th_put form true m c w s t q i h r = absurd (true_false i)
+      th_put RefSet false m c w s t q i h r = absurd (false≢true q)
+      th_put Reset false m c w s t q i h r =
+          on_cell_related ThreadState link (cell_of (rule (form_of.Put Reset)) false c) m.span (assign_cell Reset false m.span w) (λ x t1. thread_put (around p n) Reset m.span x w (apply (right_calls d false) m.span) t1) s t r (λ x e. reset_related p.cells a x w s t r)
 
       th_update : (form : UpdateForm) (inside : Bool) (m : Mark) (c : Value) (callee : Callee) (vs : List Value) (s : ActorState) (t : ThreadState) → may_stand (rule (form_of.Update form)).stands inside ≡ true → inside ≡ false → IsPure ks callee
           → (((x : ℕ) → MayCallAt ks inside x) → Applied ActorState ThreadState link (apply (left_calls d inside) m.span) (apply (right_calls d inside) m.span)) → link.rel s t
-          → Related link (on_replies.update form inside m c callee vs (apply (left_calls d inside) m.span) s) ((thread_forms d).update form inside m c callee vs (apply (right_calls d inside) m.span) t)
+          → Related link ((on_replies validators).update form inside m c callee vs (apply (left_calls d inside) m.span) s) ((thread_forms d).update form inside m c callee vs (apply (right_calls d inside) m.span) t)
       th_update form true m c callee vs s t q i pure h r = absurd (true_false i)
       th_update update_of.Alter false m c callee vs s t q i pure h r = tt
       th_update update_of.Commute false m c callee vs s t q i pure h r = tt
       th_update update_of.Swap false m c callee vs s t q i pure h r =
-          swap_of p.cells a m.span c (λ v s1. apply (left_calls d false) m.span callee (v ∷ vs) s1) (λ v t1. apply (right_calls d false) m.span callee (v ∷ vs) t1) (λ v. quietly n p.functions d m.span callee (v ∷ vs) tt)
-          (λ v s1. left_callee d false m.span callee (v ∷ vs) s1 pure) (λ v t1. right_callee d false m.span callee (v ∷ vs) t1 pure) (length s.todo) (cell_of (rule (form_of.Update update_of.Swap)) false c) refl s t r
+          swap_of p.cells a m.span c (λ x v s1. apply (left_calls d false) m.span callee (v ∷ vs) s1) (λ x v t1. apply (right_calls d false) m.span callee (v ∷ vs) t1) (λ x v. quietly n p.functions d m.span callee (v ∷ vs) tt)
+          (λ x v s1. left_callee d false m.span callee (v ∷ vs) s1 pure) (λ x v t1. right_callee d false m.span callee (v ∷ vs) t1 pure) (length s.todo) (cell_of (rule (form_of.Update update_of.Swap)) false c) refl s t r
 
-      th_send : (inside : Bool) (m : Mark) (c : Value) (callee : Callee) (vs : List Value) (s : ActorState) (t : ThreadState) → inside ≡ false → IsPure ks callee → link.rel s t → Related link (on_replies.send inside m c callee vs s) ((thread_forms d).send inside m c callee vs t)
+      th_send : (inside : Bool) (m : Mark) (c : Value) (callee : Callee) (vs : List Value) (s : ActorState) (t : ThreadState) → inside ≡ false → IsPure ks callee → link.rel s t → Related link ((on_replies validators).send inside m c callee vs s) ((thread_forms d).send inside m c callee vs t)
       th_send true m c callee vs s t i pure r = absurd (true_false i)
       th_send false m c callee vs s t i pure r =
           let act : CellId → Action = λ x. record { agent = x; callee = callee; args = vs; span = m.span } in
-          on_cell_related ThreadState link (cell_of (rule form_of.Send) false c) m.span (λ x s1. send_action false (act x) s1) (λ x t1. eats 0 (λ e t2. sends (act x) m.span e.kind t2) t1.todo t1) s t r (λ x e. send_related p.cells a (act x) s t r)
+          on_cell_related ThreadState link (cell_of (rule form_of.Send) false c) m.span (λ x s1. send_action false (act x) s1) (λ x t1. sends_or_holds t1.held (act x) m.span t1) s t r (λ x e. send_action_related p.cells a (act x) s t r)
 
       th_dosync : (inside : Bool) (m : Mark) (e : Tree) (env : List Value) (s : ActorState) (t : ThreadState) → inside ≡ false → Keeps (placed ks) true e
-          → (true ≡ false → (s1 : ActorState) (t1 : ThreadState) → link.rel s1 t1 → Related link (closed (eval on_replies (left_calls d) n true e env s1)) (closed (eval (thread_forms d) (right_calls d) n true e env t1)))
+          → (true ≡ false → (s1 : ActorState) (t1 : ThreadState) → link.rel s1 t1 → Related link (closed (eval (on_replies validators) (left_calls d) n true e env s1)) (closed (eval (thread_forms d) (right_calls d) n true e env t1)))
           → (((x : ℕ) → MayCallAt ks true x) → true ≡ false → Applied ActorState ThreadState link (apply (left_calls d true) m.span) (apply (right_calls d true) m.span)) → link.rel s t
-          → Related link (on_replies.dosync inside m e env (λ s1. closed (eval on_replies (left_calls d) n true e env s1)) (apply (left_calls d true) m.span) s)
+          → Related link ((on_replies validators).dosync inside m e env (λ s1. closed (eval (on_replies validators) (left_calls d) n true e env s1)) (apply (left_calls d true) m.span) s)
           ((thread_forms d).dosync inside m e env (λ t1. closed (eval (thread_forms d) (right_calls d) n true e env t1)) (apply (right_calls d true) m.span) t)
       th_dosync true m e env s t i keeps h h1 r = absurd (true_false i)
       th_dosync false m e env s t i keeps h h1 r =
-          let tx : Transacting = record { mark = m; body = e; locals = env; on = tx_meaning n p.functions d e env } in
-          subst (λ l. Related link (tries (suc reruns) m.span (λ s1. closed (eval on_replies (left_calls d) n true e env s1)) (apply (left_calls d true) m.span) Anew s) (eats_tx (suc reruns) tx (apply (right_calls d true) m.span) l t)) (sym r.2)
-          (tries_related p.cells a (IsPure ks) tx (λ s1. closed (eval on_replies (left_calls d) n true e env s1)) (apply (left_calls d true) m.span) (apply (right_calls d true) m.span) (quietly n p.functions d m.span)
+          let tx : Transacting = record { mark = m; body = e; locals = env; on = tx_meaning n p.functions d e env; validators = validators } in
+          subst (λ l. Related link (tries validators (suc reruns) m.span (λ s1. closed (eval (on_replies validators) (left_calls d) n true e env s1)) (apply (left_calls d true) m.span) Anew s) (eats_tx (suc reruns) tx (apply (right_calls d true) m.span) l t)) (sym r.2)
+          (tries_related p.cells a (IsPure ks) tx (λ s1. closed (eval (on_replies validators) (left_calls d) n true e env s1)) (apply (left_calls d true) m.span) (apply (right_calls d true) m.span) (quietly n p.functions d m.span)
           (left_callee d true m.span) (right_callee d true m.span)
-          (λ txs R s1 es own fits. tx_related p.cells (a.fits txs) (λ W c at r1 xs es1 f. a.splits txs (In W) (ask.Look c at) r1 xs es1 f) R s1.printed es n p.functions sound.functions d e env s1 keeps own fits refl) (suc reruns) Anew s r.1 t r.0 r.3)
+          (λ txs R s1 es own fits. tx_related p.cells (a.fits txs) (λ W c at r1 xs es1 f. a.splits txs (In W) (ask.Look c at) r1 xs es1 f) R s1.printed (held_in s1.acting) es n p.functions sound.functions d e env s1 keeps own fits (refl, refl)) (suc reruns) Anew s r.1 t r.0 r.3)
 
   -- a sound thread's tree on exchanges that fit is the thread on their events, and those behind them
   pub thread_related : (todo : List Exchange) (es : List SeenEvent) → a.fits [] Out todo es → Related link (source p n todo) (thread_meaning p n (es ++ a.tail))
   thread_related todo es fits =
       let d = length p.functions in
-      let t0 : ThreadState = record { todo = es ++ a.tail; printed = []; txs = [] } in
-      closed_related ActorState ThreadState link (eval on_replies (left_calls d) n false p.main [] (fresh todo)) (eval (thread_forms d) (right_calls d) n false p.main [] t0)
-      (eval_related ActorState ThreadState link on_replies (thread_forms d) (left_calls d) (right_calls d) n n (λ i. i ≡ false) (placed ks) (inl refl) (thread_alike d)
-      (calls_related ActorState ThreadState link (λ x. on_replies) thread_forms n n p.functions (λ i. i ≡ false) (placed ks) (inl refl) thread_alike (function_placed p.functions sound.functions) d)
-      p.main false [] (fresh todo) t0 (thread_placed ks p.main 0 None sound.main) refl (refl, es, refl, fits))
+      let t0 : ThreadState = record { todo = es ++ a.tail; printed = []; held = None; txs = [] } in
+      closed_related ActorState ThreadState link (eval (on_replies validators) (left_calls d) n false p.main [] (fresh todo)) (eval (thread_forms d) (right_calls d) n false p.main [] t0)
+      (eval_related ActorState ThreadState link (on_replies validators) (thread_forms d) (left_calls d) (right_calls d) n n (λ i. i ≡ false) (placed ks) (inl refl) (thread_alike d)
+      (calls_related ActorState ThreadState link (λ x. on_replies validators) thread_forms n n p.functions (λ i. i ≡ false) (placed ks) (inl refl) thread_alike (function_placed p.functions sound.functions) d)
+      p.main false [] (fresh todo) t0 (thread_placed ks p.main 0 None sound.main) refl ((refl, refl), es, refl, fits))

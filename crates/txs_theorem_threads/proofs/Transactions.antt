@@ -81,9 +81,10 @@ module _ (R : World) where
   tx_looks P form true m c t k h = on_cell_meant (cell_of (rule (form_of.Look form)) true c) m.span (tx_look R form) t (λ d. look_meant form d t)
   tx_looks P form false m c t k h = absurd (false≢true h)
 
-  tx_puts : (P : Suits) (form : PutForm) (inside : Bool) (m : Mark) (c v : Value) (t : TxState) → MayStand (zone_of inside) (rule (form_of.Put form)).stands → Within P inside t → MeantAs (Within P) inside None Any ((in_transaction R).put form inside m c v t)
-  tx_puts P form true m c v t k h = on_cell_meant (cell_of (rule (form_of.Put form)) true c) m.span (λ d t1. tx_put form m.span d v t1) t (λ d. put_meant form m.span d v t k)
-  tx_puts P form false m c v t k h = absurd (false≢true h)
+  tx_puts : (P O : Suits) (form : PutForm) (inside : Bool) (m : Mark) (c v : Value) (f : Applies TxState) (t : TxState) → MayStand (zone_of inside) (rule (form_of.Put form)).stands → ((d : Callee) (ws : List Value) → O d (length ws) → Proper TxState f d ws) →
+      Within P inside t → MeantAs (Within P) inside None Any ((in_transaction R).put form inside m c v f t)
+  tx_puts P O form true m c v f t k p h = on_cell_meant (cell_of (rule (form_of.Put form)) true c) m.span (λ d t1. tx_put form m.span d v t1) t (λ d. put_meant form m.span d v t k)
+  tx_puts P O form false m c v f t k p h = absurd (false≢true h)
 
   tx_updates : (P : Suits) (form : UpdateForm) (inside : Bool) (m : Mark) (c : Value) (callee : Callee) (vs : List Value) (f : Applies TxState) (t : TxState) → MayStand (zone_of inside) (rule (form_of.Update form)).stands → P callee (suc (length vs)) → ((v : Value) → Proper TxState f callee (v ∷ vs)) →
       Within P inside t → MeantAs (Within P) inside None Any ((in_transaction R).update form inside m c callee vs f t)

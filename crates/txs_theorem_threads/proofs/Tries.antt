@@ -1,5 +1,5 @@
 -- A transaction on replies that fit is the transaction on their events.
-use Rattle.std.proofs.Common.{ℕ, zero, suc, Bool, true, false, List, [], Some, None, refl, sym, ap, subst, ◌≡◌, ◌∷◌, ◌++◌, ◌∙◌, ◌==◌, ◌&&◌, nat_lt, if◌then◌else◌}
+use Rattle.std.proofs.Common.{ℕ, zero, suc, Bool, true, false, List, [], Option, Some, None, refl, sym, ap, subst, ◌≡◌, ◌∷◌, ◌++◌, ◌∙◌, ◌==◌, ◌&&◌, nat_lt, if◌then◌else◌}
 use Rattle.txs_world_protocol.proofs.AskLemmas.{same_writes-itself, same_ask-itself}
 use Rattle.txs_world_protocol.specs.Ask.{Writes, buffered, with_write, Exchange, same_writes, same_actions}
 use Rattle.txs_world_protocol.specs.SeenEvent.{SeenEvent}
@@ -12,12 +12,13 @@ use Rattle.txs_world_protocol.specs.declared.event.EventKind.{EventKind}
 use Rattle.txs_frame.specs.Frame.{Work, no_work, commuted, set_writes, by_ref, phase_work}
 use Rattle.txs_frame.specs.declared.frame.Commute.{Commute}
 use Rattle.txs_value_data.proofs.SameLemmas.{numbers}
-use Rattle.txs_value_cell.specs.Cells.{World}
+use Rattle.txs_value_cell.specs.Cells.{World, Validators}
 use Rattle.txs_value_base.specs.Places.{fault_at}
 use Rattle.txs_value_cell.specs.declared.action.Action.{Action}
 use Rattle.txs_value_cell.specs.declared.cell.CellDefinition.{CellDefinition}
 use Rattle.txs_value_base.specs.declared.fault.Fault.{Fault}
 use Rattle.txs_value_base.specs.declared.fault.FaultKind.TheVariants.{AgentFailed}
+use Rattle.txs_value_base.specs.declared.fault.Span.{Span}
 use Rattle.txs_value_base.specs.declared.op.Callee.{Callee}
 use Rattle.txs_value_data.specs.declared.value.CellId.{CellId}
 use Rattle.txs_value_data.specs.declared.value.Value.{Value}
@@ -26,10 +27,10 @@ use Rattle.txs_tree_meaning.specs.Meaning.{Completion, Completes, Recurs, Faults
 use Rattle.txs_tree_meaning.specs.Thread.{TxRun, ThreadState, with_tx, meant, faulted, faultless, over, Transacting, run_of, ends_tx, is_retry, uneaten, eats_tx}
 use Rattle.txs_tree_meaning.specs.Transaction.{TxState, value_or, valued, merged, redone, final_writes}
 use Rattle.txs_code_meaning.specs.ActorState.{ActorState, Replied, heard, on_step, begin, begun, read_point, fail, just_done, views, with_first, paired, viewed, view, commit, commit_verdict}
-use Rattle.txs_theorem_threads.proofs.Account.{Account, account_link, after_reply, answered_in, not_retrying, on_then}
+use Rattle.txs_theorem_threads.proofs.Account.{Account, IsBeside, account_link, after_reply, answered_in, not_retrying, on_then}
 use Rattle.txs_theorem_threads.proofs.Quiet.{carried, IsQuiet, AllCommutes, phase_some, redone_carried}
 use Rattle.txs_theorem_threads.proofs.Related.{Related, CompletesAs, FaultsAs}
-use Rattle.txs_theorem_threads.proofs.Worlds.{IsShort, Kept, tx_link, says_retry}
+use Rattle.txs_theorem_threads.proofs.Worlds.{IsShort, Kept, held_in, tx_link, says_retry}
 use Rattle.txs_theorem_threads.proofs.Owned.{are_written}
 use Rattle.txs_theorem_threads.specs.EndsSo.{in_hand}
 use Rattle.txs_theorem_threads.specs.Noted.{AreWritten, Commits}
@@ -112,12 +113,12 @@ module _ (d : Transacting) (f : Applies ThreadState) (R Q C : World) (t : Thread
   abbrev EndsAs : EventKind → Completion ThreadState Value → Type 0
   EndsAs kind r = (is_retry kind ≡ false) × (ends_tx d f kind R Q C t ≡ r)
 
-  commits_as : (kind : EventKind) (v : Value) (x : TxState) (ws : Writes) (sends : List Action) → d.on R ≡ Completes v x → final_writes f x.done C t ≡ Completes ws t → x.done.sends ≡ sends → SaysCommit ws sends kind → EndsAs kind (Completes v (with_tx (run_of d v x) t))
+  commits_as : (kind : EventKind) (v : Value) (x : TxState) (ws : Writes) (sends : List Action) → d.on R ≡ Completes v x → final_writes f d.validators d.mark.span x.done C t ≡ Completes ws t → x.done.sends ≡ sends → SaysCommit ws sends kind → EndsAs kind (Completes v (with_tx (run_of d v x) t))
   commits_as (event.Commit at view ws1 sends1) v x ws sends on final held says =
       let told : ThreadState = with_tx (run_of d v x) t in
       let ended : Completion ThreadState Writes → Completion ThreadState Value = λ y. faultless y (λ xs t1. meant (same_writes xs ws1 && same_actions x.done.sends sends1) v (with_tx (run_of d v x) t1)) in (
         refl,
-        ap (λ r. over t r (λ w y. faultless (final_writes f y.done C t) (λ xs t1. meant (same_writes xs ws1 && same_actions y.done.sends sends1) w (with_tx (run_of d w y) t1))) (λ g. Invalid)) on
+        ap (λ r. over t r (λ w y. faultless (final_writes f d.validators d.mark.span y.done C t) (λ xs t1. meant (same_writes xs ws1 && same_actions y.done.sends sends1) w (with_tx (run_of d w y) t1))) (λ g. Invalid)) on
             ∙ ap ended final
             ∙ ap (λ l. meant (same_writes l ws1 && same_actions x.done.sends sends1) v told) says.0
             ∙ ap (λ l. meant (same_writes ws1 ws1 && same_actions l sends1) v told) (held ∙ says.1)
@@ -126,18 +127,18 @@ module _ (d : Transacting) (f : Applies ThreadState) (R Q C : World) (t : Thread
   commits_as _ v x ws sends on final held says = absurd says
 
   fails_body : (kind : EventKind) (e : Fault) (x : TxState) → d.on R ≡ Faults e x → SaysFail kind → EndsAs kind (Faults e t)
-  fails_body (event.Fail at view) e x on says = (refl, ap (λ r. over t r (λ w y. faulted (final_writes f y.done Q t) (λ g t1. Faults g t1)) (λ g. Faults g t)) on)
+  fails_body (event.Fail at view) e x on says = (refl, ap (λ r. over t r (λ w y. faulted (final_writes f d.validators d.mark.span y.done Q t) (λ g t1. Faults g t1)) (λ g. Faults g t)) on)
   fails_body _ e x on says = absurd says
 
-  fails_commutes : (kind : EventKind) (v : Value) (x : TxState) (e : Fault) → d.on R ≡ Completes v x → final_writes f x.done Q t ≡ Faults e t → SaysFail kind → EndsAs kind (Faults e t)
+  fails_commutes : (kind : EventKind) (v : Value) (x : TxState) (e : Fault) → d.on R ≡ Completes v x → final_writes f d.validators d.mark.span x.done Q t ≡ Faults e t → SaysFail kind → EndsAs kind (Faults e t)
   fails_commutes (event.Fail at view) v x e on final says =
-      (refl, ap (λ r. over t r (λ w y. faulted (final_writes f y.done Q t) (λ g t1. Faults g t1)) (λ g. Faults g t)) on ∙ ap (λ y. faulted y (λ g t1. Faults g t1)) final)
+      (refl, ap (λ r. over t r (λ w y. faulted (final_writes f d.validators d.mark.span y.done Q t) (λ g t1. Faults g t1)) (λ g. Faults g t)) on ∙ ap (λ y. faulted y (λ g t1. Faults g t1)) final)
   fails_commutes _ v x e on final says = absurd says
 
-  refuses_as : (kind : EventKind) (v : Value) (x : TxState) (ws : Writes) → d.on R ≡ Completes v x → final_writes f x.done Q t ≡ Completes ws t → SaysRefused kind → EndsAs kind (Faults (fault_at AgentFailed d.mark.span) (with_tx (run_of d v x) t))
+  refuses_as : (kind : EventKind) (v : Value) (x : TxState) (ws : Writes) → d.on R ≡ Completes v x → final_writes f d.validators d.mark.span x.done Q t ≡ Completes ws t → SaysRefused kind → EndsAs kind (Faults (fault_at AgentFailed d.mark.span) (with_tx (run_of d v x) t))
   refuses_as (event.Refused at view agent) v x ws on final says = (
     refl,
-    ap (λ r. over t r (λ w y. faultless (final_writes f y.done Q t) (λ xs t1. Faults (fault_at AgentFailed d.mark.span) (with_tx (run_of d w y) t1))) (λ g. Invalid)) on
+    ap (λ r. over t r (λ w y. faultless (final_writes f d.validators d.mark.span y.done Q t) (λ xs t1. Faults (fault_at AgentFailed d.mark.span) (with_tx (run_of d w y) t1))) (λ g. Invalid)) on
         ∙ ap (λ y. faultless y (λ xs t1. Faults (fault_at AgentFailed d.mark.span) (with_tx (run_of d v x) t1))) final,
   )
   refuses_as _ v x ws on final says = absurd says
@@ -153,8 +154,8 @@ over_short (Waits x) t go broke h = absurd h
 over_short Invalid t go broke h = absurd h
 
 -- the final writes of a transaction that commuted nothing
-final_none : (f : Applies ThreadState) (w : Work) (C : World) (t : ThreadState) → commuted w ≡ [] → final_writes f w C t ≡ Completes (set_writes w) t
-final_none f w C t e = ap (λ cs. bind (redone f (by_ref cs w.commutes) (valued cs C) t) (λ ws t1. Completes (merged (set_writes w) ws) t1)) e
+final_none : (f : Applies ThreadState) (validators : Validators) (span : Span) (w : Work) (C : World) (t : ThreadState) → commuted w ≡ [] → final_writes f validators span w C t ≡ Completes (set_writes w) t
+final_none f validators span w C t e = ap (λ cs. bind (redone f (by_ref cs w.commutes) (valued cs C) t) (λ ws t1. Completes (merged (set_writes w) ws) t1)) e
 
 -- ---- tries
 
@@ -168,35 +169,35 @@ module _ (cells : List CellDefinition) (a : Account cells) (P : Callee → Type 
     (right : (c : Callee) (vs : List Value) (t : ThreadState) → P c → (g c vs t ≡ carried t (q c vs tt)) × IsQuiet (q c vs tt)) where
   -- the tries that are left follow the events that are left
   abbrev Follow : ℕ → Type 0
-  Follow k = (from : Start) (s : ActorState) (es : List SeenEvent) (t : ThreadState) → t.printed ≡ s.printed → StartFits cells a P d t.txs from s es → Related (account_link cells a) (tries k d.mark.span body f from s) (eats_tx k d g (es ++ a.tail) t)
+  Follow k = (from : Start) (s : ActorState) (es : List SeenEvent) (t : ThreadState) → IsBeside s t → StartFits cells a P d t.txs from s es → Related (account_link cells a) (tries d.validators k d.mark.span body f from s) (eats_tx k d g (es ++ a.tail) t)
 
   -- the final writes, where the commutes on a world made these
-  final_made : (w : Work) (C : World) (t : ThreadState) (xs : Writes) (u : Unit {0}) → AllCommutes P w.commutes → redone q (phase_work w) (valued (commuted w) C) tt ≡ Completes xs u → final_writes g w C t ≡ Completes (merged (set_writes w) xs) t
+  final_made : (w : Work) (C : World) (t : ThreadState) (xs : Writes) (u : Unit {0}) → AllCommutes P w.commutes → redone q (phase_work w) (valued (commuted w) C) tt ≡ Completes xs u → final_writes g d.validators d.mark.span w C t ≡ Completes (merged (set_writes w) xs) t
   final_made w C t xs u all e =
       ap (λ y. bind y (λ ws t1. Completes (merged (set_writes w) ws) t1)) ((redone_carried P t g q (λ c vs p. right c vs t p) (phase_work w) (phase_some P w all) (valued (commuted w) C)).0 ∙ ap (carried t) e)
 
   -- or faulted
-  final_broke : (w : Work) (C : World) (t : ThreadState) (e : Fault) (u : Unit {0}) → AllCommutes P w.commutes → redone q (phase_work w) (valued (commuted w) C) tt ≡ Faults e u → final_writes g w C t ≡ Faults e t
+  final_broke : (w : Work) (C : World) (t : ThreadState) (e : Fault) (u : Unit {0}) → AllCommutes P w.commutes → redone q (phase_work w) (valued (commuted w) C) tt ≡ Faults e u → final_writes g d.validators d.mark.span w C t ≡ Faults e t
   final_broke w C t e u all eq =
       ap (λ y. bind y (λ ws t1. Completes (merged (set_writes w) ws) t1)) ((redone_carried P t g q (λ c vs p. right c vs t p) (phase_work w) (phase_some P w all) (valued (commuted w) C)).0 ∙ ap (carried t) eq)
 
   -- or needed turns
-  final_short : (w : Work) (C : World) (t : ThreadState) (u : Unit {0}) → AllCommutes P w.commutes → redone q (phase_work w) (valued (commuted w) C) tt ≡ OutOfTurns u → final_writes g w C t ≡ OutOfTurns t
+  final_short : (w : Work) (C : World) (t : ThreadState) (u : Unit {0}) → AllCommutes P w.commutes → redone q (phase_work w) (valued (commuted w) C) tt ≡ OutOfTurns u → final_writes g d.validators d.mark.span w C t ≡ OutOfTurns t
   final_short w C t u all eq =
       ap (λ y. bind y (λ ws t1. Completes (merged (set_writes w) ws) t1)) ((redone_carried P t g q (λ c vs p. right c vs t p) (phase_work w) (phase_some P w all) (valued (commuted w) C)).0 ∙ ap (carried t) eq)
 
   module _ (k : ℕ) (next : Follow k) where
     -- what a try comes to, before those that are left
     abbrev Comes : Completion ActorState Value → List SeenEvent → ThreadState → Type 0
-    Comes x es t = Related (account_link cells a) (retrying x (tries k d.mark.span body f Anew)) (eats_tx (suc k) d g (es ++ a.tail) t)
+    Comes x es t = Related (account_link cells a) (retrying x (tries d.validators k d.mark.span body f Anew)) (eats_tx (suc k) d g (es ++ a.tail) t)
 
     -- it waits, and needs an event
-    waiting : (ph : Phase) (s : ActorState) (es : List SeenEvent) (t : ThreadState) → t.printed ≡ s.printed → a.fits t.txs ph s.todo es → a.waits s (halted (eats_tx (suc k) d g (es ++ a.tail) t))
-    waiting ph s es t pr fits = a.waiting t.txs ph s es (λ l. eats_tx (suc k) d g l t) fits (refl, pr, refl)
+    waiting : (ph : Phase) (s : ActorState) (es : List SeenEvent) (t : ThreadState) → IsBeside s t → a.fits t.txs ph s.todo es → a.waits s (halted (eats_tx (suc k) d g (es ++ a.tail) t))
+    waiting ph s es t pr fits = a.waiting t.txs ph s es (λ l. eats_tx (suc k) d g l t) fits (refl, pr.0, refl)
 
     -- it needs turns
-    shortage : (ph : Phase) (s : ActorState) (es : List SeenEvent) (t : ThreadState) → t.printed ≡ s.printed → a.fits t.txs ph s.todo es → ((Q : World) → IsShort (halted (eats_tx (suc k) d g (in_hand cells Q ph) t))) → a.short s (halted (eats_tx (suc k) d g (es ++ a.tail) t))
-    shortage ph s es t pr fits h = a.shortage t.txs ph s es (λ l. eats_tx (suc k) d g l t) fits (refl, pr, refl) h
+    shortage : (ph : Phase) (s : ActorState) (es : List SeenEvent) (t : ThreadState) → IsBeside s t → a.fits t.txs ph s.todo es → ((Q : World) → IsShort (halted (eats_tx (suc k) d g (in_hand cells Q ph) t))) → a.short s (halted (eats_tx (suc k) d g (es ++ a.tail) t))
+    shortage ph s es t pr fits h = a.shortage t.txs ph s es (λ l. eats_tx (suc k) d g l t) fits (refl, pr.0, refl) h
 
     -- an event that says to run again is eaten
     eats_retry : (e : SeenEvent) (es : List SeenEvent) (t : ThreadState) → e.book ≡ 0 → is_retry e.kind ≡ true → eats_tx (suc k) d g (e ∷ es) t ≡ eats_tx k d g es t
@@ -212,19 +213,19 @@ module _ (cells : List CellDefinition) (a : Account cells) (P : Callee → Type 
         ∙ ap (uneaten (e ∷ es)) h.1
 
     -- a try that has to run again
-    retry_comes : (b : Bool) (from : Start) (s : ActorState) (es : List SeenEvent) (t : ThreadState) → t.printed ≡ s.printed → OnEvent 0 (λ e. SaysRetry b e.kind) (StartFits cells a P d t.txs from s) es → Related (account_link cells a) (tries k d.mark.span body f from s) (eats_tx (suc k) d g (es ++ a.tail) t)
+    retry_comes : (b : Bool) (from : Start) (s : ActorState) (es : List SeenEvent) (t : ThreadState) → IsBeside s t → OnEvent 0 (λ e. SaysRetry b e.kind) (StartFits cells a P d t.txs from s) es → Related (account_link cells a) (tries d.validators k d.mark.span body f from s) (eats_tx (suc k) d g (es ++ a.tail) t)
     retry_comes b from s [] t pr m = absurd m
     retry_comes b from s (e ∷ es) t pr m =
-        subst (Related (account_link cells a) (tries k d.mark.span body f from s)) (sym (eats_retry e (es ++ a.tail) t m.0 (says_retry b e.kind m.1))) (next from s es t pr m.2)
+        subst (Related (account_link cells a) (tries d.validators k d.mark.span body f from s)) (sym (eats_retry e (es ++ a.tail) t m.0 (says_retry b e.kind m.1))) (next from s es t pr m.2)
 
     -- a value, at the event of the end
-    lands_at : (v : Value) (s : ActorState) (e : SeenEvent) (es : List SeenEvent) (t : ThreadState) (x : TxState) → t.printed ≡ s.printed → e.book ≡ 0 → a.fits (t.txs ++ run_of d v x ∷ []) Out s.todo es
+    lands_at : (v : Value) (s : ActorState) (e : SeenEvent) (es : List SeenEvent) (t : ThreadState) (x : TxState) → IsBeside s t → e.book ≡ 0 → a.fits (t.txs ++ run_of d v x ∷ []) Out s.todo es
         → EndsAs d g e.R e.Q e.C (record t { todo = es ++ a.tail }) e.kind (Completes v (with_tx (run_of d v x) (record t { todo = es ++ a.tail }))) → Comes (Completes v s) (e ∷ es) t
     lands_at v s e es t x pr b fits h = subst (Related (account_link cells a) (Completes v s)) (sym (eats_end e (es ++ a.tail) t (Completes v (with_tx (run_of d v x) (record t { todo = es ++ a.tail }))) b h)) (refl, (pr, es, refl, fits))
 
     -- a fault there
-    breaks_at : (y : Fault) (s : ActorState) (e : SeenEvent) (es : List SeenEvent) (t t1 : ThreadState) → t1.todo ≡ es ++ a.tail → t1.printed ≡ s.printed → e.book ≡ 0 → a.fits t1.txs Out s.todo es → EndsAs d g e.R e.Q e.C (record t { todo = es ++ a.tail }) e.kind (Faults y t1) → Comes (Faults y s) (e ∷ es) t
-    breaks_at y s e es t t1 td pr b fits h = subst (Related (account_link cells a) (Faults y s)) (sym (eats_end e (es ++ a.tail) t (Faults y t1) b h)) (refl, (pr, Out, es, td, fits))
+    breaks_at : (y : Fault) (s : ActorState) (e : SeenEvent) (es : List SeenEvent) (t t1 : ThreadState) → t1.todo ≡ es ++ a.tail → IsBeside s t1 → e.book ≡ 0 → a.fits t1.txs Out s.todo es → EndsAs d g e.R e.Q e.C (record t { todo = es ++ a.tail }) e.kind (Faults y t1) → Comes (Faults y s) (e ∷ es) t
+    breaks_at y s e es t t1 td pr b fits h = subst (Related (account_link cells a) (Faults y s)) (sym (eats_end e (es ++ a.tail) t (Faults y t1) b h)) (refl, (pr.0, Out, es, td, fits))
 
     -- ---- the commit
 
@@ -254,36 +255,36 @@ module _ (cells : List CellDefinition) (a : Account cells) (P : Callee → Type 
       on_there W e = subst (λ Z. d.on Z ≡ Completes v x) e on
 
       -- without a commute phase
-      plain_done : (ws : Writes) (s : ActorState) (es : List SeenEvent) (t : ThreadState) → Made s → commuted s.done ≡ [] → t.printed ≡ s.printed
+      plain_done : (ws : Writes) (s : ActorState) (es : List SeenEvent) (t : ThreadState) → Made s → commuted s.done ≡ [] → IsBeside s t
           → OnEvent 0 (λ e. (R ≡ e.R) × (ws ≡ []) × SaysCommit (set_writes s.done) s.done.sends e.kind) (BehindEnd s ws t) es → Comes (Completes v s) es t
       plain_done ws s [] t made none pr m = absurd m
       plain_done ws s (e ∷ es) t made none pr m =
           let t1 : ThreadState = record t { todo = es ++ a.tail } in
-          let final : final_writes g x.done e.C t1 ≡ Completes (set_writes s.done) t1 = subst (λ w. final_writes g w e.C t1 ≡ Completes (set_writes s.done) t1) made.0 (final_none g s.done e.C t1 none) in
+          let final : final_writes g d.validators d.mark.span x.done e.C t1 ≡ Completes (set_writes s.done) t1 = subst (λ w. final_writes g d.validators d.mark.span w e.C t1 ≡ Completes (set_writes s.done) t1) made.0 (final_none g d.validators d.mark.span s.done e.C t1 none) in
           lands_at v s e es t x pr m.0 (m.2 (run_of d v x) (own_commit s ws made)) (commits_as d g e.R e.Q e.C t1 e.kind v x (set_writes s.done) s.done.sends (on_there e.R m.1.0) final (ap (λ w. w.sends) (sym made.0)) m.1.2)
 
-      plain_refused : (ws : Writes) (s : ActorState) (es : List SeenEvent) (t : ThreadState) → Made s → commuted s.done ≡ [] → t.printed ≡ s.printed
+      plain_refused : (ws : Writes) (s : ActorState) (es : List SeenEvent) (t : ThreadState) → Made s → commuted s.done ≡ [] → IsBeside s t
           → OnEvent 0 (λ e. (R ≡ e.R) × (ws ≡ []) × SaysRefused e.kind) (BehindEnd s ws t) es → Comes (Faults (fault_at AgentFailed d.mark.span) s) es t
       plain_refused ws s [] t made none pr m = absurd m
       plain_refused ws s (e ∷ es) t made none pr m =
           let t1 : ThreadState = record t { todo = es ++ a.tail } in
-          let final : final_writes g x.done e.Q t1 ≡ Completes (set_writes s.done) t1 = subst (λ w. final_writes g w e.Q t1 ≡ Completes (set_writes s.done) t1) made.0 (final_none g s.done e.Q t1 none) in
+          let final : final_writes g d.validators d.mark.span x.done e.Q t1 ≡ Completes (set_writes s.done) t1 = subst (λ w. final_writes g d.validators d.mark.span w e.Q t1 ≡ Completes (set_writes s.done) t1) made.0 (final_none g d.validators d.mark.span s.done e.Q t1 none) in
           breaks_at (fault_at AgentFailed d.mark.span) s e es t (with_tx (run_of d v x) t1) refl pr m.0 (m.2 (run_of d v x) (own_commit s ws made)) (refuses_as d g e.R e.Q e.C t1 e.kind v x (set_writes s.done) (on_there e.R m.1.0) final m.1.2)
 
-      plain_answered : (s : ActorState) (es : List SeenEvent) (t : ThreadState) (r : Reply) (xs : List Exchange) → Made s → commuted s.done ≡ [] → t.printed ≡ s.printed
+      plain_answered : (s : ActorState) (es : List SeenEvent) (t : ThreadState) (r : Reply) (xs : List Exchange) → Made s → commuted s.done ≡ [] → IsBeside s t
           → ReplyFits cells (In R) (committing s []) r (after_reply a.fits t.txs (committing s []) r xs) es
-          → Comes (bind (res (heard commit_verdict (Replied r (record s { todo = xs })))) (λ verdict s1. concludes verdict d.mark.span v (tries k d.mark.span body f) s1)) es t
+          → Comes (bind (res (heard commit_verdict (Replied r (record s { todo = xs })))) (λ verdict s1. concludes verdict d.mark.span v (tries d.validators k d.mark.span body f) s1)) es t
       plain_answered s es t reply.Done xs made none pr m = plain_done [] (record s { todo = xs }) es t made none pr m
       plain_answered s es t (reply.Retry c) xs made none pr m = retry_comes false Anew (record s { todo = xs }) es t pr m
       plain_answered s es t (reply.AgentIsFailed a) xs made none pr m = plain_refused [] (record s { todo = xs }) es t made none pr m
       plain_answered s es t (reply.Changed c) xs made none pr m = absurd m
       plain_answered s es t _ xs made none pr m = tt
 
-      lands_plainly : (s : ActorState) (es : List SeenEvent) (t : ThreadState) → Made s → commuted s.done ≡ [] → t.printed ≡ s.printed → a.fits t.txs (In R) s.todo es → Comes (lands_on d.mark.span v (tries k d.mark.span body f) [] s) es t
+      lands_plainly : (s : ActorState) (es : List SeenEvent) (t : ThreadState) → Made s → commuted s.done ≡ [] → IsBeside s t → a.fits t.txs (In R) s.todo es → Comes (lands_on d.mark.span v (tries d.validators k d.mark.span body f) [] s) es t
       unfolding commit
       lands_plainly s es t made none pr fits =
           answered_in cells a t.txs (In R) es (committing s []) s
-          (λ h. Comes (bind (res (heard commit_verdict h)) (λ verdict s1. concludes verdict d.mark.span v (tries k d.mark.span body f) s1)) es t) fits
+          (λ h. Comes (bind (res (heard commit_verdict h)) (λ verdict s1. concludes verdict d.mark.span v (tries d.validators k d.mark.span body f) s1)) es t) fits
           (waiting (In R) (record s { wants = _ }) es t pr fits) (λ r xs m. plain_answered s es t r xs made none pr m)
 
       -- ---- the commute phase
@@ -293,10 +294,10 @@ module _ (cells : List CellDefinition) (a : Account cells) (P : Callee → Type 
         abbrev phase : Work → World → Completion (Unit {0}) Writes
         phase w W = redone q (phase_work w) (valued (commuted w) W) tt
 
-        final_there : (s : ActorState) (W : World) (t : ThreadState) (ws : Writes) (u : Unit {0}) → Made s → phase s.done W ≡ Completes ws u → final_writes g x.done W t ≡ Completes (merged (set_writes s.done) ws) t
-        final_there s W t ws u made e = subst (λ w. final_writes g w W t ≡ Completes (merged (set_writes s.done) ws) t) made.0 (final_made s.done W t ws u made.1.0 e)
+        final_there : (s : ActorState) (W : World) (t : ThreadState) (ws : Writes) (u : Unit {0}) → Made s → phase s.done W ≡ Completes ws u → final_writes g d.validators d.mark.span x.done W t ≡ Completes (merged (set_writes s.done) ws) t
+        final_there s W t ws u made e = subst (λ w. final_writes g d.validators d.mark.span w W t ≡ Completes (merged (set_writes s.done) ws) t) made.0 (final_made s.done W t ws u made.1.0 e)
 
-        phase_done : (s : ActorState) (es : List SeenEvent) (t : ThreadState) (ws : Writes) (u : Unit {0}) → Made s → phase s.done Q ≡ Completes ws u → t.printed ≡ s.printed
+        phase_done : (s : ActorState) (es : List SeenEvent) (t : ThreadState) (ws : Writes) (u : Unit {0}) → Made s → phase s.done Q ≡ Completes ws u → IsBeside s t
             → OnEvent 0 (λ e. (R ≡ e.R) × AgreeOn ws Q e.C × SaysCommit (merged (set_writes s.done) ws) s.done.sends e.kind) (BehindEnd s ws t) es → Comes (Completes v s) es t
         phase_done s [] t ws u made z pr m = absurd m
         phase_done s (e ∷ es) t ws u made z pr m =
@@ -306,7 +307,7 @@ module _ (cells : List CellDefinition) (a : Account cells) (P : Callee → Type 
             lands_at v s e es t x pr m.0 (m.2 (run_of d v x) (own_commit s ws made))
             (commits_as d g e.R e.Q e.C t1 e.kind v x (merged (set_writes s.done) ws) s.done.sends (on_there e.R m.1.0) (final_there s e.C t1 ws u made there) (ap (λ w. w.sends) (sym made.0)) m.1.2)
 
-        phase_refused : (s : ActorState) (es : List SeenEvent) (t : ThreadState) (ws : Writes) (u : Unit {0}) → Made s → phase s.done Q ≡ Completes ws u → t.printed ≡ s.printed
+        phase_refused : (s : ActorState) (es : List SeenEvent) (t : ThreadState) (ws : Writes) (u : Unit {0}) → Made s → phase s.done Q ≡ Completes ws u → IsBeside s t
             → OnEvent 0 (λ e. (R ≡ e.R) × (Q ≡ e.Q) × SaysRefused e.kind) (BehindEnd s ws t) es → Comes (Faults (fault_at AgentFailed d.mark.span) s) es t
         phase_refused s [] t ws u made z pr m = absurd m
         phase_refused s (e ∷ es) t ws u made z pr m =
@@ -315,42 +316,42 @@ module _ (cells : List CellDefinition) (a : Account cells) (P : Callee → Type 
             breaks_at (fault_at AgentFailed d.mark.span) s e es t (with_tx (run_of d v x) t1) refl pr m.0 (m.2 (run_of d v x) (own_commit s ws made))
             (refuses_as d g e.R e.Q e.C t1 e.kind v x (merged (set_writes s.done) ws) (on_there e.R m.1.0) (final_there s e.Q t1 ws u made there) m.1.2)
 
-        phase_broken : (y : Fault) (s : ActorState) (es : List SeenEvent) (t : ThreadState) (u : Unit {0}) → Made s → phase s.done Q ≡ Faults y u → t.printed ≡ s.printed
+        phase_broken : (y : Fault) (s : ActorState) (es : List SeenEvent) (t : ThreadState) (u : Unit {0}) → Made s → phase s.done Q ≡ Faults y u → IsBeside s t
             → OnEvent 0 (λ e. (R ≡ e.R) × (Q ≡ e.Q) × SaysFail e.kind) (a.fits t.txs Out s.todo) es → Comes (Faults y s) es t
         phase_broken y s [] t u made z pr m = absurd m
         phase_broken y s (e ∷ es) t u made z pr m =
             let t1 : ThreadState = record t { todo = es ++ a.tail } in
             let there : phase s.done e.Q ≡ Faults y u = subst (λ W. phase s.done W ≡ Faults y u) m.1.1 z in
-            let final : final_writes g x.done e.Q t1 ≡ Faults y t1 = subst (λ w. final_writes g w e.Q t1 ≡ Faults y t1) made.0 (final_broke s.done e.Q t1 y u made.1.0 there) in
+            let final : final_writes g d.validators d.mark.span x.done e.Q t1 ≡ Faults y t1 = subst (λ w. final_writes g d.validators d.mark.span w e.Q t1 ≡ Faults y t1) made.0 (final_broke s.done e.Q t1 y u made.1.0 there) in
             breaks_at y s e es t t1 refl pr m.0 m.2 (fails_commutes d g e.R e.Q e.C t1 e.kind v x y (on_there e.R m.1.0) final m.1.2)
 
-        phase_answered : (s : ActorState) (es : List SeenEvent) (t : ThreadState) (ws : Writes) (u : Unit {0}) (r : Reply) (xs : List Exchange) → Made s → phase s.done Q ≡ Completes ws u → t.printed ≡ s.printed
+        phase_answered : (s : ActorState) (es : List SeenEvent) (t : ThreadState) (ws : Writes) (u : Unit {0}) (r : Reply) (xs : List Exchange) → Made s → phase s.done Q ≡ Completes ws u → IsBeside s t
             → ReplyFits cells (Viewed R Q) (committing s ws) r (after_reply a.fits t.txs (committing s ws) r xs) es
-            → Comes (bind (res (heard commit_verdict (Replied r (record s { todo = xs })))) (λ verdict s1. concludes verdict d.mark.span v (tries k d.mark.span body f) s1)) es t
+            → Comes (bind (res (heard commit_verdict (Replied r (record s { todo = xs })))) (λ verdict s1. concludes verdict d.mark.span v (tries d.validators k d.mark.span body f) s1)) es t
         phase_answered s es t ws u reply.Done xs made z pr m = phase_done (record s { todo = xs }) es t ws u made z pr m
         phase_answered s es t ws u (reply.Retry c) xs made z pr m = retry_comes false Anew (record s { todo = xs }) es t pr m
         phase_answered s es t ws u (reply.AgentIsFailed a) xs made z pr m = phase_refused (record s { todo = xs }) es t ws u made z pr m
         phase_answered s es t ws u (reply.Changed c) xs made z pr m =
-            not_retrying cells a (tries k d.mark.span body f (Behind v) (record s { todo = xs })) (eats_tx (suc k) d g (es ++ a.tail) t) (tries k d.mark.span body f Anew)
+            not_retrying cells a (tries d.validators k d.mark.span body f (Behind v) (record s { todo = xs })) (eats_tx (suc k) d g (es ++ a.tail) t) (tries d.validators k d.mark.span body f Anew)
             (retry_comes true (Behind v) (record s { todo = xs }) es t pr
             (on_then 0 (λ e. SaysRetry true e.kind) (a.fits t.txs (In R) xs) (StartFits cells a P d t.txs (Behind v) (record s { todo = xs })) (λ es1 fits. (R, x, on, made.0, made.1, fits)) es m))
         phase_answered s es t ws u _ xs made z pr m = tt
 
-        lands_viewed : (s : ActorState) (es : List SeenEvent) (t : ThreadState) (ws : Writes) (u : Unit {0}) → Made s → phase s.done Q ≡ Completes ws u → t.printed ≡ s.printed → a.fits t.txs (Viewed R Q) s.todo es
-            → Comes (lands_on d.mark.span v (tries k d.mark.span body f) ws s) es t
+        lands_viewed : (s : ActorState) (es : List SeenEvent) (t : ThreadState) (ws : Writes) (u : Unit {0}) → Made s → phase s.done Q ≡ Completes ws u → IsBeside s t → a.fits t.txs (Viewed R Q) s.todo es
+            → Comes (lands_on d.mark.span v (tries d.validators k d.mark.span body f) ws s) es t
         unfolding commit
         lands_viewed s es t ws u made z pr fits =
             answered_in cells a t.txs (Viewed R Q) es (committing s ws) s
-            (λ h. Comes (bind (res (heard commit_verdict h)) (λ verdict s1. concludes verdict d.mark.span v (tries k d.mark.span body f) s1)) es t) fits
+            (λ h. Comes (bind (res (heard commit_verdict h)) (λ verdict s1. concludes verdict d.mark.span v (tries d.validators k d.mark.span body f) s1)) es t) fits
             (waiting (Viewed R Q) (record s { wants = _ }) es t pr fits) (λ r xs m. phase_answered s es t ws u r xs made z pr m)
 
-        fail_answered : (y : Fault) (s : ActorState) (es : List SeenEvent) (t : ThreadState) (u : Unit {0}) (r : Reply) (xs : List Exchange) → Made s → phase s.done Q ≡ Faults y u → t.printed ≡ s.printed
+        fail_answered : (y : Fault) (s : ActorState) (es : List SeenEvent) (t : ThreadState) (u : Unit {0}) (r : Reply) (xs : List Exchange) → Made s → phase s.done Q ≡ Faults y u → IsBeside s t
             → ReplyFits cells (Viewed R Q) (ask.Fail s.at s.view) r (λ ph1 es1. a.fits t.txs ph1 xs es1) es
             → Comes (bind (res (heard just_done (Replied r (record s { todo = xs })))) (λ w s1. Faults y s1)) es t
         fail_answered y s es t u reply.Done xs made z pr m = phase_broken y (record s { todo = xs }) es t u made z pr m
         fail_answered y s es t u _ xs made z pr m = tt
 
-        fails_viewed : (y : Fault) (s : ActorState) (es : List SeenEvent) (t : ThreadState) (u : Unit {0}) → Made s → phase s.done Q ≡ Faults y u → t.printed ≡ s.printed → a.fits t.txs (Viewed R Q) s.todo es
+        fails_viewed : (y : Fault) (s : ActorState) (es : List SeenEvent) (t : ThreadState) (u : Unit {0}) → Made s → phase s.done Q ≡ Faults y u → IsBeside s t → a.fits t.txs (Viewed R Q) s.todo es
             → Comes (bind (res (fail s)) (λ w s1. Faults y s1)) es t
         unfolding fail
         fails_viewed y s es t u made z pr fits =
@@ -360,12 +361,12 @@ module _ (cells : List CellDefinition) (a : Account cells) (P : Callee → Type 
         -- a transaction whose commutes need turns needs them at its failure
         phase_short : (s : ActorState) (t : ThreadState) (u : Unit {0}) → Made s → phase s.done Q ≡ OutOfTurns u → (l : List SeenEvent) → IsShort (halted (uneaten l (ends_tx d g (event.Fail 0 0) R Q Q t)))
         phase_short s t u made e l =
-            let final : final_writes g x.done Q t ≡ OutOfTurns t = subst (λ w. final_writes g w Q t ≡ OutOfTurns t) made.0 (final_short s.done Q t u made.1.0 e) in
-            subst (λ y. IsShort (halted (uneaten l y))) (sym (ap (λ r. over t r (λ w y. faulted (final_writes g y.done Q t) (λ z t1. Faults z t1)) (λ z. Faults z t)) on ∙ ap (λ y. faulted y (λ z t1. Faults z t1)) final)) tt
+            let final : final_writes g d.validators d.mark.span x.done Q t ≡ OutOfTurns t = subst (λ w. final_writes g d.validators d.mark.span w Q t ≡ OutOfTurns t) made.0 (final_short s.done Q t u made.1.0 e) in
+            subst (λ y. IsShort (halted (uneaten l y))) (sym (ap (λ r. over t r (λ w y. faulted (final_writes g d.validators d.mark.span y.done Q t) (λ z t1. Faults z t1)) (λ z. Faults z t)) on ∙ ap (λ y. faulted y (λ z t1. Faults z t1)) final)) tt
 
         -- what the commutes made is committed, or their fault told
-        phase_comes : (s : ActorState) (es : List SeenEvent) (t : ThreadState) (z : Completion (Unit {0}) Writes) → Made s → phase s.done Q ≡ z → IsQuiet z → t.printed ≡ s.printed → a.fits t.txs (Viewed R Q) s.todo es
-            → Comes (telling fail (carried s z) (λ xs s1. lands_on d.mark.span v (tries k d.mark.span body f) xs s1)) es t
+        phase_comes : (s : ActorState) (es : List SeenEvent) (t : ThreadState) (z : Completion (Unit {0}) Writes) → Made s → phase s.done Q ≡ z → IsQuiet z → IsBeside s t → a.fits t.txs (Viewed R Q) s.todo es
+            → Comes (telling fail (carried s z) (λ xs s1. lands_on d.mark.span v (tries d.validators k d.mark.span body f) xs s1)) es t
         phase_comes s es t (Completes ws u) made e quiet pr fits = lands_viewed s es t ws u made e pr fits
         phase_comes s es t (Recurs vs u) made e quiet pr fits = tt
         phase_comes s es t (Faults y u) made e quiet pr fits = fails_viewed y s es t u made e pr fits
@@ -374,17 +375,17 @@ module _ (cells : List CellDefinition) (a : Account cells) (P : Callee → Type 
         phase_comes s es t (OutOfTurns u) made e quiet pr fits = shortage (Viewed R Q) s es t pr fits (λ W. phase_short s (record t { todo = [] }) u made e _)
         phase_comes s es t Invalid made e quiet pr fits = tt
 
-        viewed_comes : (s : ActorState) (es : List SeenEvent) (t : ThreadState) → Made s → t.printed ≡ s.printed → a.fits t.txs (Viewed R Q) s.todo es
-            → Comes (telling fail (redone f (phase_work s.done) (valued (commuted s.done) Q) s) (λ xs s1. lands_on d.mark.span v (tries k d.mark.span body f) xs s1)) es t
+        viewed_comes : (s : ActorState) (es : List SeenEvent) (t : ThreadState) → Made s → IsBeside s t → a.fits t.txs (Viewed R Q) s.todo es
+            → Comes (telling fail (redone f (phase_work s.done) (valued (commuted s.done) Q) s) (λ xs s1. lands_on d.mark.span v (tries d.validators k d.mark.span body f) xs s1)) es t
         viewed_comes s es t made pr fits =
             let r = redone_carried P s f q (λ c vs p. left c vs s p) (phase_work s.done) (phase_some P s.done made.1.0) (valued (commuted s.done) Q) in
-            subst (λ y. Comes (telling fail y (λ xs s1. lands_on d.mark.span v (tries k d.mark.span body f) xs s1)) es t) (sym r.0) (phase_comes s es t (phase s.done Q) made refl r.1 pr fits)
+            subst (λ y. Comes (telling fail y (λ xs s1. lands_on d.mark.span v (tries d.validators k d.mark.span body f) xs s1)) es t) (sym r.0) (phase_comes s es t (phase s.done Q) made refl r.1 pr fits)
 
       -- what comes after the view
       abbrev after_view : Writes → ActorState → Completion ActorState Value
-      after_view ws s1 = telling fail (redone f (phase_work s1.done) ws s1) (λ xs s2. lands_on d.mark.span v (tries k d.mark.span body f) xs s2)
+      after_view ws s1 = telling fail (redone f (phase_work s1.done) ws s1) (λ xs s2. lands_on d.mark.span v (tries d.validators k d.mark.span body f) xs s2)
 
-      view_answered : (s : ActorState) (es : List SeenEvent) (t : ThreadState) (r : Reply) (xs : List Exchange) → Made s → t.printed ≡ s.printed
+      view_answered : (s : ActorState) (es : List SeenEvent) (t : ThreadState) (r : Reply) (xs : List Exchange) → Made s → IsBeside s t
           → ReplyFits cells (In R) (ask.View (commuted s.done)) r (λ ph1 es1. a.fits t.txs ph1 xs es1) es
           → Comes (bind (res (on_step (heard views (Replied r (record s { todo = xs }))) (λ y s1. viewed y.0 (paired (commuted s.done) y.1) s1))) after_view) es t
       view_answered s es t (reply.Views p vs) xs made pr m =
@@ -392,7 +393,7 @@ module _ (cells : List CellDefinition) (a : Account cells) (P : Callee → Type 
           (viewed_comes m.0 (record s { todo = xs; view = p }) es t made pr m.2)
       view_answered s es t _ xs made pr m = tt
 
-      closing_comes : (cs : List CellId) (s : ActorState) (es : List SeenEvent) (t : ThreadState) → commuted s.done ≡ cs → Made s → t.printed ≡ s.printed → a.fits t.txs (In R) s.todo es → Comes (closing cs d.mark.span f v (tries k d.mark.span body f) s) es t
+      closing_comes : (cs : List CellId) (s : ActorState) (es : List SeenEvent) (t : ThreadState) → commuted s.done ≡ cs → Made s → IsBeside s t → a.fits t.txs (In R) s.todo es → Comes (closing d.validators cs d.mark.span f v (tries d.validators k d.mark.span body f) s) es t
       unfolding view
       closing_comes [] s es t none made pr fits = lands_plainly s es t made none pr fits
       closing_comes (c ∷ cs) s es t some made pr fits =
@@ -402,18 +403,18 @@ module _ (cells : List CellDefinition) (a : Account cells) (P : Callee → Type 
 
     -- ---- the body
 
-    body_failed : (R : World) (y : Fault) (x : TxState) (s : ActorState) (es : List SeenEvent) (t : ThreadState) → d.on R ≡ Faults y x → t.printed ≡ s.printed → OnEvent 0 (λ e. (R ≡ e.R) × SaysFail e.kind) (a.fits t.txs Out s.todo) es → Comes (Faults y s) es t
+    body_failed : (R : World) (y : Fault) (x : TxState) (s : ActorState) (es : List SeenEvent) (t : ThreadState) → d.on R ≡ Faults y x → IsBeside s t → OnEvent 0 (λ e. (R ≡ e.R) × SaysFail e.kind) (a.fits t.txs Out s.todo) es → Comes (Faults y s) es t
     body_failed R y x s [] t on pr m = absurd m
     body_failed R y x s (e ∷ es) t on pr m =
         let t1 : ThreadState = record t { todo = es ++ a.tail } in
         breaks_at y s e es t t1 refl pr m.0 m.2 (fails_body d g e.R e.Q e.C t1 e.kind y x (subst (λ W. d.on W ≡ Faults y x) m.1.0 on) m.1.1)
 
-    body_fail_answered : (R : World) (y : Fault) (x : TxState) (s : ActorState) (es : List SeenEvent) (t : ThreadState) (r : Reply) (xs : List Exchange) → d.on R ≡ Faults y x → t.printed ≡ s.printed
+    body_fail_answered : (R : World) (y : Fault) (x : TxState) (s : ActorState) (es : List SeenEvent) (t : ThreadState) (r : Reply) (xs : List Exchange) → d.on R ≡ Faults y x → IsBeside s t
         → ReplyFits cells (In R) (ask.Fail s.at s.view) r (λ ph1 es1. a.fits t.txs ph1 xs es1) es → Comes (bind (res (heard just_done (Replied r (record s { todo = xs })))) (λ w s1. Faults y s1)) es t
     body_fail_answered R y x s es t reply.Done xs on pr m = body_failed R y x (record s { todo = xs }) es t on pr m
     body_fail_answered R y x s es t _ xs on pr m = tt
 
-    body_fails : (R : World) (y : Fault) (x : TxState) (s : ActorState) (es : List SeenEvent) (t : ThreadState) → d.on R ≡ Faults y x → t.printed ≡ s.printed → a.fits t.txs (In R) s.todo es → Comes (bind (res (fail s)) (λ w s1. Faults y s1)) es t
+    body_fails : (R : World) (y : Fault) (x : TxState) (s : ActorState) (es : List SeenEvent) (t : ThreadState) → d.on R ≡ Faults y x → IsBeside s t → a.fits t.txs (In R) s.todo es → Comes (bind (res (fail s)) (λ w s1. Faults y s1)) es t
     unfolding fail
     body_fails R y x s es t on pr fits =
         answered_in cells a t.txs (In R) es (ask.Fail s.at s.view) s (λ h. Comes (bind (res (heard just_done h)) (λ w s1. Faults y s1)) es t) fits
@@ -421,49 +422,49 @@ module _ (cells : List CellDefinition) (a : Account cells) (P : Callee → Type 
 
     -- what comes after the body
     abbrev after_body : Value → ActorState → Completion ActorState Value
-    after_body v s1 = closing (commuted s1.done) d.mark.span f v (tries k d.mark.span body f) s1
+    after_body v s1 = closing d.validators (commuted s1.done) d.mark.span f v (tries d.validators k d.mark.span body f) s1
 
-    body_completed : (R : World) (v : Value) (s : ActorState) (y : Completion TxState Value) (es : List SeenEvent) (t : ThreadState) (out : List ℕ) → d.on R ≡ y → t.printed ≡ out → CompletesAs (tx_link P (a.fits t.txs) R es out) v s y → Comes (after_body v s) es t
-    body_completed R v s (Completes w x) es t out on pr h =
-        closing_comes R v x (on ∙ ap (λ z. Completes z x) (sym h.0)) (commuted s.done) s es t refl (h.1.0, h.1.1) (pr ∙ sym h.1.3) h.1.2
-    body_completed R v s _ es t out on pr h = absurd h
+    body_completed : (R : World) (v : Value) (s : ActorState) (y : Completion TxState Value) (es : List SeenEvent) (t : ThreadState) (out : List ℕ) (sends : Option (List Action)) → d.on R ≡ y → (t.printed ≡ out) × (sends ≡ t.held) → CompletesAs (tx_link P (a.fits t.txs) R es out sends) v s y → Comes (after_body v s) es t
+    body_completed R v s (Completes w x) es t out sends on pr h =
+        closing_comes R v x (on ∙ ap (λ z. Completes z x) (sym h.0)) (commuted s.done) s es t refl (h.1.0, h.1.1) (pr.0 ∙ sym h.1.3.0, h.1.3.1 ∙ pr.1) h.1.2
+    body_completed R v s _ es t out sends on pr h = absurd h
 
-    body_faulted : (R : World) (e : Fault) (s : ActorState) (y : Completion TxState Value) (es : List SeenEvent) (t : ThreadState) (out : List ℕ) → d.on R ≡ y → t.printed ≡ out → FaultsAs (tx_link P (a.fits t.txs) R es out) e s y → Comes (bind (res (fail s)) (λ w s1. Faults e s1)) es t
-    body_faulted R e s (Faults c x) es t out on pr h = body_fails R e x s es t (on ∙ ap (λ z. Faults z x) (sym h.0)) (pr ∙ sym h.1.1) h.1.0
-    body_faulted R e s _ es t out on pr h = absurd h
+    body_faulted : (R : World) (e : Fault) (s : ActorState) (y : Completion TxState Value) (es : List SeenEvent) (t : ThreadState) (out : List ℕ) (sends : Option (List Action)) → d.on R ≡ y → (t.printed ≡ out) × (sends ≡ t.held) → FaultsAs (tx_link P (a.fits t.txs) R es out sends) e s y → Comes (bind (res (fail s)) (λ w s1. Faults e s1)) es t
+    body_faulted R e s (Faults c x) es t out sends on pr h = body_fails R e x s es t (on ∙ ap (λ z. Faults z x) (sym h.0)) (pr.0 ∙ sym h.1.1.0, h.1.1.1 ∙ pr.1) h.1.0
+    body_faulted R e s _ es t out sends on pr h = absurd h
 
-    body_comes : (R : World) (x : Completion ActorState Value) (es : List SeenEvent) (t : ThreadState) (out : List ℕ) → t.printed ≡ out → Related (tx_link P (a.fits t.txs) R es out) x (d.on R) → Comes (telling fail x after_body) es t
-    body_comes R (Completes v s) es t out pr h = body_completed R v s (d.on R) es t out refl pr h
-    body_comes R (Recurs vs s) es t out pr h = tt
-    body_comes R (Faults e s) es t out pr h = body_faulted R e s (d.on R) es t out refl pr h
-    body_comes R (Retries s) es t out pr h =
+    body_comes : (R : World) (x : Completion ActorState Value) (es : List SeenEvent) (t : ThreadState) (out : List ℕ) (sends : Option (List Action)) → (t.printed ≡ out) × (sends ≡ t.held) → Related (tx_link P (a.fits t.txs) R es out sends) x (d.on R) → Comes (telling fail x after_body) es t
+    body_comes R (Completes v s) es t out sends pr h = body_completed R v s (d.on R) es t out sends refl pr h
+    body_comes R (Recurs vs s) es t out sends pr h = tt
+    body_comes R (Faults e s) es t out sends pr h = body_faulted R e s (d.on R) es t out sends refl pr h
+    body_comes R (Retries s) es t out sends pr h =
         subst (λ l. Comes (Retries s) l t) (sym h.2)
-        (subst (Related (account_link cells a) (tries k d.mark.span body f Anew s)) (sym (eats_retry h.0 (h.1 ++ a.tail) t h.3 h.4)) (next Anew s h.1 t (pr ∙ sym h.6) h.5))
-    body_comes R (Waits s) es t out pr h = waiting (In R) s es t (pr ∙ sym h.1) h.0
-    body_comes R (OutOfTurns s) es t out pr h = shortage (In R) s es t (pr ∙ sym h.2) h.1 (λ Q. uneaten_short (in_hand cells Q (In R)) (ends_tx d g (event.Fail 0 0) R Q Q (record t { todo = [] })) (over_short (d.on R) (record t { todo = [] }) _ _ h.0))
-    body_comes R Invalid es t out pr h = tt
+        (subst (Related (account_link cells a) (tries d.validators k d.mark.span body f Anew s)) (sym (eats_retry h.0 (h.1 ++ a.tail) t h.3 h.4)) (next Anew s h.1 t (pr.0 ∙ sym h.6.0, h.6.1 ∙ pr.1) h.5))
+    body_comes R (Waits s) es t out sends pr h = waiting (In R) s es t (pr.0 ∙ sym h.1.0, h.1.1 ∙ pr.1) h.0
+    body_comes R (OutOfTurns s) es t out sends pr h = shortage (In R) s es t (pr.0 ∙ sym h.2.0, h.2.1 ∙ pr.1) h.1 (λ Q. uneaten_short (in_hand cells Q (In R)) (ends_tx d g (event.Fail 0 0) R Q Q (record t { todo = [] })) (over_short (d.on R) (record t { todo = [] }) _ _ h.0))
+    body_comes R Invalid es t out sends pr h = tt
 
     -- ---- the begin
 
-    module _ (body_related : (txs : List TxRun) (R : World) (s : ActorState) (es : List SeenEvent) → s.done ≡ no_work → a.fits txs (In R) s.todo es → Related (tx_link P (a.fits txs) R es s.printed) (body s) (d.on R)) where
+    module _ (body_related : (txs : List TxRun) (R : World) (s : ActorState) (es : List SeenEvent) → s.done ≡ no_work → a.fits txs (In R) s.todo es → Related (tx_link P (a.fits txs) R es s.printed (held_in s.acting)) (body s) (d.on R)) where
       -- what comes after the begin
       abbrev after_begin : Unit {0} → ActorState → Completion ActorState Value
       after_begin u s1 = telling fail (body s1) after_body
 
-      begin_answered : (s : ActorState) (es : List SeenEvent) (t : ThreadState) (r : Reply) (xs : List Exchange) → t.printed ≡ s.printed → ReplyFits cells Out ask.Begin r (λ ph1 es1. a.fits t.txs ph1 xs es1) es
+      begin_answered : (s : ActorState) (es : List SeenEvent) (t : ThreadState) (r : Reply) (xs : List Exchange) → IsBeside s t → ReplyFits cells Out ask.Begin r (λ ph1 es1. a.fits t.txs ph1 xs es1) es
           → Comes (bind (res (on_step (heard read_point (Replied r (record s { todo = xs }))) begun)) after_begin) es t
       begin_answered s es t (reply.At p) xs pr m =
           let s1 : ActorState = record s { todo = xs; at = p; view = p; done = no_work; commuting = None } in
-          body_comes m.0 (body s1) es t s.printed pr (body_related t.txs m.0 s1 es refl m.1)
+          body_comes m.0 (body s1) es t s.printed (held_in s.acting) pr (body_related t.txs m.0 s1 es refl m.1)
       begin_answered s es t _ xs pr m = tt
 
-      begin_comes : (s : ActorState) (es : List SeenEvent) (t : ThreadState) → t.printed ≡ s.printed → a.fits t.txs Out s.todo es → Comes (bind (res (begin s)) after_begin) es t
+      begin_comes : (s : ActorState) (es : List SeenEvent) (t : ThreadState) → IsBeside s t → a.fits t.txs Out s.todo es → Comes (bind (res (begin s)) after_begin) es t
       unfolding begin
       begin_comes s es t pr fits =
           answered_in cells a t.txs Out es ask.Begin s (λ h. Comes (bind (res (on_step (heard read_point h) begun)) after_begin) es t) fits
           (waiting Out (record s { wants = _ }) es t pr fits) (λ r xs m. begin_answered s es t r xs pr m)
 
-      attempt_comes : (from : Start) (s : ActorState) (es : List SeenEvent) (t : ThreadState) → t.printed ≡ s.printed → StartFits cells a P d t.txs from s es → Comes (attempt from d.mark.span body f (tries k d.mark.span body f) s) es t
+      attempt_comes : (from : Start) (s : ActorState) (es : List SeenEvent) (t : ThreadState) → IsBeside s t → StartFits cells a P d t.txs from s es → Comes (attempt d.validators from d.mark.span body f (tries d.validators k d.mark.span body f) s) es t
       attempt_comes Anew s es t pr fits = begin_comes s es t pr fits
       attempt_comes (Behind v) s es t pr fits = closing_comes fits.0 v fits.1 fits.2 (commuted s.done) s es t refl (fits.3, fits.4) pr fits.5
 
@@ -473,6 +474,6 @@ module _ (cells : List CellDefinition) (a : Account cells) (P : Callee → Type 
   start_fits txs (Behind v) s es fits = (In fits.0, fits.5)
 
   -- tries whose body is the transaction on each world
-  pub tries_related : (body_related : (txs : List TxRun) (R : World) (s : ActorState) (es : List SeenEvent) → s.done ≡ no_work → a.fits txs (In R) s.todo es → Related (tx_link P (a.fits txs) R es s.printed) (body s) (d.on R)) → (k : ℕ) → Follow k
-  tries_related br zero from s es t pr fits = let f : (ph : Phase) × a.fits t.txs ph s.todo es = start_fits t.txs from s es fits in (refl, (pr, f.0, es, refl, f.1))
+  pub tries_related : (body_related : (txs : List TxRun) (R : World) (s : ActorState) (es : List SeenEvent) → s.done ≡ no_work → a.fits txs (In R) s.todo es → Related (tx_link P (a.fits txs) R es s.printed (held_in s.acting)) (body s) (d.on R)) → (k : ℕ) → Follow k
+  tries_related br zero from s es t pr fits = let f : (ph : Phase) × a.fits t.txs ph s.todo es = start_fits t.txs from s es fits in (refl, (pr.0, f.0, es, refl, f.1))
   tries_related br (suc k) from s es t pr fits = attempt_comes k (tries_related br k) br from s es t pr fits

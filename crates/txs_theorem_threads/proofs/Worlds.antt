@@ -12,7 +12,7 @@ use Rattle.txs_world_protocol.specs.declared.event.EventKind.{EventKind}
 use Rattle.txs_world_protocol.specs.declared.event.EventKind.TheVariants as event
 use Rattle.txs_frame.specs.Frame.{Work, no_work, with_cell, is_commuted, set_ref, ensure_ref, commute_ref, hold_send}
 use Rattle.txs_frame.specs.declared.frame.Commute.{Commute}
-use Rattle.txs_value_cell.specs.Cells.{World}
+use Rattle.txs_value_cell.specs.Cells.{World, Validators, validators_of}
 use Rattle.txs_value_cell.specs.Forms.{rule, may_stand, same_kind, cell_if, cell_of_kind, cell_of}
 use Rattle.txs_value_cell.specs.declared.action.Action.{Action}
 use Rattle.txs_value_cell.specs.declared.cell.CellDefinition.{CellDefinition}
@@ -39,7 +39,7 @@ use Rattle.txs_tree_meaning.specs.Sound.{SoundFunctions}
 use Rattle.txs_tree_meaning.specs.Thread.{is_retry}
 use Rattle.txs_tree_meaning.specs.Transaction.{TxState, value_or, own, current, noted, taken, done_as, tx_look, tx_put, tx_update, in_transaction, tx_start, tx_meaning}
 use Rattle.txs_tree_meaning.specs.Tree.{Mark, Tree, PlainFunction}
-use Rattle.txs_code_meaning.specs.ActorState.{ActorState, Reception, Replied, Unreplied, receives, asks, StepResult, Continue, Break, Redo, Await, Malformed, on_step, step_of, heard, value_there, buffered_or, look, set_own, close_own, read_cell, assign_cell, send_action, send_to, print}
+use Rattle.txs_code_meaning.specs.ActorState.{InHand, ActorState, Reception, Replied, Unreplied, receives, asks, StepResult, Continue, Break, Redo, Await, Malformed, on_step, step_of, heard, value_there, buffered_or, look, set_own, close_own, read_cell, assign_cell, send_action, send_to, print}
 use Rattle.txs_theorem_threads.proofs.Callees.{Keeps, IsPure}
 use Rattle.txs_theorem_threads.proofs.Owned.{Owned, owned_none, owned_set, owned_commute}
 use Rattle.txs_theorem_threads.proofs.Placed.{MayCallAt, placed, function_placed}
@@ -155,14 +155,23 @@ Kept P w = AllCommutes P w.commutes × Owned w
 abbrev pub LooksFit : List CellDefinition → Fitting → Type 0
 LooksFit cells F = (R : World) (c : CellId) (p : ℕ) (r : Reply) (xs : List Exchange) (es : List SeenEvent) → F (In R) (record { ask = ask.Look c p; reply = r } ∷ xs) es → ReplyFits cells (In R) (ask.Look c p) r (λ ph1 es1. F ph1 xs es1) es
 
+-- the sends that an action holds, where one is in hand
+abbrev pub held_in : Option InHand → Option (List Action)
+held_in None = None
+held_in (Some h) = Some h.sends
+
+-- an actor's state: this was printed, and these sends are held
+abbrev pub HasPrinted : List ℕ → Option (List Action) → ActorState → Type 0
+HasPrinted out sends s = (s.printed ≡ out) × (held_in s.acting ≡ sends)
+
 -- within a try: what was done is the same, and is kept so, and what is to come fits
-abbrev pub tx_link : (Callee → Type 0) → Fitting → World → List SeenEvent → List ℕ → Link ActorState TxState
-tx_link P F R es out = record {
-  rel = λ s t. (s.done ≡ t.done) × Kept P s.done × F (In R) s.todo es × (s.printed ≡ out);
-  faults = λ s t. F (In R) s.todo es × (s.printed ≡ out);
-  waits = λ s o. F (In R) s.todo es × (s.printed ≡ out);
-  out_of_turns = λ s o. IsShort o × F (In R) s.todo es × (s.printed ≡ out);
-  retries = λ s o. (e : SeenEvent) × (es1 : List SeenEvent) × (es ≡ e ∷ es1) × (e.book ≡ 0) × (is_retry e.kind ≡ true) × F Out s.todo es1 × (s.printed ≡ out);
+abbrev pub tx_link : (Callee → Type 0) → Fitting → World → List SeenEvent → List ℕ → Option (List Action) → Link ActorState TxState
+tx_link P F R es out sends = record {
+  rel = λ s t. (s.done ≡ t.done) × Kept P s.done × F (In R) s.todo es × HasPrinted out sends s;
+  faults = λ s t. F (In R) s.todo es × HasPrinted out sends s;
+  waits = λ s o. F (In R) s.todo es × HasPrinted out sends s;
+  out_of_turns = λ s o. IsShort o × F (In R) s.todo es × HasPrinted out sends s;
+  retries = λ s o. (e : SeenEvent) × (es1 : List SeenEvent) × (es ≡ e ∷ es1) × (e.book ≡ 0) × (is_retry e.kind ≡ true) × F Out s.todo es1 × HasPrinted out sends s;
   waits_loose = λ s h o. h;
   out_of_turns_loose = λ s h o. absurd h.0;
   retries_loose = λ s h o. h;
@@ -173,11 +182,11 @@ tx_link P F R es out = record {
   invalid_loose = λ h b. tt;
 }
 
-module _ (cells : List CellDefinition) (F : Fitting) (looks : LooksFit cells F) (P : Callee → Type 0) (R : World) (out : List ℕ) (es : List SeenEvent) where
+module _ (cells : List CellDefinition) (F : Fitting) (looks : LooksFit cells F) (P : Callee → Type 0) (R : World) (out : List ℕ) (sends : Option (List Action)) (es : List SeenEvent) where
   abbrev k : Link ActorState TxState
-  k = tx_link P F R es out
+  k = tx_link P F R es out sends
 
-  retry_read : (l : List SeenEvent) → es ≡ l → (s : ActorState) (v : Value) (t : TxState) → s.printed ≡ out → OnEvent 0 (λ e. SaysRetry false e.kind) (λ es1. F Out s.todo es1) l → Related k (Retries s) (Completes v t)
+  retry_read : (l : List SeenEvent) → es ≡ l → (s : ActorState) (v : Value) (t : TxState) → HasPrinted out sends s → OnEvent 0 (λ e. SaysRetry false e.kind) (λ es1. F Out s.todo es1) l → Related k (Retries s) (Completes v t)
   retry_read [] q s v t pr m = absurd m
   retry_read (e ∷ l) q s v t pr m = (e, l, q, m.0, says_retry false e.kind m.1, m.2, pr)
 
@@ -300,11 +309,14 @@ module _ (cells : List CellDefinition) (F : Fitting) (looks : LooksFit cells F) 
       (λ c e. let held : Work → Work = λ w. hold_send (act c) w in (sym (cell_is (rule form_of.Send) true v c e), (ap held r.0, r.1, r.2, r.3)))
 
 -- the forms of a try, on replies and on its world, where functions are sound
-module _ (cells : List CellDefinition) (F : Fitting) (looks : LooksFit cells F) (R : World) (out : List ℕ) (es : List SeenEvent) (n : ℕ) (functions : List PlainFunction) (sound : SoundFunctions [] functions) where
-  abbrev tries_link : Link ActorState TxState
-  tries_link = tx_link (IsPure (known functions)) F R es out
+module _ (cells : List CellDefinition) (F : Fitting) (looks : LooksFit cells F) (R : World) (out : List ℕ) (sends : Option (List Action)) (es : List SeenEvent) (n : ℕ) (functions : List PlainFunction) (sound : SoundFunctions [] functions) where
+  abbrev validators : Validators
+  validators = validators_of cells
 
-  tx_alike : (d : ℕ) → Alike ActorState TxState tries_link on_replies (in_transaction R) (call_at (λ e. on_replies) n functions d) (call_at (λ e. in_transaction R) n functions d) n n (λ i. i ≡ true) (placed (known functions))
+  abbrev tries_link : Link ActorState TxState
+  tries_link = tx_link (IsPure (known functions)) F R es out sends
+
+  tx_alike : (d : ℕ) → Alike ActorState TxState tries_link (on_replies validators) (in_transaction R) (call_at (λ e. on_replies validators) n functions d) (call_at (λ e. in_transaction R) n functions d) n n (λ i. i ≡ true) (placed (known functions))
   unfolding print
   tx_alike d = record {
     print = tx_print;
@@ -316,56 +328,57 @@ module _ (cells : List CellDefinition) (F : Fitting) (looks : LooksFit cells F) 
   }
     where
       f : Span → Applies ActorState
-      f span = apply (call_at (λ e. on_replies) n functions d true) span
+      f span = apply (call_at (λ e. on_replies validators) n functions d true) span
 
       g : Span → Applies TxState
       g span = apply (call_at (λ e. in_transaction R) n functions d true) span
 
       left : (span : Span) (c : Callee) (vs : List Value) (s : ActorState) → IsPure (known functions) c → (f span c vs s ≡ carried s (quietly n functions d span c vs tt)) × IsQuiet (quietly n functions d span c vs tt)
-      left span c vs s p = callee_carried (λ e. on_replies) n true functions sound d span c vs s p
+      left span c vs s p = callee_carried (λ e. on_replies validators) n true functions sound d span c vs s p
 
       right : (span : Span) (c : Callee) (vs : List Value) (t : TxState) → IsPure (known functions) c → (g span c vs t ≡ carried t (quietly n functions d span c vs tt)) × IsQuiet (quietly n functions d span c vs tt)
       right span c vs t p = callee_carried (λ e. in_transaction R) n true functions sound d span c vs t p
 
-      tx_print : (inside : Bool) (vs : List Value) (s : ActorState) (t : TxState) → inside ≡ true → tries_link.rel s t → Related tries_link (on_replies.print inside vs s) ((in_transaction R).print inside vs t)
+      tx_print : (inside : Bool) (vs : List Value) (s : ActorState) (t : TxState) → inside ≡ true → tries_link.rel s t → Related tries_link ((on_replies validators).print inside vs s) ((in_transaction R).print inside vs t)
       tx_print true vs s t m r = tt
       tx_print false vs s t m r = absurd (false≢true m)
 
-      tx_looks : (form : LookForm) (inside : Bool) (m : Mark) (c : Value) (s : ActorState) (t : TxState) → may_stand (rule (form_of.Look form)).stands inside ≡ true → inside ≡ true → tries_link.rel s t → Related tries_link (on_replies.look form inside m c s) ((in_transaction R).look form inside m c t)
+      tx_looks : (form : LookForm) (inside : Bool) (m : Mark) (c : Value) (s : ActorState) (t : TxState) → may_stand (rule (form_of.Look form)).stands inside ≡ true → inside ≡ true → tries_link.rel s t → Related tries_link ((on_replies validators).look form inside m c s) ((in_transaction R).look form inside m c t)
       tx_looks form true m c s t q i r =
-          on_cell_related TxState tries_link (cell_of (rule (form_of.Look form)) true c) m.span (read_cell form true) (tx_look R form) s t r (λ x e. cell_read cells F looks (IsPure (known functions)) R out es form x s t r)
+          on_cell_related TxState tries_link (cell_of (rule (form_of.Look form)) true c) m.span (read_cell form true) (tx_look R form) s t r (λ x e. cell_read cells F looks (IsPure (known functions)) R out sends es form x s t r)
       tx_looks form false m c s t q i r = absurd (false≢true i)
 
-      tx_puts : (form : PutForm) (inside : Bool) (m : Mark) (c w : Value) (s : ActorState) (t : TxState) → may_stand (rule (form_of.Put form)).stands inside ≡ true → inside ≡ true → tries_link.rel s t → Related tries_link (on_replies.put form inside m c w s) ((in_transaction R).put form inside m c w t)
-      tx_puts form true m c w s t q i r = put_related cells F looks (IsPure (known functions)) R out es form m (cell_of (rule (form_of.Put form)) true c) w s t r
-      tx_puts form false m c w s t q i r = absurd (false≢true i)
+      tx_puts : (form : PutForm) (inside : Bool) (m : Mark) (c w : Value) (s : ActorState) (t : TxState) → may_stand (rule (form_of.Put form)).stands inside ≡ true → inside ≡ true → (((x : ℕ) → MayCallAt (known functions) inside x) → Applied ActorState TxState tries_link (apply (call_at (λ e. on_replies validators) n functions d inside) m.span) (apply (call_at (λ e. in_transaction R) n functions d inside) m.span)) → tries_link.rel s t
+          → Related tries_link ((on_replies validators).put form inside m c w (apply (call_at (λ e. on_replies validators) n functions d inside) m.span) s) ((in_transaction R).put form inside m c w (apply (call_at (λ e. in_transaction R) n functions d inside) m.span) t)
+      tx_puts form true m c w s t q i h r = put_related cells F looks (IsPure (known functions)) R out sends es form m (cell_of (rule (form_of.Put form)) true c) w s t r
+      tx_puts form false m c w s t q i h r = absurd (false≢true i)
 
-      tx_updates : (form : UpdateForm) (inside : Bool) (m : Mark) (c : Value) (callee : Callee) (vs : List Value) (s : ActorState) (t : TxState) → may_stand (rule (form_of.Update form)).stands inside ≡ true → inside ≡ true → IsPure (known functions) callee → (((x : ℕ) → MayCallAt (known functions) inside x) → Applied ActorState TxState tries_link (apply (call_at (λ e. on_replies) n functions d inside) m.span) (apply (call_at (λ e. in_transaction R) n functions d inside) m.span)) → tries_link.rel s t
-          → Related tries_link (on_replies.update form inside m c callee vs (apply (call_at (λ e. on_replies) n functions d inside) m.span) s) ((in_transaction R).update form inside m c callee vs (apply (call_at (λ e. in_transaction R) n functions d inside) m.span) t)
+      tx_updates : (form : UpdateForm) (inside : Bool) (m : Mark) (c : Value) (callee : Callee) (vs : List Value) (s : ActorState) (t : TxState) → may_stand (rule (form_of.Update form)).stands inside ≡ true → inside ≡ true → IsPure (known functions) callee → (((x : ℕ) → MayCallAt (known functions) inside x) → Applied ActorState TxState tries_link (apply (call_at (λ e. on_replies validators) n functions d inside) m.span) (apply (call_at (λ e. in_transaction R) n functions d inside) m.span)) → tries_link.rel s t
+          → Related tries_link ((on_replies validators).update form inside m c callee vs (apply (call_at (λ e. on_replies validators) n functions d inside) m.span) s) ((in_transaction R).update form inside m c callee vs (apply (call_at (λ e. in_transaction R) n functions d inside) m.span) t)
       tx_updates update_of.Alter true m c callee vs s t e i p h r =
-          alter_related cells F looks (IsPure (known functions)) R out es (f m.span) (g m.span) (quietly n functions d m.span) (left m.span) (right m.span) (cell_of (rule (form_of.Update update_of.Alter)) true c) m.span callee vs s t p r
+          alter_related cells F looks (IsPure (known functions)) R out sends es (f m.span) (g m.span) (quietly n functions d m.span) (left m.span) (right m.span) (cell_of (rule (form_of.Update update_of.Alter)) true c) m.span callee vs s t p r
       tx_updates update_of.Commute true m c callee vs s t e i p h r =
-          commutes_related cells F looks (IsPure (known functions)) R out es (f m.span) (g m.span) (quietly n functions d m.span) (left m.span) (right m.span) (cell_of (rule (form_of.Update update_of.Commute)) true c) m callee vs s t p r
+          commutes_related cells F looks (IsPure (known functions)) R out sends es (f m.span) (g m.span) (quietly n functions d m.span) (left m.span) (right m.span) (cell_of (rule (form_of.Update update_of.Commute)) true c) m callee vs s t p r
       tx_updates update_of.Swap true m c callee vs s t e i p h r = tt
       tx_updates form false m c callee vs s t e i p h r = absurd (false≢true i)
 
-      tx_sends : (inside : Bool) (m : Mark) (c : Value) (callee : Callee) (vs : List Value) (s : ActorState) (t : TxState) → inside ≡ true → IsPure (known functions) callee → tries_link.rel s t → Related tries_link (on_replies.send inside m c callee vs s) ((in_transaction R).send inside m c callee vs t)
-      tx_sends true m c callee vs s t i p r = held_related cells F looks (IsPure (known functions)) R out es m c callee vs s t r
+      tx_sends : (inside : Bool) (m : Mark) (c : Value) (callee : Callee) (vs : List Value) (s : ActorState) (t : TxState) → inside ≡ true → IsPure (known functions) callee → tries_link.rel s t → Related tries_link ((on_replies validators).send inside m c callee vs s) ((in_transaction R).send inside m c callee vs t)
+      tx_sends true m c callee vs s t i p r = held_related cells F looks (IsPure (known functions)) R out sends es m c callee vs s t r
       tx_sends false m c callee vs s t i p r = absurd (false≢true i)
 
       tx_dosync : (inside : Bool) (m : Mark) (e : Tree) (env : List Value) (s : ActorState) (t : TxState) → inside ≡ true → Keeps (placed (known functions)) true e →
-          (true ≡ true → (s1 : ActorState) (t1 : TxState) → tries_link.rel s1 t1 → Related tries_link (closed (eval on_replies (call_at (λ x. on_replies) n functions d) n true e env s1)) (closed (eval (in_transaction R) (call_at (λ x. in_transaction R) n functions d) n true e env t1))) → (((x : ℕ) → MayCallAt (known functions) true x) → true ≡ true → Applied ActorState TxState tries_link (apply (call_at (λ x. on_replies) n functions d true) m.span) (apply (call_at (λ x. in_transaction R) n functions d true) m.span)) → tries_link.rel s t →
-          Related tries_link (on_replies.dosync inside m e env (λ s1. closed (eval on_replies (call_at (λ x. on_replies) n functions d) n true e env s1)) (apply (call_at (λ x. on_replies) n functions d true) m.span) s)
+          (true ≡ true → (s1 : ActorState) (t1 : TxState) → tries_link.rel s1 t1 → Related tries_link (closed (eval (on_replies validators) (call_at (λ x. on_replies validators) n functions d) n true e env s1)) (closed (eval (in_transaction R) (call_at (λ x. in_transaction R) n functions d) n true e env t1))) → (((x : ℕ) → MayCallAt (known functions) true x) → true ≡ true → Applied ActorState TxState tries_link (apply (call_at (λ x. on_replies validators) n functions d true) m.span) (apply (call_at (λ x. in_transaction R) n functions d true) m.span)) → tries_link.rel s t →
+          Related tries_link ((on_replies validators).dosync inside m e env (λ s1. closed (eval (on_replies validators) (call_at (λ x. on_replies validators) n functions d) n true e env s1)) (apply (call_at (λ x. on_replies validators) n functions d true) m.span) s)
           ((in_transaction R).dosync inside m e env (λ t1. closed (eval (in_transaction R) (call_at (λ x. in_transaction R) n functions d) n true e env t1)) (apply (call_at (λ x. in_transaction R) n functions d true) m.span) t)
       tx_dosync true m e env s t i p h a r = h refl s t r
       tx_dosync false m e env s t i p h a r = absurd (false≢true i)
 
   -- a try on replies of one world is the transaction on that world
-  pub tx_related : (d : ℕ) (e : Tree) (env : List Value) (s : ActorState) → Keeps (placed (known functions)) true e → s.done ≡ no_work → F (In R) s.todo es → s.printed ≡ out → Related tries_link (closed (eval on_replies (call_at (λ x. on_replies) n functions d) n true e env s)) (tx_meaning n functions d e env R)
+  pub tx_related : (d : ℕ) (e : Tree) (env : List Value) (s : ActorState) → Keeps (placed (known functions)) true e → s.done ≡ no_work → F (In R) s.todo es → HasPrinted out sends s → Related tries_link (closed (eval (on_replies validators) (call_at (λ x. on_replies validators) n functions d) n true e env s)) (tx_meaning n functions d e env R)
   tx_related d e env s p own fits pr =
-      let cf = call_at (λ x. on_replies) n functions d in
+      let cf = call_at (λ x. on_replies validators) n functions d in
       let cg = call_at (λ x. in_transaction R) n functions d in
       let nothing : Kept (IsPure (known functions)) s.done = subst (λ w. Kept (IsPure (known functions)) w) (sym own) (tt, owned_none) in
-      closed_related ActorState TxState tries_link (eval on_replies cf n true e env s) (eval (in_transaction R) cg n true e env tx_start)
-      (eval_related ActorState TxState tries_link on_replies (in_transaction R) cf cg n n (λ i. i ≡ true) (placed (known functions)) (inl refl) (tx_alike d)
-      (calls_related ActorState TxState tries_link (λ x. on_replies) (λ x. in_transaction R) n n functions (λ i. i ≡ true) (placed (known functions)) (inl refl) tx_alike (function_placed functions sound) d) e true env s tx_start p refl (own, nothing, fits, pr))
+      closed_related ActorState TxState tries_link (eval (on_replies validators) cf n true e env s) (eval (in_transaction R) cg n true e env tx_start)
+      (eval_related ActorState TxState tries_link (on_replies validators) (in_transaction R) cf cg n n (λ i. i ≡ true) (placed (known functions)) (inl refl) (tx_alike d)
+      (calls_related ActorState TxState tries_link (λ x. on_replies validators) (λ x. in_transaction R) n n functions (λ i. i ≡ true) (placed (known functions)) (inl refl) tx_alike (function_placed functions sound) d) e true env s tx_start p refl (own, nothing, fits, pr))

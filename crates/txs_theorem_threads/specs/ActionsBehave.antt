@@ -1,5 +1,5 @@
 -- The code of pure functions does what they mean, where an agent's actions call them.
-use Rattle.std.specs.Prelude.{◌≡◌, ℕ, ◌≤◌, true, false, List, [], ◌∷◌, length}
+use Rattle.std.specs.Prelude.{◌≡◌, ℕ, ◌≤◌, true, false, List, [], ◌∷◌, length, Some}
 use Rattle.txs_value_base.specs.Places.{nth}
 use Rattle.txs_value_cell.specs.declared.action.Action.{Action}
 use Rattle.txs_value_data.specs.declared.value.CellId.{CellId}
@@ -10,12 +10,13 @@ use Rattle.txs_tree_meaning.specs.Pure.{pure_calls}
 use Rattle.txs_tree_meaning.specs.Sound.{SoundFunctions}
 use Rattle.txs_tree_meaning.specs.Tree.{PlainFunction}
 use Rattle.txs_code_meaning.specs.ActorState.{ActorState}
-use Rattle.txs_code_meaning.specs.Machine.{PlainBody, ThreadCode, agent_code, Acting, Configuration, to_stack, called, Turned, Unfinished, and_then, raise, exec}
+use Rattle.txs_code_meaning.specs.Machine.{ThreadCode, agent_code, Configuration, to_stack, called, Turned, Unfinished, and_then, raise, exec, Library, Outside}
 use Rattle.txs_theorem_threads.specs.FollowsAgent.{FollowsAgents}
 
 -- in an agent's own body, at this place and with this stack, while the action is run
 abbrev pub acting : CellId → Action → ℕ → List Value → ActorState → Configuration
-acting g a place stack s = record { body = 0; place = place; stack = stack; locals = []; frames = []; doing = Acting g a; state = s }
+acting g a place stack s =
+    record { body = 0; place = place; stack = stack; locals = []; frames = []; doing = Outside; state = record s { acting = Some (record { agent = g; action = a; sends = [] }) } }
 
 -- from here turns come to this, and the machine goes on from there for any number of turns
 abbrev pub ComesTo : ThreadCode → Configuration → Turned Configuration → Type 0
@@ -33,10 +34,10 @@ CallComes code n c back (OutOfTurns u) = (j : ℕ) × (n ≤ j) × (exec code j 
 CallComes code n c back Invalid = Unit {0}
 
 -- each call of a pure function that an action makes comes to what the function means
-pub record ActionsBehave (code : List PlainBody) (functions : List PlainFunction) : Type 0 where
+pub record ActionsBehave (code : Library) (functions : List PlainFunction) : Type 0 where
   pub calls : (g : CellId) (a : Action) (f n : ℕ) (vs : List Value) (s : ActorState) → is_pure (nth (known functions) f) ≡ true →
       CallComes (agent_code code g) n (called (agent_code code g) f vs to_stack 2 [] (acting g a 1 [] s)) (λ v. acting g a 2 (v ∷ []) s) (pure_calls n functions (length functions) false f vs tt)
 
 -- code of sound functions that behaves so follows the actions of each agent
 abbrev pub SoundFollowsAgents : Type 0
-SoundFollowsAgents = (code : List PlainBody) (functions : List PlainFunction) → SoundFunctions [] functions → ActionsBehave code functions → FollowsAgents code functions
+SoundFollowsAgents = (code : Library) (functions : List PlainFunction) → SoundFunctions [] functions → ActionsBehave code functions → FollowsAgents code functions

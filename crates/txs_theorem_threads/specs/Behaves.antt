@@ -1,6 +1,7 @@
 -- The code of a thread does what its tree does, on any replies.
 use Rattle.std.specs.Prelude.{◌≡◌, false, ℕ, ◌≤◌, List, [], length}
 use Rattle.txs_world_protocol.specs.Ask.{Exchange}
+use Rattle.txs_value_cell.specs.Cells.{validators_of}
 use Rattle.txs_value_data.specs.declared.value.Value.{Value}
 use Rattle.txs_tree_meaning.specs.Meaning.{Completion, Completes, Recurs, Faults, Retries, Waits, OutOfTurns, Invalid, eval, closed, call_at}
 use Rattle.txs_tree_meaning.specs.Tree.{ThreadSource}
@@ -11,7 +12,7 @@ use Rattle.txs_theorem_threads.specs.OnReplies.{on_replies}
 
 -- the thread on these exchanges, where each loop makes at most n turns
 abbrev pub source : ThreadSource → ℕ → List Exchange → Completion ActorState Value
-source p n todo = closed (eval on_replies (call_at (λ d. on_replies) n p.functions (length p.functions)) n false p.main [] (fresh todo))
+source p n todo = closed (eval (on_replies (validators_of p.cells)) (call_at (λ d. on_replies (validators_of p.cells)) n p.functions (length p.functions)) n false p.main [] (fresh todo))
 
 -- an answer of a tree that was checked, on lawful replies
 abbrev pub IsMeant : {S : Type 0} → Completion S Value → Type 0

@@ -14,7 +14,7 @@ use Rattle.txs_tree_meaning.specs.Meaning.{Completion, Completes, Recurs, Faults
 use Rattle.txs_tree_meaning.specs.Pure.{pure_calls}
 use Rattle.txs_tree_meaning.specs.Sound.{SoundCallee}
 use Rattle.txs_tree_meaning.specs.Tree.{PlainFunction}
-use Rattle.txs_code_meaning.specs.Machine.{PlainBody, Outcome, Ended, Failed, Asking, Unfinished, Stuck}
+use Rattle.txs_code_meaning.specs.Machine.{Outcome, Ended, Failed, Asking, Unfinished, Stuck, Library}
 use Rattle.txs_code_meaning.specs.Opening.{agent_target}
 
 -- what pure code came to, as an action's result; there is none yet where turns don't suffice
@@ -46,14 +46,14 @@ abbrev pub AgentFits : List PlainFunction → CellId → List Exchange → Type 
 AgentFits functions g [] = Unit {0}
 AgentFits functions g (x ∷ []) = ⊥
 AgentFits functions g (x ∷ y ∷ xs) =
-    (x.ask ≡ Take g) × HandsOut functions x.reply × (new : Result Value Fault) × (y.ask ≡ Finish g new) × (y.reply ≡ reply.Done) × AgentFits functions g xs
+    (x.ask ≡ Take g) × HandsOut functions x.reply × (new : Result Value Fault) × (y.ask ≡ Finish g new []) × (y.reply ≡ reply.Done) × AgentFits functions g xs
 
 -- what an agent was told: that it took actions and finished them, one after another, and maybe that it took one more, which it has in hand
 abbrev pub AgentTold : List PlainFunction → CellId → List Exchange → Type 0
 AgentTold functions g [] = Unit {0}
 AgentTold functions g (x ∷ []) = (x.ask ≡ Take g) × HandsOut functions x.reply
 AgentTold functions g (x ∷ y ∷ xs) =
-    (x.ask ≡ Take g) × HandsOut functions x.reply × (new : Result Value Fault) × (y.ask ≡ Finish g new) × (y.reply ≡ reply.Done) × AgentTold functions g xs
+    (x.ask ≡ Take g) × HandsOut functions x.reply × (new : Result Value Fault) × (y.ask ≡ Finish g new []) × (y.reply ≡ reply.Done) × AgentTold functions g xs
 
 -- an action that the agent took
 abbrev pub taking : CellId → ℕ → Action → Value → Exchange
@@ -86,12 +86,12 @@ GoesOn Stuck = ⊥
 -- The agent's code follows the program: of an action that it took it hands in the action's meaning and nothing else, and it does so
 -- where that meaning is there for some bound on loops; where the bound doesn't suffice, it is still running the action after as many turns
 -- or more; and it never ends and prints nothing, since actions are pure.
-pub record FollowsAgent (code : List PlainBody) (functions : List PlainFunction) (g : CellId) : Type 0 where
-  pub only : (done : List Exchange) (number m : ℕ) (a : Action) (v : Value) (new : Result Value Fault) → AgentFits functions g done → SoundAction functions a → AsksNext (Finish g new) (agent_target code g m (done ++ taking g number a v ∷ [])) → (n : ℕ) × (action_meaning n functions a v ≡ Some new)
-  pub ends_so : (done : List Exchange) (number m n : ℕ) (a : Action) (v : Value) (new : Result Value Fault) → AgentFits functions g done → SoundAction functions a → AsksNext (Take g) (agent_target code g m done) → action_meaning n functions a v ≡ Some new → (j : ℕ) × AsksNext (Finish g new) (agent_target code g j (done ++ taking g number a v ∷ []))
+pub record FollowsAgent (code : Library) (functions : List PlainFunction) (g : CellId) : Type 0 where
+  pub only : (done : List Exchange) (number m : ℕ) (a : Action) (v : Value) (new : Result Value Fault) → AgentFits functions g done → SoundAction functions a → AsksNext (Finish g new []) (agent_target code g m (done ++ taking g number a v ∷ [])) → (n : ℕ) × (action_meaning n functions a v ≡ Some new)
+  pub ends_so : (done : List Exchange) (number m n : ℕ) (a : Action) (v : Value) (new : Result Value Fault) → AgentFits functions g done → SoundAction functions a → AsksNext (Take g) (agent_target code g m done) → action_meaning n functions a v ≡ Some new → (j : ℕ) × AsksNext (Finish g new []) (agent_target code g j (done ++ taking g number a v ∷ []))
   pub runs_on : (done : List Exchange) (number m n : ℕ) (a : Action) (v : Value) → AgentFits functions g done → SoundAction functions a → AsksNext (Take g) (agent_target code g m done) → action_meaning n functions a v ≡ None → (j : ℕ) × (n ≤ j) × IsRunning (agent_target code g j (done ++ taking g number a v ∷ []))
   pub goes_on : (told : List Exchange) (m : ℕ) → AgentTold functions g told → GoesOn (agent_target code g m told)
 
 -- the code of these functions follows the actions of each agent
-abbrev pub FollowsAgents : List PlainBody → List PlainFunction → Type 0
+abbrev pub FollowsAgents : Library → List PlainFunction → Type 0
 FollowsAgents code functions = (g : CellId) → FollowsAgent code functions g

@@ -6,6 +6,8 @@ use Rattle.txs_value_data.specs.Limits.{reruns}
 use Rattle.txs_value_base.specs.Places.{fault_at}
 use Rattle.txs_value_base.specs.declared.fault.FaultKind.TheVariants.{RetryLimit, AgentFailed}
 use Rattle.txs_value_base.specs.declared.fault.Span.{Span}
+use Rattle.txs_value_cell.specs.Cells.{Validators}
+use Rattle.txs_value_cell.specs.declared.form.PutForm.{PutForm}
 use Rattle.txs_value_cell.specs.declared.form.UpdateForm.{UpdateForm}
 use Rattle.txs_value_cell.specs.declared.form.UpdateForm.TheVariants.{Alter, Commute, Swap}
 use Rattle.txs_value_base.specs.declared.op.Callee.{Callee}
@@ -33,7 +35,7 @@ telling ask (Waits s) go = Waits s
 telling ask (OutOfTurns s) go = OutOfTurns s
 telling ask Invalid go = Invalid
 
--- ---- transactions
+-- ---- transactions, of cells with these validators, which change nothing
 
 -- how a try starts: with its body, or behind it with the body's result, where the commutes alone are redone
 pub data Start : Type 0 where
@@ -52,16 +54,16 @@ abbrev pub lands_on : Span → Value → (Start → ActorState → Completion Ac
 lands_on span v go ws s = bind (res (commit ws s)) (λ d s1. concludes d span v go s1)
 
 -- a body's end: the commit where no ref was commuted and not set, else the view, the commutes one after the other, and then the commit
-abbrev pub closing : List CellId → Span → Applies ActorState → Value → (Start → ActorState → Completion ActorState Value) → ActorState → Completion ActorState Value
-closing [] span f v go s = lands_on span v go [] s
-closing (c ∷ cs) span f v go s =
+abbrev pub closing : Validators → List CellId → Span → Applies ActorState → Value → (Start → ActorState → Completion ActorState Value) → ActorState → Completion ActorState Value
+closing vs [] span f v go s = lands_on span v go [] s
+closing vs (c ∷ cs) span f v go s =
     bind (res (view s)) (λ ws s1. telling fail (redone f (phase_work s1.done) ws s1) (λ xs s2. lands_on span v go xs s2))
 
 -- one try
-abbrev pub attempt : Start → Span → (ActorState → Completion ActorState Value) → Applies ActorState → (Start → ActorState → Completion ActorState Value) → ActorState → Completion ActorState Value
-attempt Anew span body f go s =
-    bind (res (begin s)) (λ u s1. telling fail (body s1) (λ v s2. closing (commuted s2.done) span f v go s2))
-attempt (Behind v) span body f go s = closing (commuted s.done) span f v go s
+abbrev pub attempt : Validators → Start → Span → (ActorState → Completion ActorState Value) → Applies ActorState → (Start → ActorState → Completion ActorState Value) → ActorState → Completion ActorState Value
+attempt vs Anew span body f go s =
+    bind (res (begin s)) (λ u s1. telling fail (body s1) (λ v s2. closing vs (commuted s2.done) span f v go s2))
+attempt vs (Behind v) span body f go s = closing vs (commuted s.done) span f v go s
 
 -- a try that has to run again is followed by another; all else stays
 abbrev pub retrying : Completion ActorState Value → (ActorState → Completion ActorState Value) → Completion ActorState Value
@@ -74,14 +76,14 @@ retrying (OutOfTurns s) go = OutOfTurns s
 retrying Invalid go = Invalid
 
 -- at most k tries, those that redo the commutes alone among them
-abbrev pub tries : ℕ → Span → (ActorState → Completion ActorState Value) → Applies ActorState → Start → ActorState → Completion ActorState Value
-tries zero span body f from s = Faults (fault_at RetryLimit span) s
-tries (suc k) span body f from s = retrying (attempt from span body f (tries k span body f) s) (tries k span body f Anew)
+abbrev pub tries : Validators → ℕ → Span → (ActorState → Completion ActorState Value) → Applies ActorState → Start → ActorState → Completion ActorState Value
+tries vs zero span body f from s = Faults (fault_at RetryLimit span) s
+tries vs (suc k) span body f from s = retrying (attempt vs from span body f (tries vs k span body f) s) (tries vs k span body f Anew)
 
 -- a dosync inside a running transaction joins it, and another one is tried, so many times, until it ends
-abbrev pub joined : Bool → ℕ → Span → (ActorState → Completion ActorState Value) → Applies ActorState → ActorState → Completion ActorState Value
-joined true k span body f s = body s
-joined false k span body f s = tries k span body f Anew s
+abbrev pub joined : Validators → Bool → ℕ → Span → (ActorState → Completion ActorState Value) → Applies ActorState → ActorState → Completion ActorState Value
+joined vs true k span body f s = body s
+joined vs false k span body f s = tries vs k span body f Anew s
 
 -- ---- updates
 
@@ -93,12 +95,12 @@ swap_concludes Undone w go s = Invalid
 swap_concludes Denied w go s = Invalid
 
 -- A swap, again from its open where the atom changed, less than k times: each time takes exchanges, so that their number bounds
--- the times.
-abbrev pub swaps_on : ℕ → Span → Value → (Value → ActorState → Completion ActorState Value) → ActorState → Completion ActorState Value
+-- the times. What gives the new value sees the atom and its value.
+abbrev pub swaps_on : ℕ → Span → Value → (CellId → Value → ActorState → Completion ActorState Value) → ActorState → Completion ActorState Value
 swaps_on zero span c f s = Invalid
 swaps_on (suc k) span c f s =
     bind (res (open_swap false span c s)) (λ o s1.
-    telling (break_swap o.0) (f o.1 s1) (λ w s2.
+    telling (break_swap o.0) (f o.0.cell o.1 s1) (λ w s2.
     bind (res (close_swap o.0 w s2)) (λ d s3. swap_concludes d w (swaps_on k span c f) s3)))
 
 -- `alter` and `commute`: the ref's value is read, the callee applied, and then the ref set or the commute kept
@@ -108,22 +110,26 @@ updates_ref u inside span c callee vs f s =
     bind (f callee (v ∷ vs) s1) (λ w s2. res (close_update span c w s2)))
 
 -- the forms that update
-abbrev pub updates : UpdateForm → Bool → Span → Value → Callee → List Value → Applies ActorState → ActorState → Completion ActorState Value
-updates Alter inside span c callee vs f s = updates_ref Alters inside span c callee vs f s
-updates Commute inside span c callee vs f s = updates_ref (Commutes callee) inside span c callee vs f s
-updates Swap inside span c callee vs f s = allowed (not inside) (swaps_on (suc (length s.todo)) span c (λ v s1. f callee (v ∷ vs) s1) s)
+abbrev pub updates : Validators → UpdateForm → Bool → Span → Value → Callee → List Value → Applies ActorState → ActorState → Completion ActorState Value
+updates vs Alter inside span c callee args f s = updates_ref Alters inside span c callee args f s
+updates vs Commute inside span c callee args f s = updates_ref (Commutes callee) inside span c callee args f s
+updates vs Swap inside span c callee args f s = allowed (not inside) (swaps_on (suc (length s.todo)) span c (λ a v s1. f callee (v ∷ args) s1) s)
 
--- the forms on cells, as asks, where a transaction has so many tries
-abbrev pub on_replies_with : ℕ → Effects ActorState
-on_replies_with k = record {
-  print = λ inside vs s. res (print inside vs s);
+-- the forms that put
+abbrev pub puts : Validators → PutForm → Bool → Span → Value → Value → Applies ActorState → ActorState → Completion ActorState Value
+puts vs form inside span c v f s = res (assign form inside span c v s)
+
+-- the forms on cells, as asks, where the cells have these validators, and a transaction has so many tries
+abbrev pub on_replies_with : Validators → ℕ → Effects ActorState
+on_replies_with vs k = record {
+  print = λ inside args s. res (print inside args s);
   look = λ form inside m v s. res (read form inside m.span v s);
-  put = λ form inside m v w s. res (assign form inside m.span v w s);
-  update = λ form inside m v callee vs f s. updates form inside m.span v callee vs f s;
-  send = λ inside m v callee vs s. res (send_to inside m.span v callee vs s);
-  dosync = λ inside m node env body f s. joined inside k m.span body f s;
+  put = λ form inside m v w f s. puts vs form inside m.span v w f s;
+  update = λ form inside m v callee args f s. updates vs form inside m.span v callee args f s;
+  send = λ inside m v callee args s. res (send_to inside m.span v callee args s);
+  dosync = λ inside m node env body f s. joined vs inside k m.span body f s;
 }
 
 -- the forms on cells, as asks
-abbrev pub on_replies : Effects ActorState
-on_replies = on_replies_with (suc reruns)
+abbrev pub on_replies : Validators → Effects ActorState
+on_replies vs = on_replies_with vs (suc reruns)

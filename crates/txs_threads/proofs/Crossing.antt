@@ -69,6 +69,9 @@ use Rattle.txs_machine_transaction.specs.contracts.kept.KeptPending as kept_pend
 use Rattle.txs_machine_transaction.specs.contracts.kept.KeptPending.TheInside as kept_pending_in
 use Rattle.txs_machine_transaction.proofs.kept.Standing.TheSendSync as standing_sent
 use Rattle.txs_machine_transaction.proofs.kept.Wanted.TheSendSync as wanted_sent
+use Rattle.txs_machine_actor.specs.contracts.role.InHand as in_hand_is
+use Rattle.txs_machine_actor.specs.contracts.role.InHand.TheInside as in_hand_in
+use Rattle.txs_machine_actor.specs.contracts.role.Role as role_is
 use Rattle.txs_machine_actor.specs.contracts.actor.Actor as actor_is
 use Rattle.txs_machine_actor.specs.contracts.actor.Actor.TheInside as actor_in
 use Rattle.txs_value_cell.specs.contracts.cell.CellDefinition as cell_definition_is
@@ -100,7 +103,7 @@ pub action_field_send : IsSend (action.the_field).row
 action_field_send = search (value_send, crosses, sendable) depth 60 fits 20000
 
 pub ask_field_send : IsSend (ask_is.the_field).row
-ask_field_send = enum_send (E.shape ask_is.the_type) (tt, ((cell_id_sent.the_field_send, (plain_send _ _ _ _ _, tt)), (((search (listed.the_send, cell_id_sent.the_send, crosses, sendable) depth 60 fits 20000), tt), ((plain_send _ _ _ _ _, ((search (value_send, vec.the_send, listed.the_send, cell_id_sent.the_send, crosses, sendable) depth 60 fits 20000), ((search (listed.the_send, cell_id_sent.the_send, crosses, sendable) depth 60 fits 20000), (plain_send _ _ _ _ _, ((search (value_send, vec.the_send, listed.the_send, cell_id_sent.the_send, crosses, sendable) depth 60 fits 20000), ((search (action_send, listed.the_send, crosses, sendable) depth 60 fits 20000), tt)))))), ((plain_send _ _ _ _ _, (plain_send _ _ _ _ _, tt)), ((cell_id_sent.the_field_send, tt), ((action_field_send, tt), ((cell_id_sent.the_field_send, tt), ((cell_id_sent.the_field_send, ((search (value_send, fault_sent.the_send, crosses, sendable) depth 60 fits 20000), tt)), ((cell_id_sent.the_field_send, tt), ((cell_id_sent.the_field_send, ((search (plain_send, option.the_field_send, crosses, sendable) depth 60 fits 20000), (value_field_send, tt))), ((cell_id_sent.the_field_send, (plain_send _ _ _ _ _, tt)), tt))))))))))))
+ask_field_send = enum_send (E.shape ask_is.the_type) (tt, ((cell_id_sent.the_field_send, (plain_send _ _ _ _ _, tt)), (((search (listed.the_send, cell_id_sent.the_send, crosses, sendable) depth 60 fits 20000), tt), ((plain_send _ _ _ _ _, ((search (value_send, vec.the_send, listed.the_send, cell_id_sent.the_send, crosses, sendable) depth 60 fits 20000), ((search (listed.the_send, cell_id_sent.the_send, crosses, sendable) depth 60 fits 20000), (plain_send _ _ _ _ _, ((search (value_send, vec.the_send, listed.the_send, cell_id_sent.the_send, crosses, sendable) depth 60 fits 20000), ((search (action_send, listed.the_send, crosses, sendable) depth 60 fits 20000), tt)))))), ((plain_send _ _ _ _ _, (plain_send _ _ _ _ _, tt)), ((cell_id_sent.the_field_send, tt), ((action_field_send, tt), ((cell_id_sent.the_field_send, tt), ((cell_id_sent.the_field_send, ((search (value_send, fault_sent.the_send, crosses, sendable) depth 60 fits 20000), ((search (action_send, listed.the_send, crosses, sendable) depth 60 fits 20000), tt))), ((cell_id_sent.the_field_send, tt), ((cell_id_sent.the_field_send, ((search (plain_send, option.the_field_send, crosses, sendable) depth 60 fits 20000), (value_field_send, tt))), ((cell_id_sent.the_field_send, (plain_send _ _ _ _ _, tt)), tt))))))))))))
 
 pub ask_send : IsSend ask_is.the_row
 ask_send = recorded_send (ask_is.the_field).row _ _ (ask_is.the_type).to_one ask_field_send
@@ -112,7 +115,7 @@ pub reply_send : IsSend reply_is.the_row
 reply_send = recorded_send (reply_is.the_field).row _ _ (reply_is.the_type).to_one reply_field_send
 
 pub event_kind_field_send : IsSend (event_kind_is.the_field).row
-event_kind_field_send = enum_send (E.shape event_kind_is.the_type) ((cell_id_sent.the_field_send, tt), ((plain_send _ _ _ _ _, (plain_send _ _ _ _ _, ((search (value_send, vec.the_send, listed.the_send, cell_id_sent.the_send, crosses, sendable) depth 60 fits 20000), ((search (action_send, listed.the_send, crosses, sendable) depth 60 fits 20000), tt)))), ((plain_send _ _ _ _ _, (cell_id_sent.the_field_send, (plain_send _ _ _ _ _, tt))), ((plain_send _ _ _ _ _, (plain_send _ _ _ _ _, tt)), ((plain_send _ _ _ _ _, (plain_send _ _ _ _ _, (cell_id_sent.the_field_send, tt))), ((action_field_send, tt), ((cell_id_sent.the_field_send, tt), ((cell_id_sent.the_field_send, (plain_send _ _ _ _ _, ((search (value_send, fault_sent.the_send, crosses, sendable) depth 60 fits 20000), tt))), ((value_field_send, tt), ((plain_send _ _ _ _ _, tt), tt))))))))))
+event_kind_field_send = enum_send (E.shape event_kind_is.the_type) ((cell_id_sent.the_field_send, tt), ((plain_send _ _ _ _ _, (plain_send _ _ _ _ _, ((search (value_send, vec.the_send, listed.the_send, cell_id_sent.the_send, crosses, sendable) depth 60 fits 20000), ((search (action_send, listed.the_send, crosses, sendable) depth 60 fits 20000), tt)))), ((plain_send _ _ _ _ _, (cell_id_sent.the_field_send, (plain_send _ _ _ _ _, tt))), ((plain_send _ _ _ _ _, (plain_send _ _ _ _ _, tt)), ((plain_send _ _ _ _ _, (plain_send _ _ _ _ _, (cell_id_sent.the_field_send, tt))), ((action_field_send, tt), ((cell_id_sent.the_field_send, tt), ((cell_id_sent.the_field_send, (plain_send _ _ _ _ _, ((search (value_send, fault_sent.the_send, crosses, sendable) depth 60 fits 20000), ((search (action_send, listed.the_send, crosses, sendable) depth 60 fits 20000), tt)))), ((value_field_send, tt), ((plain_send _ _ _ _ _, tt), tt))))))))))
 
 pub event_kind_send : IsSend event_kind_is.the_row
 event_kind_send = recorded_send (event_kind_is.the_field).row _ _ (event_kind_is.the_type).to_one event_kind_field_send
@@ -154,7 +157,7 @@ pub origin_send : IsSend origin_is.the_row
 origin_send = recorded_send (origin_is.the_field).row _ _ (origin_is.the_type).to_one origin_field_send
 
 pub transaction_field_send : IsSend (transaction_is.the_field).row
-transaction_field_send = enum_send (E.shape transaction_is.the_type) (tt, (((search (plain_send, crosses, sendable) depth 60 fits 20000), tt), (((search (plain_send, crosses, sendable) depth 60 fits 20000), ((search (plain_send, crosses, sendable) depth 60 fits 20000), ((search (origin_field_send, crosses, sendable) depth 60 fits 20000), tt))), (((search (plain_send, crosses, sendable) depth 60 fits 20000), ((search (origin_field_send, crosses, sendable) depth 60 fits 20000), ((search (phase_send, crosses, sendable) depth 60 fits 20000), tt))), (((search (plain_send, crosses, sendable) depth 60 fits 20000), ((search (origin_field_send, crosses, sendable) depth 60 fits 20000), ((search (phase_send, crosses, sendable) depth 60 fits 20000), ((search (stack_send, crosses, sendable) depth 60 fits 20000), tt)))), ((cell_id_sent.the_field_send, ((search (plain_send, crosses, sendable) depth 60 fits 20000), ((search (origin_field_send, crosses, sendable) depth 60 fits 20000), tt))), ((cell_id_sent.the_field_send, ((search (action_send, option.the_field_send, crosses, sendable) depth 60 fits 20000), tt)), ((cell_id_sent.the_field_send, (action_field_send, ((search (stack_send, crosses, sendable) depth 60 fits 20000), tt))), tt))))))))
+transaction_field_send = enum_send (E.shape transaction_is.the_type) (tt, (((search (plain_send, crosses, sendable) depth 60 fits 20000), tt), (((search (plain_send, crosses, sendable) depth 60 fits 20000), ((search (plain_send, crosses, sendable) depth 60 fits 20000), ((search (origin_field_send, crosses, sendable) depth 60 fits 20000), tt))), (((search (plain_send, crosses, sendable) depth 60 fits 20000), ((search (origin_field_send, crosses, sendable) depth 60 fits 20000), ((search (phase_send, crosses, sendable) depth 60 fits 20000), tt))), (((search (plain_send, crosses, sendable) depth 60 fits 20000), ((search (origin_field_send, crosses, sendable) depth 60 fits 20000), ((search (phase_send, crosses, sendable) depth 60 fits 20000), ((search (stack_send, crosses, sendable) depth 60 fits 20000), tt)))), ((cell_id_sent.the_field_send, ((search (plain_send, crosses, sendable) depth 60 fits 20000), ((search (origin_field_send, crosses, sendable) depth 60 fits 20000), tt))), tt))))))
 
 pub transaction_send : IsSend transaction_is.the_row
 transaction_send = recorded_send (transaction_is.the_field).row _ _ (transaction_is.the_type).to_one transaction_field_send
@@ -171,12 +174,21 @@ kept_transaction_send = view_send kept_transaction_in.the_row _ _ _ _ (recorded_
 pub kept_pending_send : IsSend kept_pending_is.the_row
 kept_pending_send = view_send kept_pending_in.the_row _ _ _ _ (recorded_send (kept_pending_in.the_field).row _ _ (kept_pending_in.the_type).to_one (struct_send (S.shape kept_pending_in.the_type) ((search (global.the_field_send, crosses, sendable) depth 60 fits 20000), ((search (wanted_sent.the_field_send, crosses, sendable) depth 60 fits 20000), ((search (origin_field_send, crosses, sendable) depth 60 fits 20000), ((search (pending_send, option.the_field_send, crosses, sendable) depth 60 fits 20000), tt))))))
 
+pub in_hand_send : IsSend in_hand_is.the_row
+in_hand_send = view_send in_hand_in.the_row _ _ _ _ (recorded_send (in_hand_in.the_field).row _ _ (in_hand_in.the_type).to_one (struct_send (S.shape in_hand_in.the_type) (cell_id_sent.the_field_send, (action_field_send, ((search (action_send, vec.the_send, crosses, sendable) depth 60 fits 20000), tt)))))
+
+pub role_field_send : IsSend (role_is.the_field).row
+role_field_send = enum_send (E.shape role_is.the_type) (tt, ((cell_id_sent.the_field_send, ((search (in_hand_send, option.the_field_send, crosses, sendable) depth 60 fits 20000), tt)), (((search (in_hand_send, crosses, sendable) depth 60 fits 20000), ((search (stack_send, crosses, sendable) depth 60 fits 20000), tt)), tt)))
+
+pub role_send : IsSend role_is.the_row
+role_send = recorded_send (role_is.the_field).row _ _ (role_is.the_type).to_one role_field_send
+
 pub actor_send : IsSend actor_is.the_row
-actor_send = view_send actor_in.the_row _ _ _ _ (recorded_send (actor_in.the_field).row _ _ (actor_in.the_type).to_one (struct_send (S.shape actor_in.the_type) ((search (global.the_field_send, crosses, sendable) depth 60 fits 20000), ((search (plain_send, crosses, sendable) depth 60 fits 20000), ((search (stack_send, crosses, sendable) depth 60 fits 20000), ((search (plain_send, vec.the_send, crosses, sendable) depth 60 fits 20000), ((search (plain_send, crosses, sendable) depth 60 fits 20000), ((search (plain_send, crosses, sendable) depth 60 fits 20000), ((search (tx_frame_send, crosses, sendable) depth 60 fits 20000), ((search (commute_send, option.the_field_send, crosses, sendable) depth 60 fits 20000), ((search (kept_transaction_send, crosses, sendable) depth 60 fits 20000), ((search (kept_pending_send, crosses, sendable) depth 60 fits 20000), ((search (outcome.the_send, option.the_field_send, crosses, sendable) depth 60 fits 20000), ((search (plain_send, crosses, sendable) depth 60 fits 20000), ((search (plain_send, crosses, sendable) depth 60 fits 20000), tt)))))))))))))))
+actor_send = view_send actor_in.the_row _ _ _ _ (recorded_send (actor_in.the_field).row _ _ (actor_in.the_type).to_one (struct_send (S.shape actor_in.the_type) ((search (global.the_field_send, crosses, sendable) depth 60 fits 20000), ((search (plain_send, crosses, sendable) depth 60 fits 20000), ((search (role_field_send, crosses, sendable) depth 60 fits 20000), ((search (stack_send, crosses, sendable) depth 60 fits 20000), ((search (plain_send, vec.the_send, crosses, sendable) depth 60 fits 20000), ((search (plain_send, crosses, sendable) depth 60 fits 20000), ((search (plain_send, crosses, sendable) depth 60 fits 20000), ((search (tx_frame_send, crosses, sendable) depth 60 fits 20000), ((search (commute_send, option.the_field_send, crosses, sendable) depth 60 fits 20000), ((search (kept_transaction_send, crosses, sendable) depth 60 fits 20000), ((search (kept_pending_send, crosses, sendable) depth 60 fits 20000), ((search (outcome.the_send, option.the_field_send, crosses, sendable) depth 60 fits 20000), ((search (plain_send, crosses, sendable) depth 60 fits 20000), ((search (plain_send, crosses, sendable) depth 60 fits 20000), tt))))))))))))))))
 
 pub cell_definition_field_send : IsSend (cell_definition_is.the_field).row
 cell_definition_field_send = struct_send (S.shape cell_definition_is.the_type)
-    (search (value_field_send, name_sent.the_send, error_mode_sent.the_field_send, crosses, sendable) depth 60 fits 20000)
+    (search (value_field_send, name_sent.the_send, error_mode_sent.the_field_send, callee_sent.the_send, option.the_field_send, crosses, sendable) depth 60 fits 20000)
 
 pub cell_definition_send : IsSend cell_definition_is.the_row
 cell_definition_send = recorded_send (cell_definition_is.the_field).row _ _ (cell_definition_is.the_type).to_one cell_definition_field_send
@@ -209,7 +221,7 @@ pub value_field_sync : IsSync (value.the_field).row
 value_field_sync = search (crosses, knot.crosses, sendable) depth 60 fits 20000
 
 pub cell_definition_sync : IsSync cell_definition_is.the_row
-cell_definition_sync = recorded_sync (cell_definition_is.the_field).row _ _ (cell_definition_is.the_type).to_one (struct_sync (S.shape cell_definition_is.the_type) (search (value_field_sync, name_sent.the_sync, error_mode_sent.the_field_sync, crosses, sendable) depth 60 fits 20000))
+cell_definition_sync = recorded_sync (cell_definition_is.the_field).row _ _ (cell_definition_is.the_type).to_one (struct_sync (S.shape cell_definition_is.the_type) (search (value_field_sync, name_sent.the_sync, error_mode_sent.the_field_sync, callee_sent.the_sync, option.the_field_sync, crosses, sendable) depth 60 fits 20000))
 
 pub code_sync : IsSync code_is.the_row
 code_sync = view_sync code_in.the_row _ _ _ _ (recorded_sync (code_in.the_field).row _ _ (code_in.the_type).to_one (struct_sync (S.shape code_in.the_type) (search (vec.the_sync, cell_definition_sync, crosses, sendable) depth 60 fits 20000, (search (value_sync, vec.the_sync, crosses, sendable) depth 60 fits 20000, (search (vec.the_sync, body_sent.the_sync, crosses, sendable) depth 60 fits 20000, (search (vec.the_sync, body_sent.the_sync, crosses, sendable) depth 60 fits 20000, tt))))))

@@ -11,7 +11,7 @@ use Rattle.txs_tree_meaning.specs.Tree.{PlainThread, PlainProgram}
 use Rattle.txs_code_meaning.specs.ActorState.{ActorState}
 use Rattle.txs_code_meaning.specs.Machine.{ThreadCode, Configuration, Turned, Unfinished}
 use Rattle.txs_code_meaning.specs.Opening.{opening}
-use Rattle.txs_code_meaning.specs.PlainCode.{CodeBody, PlainCode, thread_code, function_codes}
+use Rattle.txs_code_meaning.specs.PlainCode.{CodeBody, PlainCode, thread_code, function_codes, library_of}
 use Rattle.txs_theorem_threads.specs.Follows.{Follows}
 use Rattle.txs_theorem_threads.specs.FollowsAgent.{GoesOn}
 use Rattle.txs_theorem_threads.specs.FollowsAll.{source_of, FollowsAll}
@@ -48,6 +48,7 @@ use Rattle.txs_threads_gather.specs.Gather.{HasFullBook, IsPlayer, AreWhole, Are
 use Rattle.txs_threads_gather.specs.Goes.{IsThere}
 use Rattle.txs_threads_gather.specs.Played.{PlainPlayed, WasStoppedAt, HasPlayed}
 use Rattle.txs_threads_gather.proofs.Adding.{trace_is_kept, drop_read}
+use Rattle.txs_value_cell.specs.Cells.{validators_of}
 
 abbrev is_some : {A : Type 0} → Option A → Type 0
 is_some None = ⊥
@@ -318,7 +319,7 @@ module _ (runs : ReplayRuns) (law : RunReported) (code : PlainCode) (limit : ℕ
       book : (k : ℕ) → (state_at k).shared.books 0 ≡ books_of s 0
       book k = (run_to code limit s runs served ps g h k).books_are 0
 
-      mapped : (bs : List CodeBody) (i n : ℕ) (c : ThreadCode) → nth (map (thread_code code) bs) i ≡ Some c → record { functions = function_codes code; main = own_body code n (nth bs i) } ≡ c
+      mapped : (bs : List CodeBody) (i n : ℕ) (c : ThreadCode) → nth (map (thread_code code) bs) i ≡ Some c → record { functions = function_codes code; validators = validators_of code.cells; main = own_body code n (nth bs i) } ≡ c
       mapped [] i n c e = absurd (subst is_some (sym e) tt)
       mapped (b ∷ bs) zero n c e = ap (code_or c) e
         where
@@ -327,7 +328,7 @@ module _ (runs : ReplayRuns) (law : RunReported) (code : PlainCode) (limit : ℕ
           code_or d (Some x) = x
       mapped (b ∷ bs) (suc i) n c e = mapped bs i n c e
 
-      program : RunsProgram p (map (thread_code code) code.threads) (function_codes code) (code_of code)
+      program : RunsProgram p (map (thread_code code) code.threads) (library_of code) (code_of code)
       program = record {
         threads_run = λ i c e. mapped code.threads i i c e;
         agents_run = λ a has. (
@@ -335,10 +336,10 @@ module _ (runs : ReplayRuns) (law : RunReported) (code : PlainCode) (limit : ℕ
             ap (code_of code) (ap (λ n. world.actor_of n (cells_of p.cells) a) (sym threads) ∙ ap (λ cs. world.actor_of (length code.threads) (cells_of cs) a) same ∙ x.2) ∙ (agent_at code x.0 a x.1).acts);
       }
 
-      whole : (k : ℕ) → ReportExplained p (function_codes code) (state_at k)
+      whole : (k : ℕ) → ReportExplained p (library_of code) (state_at k)
       whole k =
-          subst (ReportExplained p (function_codes code)) (ap (λ cs. plays cs (length p.threads) (code_of code) (turns_to k)) same ∙ ap (λ n. plays code.cells n (code_of code) (turns_to k)) (sym threads))
-          (law p (map (thread_code code) code.threads) (function_codes code) (code_of code) (turns_to k) follows agents staged sends program)
+          subst (ReportExplained p (library_of code)) (ap (λ cs. plays cs (length p.threads) (code_of code) (turns_to k)) same ∙ ap (λ n. plays code.cells n (code_of code) (turns_to k)) (sym threads))
+          (law p (map (thread_code code) code.threads) (library_of code) (code_of code) (turns_to k) follows agents staged sends program)
 
       agent_explained : (i : ℕ) (r : Ran) → nth rs i ≡ Some r → ExplainsAgent (length p.threads + i) (books_of s) r
       agent_explained i r e =

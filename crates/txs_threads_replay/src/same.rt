@@ -191,13 +191,17 @@ fn same_kind(a: &EventKind, b: &EventKind) -> bool
                 agent: g,
                 number: n,
                 new: x,
+                sends: xs,
             },
             EventKind::Act {
                 agent: h,
                 number: m,
                 new: y,
+                sends: ys,
             },
-        ) => (*g == *h) & (*n == *m) & same_new(x, y),
+        ) => {
+            (*g == *h) & (*n == *m) & same_new(x, y) & same_actions(xs.as_slice(), ys.as_slice())
+        }
         (EventKind::Swap { new: v }, EventKind::Swap { new: w }) => same(v, w),
         (EventKind::Broke { at: p }, EventKind::Broke { at: q }) => *p == *q,
         _ => false,

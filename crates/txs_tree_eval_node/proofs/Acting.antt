@@ -12,7 +12,7 @@ use Rattle.txs_tree_eval_node.specs.Setting.{Setting, callable}
 use Rattle.txs_tree_meaning.specs.Sound.{SoundCallee, SoundFunctions}
 use Rattle.txs_tree_meaning.specs.Transaction.{value_or, valued, merged, redone, commute_writes, final_writes}
 use Rattle.txs_tree_meaning.specs.Tree.{Mark}
-use Rattle.txs_value_cell.specs.Cells.{World}
+use Rattle.txs_value_cell.specs.Cells.{World, validators_of}
 use Rattle.txs_tree_meaning.specs.View.{functions_of}
 use Rattle.txs_tree_eval_transaction.specs.Views.{PlainView, or_nil, world_of}
 use Rattle.txs_tree_eval_node.specs.declared.shape.Act.{Act}
@@ -80,12 +80,12 @@ module _ {S : Type 0} (s : S) (x : Setting) (sound : SoundFunctions [] (function
       bind_agrees s (quiet x span c.callee vs tt) (real c.callee vs s) (λ v t. redone (quiet x span) cs (with_write ws c.cell v) t) (λ v t. redone real cs (with_write ws c.cell v) t)
       (callee_agrees true s x sound fx inside span c.callee vs h.0) (λ v. redone_agrees cs (with_write ws c.cell v) h.1)
 
-  pub finals_agree_on : (w : Work) (C : World) → SoundCommutes (callable x) w.commutes → Agrees s (final_writes (quiet x span) w C tt) (final_writes real w C s)
+  pub finals_agree_on : (w : Work) (C : World) → SoundCommutes (callable x) w.commutes → Agrees s (final_writes (quiet x span) (validators_of x.cells) span w C tt) (final_writes real (validators_of x.cells) span w C s)
   finals_agree_on w C h =
       bind_agrees s (commute_writes (quiet x span) w C tt) (commute_writes real w C s) (λ ws t. Completes (merged (set_writes w) ws) t) (λ ws t. Completes (merged (set_writes w) ws) t)
       (redone_agrees (phase_work w) (valued (commuted w) C) (sound_by (callable x) (commuted w) w.commutes h)) (λ ws. refl)
 
-  pub finals_agree : (w : Work) (r : PlainView) → SoundCommutes (callable x) w.commutes → Agrees s (final_means x w r span) (final_writes real w (world_of r) s)
+  pub finals_agree : (w : Work) (r : PlainView) → SoundCommutes (callable x) w.commutes → Agrees s (final_means x w r span) (final_writes real (validators_of x.cells) span w (world_of r) s)
   finals_agree w r h = finals_agree_on w (world_of r) h
 
 -- one commute more

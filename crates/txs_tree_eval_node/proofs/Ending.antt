@@ -27,6 +27,7 @@ use Rattle.txs_tree_eval_node.specs.declared.state.Transacted.{Transacted}
 use Rattle.txs_tree_eval_transaction.specs.declared.stop.ThreadStop.{ThreadStop}
 use Rattle.txs_tree_eval_transaction.specs.declared.stop.ThreadStop.TheVariants.{Fault, Event, Wrong, Turns, Memory}
 use Rattle.txs_tree_eval_transaction.specs.declared.view.RefView.{RefView}
+use Rattle.txs_value_cell.specs.Cells.{validators_of}
 use Rattle.txs_value_data.specs.Limits.{reruns}
 use Rattle.txs_value_base.specs.Places.{fault_at}
 use Rattle.txs_value_base.specs.declared.fault.Fault as fault
@@ -97,7 +98,7 @@ module _ (x : Setting) (m : Mark) (body : Tree) (env : List Value) (r w : PlainV
   outcome = body_means x body env r
 
   abbrev finals_of : TxState → Completion ThreadState Writes
-  finals_of y = final_writes (at_end x m.span) y.done (world_of w) t
+  finals_of y = final_writes (at_end x m.span) (validators_of x.cells) m.span y.done (world_of w) t
 
   abbrev with_finals : Value → TxState → Completion ThreadState (TxRun × Writes)
   with_finals v y = bind (finals_of y) (λ ws t1. Completes (run_of (transacting x m body env) v y, ws) t1)
@@ -174,19 +175,19 @@ module _ (x : Setting) (m : Mark) (body : Tree) (env : List Value) (t : ThreadSt
   -- an event of the end
   pub ends_viewed : (k : EventKind) → end_view k q c ≡ Some w → ends_tx (transacting x m body env) (at_end x m.span) k (world_of r) (world_of q) (world_of c) t ≡ closes k m.span (ended x m body env r w t)
   ends_viewed (Commit at view writes sent) h =
-      over_faultless t run (λ y. final_writes (at_end x m.span) y.done (world_of c) t) (body_means x body env r) (λ p s. meant (same_writes p.1 writes && same_actions p.0.state.done.sends sent) p.0.result (with_tx p.0 s))
+      over_faultless t run (λ y. final_writes (at_end x m.span) (validators_of x.cells) m.span y.done (world_of c) t) (body_means x body env r) (λ p s. meant (same_writes p.1 writes && same_actions p.0.state.done.sends sent) p.0.result (with_tx p.0 s))
       ∙ ap (λ o. commit_closes writes sent (ended x m body env r (view_or c o) t)) h
   ends_viewed (Fail at view) h =
-      over_faulted t run (λ y. final_writes (at_end x m.span) y.done (world_of q) t) (body_means x body env r)
+      over_faulted t run (λ y. final_writes (at_end x m.span) (validators_of x.cells) m.span y.done (world_of q) t) (body_means x body env r)
       ∙ ap (λ o. faulted (ended x m body env r (view_or q o) t) (λ g s. Faults g s)) h
   ends_viewed (Refused at view agent) h =
-      over_faultless t run (λ y. final_writes (at_end x m.span) y.done (world_of q) t) (body_means x body env r) (λ p s. Faults (fault_at AgentFailed m.span) (with_tx p.0 s))
+      over_faultless t run (λ y. final_writes (at_end x m.span) (validators_of x.cells) m.span y.done (world_of q) t) (body_means x body env r) (λ p s. Faults (fault_at AgentFailed m.span) (with_tx p.0 s))
       ∙ ap (λ o. refuse_closes m.span (ended x m body env r (view_or q o) t)) h
   ends_viewed (Read d) h = absurd (no_view h)
   ends_viewed (Retry since d b) h = absurd (no_view h)
   ends_viewed (Sent a) h = absurd (no_view h)
   ends_viewed (SendRefused d) h = absurd (no_view h)
-  ends_viewed (Acted d n v) h = absurd (no_view h)
+  ends_viewed (Acted d n v sends) h = absurd (no_view h)
   ends_viewed (Swapped v) h = absurd (no_view h)
   ends_viewed (Broke at) h = absurd (no_view h)
 
@@ -199,7 +200,7 @@ module _ (x : Setting) (m : Mark) (body : Tree) (env : List Value) (t : ThreadSt
   ends_unviewed (Retry since d b) h = refl
   ends_unviewed (Sent a) h = refl
   ends_unviewed (SendRefused d) h = refl
-  ends_unviewed (Acted d n v) h = refl
+  ends_unviewed (Acted d n v sends) h = refl
   ends_unviewed (Swapped v) h = refl
   ends_unviewed (Broke at) h = refl
 
@@ -209,9 +210,9 @@ noted b is v t u (Ok w) h = ap (λ k. meant k v t) is ∙ ap (λ z. Completes z 
 noted b is v t u (Err y) h = subst (λ z. HaltsAt z u (meant b v t)) (sym h) tt
 
 -- one run more
-pub noted_more : (p : Progress) (r : Transacted) (txs : List Transacted) → txs ≡ p.txs.items ++ r ∷ [] → record { todo = (thread_state p).todo; printed = (thread_state p).printed; txs = map tx_run txs } ≡ with_tx (tx_run r) (thread_state p)
+pub noted_more : (p : Progress) (r : Transacted) (txs : List Transacted) → txs ≡ p.txs.items ++ r ∷ [] → record { todo = (thread_state p).todo; printed = (thread_state p).printed; held = (thread_state p).held; txs = map tx_run txs } ≡ with_tx (tx_run r) (thread_state p)
 noted_more p r txs e =
-    let made : List TxRun → ThreadState = λ (l : List TxRun). record { todo = (thread_state p).todo; printed = (thread_state p).printed; txs = l } in
+    let made : List TxRun → ThreadState = λ (l : List TxRun). record { todo = (thread_state p).todo; printed = (thread_state p).printed; held = (thread_state p).held; txs = l } in
     ap made (ap (map tx_run) e ∙ map-append tx_run p.txs.items (r ∷ []))
 
 -- a stop of the body or a commute
@@ -223,7 +224,7 @@ end_stops (Read d) span y t c h = refl
 end_stops (Retry since d b) span y t c h = refl
 end_stops (Sent a) span y t c h = refl
 end_stops (SendRefused d) span y t c h = refl
-end_stops (Acted d n v) span y t c h = refl
+end_stops (Acted d n v sends) span y t c h = refl
 end_stops (Swapped v) span y t c h = refl
 end_stops (Broke at) span y t c h = refl
 
@@ -244,7 +245,7 @@ module _ (span : Span) (r : TxRun) (ws : Writes) (t : ThreadState) (res : Result
   ended_as (Retry since d b) h = no_end h
   ended_as (Sent a) h = no_end h
   ended_as (SendRefused d) h = no_end h
-  ended_as (Acted d n v) h = no_end h
+  ended_as (Acted d n v sends) h = no_end h
   ended_as (Swapped v) h = no_end h
   ended_as (Broke at) h = no_end h
 

@@ -16,7 +16,7 @@ use Rattle.txs_tree_meaning.specs.Meaning.{Completion, Completes, Recurs, Faults
 use Rattle.txs_tree_eval_node.specs.Setting.{Setting, callable, on_view, zone_on}
 use Rattle.txs_tree_meaning.specs.Sound.{SoundCallee, PureCall, SoundFunctions, MayStand, in_thread, in_dosync}
 use Rattle.txs_tree_meaning.specs.Right.{up_to}
-use Rattle.txs_tree_meaning.specs.Thread.{ThreadState, Surroundings, uneaten, eats, reads, resets, sends, swaps, meant, faultless, faulted, thread_look, thread_put, thread_update, outside_form}
+use Rattle.txs_tree_meaning.specs.Thread.{ThreadState, Surroundings, uneaten, eats, reads, resets, sends, sends_or_holds, swaps, meant, faultless, faulted, thread_look, thread_put, thread_update, outside_form}
 use Rattle.txs_tree_meaning.specs.Transaction.{TxState, on_cell, done_as, tx_look, tx_put, tx_update}
 use Rattle.txs_tree_meaning.specs.Tree.{Mark}
 use Rattle.txs_tree_meaning.specs.View.{functions_of}
@@ -199,10 +199,10 @@ module _ (x : Setting) (m : Mark) (v : Value) (t : ThreadState) where
   pub untaken_outside : (act : Act) (vs : List Value) (y : ThreadStop) → ReadyIn (callable x) in_thread act (length vs) → Told {A = CellId} (Err y) (result_of (cell_of (rule (form_of_act act)) false v) m.span tt) → Stops false y t (outside_means x act m v vs t)
   untaken_outside (a_look form) vs y ready h = untaken_out (form_of.Look form) (thread_look (around_it x) form) y ready h
   untaken_outside (a_put form) [] y ready h = absurd (omega (arith, ready.1))
-  untaken_outside (a_put form) (w ∷ ws) y ready h = untaken_out (form_of.Put form) (λ c t1. thread_put (around_it x) form c w t1) y ready.0 h
-  untaken_outside (an_update form callee) vs y ready h = untaken_out (form_of.Update form) (λ c t1. thread_update (around_it x) form c callee vs (apply (calls_on None x false) m.span) t1) y ready.0 h
+  untaken_outside (a_put form) (w ∷ ws) y ready h = untaken_out (form_of.Put form) (λ c t1. thread_put (around_it x) form m.span c w (apply (calls_on None x false) m.span) t1) y ready.0 h
+  untaken_outside (an_update form callee) vs y ready h = untaken_out (form_of.Update form) (λ c t1. thread_update (around_it x) form m.span c callee vs (apply (calls_on None x false) m.span) t1) y ready.0 h
   untaken_outside (a_send callee) vs y ready h =
-      let go : CellId → ThreadState → Completion ThreadState Value = λ c t1. eats 0 (λ e t2. sends (record { agent = c; callee = callee; args = vs; span = m.span }) m.span e.kind t2) t1.todo t1 in
+      let go : CellId → ThreadState → Completion ThreadState Value = λ c t1. sends_or_holds t1.held (record { agent = c; callee = callee; args = vs; span = m.span }) m.span t1 in
       up_to_stop y t t (on_cell form_of.Send false m.span v go t) (untaken false t form_of.Send false m.span v go y h)
 
 module _ (x : Setting) (m : Mark) (v : Value) (t : ThreadState) (cell : CellId) (res : Result Value ThreadStop) (t1 : ThreadState) where
@@ -210,7 +210,7 @@ module _ (x : Setting) (m : Mark) (v : Value) (t : ThreadState) (cell : CellId) 
   pub put_outside : (form : PutForm) (vs : List Value) → ReadyIn (callable x) in_thread (a_put form) (length vs) → Told (Ok cell) (result_of (cell_of (rule (form_of.Put form)) false v) m.span tt)
       → Gives false res t1 (of_one (λ w. up_to t (eats (home x.cells cell) (λ e s. resets w e.kind s) t.todo t)) vs) → Gives false res t1 (outside_means x (a_put form) m v vs t)
   put_outside form [] ready told h = absurd (omega (arith, ready.1))
-  put_outside Reset (w ∷ ws) ready told h = subst (λ c. Gives false res t1 (up_to t c)) (sym (took_outside x m v t (form_of.Put Reset) (λ c s. thread_put (around_it x) Reset c w s) cell ready.0 told)) h
+  put_outside Reset (w ∷ ws) ready told h = subst (λ c. Gives false res t1 (up_to t c)) (sym (took_outside x m v t (form_of.Put Reset) (λ c s. thread_put (around_it x) Reset m.span c w (apply (calls_on None x false) m.span) s) cell ready.0 told)) h
   put_outside RefSet (w ∷ ws) ready told h = absurd ready.0
 
   -- a cell is read
@@ -219,17 +219,19 @@ module _ (x : Setting) (m : Mark) (v : Value) (t : ThreadState) (cell : CellId) 
   look_outside Deref vs ready told h = subst (λ c. Gives false res t1 (up_to t c)) (sym (took_outside x m v t (form_of.Look Deref) (λ c s. thread_look (around_it x) Deref c s) cell ready told)) h
   look_outside Ensure vs ready told h = absurd ready
 
-  -- a send eats its event
-  pub send_outside : (callee : Callee) (vs : List Value) → Told (Ok cell) (result_of (cell_of (rule form_of.Send) false v) m.span tt)
+  -- a send eats its event, where no sends are held
+  pub send_outside : t.held ≡ None → (callee : Callee) (vs : List Value) → Told (Ok cell) (result_of (cell_of (rule form_of.Send) false v) m.span tt)
       → Gives false res t1 (up_to t (eats 0 (λ e s. sends (record { agent = cell; callee = callee; args = vs; span = m.span }) m.span e.kind s) t.todo t)) → Gives false res t1 (outside_means x (a_send callee) m v vs t)
-  send_outside callee vs told h =
-      subst (λ c. Gives false res t1 (up_to t c)) (sym (took false t form_of.Send false m.span v (λ c s. eats 0 (λ e s2. sends (record { agent = c; callee = callee; args = vs; span = m.span }) m.span e.kind s2) s.todo s) cell told)) h
+  send_outside none callee vs told h =
+      subst (λ c. Gives false res t1 (up_to t c))
+      (sym (took false t form_of.Send false m.span v (λ c s. sends_or_holds s.held (record { agent = c; callee = callee; args = vs; span = m.span }) m.span s) cell told
+      ∙ ap (λ o. sends_or_holds o (record { agent = cell; callee = callee; args = vs; span = m.span }) m.span t) none)) h
 
   -- an atom is swapped
   pub update_outside : (form : UpdateForm) (callee : Callee) (vs : List Value) → ReadyIn (callable x) in_thread (an_update form callee) (length vs) → Told (Ok cell) (result_of (cell_of (rule (form_of.Update form)) false v) m.span tt)
       → Gives false res t1 (up_to t (eats (home x.cells cell) (λ e s. swap_means x callee cell vs m.span e s) t.todo t)) → Gives false res t1 (outside_means x (an_update form callee) m v vs t)
   update_outside Swap callee vs ready told h =
-      subst (λ c. Gives false res t1 (up_to t c)) (sym (took_outside x m v t (form_of.Update Swap) (λ c s. thread_update (around_it x) Swap c callee vs (apply (calls_on None x false) m.span) s) cell ready.0 told)) h
+      subst (λ c. Gives false res t1 (up_to t c)) (sym (took_outside x m v t (form_of.Update Swap) (λ c s. thread_update (around_it x) Swap m.span c callee vs (apply (calls_on None x false) m.span) s) cell ready.0 told)) h
   update_outside Alter callee vs ready told h = absurd ready.0
   update_outside Commute callee vs ready told h = absurd ready.0
 
@@ -327,7 +329,7 @@ module _ (c : CellId) (g : Value → ThreadState → Completion ThreadState Valu
   swaps_to (Refused at view d) new h = absurd (nothing h)
   swaps_to (Sent a) new h = absurd (nothing h)
   swaps_to (SendRefused d) new h = absurd (nothing h)
-  swaps_to (Acted d n w) new h = absurd (nothing h)
+  swaps_to (Acted d n w sends) new h = absurd (nothing h)
   swaps_to (Broke at) new h = absurd (nothing h)
 
   pub swaps_broken : (k : EventKind) → is_broke k ≡ true → swaps c g k R C t ≡ faulted (g (R c.number) t) (λ f t1. Faults f t1)
@@ -340,7 +342,7 @@ module _ (c : CellId) (g : Value → ThreadState → Completion ThreadState Valu
   swaps_broken (Refused at view d) h = absurd (false≢true h)
   swaps_broken (Sent a) h = absurd (false≢true h)
   swaps_broken (SendRefused d) h = absurd (false≢true h)
-  swaps_broken (Acted d n w) h = absurd (false≢true h)
+  swaps_broken (Acted d n w sends) h = absurd (false≢true h)
 
   pub swaps_else : (k : EventKind) → swap_of k ≡ None → is_broke k ≡ false → swaps c g k R C t ≡ Invalid
   swaps_else (Broke at) h b = absurd (never b)
@@ -352,7 +354,7 @@ module _ (c : CellId) (g : Value → ThreadState → Completion ThreadState Valu
   swaps_else (Refused at view d) h b = refl
   swaps_else (Sent a) h b = refl
   swaps_else (SendRefused d) h b = refl
-  swaps_else (Acted d n w) h b = refl
+  swaps_else (Acted d n w sends) h b = refl
 
 -- the next event, which is of the book
 comes : {A : Type 0} (book : ℕ) (go : SeenEvent → ThreadState → Completion ThreadState A) (e : Seen) (t : ThreadState) (h : Comes book e t) → eats book go t.todo t ≡ uneaten (seen_event e ∷ h.0) (go (seen_event e) (with_todo h.0 t))
@@ -396,7 +398,7 @@ reads_as c (Fail at view) C t = refl
 reads_as c (Refused at view d) C t = refl
 reads_as c (Sent a) C t = refl
 reads_as c (SendRefused d) C t = refl
-reads_as c (Acted d n w) C t = refl
+reads_as c (Acted d n w sends) C t = refl
 reads_as c (Swapped w) C t = refl
 reads_as c (Broke at) C t = refl
 
@@ -408,7 +410,7 @@ resets_as v (Fail at view) t = refl
 resets_as v (Refused at view d) t = refl
 resets_as v (Sent a) t = refl
 resets_as v (SendRefused d) t = refl
-resets_as v (Acted d n w) t = refl
+resets_as v (Acted d n w sends) t = refl
 resets_as v (Swapped w) t = refl
 resets_as v (Broke at) t = refl
 
@@ -429,7 +431,7 @@ module _ (a : Action) (span : Span) (t : ThreadState) where
   sends_as (Refused at view d) = refl
   sends_as (Sent b) = sent_meant (same_action a b)
   sends_as (SendRefused d) = sent_refused (same_cell a.agent d)
-  sends_as (Acted d n w) = refl
+  sends_as (Acted d n w sends) = refl
   sends_as (Swapped w) = refl
   sends_as (Broke at) = refl
 
@@ -480,17 +482,17 @@ pub send_home : (x : Setting) (v : Value) (span : Span) (d : CellId) → Told (O
 send_home x v span d told = ap (λ k. if same_kind k Atom then suc (atoms_below x.cells d.number) else 0) (agent_of v span d told)
 
 -- where there was no such event
-pub none_outside : (x : Setting) (m : Mark) (v : Value) (t : ThreadState) (cell : CellId) (act : Act) (vs : List Value) (y : ThreadStop) (book : ℕ) → book ≡ home x.cells cell → ReadyIn (callable x) in_thread act (length vs)
+pub none_outside : (x : Setting) (m : Mark) (v : Value) (t : ThreadState) (cell : CellId) (act : Act) (vs : List Value) (y : ThreadStop) (book : ℕ) → t.held ≡ None → book ≡ home x.cells cell → ReadyIn (callable x) in_thread act (length vs)
     → Told (Ok cell) (result_of (cell_of (rule (form_of_act act)) false v) m.span tt) → ComesNone book y t → Stops false y t (outside_means x act m v vs t)
-none_outside x m v t cell (a_look form) vs y book is ready told none = look_outside x m v t cell (Err y) t form vs ready told (subst (λ b. Stops false y t (up_to t (eats b (λ e s. reads cell e.kind e.C s) t.todo t))) is (comes_none book (λ e s. reads cell e.kind e.C s) y t none))
-none_outside x m v t cell (a_put form) [] y book is ready told none = absurd (omega (arith, ready.1))
-none_outside x m v t cell (a_put form) (w ∷ ws) y book is ready told none = put_outside x m v t cell (Err y) t form (w ∷ ws) ready told (subst (λ b. Stops false y t (up_to t (eats b (λ e s. resets w e.kind s) t.todo t))) is (comes_none book (λ e s. resets w e.kind s) y t none))
-none_outside x m v t cell (an_update form callee) vs y book is ready told none =
+none_outside x m v t cell (a_look form) vs y book held is ready told none = look_outside x m v t cell (Err y) t form vs ready told (subst (λ b. Stops false y t (up_to t (eats b (λ e s. reads cell e.kind e.C s) t.todo t))) is (comes_none book (λ e s. reads cell e.kind e.C s) y t none))
+none_outside x m v t cell (a_put form) [] y book held is ready told none = absurd (omega (arith, ready.1))
+none_outside x m v t cell (a_put form) (w ∷ ws) y book held is ready told none = put_outside x m v t cell (Err y) t form (w ∷ ws) ready told (subst (λ b. Stops false y t (up_to t (eats b (λ e s. resets w e.kind s) t.todo t))) is (comes_none book (λ e s. resets w e.kind s) y t none))
+none_outside x m v t cell (an_update form callee) vs y book held is ready told none =
     let go : SeenEvent → ThreadState → Completion ThreadState Value = λ e s. swap_means x callee cell vs m.span e s in
     update_outside x m v t cell (Err y) t form callee vs ready told (subst (λ b. Stops false y t (up_to t (eats b go t.todo t))) is (comes_none book go y t none))
-none_outside x m v t cell (a_send callee) vs y book is ready told none =
+none_outside x m v t cell (a_send callee) vs y book held is ready told none =
     let go : SeenEvent → ThreadState → Completion ThreadState Value = λ e s. sends (record { agent = cell; callee = callee; args = vs; span = m.span }) m.span e.kind s in
-    send_outside x m v t cell (Err y) t callee vs told (subst (λ b. Stops false y t (up_to t (eats b go t.todo t))) (is ∙ send_home x v m.span cell told) (comes_none book go y t none))
+    send_outside x m v t cell (Err y) t held callee vs told (subst (λ b. Stops false y t (up_to t (eats b go t.todo t))) (is ∙ send_home x v m.span cell told) (comes_none book go y t none))
 
 -- what a swap makes of what the callee gave
 swap_named : (w : Value) (u : ThreadState) (b : Bool) → AnswersAt (if b then Ok w else Err Wrong) u (meant b w u)

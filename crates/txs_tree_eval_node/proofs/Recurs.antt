@@ -38,7 +38,7 @@ use Rattle.txs_tree_meaning.specs.Meaning.{Completion, Completes, Recurs, Faults
 use Rattle.txs_tree_eval_node.specs.Setting.{Setting, callable, zone_on, on_view}
 use Rattle.txs_tree_meaning.specs.Sound.{SoundCall, SoundCallee, SoundTree, SoundAll, SoundLet, SoundDo, SoundFunctions, in_dosync}
 use Rattle.txs_tree_meaning.specs.Right.{up_to, behind_retries, on_right}
-use Rattle.txs_tree_meaning.specs.Thread.{ThreadState, Surroundings, Transacting, on_events, with_tx, uneaten, eats, meant, reads, resets, swaps, faulted, faultless, sends, over, run_of, ends_tx, is_retry, eats_tx, thread_look, thread_put, thread_update, outside_form}
+use Rattle.txs_tree_meaning.specs.Thread.{ThreadState, Surroundings, Transacting, on_events, with_tx, uneaten, eats, meant, reads, resets, swaps, faulted, faultless, sends, sends_or_holds, over, run_of, ends_tx, is_retry, eats_tx, thread_look, thread_put, thread_update, outside_form}
 use Rattle.txs_tree_meaning.specs.Transaction.{TxState, in_transaction, on_cell, own, current, noted, tx_look, tx_put, tx_update, done_as, final_writes}
 use Rattle.txs_tree_meaning.specs.Tree.{Mark, Tree, Const, Local, If, Do, Let, Loop, Recur, Core, Call, VectorOf, Println, Dosync, Look, Put, Update, Send, Trees, none, more, count, PlainFunction}
 use Rattle.txs_tree_meaning.specs.View.{functions_of}
@@ -171,7 +171,7 @@ module _ (tail : Option ℕ) where
   reads_as c (Refused at view g) C t = tt
   reads_as c (Sent a) C t = tt
   reads_as c (SendRefused g) C t = tt
-  reads_as c (Act g n new) C t = tt
+  reads_as c (Act g n new sends) C t = tt
   reads_as c (Swapped new) C t = tt
   reads_as c (Broke at) C t = tt
 
@@ -184,7 +184,7 @@ module _ (tail : Option ℕ) where
   resets_as v (Refused at view g) t = tt
   resets_as v (Sent a) t = tt
   resets_as v (SendRefused g) t = tt
-  resets_as v (Act g n new) t = tt
+  resets_as v (Act g n new sends) t = tt
   resets_as v (Broke at) t = tt
 
   swaps_as : (c : CellId) (f : Value → ThreadState → Completion ThreadState Value) (k : EventKind) (R C : World) (t : ThreadState) → RecursAs tail (swaps c f k R C t)
@@ -197,7 +197,7 @@ module _ (tail : Option ℕ) where
   swaps_as c f (Refused at view g) R C t = tt
   swaps_as c f (Sent a) R C t = tt
   swaps_as c f (SendRefused g) R C t = tt
-  swaps_as c f (Act g n new) R C t = tt
+  swaps_as c f (Act g n new sends) R C t = tt
 
   sends_as : (a : Action) (span : Span) (k : EventKind) (t : ThreadState) → RecursAs tail (sends a span k t)
   sends_as a span (Sent b) t = meant_as (same_action a b) (Cell a.agent) t
@@ -207,25 +207,29 @@ module _ (tail : Option ℕ) where
   sends_as a span (Retry since d b) t = tt
   sends_as a span (Fail at view) t = tt
   sends_as a span (Refused at view g) t = tt
-  sends_as a span (Act g n new) t = tt
+  sends_as a span (Act g n new sends) t = tt
   sends_as a span (Swapped new) t = tt
   sends_as a span (Broke at) t = tt
 
+  sends_or_holds_as : (o : Option (List Action)) (a : Action) (span : Span) (t : ThreadState) → RecursAs tail (sends_or_holds o a span t)
+  sends_or_holds_as None a span t = eats_as 0 (λ e t1. sends a span e.kind t1) t.todo t (λ e t1. sends_as a span e.kind t1)
+  sends_or_holds_as (Some held) a span t = tt
+
   ends_tx_as : (d : Transacting) (f : Applies ThreadState) (k : EventKind) (R Q C : World) (t : ThreadState) → RecursAs tail (ends_tx d f k R Q C t)
   ends_tx_as d f (Commit at view writes sent) R Q C t =
-      over_as t (d.on R) (λ v x. faultless (final_writes f x.done C t) (λ ws t1. meant (same_writes ws writes && same_actions x.done.sends sent) v (with_tx (run_of d v x) t1))) (λ g. Invalid)
-      (λ v x. faultless_as (final_writes f x.done C t) (λ ws t1. meant (same_writes ws writes && same_actions x.done.sends sent) v (with_tx (run_of d v x) t1)) (λ ws t1. meant_as (same_writes ws writes && same_actions x.done.sends sent) v (with_tx (run_of d v x) t1))) (λ g. tt)
+      over_as t (d.on R) (λ v x. faultless (final_writes f d.validators d.mark.span x.done C t) (λ ws t1. meant (same_writes ws writes && same_actions x.done.sends sent) v (with_tx (run_of d v x) t1))) (λ g. Invalid)
+      (λ v x. faultless_as (final_writes f d.validators d.mark.span x.done C t) (λ ws t1. meant (same_writes ws writes && same_actions x.done.sends sent) v (with_tx (run_of d v x) t1)) (λ ws t1. meant_as (same_writes ws writes && same_actions x.done.sends sent) v (with_tx (run_of d v x) t1))) (λ g. tt)
   ends_tx_as d f (Fail at view) R Q C t =
-      over_as t (d.on R) (λ v x. faulted (final_writes f x.done Q t) (λ g t1. Faults g t1)) (λ g. Faults g t)
-      (λ v x. faulted_as (final_writes f x.done Q t) (λ g t1. Faults g t1) (λ g t1. tt)) (λ g. tt)
+      over_as t (d.on R) (λ v x. faulted (final_writes f d.validators d.mark.span x.done Q t) (λ g t1. Faults g t1)) (λ g. Faults g t)
+      (λ v x. faulted_as (final_writes f d.validators d.mark.span x.done Q t) (λ g t1. Faults g t1) (λ g t1. tt)) (λ g. tt)
   ends_tx_as d f (Refused at view agent) R Q C t =
-      over_as t (d.on R) (λ v x. faultless (final_writes f x.done Q t) (λ ws t1. Faults (fault_at AgentFailed d.mark.span) (with_tx (run_of d v x) t1))) (λ g. Invalid)
-      (λ v x. faultless_as (final_writes f x.done Q t) (λ ws t1. Faults (fault_at AgentFailed d.mark.span) (with_tx (run_of d v x) t1)) (λ ws t1. tt)) (λ g. tt)
+      over_as t (d.on R) (λ v x. faultless (final_writes f d.validators d.mark.span x.done Q t) (λ ws t1. Faults (fault_at AgentFailed d.mark.span) (with_tx (run_of d v x) t1))) (λ g. Invalid)
+      (λ v x. faultless_as (final_writes f d.validators d.mark.span x.done Q t) (λ ws t1. Faults (fault_at AgentFailed d.mark.span) (with_tx (run_of d v x) t1)) (λ ws t1. tt)) (λ g. tt)
   ends_tx_as d f (Read c) R Q C t = tt
   ends_tx_as d f (Retry since c b) R Q C t = tt
   ends_tx_as d f (Sent a) R Q C t = tt
   ends_tx_as d f (SendRefused g) R Q C t = tt
-  ends_tx_as d f (Act g n new) R Q C t = tt
+  ends_tx_as d f (Act g n new sends) R Q C t = tt
   ends_tx_as d f (Swapped new) R Q C t = tt
   ends_tx_as d f (Broke at) R Q C t = tt
 
@@ -241,14 +245,14 @@ module _ (tail : Option ℕ) where
   thread_look_as x Deref c t = eats_as (home x.cells c) (λ e t1. reads c e.kind e.C t1) t.todo t (λ e t1. reads_as c e.kind e.C t1)
   thread_look_as x Ensure c t = tt
 
-  thread_put_as : (x : Surroundings) (form : PutForm) (c : CellId) (v : Value) (t : ThreadState) → RecursAs tail (thread_put x form c v t)
-  thread_put_as x RefSet c v t = tt
-  thread_put_as x Reset c v t = eats_as (home x.cells c) (λ e t1. resets v e.kind t1) t.todo t (λ e t1. resets_as v e.kind t1)
+  thread_put_as : (x : Surroundings) (form : PutForm) (span : Span) (c : CellId) (v : Value) (f : Applies ThreadState) (t : ThreadState) → RecursAs tail (thread_put x form span c v f t)
+  thread_put_as x RefSet span c v f t = tt
+  thread_put_as x Reset span c v f t = eats_as (home x.cells c) (λ e t1. resets v e.kind t1) t.todo t (λ e t1. resets_as v e.kind t1)
 
-  thread_update_as : (x : Surroundings) (form : UpdateForm) (c : CellId) (callee : Callee) (vs : List Value) (f : Applies ThreadState) (t : ThreadState) → RecursAs tail (thread_update x form c callee vs f t)
-  thread_update_as x Alter c callee vs f t = tt
-  thread_update_as x Commute c callee vs f t = tt
-  thread_update_as x Swap c callee vs f t =
+  thread_update_as : (x : Surroundings) (form : UpdateForm) (span : Span) (c : CellId) (callee : Callee) (vs : List Value) (f : Applies ThreadState) (t : ThreadState) → RecursAs tail (thread_update x form span c callee vs f t)
+  thread_update_as x Alter span c callee vs f t = tt
+  thread_update_as x Commute span c callee vs f t = tt
+  thread_update_as x Swap span c callee vs f t =
       eats_as (home x.cells c) (λ e t1. swaps c (λ v t2. f callee (v ∷ vs) t2) e.kind e.R e.C t1) t.todo t (λ e t1. swaps_as c (λ v t2. f callee (v ∷ vs) t2) e.kind e.R e.C t1)
 
   -- the forms on cells of a thread, one family after the other
@@ -259,17 +263,17 @@ module _ (tail : Option ℕ) where
     look_as : (form : LookForm) → RecursAs tail ((on_events x d).look form false m v t)
     look_as form = outside_as (form_of.Look form) (thread_look x form) (λ c t1. thread_look_as x form c t1)
 
-    put_as : (form : PutForm) (w : Value) → RecursAs tail ((on_events x d).put form false m v w t)
-    put_as form w = outside_as (form_of.Put form) (λ c t1. thread_put x form c w t1) (λ c t1. thread_put_as x form c w t1)
+    put_as : (form : PutForm) (w : Value) (f : Applies ThreadState) → RecursAs tail ((on_events x d).put form false m v w f t)
+    put_as form w f = outside_as (form_of.Put form) (λ c t1. thread_put x form m.span c w f t1) (λ c t1. thread_put_as x form m.span c w f t1)
 
     update_as : (form : UpdateForm) (callee : Callee) (vs : List Value) (f : Applies ThreadState) → RecursAs tail ((on_events x d).update form false m v callee vs f t)
-    update_as form callee vs f = outside_as (form_of.Update form) (λ c t1. thread_update x form c callee vs f t1) (λ c t1. thread_update_as x form c callee vs f t1)
+    update_as form callee vs f = outside_as (form_of.Update form) (λ c t1. thread_update x form m.span c callee vs f t1) (λ c t1. thread_update_as x form m.span c callee vs f t1)
 
     send_as : (callee : Callee) (vs : List Value) → RecursAs tail ((on_events x d).send false m v callee vs t)
     send_as callee vs =
         let action : CellId → Action = λ c. record { agent = c; callee = callee; args = vs; span = m.span } in
-        on_cell_as tail form_of.Send false m.span v (λ c t1. eats 0 (λ e t2. sends (action c) m.span e.kind t2) t1.todo t1) t
-        (λ c t1. eats_as 0 (λ e t2. sends (action c) m.span e.kind t2) t1.todo t1 (λ e t2. sends_as (action c) m.span e.kind t2))
+        on_cell_as tail form_of.Send false m.span v (λ c t1. sends_or_holds t1.held (action c) m.span t1) t
+        (λ c t1. sends_or_holds_as t1.held (action c) m.span t1)
 
 -- ---- what a sound node leaves
 
@@ -472,9 +476,9 @@ module _ (top : Option (List Known)) (x : Surroundings) (d : ℕ) (tail : Option
   look_fine None form m v s h = right tail s ((on_events x d).look form false m v s) (look_as tail x d m v s form)
   look_fine (Some R) form m v s h = on_cell_fine (Keeps top) tail (form_of.Look form) true m.span v (tx_look R form) s h (λ c t p. tx_look_fine top R tail form c t p)
 
-  put_fine : (o : Option World) (form : PutForm) (m : Mark) (v w : Value) (s : Part (shape o)) → KeepsOn o top s → Fine (KeepsOn o top) tail ((forms_at o x d).put form (is_on (shape o)) m v w s)
-  put_fine None form m v w s h = right tail s ((on_events x d).put form false m v w s) (put_as tail x d m v s form w)
-  put_fine (Some R) form m v w s h = on_cell_fine (Keeps top) tail (form_of.Put form) true m.span v (λ c t. tx_put form m.span c w t) s h (λ c t p. tx_put_fine top R tail form m.span c w t p)
+  put_fine : (o : Option World) (form : PutForm) (m : Mark) (v w : Value) (f : Applies (Part (shape o))) (s : Part (shape o)) → KeepsOn o top s → Fine (KeepsOn o top) tail ((forms_at o x d).put form (is_on (shape o)) m v w f s)
+  put_fine None form m v w f s h = right tail s ((on_events x d).put form false m v w f s) (put_as tail x d m v s form w f)
+  put_fine (Some R) form m v w f s h = on_cell_fine (Keeps top) tail (form_of.Put form) true m.span v (λ c t. tx_put form m.span c w t) s h (λ c t p. tx_put_fine top R tail form m.span c w t p)
 
   update_fine : (o : Option World) (form : UpdateForm) (m : Mark) (v : Value) (callee : Callee) (vs : List Value) (f : Applies (Part (shape o))) (s : Part (shape o)) → CalleeBy top callee (suc (length vs))
       → ((us : List Value) (t : Part (shape o)) → length us ≡ suc (length vs) → KeepsOn o top t → Fine (KeepsOn o top) None (f callee us t)) → KeepsOn o top s → Fine (KeepsOn o top) tail ((forms_at o x d).update form (is_on (shape o)) m v callee vs f s)
@@ -551,8 +555,9 @@ module _ (top : Option (List Known)) (ks : List Known) (wide : (callee : Callee)
     tree_fine (Look form cell m) d tail env s h p =
         bind_fine P None tail (eval fx call n on cell env s) (λ v s1. fx.look form on m v s1) (tree_fine cell d None env s h.1 p) (λ v s1 p1. look_fine top x b tail o form m v s1 p1)
     tree_fine (Put form cell value m) d tail env s h p =
-        bind_fine P None tail (eval fx call n on cell env s) (λ v s1. bind (eval fx call n on value env s1) (λ w s2. fx.put form on m v w s2)) (tree_fine cell d None env s h.1 p)
-        (λ v s1 p1. bind_fine P None tail (eval fx call n on value env s1) (λ w s2. fx.put form on m v w s2) (tree_fine value d None env s1 h.2 p1) (λ w s2 p2. put_fine top x b tail o form m v w s2 p2))
+        let f = apply (call on) m.span in
+        bind_fine P None tail (eval fx call n on cell env s) (λ v s1. bind (eval fx call n on value env s1) (λ w s2. fx.put form on m v w f s2)) (tree_fine cell d None env s h.1 p)
+        (λ v s1 p1. bind_fine P None tail (eval fx call n on value env s1) (λ w s2. fx.put form on m v w f s2) (tree_fine value d None env s1 h.2 p1) (λ w s2 p2. put_fine top x b tail o form m v w f s2 p2))
     tree_fine (Update form cell callee args m) d tail env s h p =
         let f = apply (call on) m.span in
         bind_fine P None tail (eval fx call n on cell env s) (λ v s1. bind (eval_all fx call n on args env s1) (λ vs s2. fx.update form on m v callee vs f s2)) (tree_fine cell d None env s h.1 p)

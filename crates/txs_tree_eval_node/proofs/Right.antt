@@ -5,7 +5,7 @@ use Rattle.txs_world_protocol.specs.Ask.{Writes, same_writes, same_value, same_a
 use Rattle.txs_world_protocol.specs.SeenEvent.{SeenEvent, home}
 use Rattle.txs_world_protocol.specs.declared.event.EventKind.{EventKind}
 use Rattle.txs_world_protocol.specs.declared.event.EventKind.TheVariants.{Read, Commit, Retry, Fail, Refused, Send as Sent, SendRefused, Act as Acted, Swap as Swapped, Broke}
-use Rattle.txs_value_cell.specs.Cells.{World}
+use Rattle.txs_value_cell.specs.Cells.{World, validators_of}
 use Rattle.txs_value_cell.specs.Forms.{rule, may_stand, cell_of}
 use Rattle.txs_value_cell.specs.declared.action.Action.{Action}
 use Rattle.txs_value_cell.specs.declared.cell.CellDefinition.{CellDefinition}
@@ -35,7 +35,7 @@ use Rattle.txs_tree_meaning.specs.Meaning.{Completion, Completes, Recurs, Faults
 use Rattle.txs_tree_meaning.specs.Pure.{pure_calls}
 use Rattle.txs_tree_meaning.specs.Right.{up_to, behind_retries, on_right}
 use Rattle.txs_tree_meaning.specs.Sound.{MayStand, in_thread, in_dosync, SoundCall, SoundCallee, SoundTree, SoundAll, SoundLet, SoundDo, SoundFunctions}
-use Rattle.txs_tree_meaning.specs.Thread.{ThreadState, Transacting, with_tx, run_of, uneaten, eats, meant, reads, resets, faulted, faultless, swaps, sends, over, ends_tx, is_retry, eats_tx, Surroundings, thread_look, thread_put, thread_update, on_events}
+use Rattle.txs_tree_meaning.specs.Thread.{ThreadState, Transacting, with_tx, run_of, uneaten, eats, meant, reads, resets, faulted, faultless, swaps, sends, sends_or_holds, over, ends_tx, is_retry, eats_tx, Surroundings, thread_look, thread_put, thread_update, on_events}
 use Rattle.txs_tree_meaning.specs.Transaction.{TxState, in_transaction, tx_start, tx_meaning, final_writes}
 use Rattle.txs_tree_meaning.specs.Tree.{Mark, Tree, Const, Local, If, Do, Let, Loop, Recur, Core, Call, VectorOf, Println, Dosync, Look, Put, Update, Send, Trees, none, more, count, PlainFunction}
 use Rattle.txs_tree_meaning.specs.View.{functions_of}
@@ -425,7 +425,22 @@ module _ (f : SeenEvent) (gs : List SeenEvent) where
     calm_swaps (Refused at view d) R C = calm_wrong
     calm_swaps (Sent a) R C = calm_wrong
     calm_swaps (SendRefused d) R C = calm_wrong
-    calm_swaps (Acted d n w) R C = calm_wrong
+    calm_swaps (Acted d n w sends) R C = calm_wrong
+
+  -- a send, made or held
+  goes_or_holds : (a : Action) (span : Span) → Goes (λ t. sends_or_holds t.held a span t) (λ t. up_to t (sends_or_holds t.held a span t))
+  goes_or_holds a span = (λ s. three s s.held, λ t. steady t t.held)
+    where
+      made : Goes (λ t. eats 0 (λ e t1. sends a span e.kind t1) t.todo t) (λ t. up_to t (eats 0 (λ e t1. sends a span e.kind t1) t.todo t))
+      made = goes_eats 0 (λ e t. sends a span e.kind t) (λ e t. sends a span e.kind t) (λ e. calm_sends a span e.kind)
+
+      three : (s : ThreadState) (o : Option (List Action)) → Three (sends_or_holds o a span s) (up_to s (sends_or_holds o a span s)) (up_to (longer s) (sends_or_holds o a span (longer s)))
+      three s None = made.0 s
+      three s (Some held) = (refl, refl)
+
+      steady : (t : ThreadState) (o : Option (List Action)) → Steady (length t.todo) (up_to t (sends_or_holds o a span t))
+      steady t None = made.1 t
+      steady t (Some held) = itself (length t.todo)
 
   -- on the cell that a form takes
   goes_cell : (r : Result CellId FaultKind) (span : Span) (k g : CellId → ThreadState → Completion ThreadState Value) → ((c : CellId) → Goes (k c) (λ t. up_to t (g c t))) → Goes (λ t. bind (result_of r span t) k) (λ t. up_to t (bind (result_of r span t) g))
@@ -447,19 +462,20 @@ module _ (f : SeenEvent) (gs : List SeenEvent) where
         (goes_cell r m.span go go (λ c. goes_eats (home x.cells c) (λ e t. reads c e.kind e.C t) (λ e t. reads c e.kind e.C t) (λ e. calm_reads c e.kind e.C)))
     goes_look Ensure may = absurd may
 
-    goes_put : (form : PutForm) (w : Value) → MayStand in_thread (rule (form_of.Put form)).stands → Goes (λ t. (on_events x d).put form false m v w t) (λ t. (on_right x d).put form false m v w t)
-    goes_put Reset w may =
-        let go : CellId → ThreadState → Completion ThreadState Value = λ c t. thread_put x Reset c w t in
+    goes_put : (form : PutForm) (w : Value) (k g : Applies ThreadState) → MayStand in_thread (rule (form_of.Put form)).stands → Goes (λ t. (on_events x d).put form false m v w k t) (λ t. (on_right x d).put form false m v w g t)
+    goes_put Reset w k g may =
+        let go : CellId → ThreadState → Completion ThreadState Value = λ c t. thread_put x Reset m.span c w k t in
+        let on : CellId → ThreadState → Completion ThreadState Value = λ c t. thread_put x Reset m.span c w g t in
         let r = cell_of (rule (form_of.Put Reset)) false v in
-        goes_allowed (rule (form_of.Put Reset)).stands (λ t. bind (result_of r m.span t) go) (λ t. bind (result_of r m.span t) go) may
-        (goes_cell r m.span go go (λ c. goes_eats (home x.cells c) (λ e t. resets w e.kind t) (λ e t. resets w e.kind t) (λ e. calm_resets w e.kind)))
-    goes_put RefSet w may = absurd may
+        goes_allowed (rule (form_of.Put Reset)).stands (λ t. bind (result_of r m.span t) go) (λ t. bind (result_of r m.span t) on) may
+        (goes_cell r m.span go on (λ c. goes_eats (home x.cells c) (λ e t. resets w e.kind t) (λ e t. resets w e.kind t) (λ e. calm_resets w e.kind)))
+    goes_put RefSet w k g may = absurd may
 
     goes_update : (form : UpdateForm) (callee : Callee) (vs : List Value) (k g : Applies ThreadState) → MayStand in_thread (rule (form_of.Update form)).stands → ((us : List Value) → Calm (λ t. k callee us t) (λ t. g callee us t))
         → Goes (λ t. (on_events x d).update form false m v callee vs k t) (λ t. (on_right x d).update form false m v callee vs g t)
     goes_update Swap callee vs k g may each =
-        let go : CellId → ThreadState → Completion ThreadState Value = λ c t. thread_update x Swap c callee vs k t in
-        let on : CellId → ThreadState → Completion ThreadState Value = λ c t. thread_update x Swap c callee vs g t in
+        let go : CellId → ThreadState → Completion ThreadState Value = λ c t. thread_update x Swap m.span c callee vs k t in
+        let on : CellId → ThreadState → Completion ThreadState Value = λ c t. thread_update x Swap m.span c callee vs g t in
         let r = cell_of (rule (form_of.Update Swap)) false v in
         goes_allowed (rule (form_of.Update Swap)).stands (λ t. bind (result_of r m.span t) go) (λ t. bind (result_of r m.span t) on) may
         (goes_cell r m.span go on
@@ -471,8 +487,8 @@ module _ (f : SeenEvent) (gs : List SeenEvent) where
     goes_send : (callee : Callee) (vs : List Value) → Goes (λ t. (on_events x d).send false m v callee vs t) (λ t. (on_right x d).send false m v callee vs t)
     goes_send callee vs =
         let action : CellId → Action = λ c. record { agent = c; callee = callee; args = vs; span = m.span } in
-        let go : CellId → ThreadState → Completion ThreadState Value = λ c t. eats 0 (λ e t1. sends (action c) m.span e.kind t1) t.todo t in
-        goes_cell (cell_of (rule form_of.Send) false v) m.span go go (λ c. goes_eats 0 (λ e t. sends (action c) m.span e.kind t) (λ e t. sends (action c) m.span e.kind t) (λ e. calm_sends (action c) m.span e.kind))
+        let go : CellId → ThreadState → Completion ThreadState Value = λ c t. sends_or_holds t.held (action c) m.span t in
+        goes_cell (cell_of (rule form_of.Send) false v) m.span go go (λ c. goes_or_holds (action c) m.span)
 
   goes_print : (x : Surroundings) (d : ℕ) (vs : List Value) → Goes (λ t. (on_events x d).print false vs t) (λ t. (on_right x d).print false vs t)
   goes_print x d vs = (λ s. (refl, refl), λ t. itself (length t.todo))
@@ -483,27 +499,27 @@ module _ (f : SeenEvent) (gs : List SeenEvent) where
   calm_noted true v x z same left = (λ s. (refl, ap (λ u. Completes v u) (same s)), λ t. omega (arith, ap length (left t)))
   calm_noted false v x z same left = calm_wrong
 
-  module _ (d : Transacting) (k g : Applies ThreadState) (pure : (R : World) (v : Value) (z : TxState) → d.on R ≡ Completes v z → (C : World) → Calm (λ t. final_writes k z.done C t) (λ t. final_writes g z.done C t)) where
+  module _ (d : Transacting) (k g : Applies ThreadState) (pure : (R : World) (v : Value) (z : TxState) → d.on R ≡ Completes v z → (C : World) → Calm (λ t. final_writes k d.validators d.mark.span z.done C t) (λ t. final_writes g d.validators d.mark.span z.done C t)) where
     calm_ends : (e : EventKind) (R Q C : World) → Calm (λ t. ends_tx d k e R Q C t) (λ t. ends_tx d g e R Q C t)
     calm_ends (Commit at view writes sent) R Q C =
         let noted : Value → TxState → ThreadState → ThreadState = λ v z t. with_tx (run_of d v z) t in
         let meets : Value → TxState → Writes → ThreadState → Completion ThreadState Value = λ v z ws t. meant (same_writes ws writes && same_actions z.done.sends sent) v (noted v z t) in
-        calm_over (d.on R) (λ v z t. faultless (final_writes k z.done C t) (meets v z)) (λ v z t. faultless (final_writes g z.done C t) (meets v z)) (λ e t. Invalid)
-        (λ v z is. calm_faultless (λ t. final_writes k z.done C t) (λ t. final_writes g z.done C t) (meets v z) (meets v z) (pure R v z is C)
+        calm_over (d.on R) (λ v z t. faultless (final_writes k d.validators d.mark.span z.done C t) (meets v z)) (λ v z t. faultless (final_writes g d.validators d.mark.span z.done C t) (meets v z)) (λ e t. Invalid)
+        (λ v z is. calm_faultless (λ t. final_writes k d.validators d.mark.span z.done C t) (λ t. final_writes g d.validators d.mark.span z.done C t) (meets v z) (meets v z) (pure R v z is C)
         (λ ws. calm_noted (same_writes ws writes && same_actions z.done.sends sent) v noted z (λ s. refl) (λ t. refl)))
         (λ e. calm_wrong)
     calm_ends (Fail at view) R Q C =
-        calm_over (d.on R) (λ v z t. faulted (final_writes k z.done Q t) (λ e u. Faults e u)) (λ v z t. faulted (final_writes g z.done Q t) (λ e u. Faults e u)) (λ e t. Faults e t)
-        (λ v z is. calm_faulted (λ t. final_writes k z.done Q t) (λ t. final_writes g z.done Q t) (pure R v z is Q)) (λ e. (λ s. (refl, refl), λ t. tt))
+        calm_over (d.on R) (λ v z t. faulted (final_writes k d.validators d.mark.span z.done Q t) (λ e u. Faults e u)) (λ v z t. faulted (final_writes g d.validators d.mark.span z.done Q t) (λ e u. Faults e u)) (λ e t. Faults e t)
+        (λ v z is. calm_faulted (λ t. final_writes k d.validators d.mark.span z.done Q t) (λ t. final_writes g d.validators d.mark.span z.done Q t) (pure R v z is Q)) (λ e. (λ s. (refl, refl), λ t. tt))
     calm_ends (Refused at view agent) R Q C =
         let meets : Value → TxState → Writes → ThreadState → Completion ThreadState Value = λ v z ws t. Faults (fault_at AgentFailed d.mark.span) (with_tx (run_of d v z) t) in
-        calm_over (d.on R) (λ v z t. faultless (final_writes k z.done Q t) (meets v z)) (λ v z t. faultless (final_writes g z.done Q t) (meets v z)) (λ e t. Invalid)
-        (λ v z is. calm_faultless (λ t. final_writes k z.done Q t) (λ t. final_writes g z.done Q t) (meets v z) (meets v z) (pure R v z is Q) (λ ws. (λ s. (refl, refl), λ t. tt))) (λ e. calm_wrong)
+        calm_over (d.on R) (λ v z t. faultless (final_writes k d.validators d.mark.span z.done Q t) (meets v z)) (λ v z t. faultless (final_writes g d.validators d.mark.span z.done Q t) (meets v z)) (λ e t. Invalid)
+        (λ v z is. calm_faultless (λ t. final_writes k d.validators d.mark.span z.done Q t) (λ t. final_writes g d.validators d.mark.span z.done Q t) (meets v z) (meets v z) (pure R v z is Q) (λ ws. (λ s. (refl, refl), λ t. tt))) (λ e. calm_wrong)
     calm_ends (Read c) R Q C = calm_wrong
     calm_ends (Retry since c b) R Q C = calm_wrong
     calm_ends (Sent a) R Q C = calm_wrong
     calm_ends (SendRefused a) R Q C = calm_wrong
-    calm_ends (Acted a n w) R Q C = calm_wrong
+    calm_ends (Acted a n w sends) R Q C = calm_wrong
     calm_ends (Swapped w) R Q C = calm_wrong
     calm_ends (Broke at) R Q C = calm_wrong
 
@@ -588,13 +604,13 @@ module _ (f : SeenEvent) (gs : List SeenEvent) where
     goes_dosync : (b : ℕ) (m : Mark) (body : Tree) (env : List Value) (l : ℕ) (run : ThreadState → Completion ThreadState Value) (other : ThreadState → Completion ThreadState Value) → SoundTree (callable (at b)) in_dosync l None body
         → Goes (λ t. (on_events around b).dosync false m body env run (apply (plain_calls b true) m.span) t) (λ t. (on_right around b).dosync false m body env other (apply (right_calls b true) m.span) t)
     goes_dosync b m body env l run other h =
-        let d : Transacting = record { mark = m; body = body; locals = env; on = tx_meaning n (functions_of functions) b body env } in
+        let d : Transacting = record { mark = m; body = body; locals = env; on = tx_meaning n (functions_of functions) b body env; validators = validators_of cells } in
         let k : Applies ThreadState = apply (plain_calls b true) m.span in
         let g : Applies ThreadState = apply (right_calls b true) m.span in
-        let pure : (R : World) (v : Value) (z : TxState) → d.on R ≡ Completes v z → (C : World) → Calm (λ t. final_writes k z.done C t) (λ t. final_writes g z.done C t) = λ R v z is C.
+        let pure : (R : World) (v : Value) (z : TxState) → d.on R ≡ Completes v z → (C : World) → Calm (λ t. final_writes k d.validators d.mark.span z.done C t) (λ t. final_writes g d.validators d.mark.span z.done C t) = λ R v z is C.
         let first = eval (in_transaction R) (call_at (λ e. in_transaction R) n (functions_of functions) b) n true body env tx_start in
         let kept = keeps_sound_on (at b) R sound body l env tx_start z v h tt (opened first v z is) in
-        calm_pure (final_writes (quiet (at b) m.span) z.done C tt) (λ t. final_writes k z.done C t) (λ t. final_writes g z.done C t)
+        calm_pure (final_writes (quiet (at b) m.span) d.validators m.span z.done C tt) (λ t. final_writes k d.validators d.mark.span z.done C t) (λ t. final_writes g d.validators d.mark.span z.done C t)
         (λ s. finals_agree_on s (at b) sound (on_events around) true m.span z.done C kept) (λ s. finals_agree_on s (at b) sound (on_right around) true m.span z.done C kept) in
         goes_tx d k g pure (suc reruns)
 
@@ -650,8 +666,10 @@ module _ (f : SeenEvent) (gs : List SeenEvent) where
         tree_goes (Look form cell m) l tail env h =
             goes_bind (plain cell env) (right cell env) (λ v s. (on_events around b).look form false m v s) (λ v s. (on_right around b).look form false m v s) (tree_goes cell l None env h.1) (λ v. goes_look around b m v form h.0)
         tree_goes (Put form cell value m) l tail env h =
-            goes_bind (plain cell env) (right cell env) (λ v s. bind (plain value env s) (λ w t. (on_events around b).put form false m v w t)) (λ v s. bind (right value env s) (λ w t. (on_right around b).put form false m v w t)) (tree_goes cell l None env h.1)
-            (λ v. goes_bind (plain value env) (right value env) (λ w t. (on_events around b).put form false m v w t) (λ w t. (on_right around b).put form false m v w t) (tree_goes value l None env h.2) (λ w. goes_put around b m v form w h.0))
+            let k : Applies ThreadState = apply (plain_calls b false) m.span in
+            let g : Applies ThreadState = apply (right_calls b false) m.span in
+            goes_bind (plain cell env) (right cell env) (λ v s. bind (plain value env s) (λ w t. (on_events around b).put form false m v w k t)) (λ v s. bind (right value env s) (λ w t. (on_right around b).put form false m v w g t)) (tree_goes cell l None env h.1)
+            (λ v. goes_bind (plain value env) (right value env) (λ w t. (on_events around b).put form false m v w k t) (λ w t. (on_right around b).put form false m v w g t) (tree_goes value l None env h.2) (λ w. goes_put around b m v form w k g h.0))
         tree_goes (Update form cell callee args m) l tail env h =
             let k : Applies ThreadState = apply (plain_calls b false) m.span in
             let g : Applies ThreadState = apply (right_calls b false) m.span in

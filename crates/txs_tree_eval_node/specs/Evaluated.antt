@@ -37,6 +37,7 @@ use Rattle.txs_tree_eval_node.specs.declared.state.Transacted.{Transacted}
 use Rattle.txs_tree_eval_transaction.specs.declared.stop.ThreadStop.{ThreadStop}
 use Rattle.txs_tree_eval_transaction.specs.declared.stop.ThreadStop.TheVariants.{Fault, Event as NoEvent, Wrong as OtherEvent, Turns as NoTurns, Memory}
 use Rattle.txs_tree_eval_node.specs.declared.seen.Seen.{Seen}
+use Rattle.txs_value_cell.specs.Cells.{validators_of}
 use Rattle.txs_value_cell.specs.Forms.{rule}
 use Rattle.txs_value_data.specs.Limits.{reruns}
 use Rattle.txs_value_base.specs.Places.{fault_at}
@@ -55,7 +56,7 @@ use Rattle.txs_value_data.specs.declared.value.Value.TheVariants.{Cell}
 
 -- before a thread on these events
 abbrev pub idle : List SeenEvent → ThreadState
-idle es = record { todo = es; printed = []; txs = [] }
+idle es = record { todo = es; printed = []; held = None; txs = [] }
 
 -- ---- what an evaluation has done
 
@@ -65,7 +66,7 @@ tx_run r = record { body = tree_of r.body.now; locals = r.locals; wanted = r.wan
 
 -- how far a thread is
 abbrev pub thread_state : Progress → ThreadState
-thread_state p = record { todo = drop p.eaten (seen_events p.events.now); printed = p.printed.items; txs = map tx_run p.txs.items }
+thread_state p = record { todo = drop p.eaten (seen_events p.events.now); printed = p.printed.items; held = None; txs = map tx_run p.txs.items }
 
 -- what counts while this transaction runs, or none
 abbrev pub Part : Option PlainView → Type 0
@@ -293,7 +294,7 @@ strict_means x strict span args env s = bind (all_mean x args env s) (λ vs t. f
 abbrev pub acts : (o : Option PlainView) → Setting → Act → Mark → Value → List Value → Part o → Completion (Part o) Value
 acts o x (a_look form) m c vs s = (forms_on o (around_it x) x.depth).look form (is_on o) m c s
 acts o x (a_put form) m c [] s = Invalid
-acts o x (a_put form) m c (v ∷ vs) s = (forms_on o (around_it x) x.depth).put form (is_on o) m c v s
+acts o x (a_put form) m c (v ∷ vs) s = (forms_on o (around_it x) x.depth).put form (is_on o) m c v (apply (calls_on o x (is_on o)) m.span) s
 acts o x (an_update form callee) m c vs s = (forms_on o (around_it x) x.depth).update form (is_on o) m c callee vs (apply (calls_on o x (is_on o)) m.span) s
 acts o x (a_send callee) m c vs s = (forms_on o (around_it x) x.depth).send (is_on o) m c callee vs s
 
@@ -388,13 +389,13 @@ redone_means x span cs ws = redone (quiet x span) cs ws tt
 
 -- the final writes on a world
 abbrev pub final_means : Setting → Work → PlainView → Span → Completion (Unit {0}) Writes
-final_means x w r span = final_writes (quiet x span) w (world_of r) tt
+final_means x w r span = final_writes (quiet x span) (validators_of x.cells) span w (world_of r) tt
 
 -- ---- transactions
 
 -- a dosync as its thread meets it
 abbrev pub transacting : Setting → Mark → Tree → List Value → Transacting
-transacting x m body env = record { mark = m; body = body; locals = env; on = tx_meaning x.turns (functions_of x.functions) x.depth body env }
+transacting x m body env = record { mark = m; body = body; locals = env; on = tx_meaning x.turns (functions_of x.functions) x.depth body env; validators = validators_of x.cells }
 
 -- what applies its commutes at its end
 abbrev pub at_end : Setting → Span → Applies ThreadState
@@ -427,7 +428,7 @@ carried_on t Invalid go = Invalid
 abbrev pub ended : Setting → Mark → Tree → List Value → PlainView → PlainView → ThreadState → Completion ThreadState (TxRun × Writes)
 ended x m body env r w t =
     let d = transacting x m body env in
-    carried_on t (d.on (world_of r)) (λ v y. bind (final_writes (at_end x m.span) y.done (world_of w) t) (λ ws t1. Completes (run_of d v y, ws) t1))
+    carried_on t (d.on (world_of r)) (λ v y. bind (final_writes (at_end x m.span) d.validators m.span y.done (world_of w) t) (λ ws t1. Completes (run_of d v y, ws) t1))
 
 -- the world of its commutes, if the event is one of its end
 abbrev pub end_view : EventKind → PlainView → PlainView → Option PlainView

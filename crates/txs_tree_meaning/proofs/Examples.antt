@@ -171,7 +171,7 @@ several = record {
   sends = [];
 }
 
-writes_of_several : final_writes (apply (pure_calls 3 [] 0 false) (at 0 30)) several (all_are 10) tt ≡ Completes ((ref_of 0, int 11) ∷ (ref_of 1, int 100) ∷ (ref_of 2, int 30) ∷ []) tt
+writes_of_several : final_writes (apply (pure_calls 3 [] 0 false) (at 0 30)) [] (at 0 30) several (all_are 10) tt ≡ Completes ((ref_of 0, int 11) ∷ (ref_of 1, int 100) ∷ (ref_of 2, int 30) ∷ []) tt
 unfolding core
 writes_of_several = refl
 

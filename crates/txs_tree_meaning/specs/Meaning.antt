@@ -77,7 +77,8 @@ Applies S = Callee → List Value → S → Completion S Value
 pub record Effects (S : Type 0) : Type 0 where
   pub print : Bool → List Value → S → Completion S Value
   pub look : LookForm → Bool → Mark → Value → S → Completion S Value
-  pub put : PutForm → Bool → Mark → Value → Value → S → Completion S Value
+  -- with what applies a callee
+  pub put : PutForm → Bool → Mark → Value → Value → Applies S → S → Completion S Value
   -- with the callee, its further arguments, and what applies it
   pub update : UpdateForm → Bool → Mark → Value → Callee → List Value → Applies S → S → Completion S Value
   pub send : Bool → Mark → Value → Callee → List Value → S → Completion S Value
@@ -136,7 +137,7 @@ abbrev mutual
   -- the cell, the value, and then the cell gets it
   eval fx call n inside (Put form cell value m) env s =
       bind (eval fx call n inside cell env s) (λ c s1.
-      bind (eval fx call n inside value env s1) (λ v s2. fx.put form inside m c v s2))
+      bind (eval fx call n inside value env s1) (λ v s2. fx.put form inside m c v (apply (call inside) m.span) s2))
   -- the cell, the arguments, and then the cell gets what the callee makes of its value and the arguments
   eval fx call n inside (Update form cell callee args m) env s =
       bind (eval fx call n inside cell env s) (λ c s1.

@@ -15,7 +15,7 @@ abbrev pub no_effects : Effects (Unit {0})
 no_effects = record {
   print = λ inside vs s. Invalid;
   look = λ form inside m c s. Invalid;
-  put = λ form inside m c v s. Invalid;
+  put = λ form inside m c v f s. Invalid;
   update = λ form inside m c callee vs f s. Invalid;
   send = λ inside m c callee vs s. Invalid;
   dosync = λ inside m node env body f s. Invalid;

@@ -49,7 +49,7 @@ abbrev pub on_right : Surroundings → ℕ → Effects ThreadState
 on_right x d = record {
   print = λ inside vs t. (on_events x d).print inside vs t;
   look = λ form inside m v t. up_to t ((on_events x d).look form inside m v t);
-  put = λ form inside m v w t. up_to t ((on_events x d).put form inside m v w t);
+  put = λ form inside m v w f t. up_to t ((on_events x d).put form inside m v w f t);
   update = λ form inside m v callee vs f t. up_to t ((on_events x d).update form inside m v callee vs f t);
   send = λ inside m v callee vs t. up_to t ((on_events x d).send inside m v callee vs t);
   dosync = λ inside m node env body f t. up_to (record t { todo = behind_retries x.tries t.todo }) ((on_events x d).dosync inside m node env body f t);

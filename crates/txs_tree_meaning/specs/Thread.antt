@@ -1,5 +1,5 @@
 -- What a thread means on a list of events, each with its worlds.
-use Rattle.std.specs.Prelude.{ℕ, zero, suc, Bool, true, false, List, [], ◌∷◌, ◌++◌, ◌==◌, ◌&&◌, length, if◌then◌else◌}
+use Rattle.std.specs.Prelude.{ℕ, zero, suc, Bool, true, false, List, [], ◌∷◌, ◌++◌, ◌==◌, ◌&&◌, length, if◌then◌else◌, Option, Some, None}
 use Rattle.txs_world_protocol.specs.Ask.{same_writes, same_cell, same_value, same_action, same_actions}
 use Rattle.txs_world_protocol.specs.SeenEvent.{SeenEvent, home}
 use Rattle.txs_world_protocol.specs.declared.event.EventKind.{EventKind}
@@ -7,7 +7,7 @@ use Rattle.txs_world_protocol.specs.declared.event.EventKind.TheVariants.{Read, 
 use Rattle.txs_tree_meaning.specs.Meaning.{Completion, Completes, Recurs, Faults, Retries, Waits, OutOfTurns, Invalid, closed, allowed, Applies, Effects, eval, call_at}
 use Rattle.txs_tree_meaning.specs.Transaction.{TxState, on_cell, tx_meaning, final_writes}
 use Rattle.txs_tree_meaning.specs.Tree.{Mark, Tree, PlainFunction, ThreadSource}
-use Rattle.txs_value_cell.specs.Cells.{World}
+use Rattle.txs_value_cell.specs.Cells.{World, Validators, validators_of}
 use Rattle.txs_value_cell.specs.Forms.{rule, may_stand}
 use Rattle.txs_value_data.specs.Limits.{reruns}
 use Rattle.txs_value_base.specs.Places.{fault_at}
@@ -38,10 +38,12 @@ pub record TxRun : Type 0 where
   pub result : Value
   pub state : TxState
 
--- the events to come, the bytes that were printed, and the transactions that were committed or refused, in order
+-- the events to come, the bytes that were printed, the sends that are held, and the transactions that were committed or refused, in order
 pub record ThreadState : Type 0 where
   pub todo : List SeenEvent
   pub printed : List ℕ
+  -- the sends that an action holds; a thread holds none
+  pub held : Option (List Action)
   pub txs : List TxRun
 
 -- a transaction that came to its end is noted
@@ -78,6 +80,15 @@ abbrev pub resets : Value → EventKind → ThreadState → Completion ThreadSta
 resets v (Swapped new) t = meant (same_value v new) v t
 resets v _ t = Invalid
 
+-- what an action holds, with these sends behind it
+abbrev pub with_sends : List Action → Option (List Action) → Option (List Action)
+with_sends sends None = None
+with_sends sends (Some held) = Some (held ++ sends)
+
+-- these sends are held too, in an action
+abbrev pub holding : List Action → ThreadState → ThreadState
+holding sends t = record t { held = with_sends sends t.held }
+
 -- what follows a fault, where nothing else may come
 abbrev pub faulted : {S A : Type 0} → Completion S A → (Fault → S → Completion S Value) → Completion S Value
 faulted (Completes a s) go = Invalid
@@ -110,6 +121,11 @@ sends a span (Sent b) t = meant (same_action a b) (Cell a.agent) t
 sends a span (SendRefused g) t = if same_cell a.agent g then Faults (fault_at AgentFailed span) t else Invalid
 sends a span _ t = Invalid
 
+-- a send outside every transaction: a thread's eats an event, and an action's is held and gives the agent
+abbrev pub sends_or_holds : Option (List Action) → Action → Span → ThreadState → Completion ThreadState Value
+sends_or_holds None a span t = eats 0 (λ e t1. sends a span e.kind t1) t.todo t
+sends_or_holds (Some held) a span t = Completes (Cell a.agent) (holding (a ∷ []) t)
+
 -- a transaction's meaning carried over to a thread's state
 abbrev pub over : {S T A : Type 0} → T → Completion S A → (A → S → Completion T Value) → (Fault → Completion T Value) → Completion T Value
 over t (Completes a x) go broke = go a x
@@ -120,12 +136,13 @@ over t (Waits x) go broke = Invalid
 over t (OutOfTurns x) go broke = OutOfTurns t
 over t Invalid go broke = Invalid
 
--- a dosync as its thread met it: its mark, its body and locals, and the body's meaning on a world
+-- a dosync as its thread met it: its mark, its body and locals, the body's meaning on a world, and the validators of the cells
 pub record Transacting : Type 0 where
   pub mark : Mark
   pub body : Tree
   pub locals : List Value
   pub on : World → Completion TxState Value
+  pub validators : Validators
 
 -- the transaction of a dosync that came to its end with this result
 abbrev pub run_of : Transacting → Value → TxState → TxRun
@@ -135,13 +152,13 @@ run_of d v x = record { body = d.body; locals = d.locals; wanted = d.mark.wanted
 abbrev pub ends_tx : Transacting → Applies ThreadState → EventKind → World → World → World → ThreadState → Completion ThreadState Value
 -- a commit: neither the body nor a commute faults, and the writes and sends are those of the event
 ends_tx d f (Commit at view writes sent) R Q C t =
-    over t (d.on R) (λ v x. faultless (final_writes f x.done C t) (λ ws t1. meant (same_writes ws writes && same_actions x.done.sends sent) v (with_tx (run_of d v x) t1))) (λ g. Invalid)
+    over t (d.on R) (λ v x. faultless (final_writes f d.validators d.mark.span x.done C t) (λ ws t1. meant (same_writes ws writes && same_actions x.done.sends sent) v (with_tx (run_of d v x) t1))) (λ g. Invalid)
 -- a failure: the body's fault, else the first one of the commutes on the world that was viewed
 ends_tx d f (Fail at view) R Q C t =
-    over t (d.on R) (λ v x. faulted (final_writes f x.done Q t) (λ g t1. Faults g t1)) (λ g. Faults g t)
+    over t (d.on R) (λ v x. faulted (final_writes f d.validators d.mark.span x.done Q t) (λ g t1. Faults g t1)) (λ g. Faults g t)
 -- a refusal: neither the body nor a commute faults; that the agent had failed is told by the journal, and not asked here
 ends_tx d f (Refused at view agent) R Q C t =
-    over t (d.on R) (λ v x. faultless (final_writes f x.done Q t) (λ ws t1. Faults (fault_at AgentFailed d.mark.span) (with_tx (run_of d v x) t1))) (λ g. Invalid)
+    over t (d.on R) (λ v x. faultless (final_writes f d.validators d.mark.span x.done Q t) (λ ws t1. Faults (fault_at AgentFailed d.mark.span) (with_tx (run_of d v x) t1))) (λ g. Invalid)
 ends_tx d f _ R Q C t = Invalid
 
 -- whether an event says that a transaction had to run again
@@ -171,15 +188,15 @@ thread_look x Deref c t = eats (home x.cells c) (λ e t1. reads c e.kind e.C t1)
 thread_look x Ensure c t = Invalid
 
 -- the forms that put, outside transactions
-abbrev pub thread_put : Surroundings → PutForm → CellId → Value → ThreadState → Completion ThreadState Value
-thread_put x RefSet c v t = Invalid
-thread_put x Reset c v t = eats (home x.cells c) (λ e t1. resets v e.kind t1) t.todo t
+abbrev pub thread_put : Surroundings → PutForm → Span → CellId → Value → Applies ThreadState → ThreadState → Completion ThreadState Value
+thread_put x RefSet span c v f t = Invalid
+thread_put x Reset span c v f t = eats (home x.cells c) (λ e t1. resets v e.kind t1) t.todo t
 
 -- the forms that update, outside transactions
-abbrev pub thread_update : Surroundings → UpdateForm → CellId → Callee → List Value → Applies ThreadState → ThreadState → Completion ThreadState Value
-thread_update x Alter c callee vs f t = Invalid
-thread_update x Commute c callee vs f t = Invalid
-thread_update x Swap c callee vs f t = eats (home x.cells c) (λ e t1. swaps c (λ v t2. f callee (v ∷ vs) t2) e.kind e.R e.C t1) t.todo t
+abbrev pub thread_update : Surroundings → UpdateForm → Span → CellId → Callee → List Value → Applies ThreadState → ThreadState → Completion ThreadState Value
+thread_update x Alter span c callee vs f t = Invalid
+thread_update x Commute span c callee vs f t = Invalid
+thread_update x Swap span c callee vs f t = eats (home x.cells c) (λ e t1. swaps c (λ v t2. f callee (v ∷ vs) t2) e.kind e.R e.C t1) t.todo t
 
 -- a form that may stand outside every transaction
 abbrev pub outside_form : CellForm → Completion ThreadState Value → Completion ThreadState Value
@@ -190,16 +207,16 @@ abbrev pub on_events : Surroundings → ℕ → Effects ThreadState
 on_events x d = record {
   print = λ inside vs t. Completes Nil (record t { printed = t.printed ++ printed_line vs });
   look = λ form inside m v t. outside_form (form_of.Look form) (on_cell (form_of.Look form) false m.span v (thread_look x form) t);
-  put = λ form inside m v w t. outside_form (form_of.Put form) (on_cell (form_of.Put form) false m.span v (λ c t1. thread_put x form c w t1) t);
-  update = λ form inside m v callee vs f t. outside_form (form_of.Update form) (on_cell (form_of.Update form) false m.span v (λ c t1. thread_update x form c callee vs f t1) t);
-  send = λ inside m v callee vs t. on_cell form_of.Send false m.span v (λ c t1. eats 0 (λ e t2. sends (record { agent = c; callee = callee; args = vs; span = m.span }) m.span e.kind t2) t1.todo t1) t;
-  dosync = λ inside m node env body f t. eats_tx x.tries (record { mark = m; body = node; locals = env; on = tx_meaning x.turns x.functions d node env }) f t.todo t;
+  put = λ form inside m v w f t. outside_form (form_of.Put form) (on_cell (form_of.Put form) false m.span v (λ c t1. thread_put x form m.span c w f t1) t);
+  update = λ form inside m v callee vs f t. outside_form (form_of.Update form) (on_cell (form_of.Update form) false m.span v (λ c t1. thread_update x form m.span c callee vs f t1) t);
+  send = λ inside m v callee vs t. on_cell form_of.Send false m.span v (λ c t1. sends_or_holds t1.held (record { agent = c; callee = callee; args = vs; span = m.span }) m.span t1) t;
+  dosync = λ inside m node env body f t. eats_tx x.tries (record { mark = m; body = node; locals = env; on = tx_meaning x.turns x.functions d node env; validators = validators_of x.cells }) f t.todo t;
 }
 
 -- the thread in its surroundings, on these events
 abbrev pub thread_in : Surroundings → Tree → List SeenEvent → Completion ThreadState Value
 thread_in x main es =
-    closed (eval (on_events x (length x.functions)) (call_at (on_events x) x.turns x.functions (length x.functions)) x.turns false main [] (record { todo = es; printed = []; txs = [] }))
+    closed (eval (on_events x (length x.functions)) (call_at (on_events x) x.turns x.functions (length x.functions)) x.turns false main [] (record { todo = es; printed = []; held = None; txs = [] }))
 
 -- what surrounds a source's thread, where each loop makes at most n turns
 abbrev pub around : ThreadSource → ℕ → Surroundings

@@ -5,7 +5,7 @@ use Rattle.txs_frame.specs.Frame.{Work, no_work, with_cell, has_number, commuted
 use Rattle.txs_frame.specs.declared.frame.Commute.{Commute}
 use Rattle.txs_tree_meaning.specs.Meaning.{Completion, Completes, Invalid, bind, closed, result_of, Applies, Effects, eval, call_at}
 use Rattle.txs_tree_meaning.specs.Tree.{Mark, Tree, PlainFunction}
-use Rattle.txs_value_cell.specs.Cells.{World}
+use Rattle.txs_value_cell.specs.Cells.{World, Validators}
 use Rattle.txs_value_cell.specs.Forms.{rule, cell_of}
 use Rattle.txs_value_base.specs.declared.fault.FaultKind.{FaultKind}
 use Rattle.txs_value_base.specs.declared.fault.Span.{Span}
@@ -86,7 +86,7 @@ abbrev pub in_transaction : World → Effects TxState
 in_transaction R = record {
   print = λ inside vs t. Invalid;
   look = λ form inside m v t. on_cell (form_of.Look form) true m.span v (tx_look R form) t;
-  put = λ form inside m v w t. on_cell (form_of.Put form) true m.span v (λ c t1. tx_put form m.span c w t1) t;
+  put = λ form inside m v w f t. on_cell (form_of.Put form) true m.span v (λ c t1. tx_put form m.span c w t1) t;
   update = λ form inside m v callee vs f t. on_cell (form_of.Update form) true m.span v (λ c t1. tx_update R form m c callee vs f t1) t;
   send = λ inside m v callee vs t.
       on_cell form_of.Send true m.span v (λ c t1. Completes v (record t1 { done = hold_send (record { agent = c; callee = callee; args = vs; span = m.span }) t1.done })) t;
@@ -123,6 +123,7 @@ redone f (c ∷ cs) ws s =
 abbrev pub commute_writes : {S : Type 0} → Applies S → Work → World → S → Completion S Writes
 commute_writes f w C s = redone f (phase_work w) (valued (commuted w) C) s
 
--- the final writes: each ref that was set has its value, each other commuted ref what its commutes make of the world
-abbrev pub final_writes : {S : Type 0} → Applies S → Work → World → S → Completion S Writes
-final_writes f w C s = bind (commute_writes f w C s) (λ ws s1. Completes (merged (set_writes w) ws) s1)
+-- the final writes: each ref that was set has its value, each other commuted ref what its commutes make of the world; the cells'
+-- validators, and the span of the dosync, change nothing
+abbrev pub final_writes : {S : Type 0} → Applies S → Validators → Span → Work → World → S → Completion S Writes
+final_writes f vs span w C s = bind (commute_writes f w C s) (λ ws s1. Completes (merged (set_writes w) ws) s1)

@@ -1,5 +1,6 @@
 //! The definition of a cell.
 
+use txs_value_base::Callee;
 use txs_value_data::{CellKind, Name, Value};
 
 /// What an agent does after an action that faulted, as `:error-mode` says.
@@ -11,13 +12,14 @@ pub enum ErrorMode {
     Continue,
 }
 
-/// A cell as a script defines it: its kind, its name, the value that it opens with, and of an agent its error mode. Every other
-/// cell has `Fail`.
+/// A cell as a script defines it: its kind, its name, the value that it opens with, of an agent its error mode, and what has to
+/// accept each further value of it, where there is such a validator. Every cell but an agent has `Fail`.
 pub struct CellDefinition {
     pub kind: CellKind,
     pub name: Name,
     pub opening: Value,
     pub error_mode: ErrorMode,
+    pub validator: Option<Callee>,
 }
 
 // Dropped by a call that is proved here, so that no crate above proves it again.
@@ -28,6 +30,7 @@ impl Drop for CellDefinition {
             name,
             opening,
             error_mode: _,
+            validator: _,
         } = self;
         drop(name);
         drop(opening);

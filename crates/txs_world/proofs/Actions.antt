@@ -63,7 +63,7 @@ unwritten_by cells done a (Fail at view) g l has e = refl
 unwritten_by cells done a (Refused at view h) g l has e = refl
 unwritten_by cells done a (Send x) g l has e = refl
 unwritten_by cells done a (SendRefused h) g l has e = refl
-unwritten_by cells done a (Act h n new) g l has e = state_unwritten g.number h new e
+unwritten_by cells done a (Act h n new sends) g l has e = state_unwritten g.number h new e
 unwritten_by cells done a (Swap new) g l has e = refl
 unwritten_by cells done a (Broke at) g l has e = refl
 
@@ -86,7 +86,9 @@ runs_changed goes k (Fail at view) m n x e h = h
 runs_changed goes k (Refused at view g) m n x e h = h
 runs_changed goes k (Send y) m n x e h = (first_more (is_there m.fault) m.actions (sent_to k (y ∷ [])) x h.0, h.1)
 runs_changed goes k (SendRefused g) m n x e h = h
-runs_changed goes k (Act g i new) m n x e h = subst (λ t. Runs (if t then acted goes new m else m) n x) (sym e) h
+runs_changed goes k (Act g i new sends) m n x e h =
+    let c : Mail = if g.number == k then acted goes new m else m in
+    let r : Runs c n x = subst (λ t. Runs (if t then acted goes new m else m) n x) (sym e) h in (first_more (is_there c.fault) c.actions (sent_to k sends) x r.0, r.1)
 runs_changed goes k (Swap new) m n x e h = h
 runs_changed goes k (Broke at) m n x e h = h
 

@@ -82,25 +82,25 @@ has_room b n most h e = go (nat_lt n most) refl
     go false q = absurd (false≢true (sym e ∙ h.1 (no_less q)))
 
 -- an action is over
-pub acted_so : (s t : PlainStore) (a : ℕ) (g : CellId) (new : Result Value Fault) → length s.book < most_events
-    → t ≡ store_with s.cells s.threads (s.book ++ event_of a (Act g (suc (mail_after s.cells s.book g.number).acts) new) ∷ []) (set s.taken g.number false)
-    → Answers s (serve s.cells a (ask.Finish g new) s.book) (store_after s (ask.Finish g new) (serve s.cells a (ask.Finish g new) s.book)) reply.Done t
-acted_so s t a g new lt is =
-    let e = event_of a (Act g (suc (mail_after s.cells s.book g.number).acts) new) in
-    subst (λ b. Answers s (if b then served reply.Done (s.book ++ e ∷ []) else served reply.Full s.book) (store_after s (ask.Finish g new) (if b then served reply.Done (s.book ++ e ∷ []) else served reply.Full s.book)) reply.Done t) (sym (ltb_yes (length s.book) most_events lt)) (refl, is)
+pub acted_so : (s t : PlainStore) (a : ℕ) (g : CellId) (new : Result Value Fault) (sends : List Action) → length s.book < most_events
+    → t ≡ store_with s.cells s.threads (s.book ++ event_of a (Act g (suc (mail_after s.cells s.book g.number).acts) new sends) ∷ []) (set s.taken g.number false)
+    → Answers s (serve s.cells a (ask.Finish g new sends) s.book) (store_after s (ask.Finish g new sends) (serve s.cells a (ask.Finish g new sends) s.book)) reply.Done t
+acted_so s t a g new sends lt is =
+    let e = event_of a (Act g (suc (mail_after s.cells s.book g.number).acts) new sends) in
+    subst (λ b. Answers s (if b then served reply.Done (s.book ++ e ∷ []) else served reply.Full s.book) (store_after s (ask.Finish g new sends) (if b then served reply.Done (s.book ++ e ∷ []) else served reply.Full s.book)) reply.Done t) (sym (ltb_yes (length s.book) most_events lt)) (refl, is)
 
 -- there is no memory for that
-pub acted_not : (s t : PlainStore) (a : ℕ) (g : CellId) (new : Result Value Fault) → length s.book < most_events → t ≡ s
-    → Answers s (serve s.cells a (ask.Finish g new) s.book) (store_after s (ask.Finish g new) (serve s.cells a (ask.Finish g new) s.book)) reply.Memory t
-acted_not s t a g new lt is =
-    let e = event_of a (Act g (suc (mail_after s.cells s.book g.number).acts) new) in
-    subst (λ b. Answers s (if b then served reply.Done (s.book ++ e ∷ []) else served reply.Full s.book) (store_after s (ask.Finish g new) (if b then served reply.Done (s.book ++ e ∷ []) else served reply.Full s.book)) reply.Memory t) (sym (ltb_yes (length s.book) most_events lt)) (tt, is)
+pub acted_not : (s t : PlainStore) (a : ℕ) (g : CellId) (new : Result Value Fault) (sends : List Action) → length s.book < most_events → t ≡ s
+    → Answers s (serve s.cells a (ask.Finish g new sends) s.book) (store_after s (ask.Finish g new sends) (serve s.cells a (ask.Finish g new sends) s.book)) reply.Memory t
+acted_not s t a g new sends lt is =
+    let e = event_of a (Act g (suc (mail_after s.cells s.book g.number).acts) new sends) in
+    subst (λ b. Answers s (if b then served reply.Done (s.book ++ e ∷ []) else served reply.Full s.book) (store_after s (ask.Finish g new sends) (if b then served reply.Done (s.book ++ e ∷ []) else served reply.Full s.book)) reply.Memory t) (sym (ltb_yes (length s.book) most_events lt)) (tt, is)
 
 -- there is no room for that
-pub acted_full : (s : PlainStore) (a : ℕ) (g : CellId) (new : Result Value Fault) → most_events ≤ length s.book → Answers s (serve s.cells a (ask.Finish g new) s.book) (store_after s (ask.Finish g new) (serve s.cells a (ask.Finish g new) s.book)) reply.Full s
-acted_full s a g new le =
-    let e = event_of a (Act g (suc (mail_after s.cells s.book g.number).acts) new) in
-    subst (λ b. Answers s (if b then served reply.Done (s.book ++ e ∷ []) else served reply.Full s.book) (store_after s (ask.Finish g new) (if b then served reply.Done (s.book ++ e ∷ []) else served reply.Full s.book)) reply.Full s) (sym (ltb_no (length s.book) most_events le)) (refl, refl)
+pub acted_full : (s : PlainStore) (a : ℕ) (g : CellId) (new : Result Value Fault) (sends : List Action) → most_events ≤ length s.book → Answers s (serve s.cells a (ask.Finish g new sends) s.book) (store_after s (ask.Finish g new sends) (serve s.cells a (ask.Finish g new sends) s.book)) reply.Full s
+acted_full s a g new sends le =
+    let e = event_of a (Act g (suc (mail_after s.cells s.book g.number).acts) new sends) in
+    subst (λ b. Answers s (if b then served reply.Done (s.book ++ e ∷ []) else served reply.Full s.book) (store_after s (ask.Finish g new sends) (if b then served reply.Done (s.book ++ e ∷ []) else served reply.Full s.book)) reply.Full s) (sym (ltb_no (length s.book) most_events le)) (refl, refl)
 
 -- a send, by whether its agent has failed
 pub sends_so : (s t : PlainStore) (a : ℕ) (x : Action) (r : Reply) (b : Bool) → is_failed s.cells s.book x.agent ≡ b → Replies s (sends_to b a x s.book) r t → Replies s (sends_to (is_failed s.cells s.book x.agent) a x s.book) r t

@@ -179,7 +179,7 @@ acts_changed goes k (Fail at view) m = omega arith
 acts_changed goes k (Refused at view g) m = omega arith
 acts_changed goes k (Send x) m = omega arith
 acts_changed goes k (SendRefused g) m = omega arith
-acts_changed goes k (Act g n new) m = go (g.number == k) goes new
+acts_changed goes k (Act g n new sends) m = go (g.number == k) goes new
   where
     go : (t s : Bool) (r : Result Value Fault) → (if t then acted s r m else m).acts ≤ suc m.acts
     go true s (Ok v) = omega arith

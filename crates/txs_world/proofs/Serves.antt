@@ -1,5 +1,5 @@
 -- What the store does keeps its book legal, its commits undisturbed, and what is taken waiting.
-use Rattle.std.proofs.Common.{◌≡◌, ◌<◌, ℕ, zero, suc, Bool, true, false, not, ◌==◌, nat_lt, nat_le, List, [], ◌∷◌, ◌++◌, length, get_or, set, Option, Some, None, refl, sym, ap, subst, ◌∙◌, arith, length-append, if◌then◌else◌}
+use Rattle.std.proofs.Common.{◌≡◌, ◌<◌, ℕ, zero, suc, Bool, true, false, not, ◌&&◌, ◌==◌, nat_lt, nat_le, List, [], ◌∷◌, ◌++◌, length, get_or, set, Option, Some, None, refl, sym, ap, subst, ◌∙◌, arith, length-append, if◌then◌else◌}
 use Rattle.std.proofs.lemmas.Bool.{ltb-true, false≢true}
 use Rattle.std.proofs.lemmas.List.{get_or-set_other}
 use Rattle.txs_world_protocol.specs.Ask.{Writes}
@@ -15,7 +15,7 @@ use Rattle.txs_value_data.specs.declared.value.CellId.{CellId}
 use Rattle.txs_value_data.specs.declared.value.Value.{Value}
 use Rattle.txs_value_data.specs.Limits.{most_events}
 use Rattle.txs_value_base.specs.Places.{nth}
-use Rattle.txs_world_book.specs.Book.{has_ref, has_agent, cells_in, are_refs, has_refs, are_sends, makes, least, least_written, goes_on, is_there, Mail, no_mail, sent_to, acted, mail_after, mail_changed, is_failed, first_failed, waits, may_name, may_end, written, LegalKind, Untouched, Guarded, Legal, Undisturbed, opening}
+use Rattle.txs_world_book.specs.Book.{has_ref, has_agent, cells_in, are_refs, has_refs, are_sends, makes, least, least_written, goes_on, is_there, Mail, no_mail, sent_to, acted, mail_after, mail_changed, is_failed, first_failed, waits, is_empty, may_name, may_end, written, LegalKind, Untouched, Guarded, Legal, Undisturbed, opening}
 use Rattle.txs_world.specs.Laws.{TakenWait, StoreStands}
 use Rattle.txs_world.specs.Store.{PlainStore, store_with, may_ask, has_named, is_lawful, is_taken, are_apart, merged, looks, commits, sends_to, first_action, takes, hands_out, is_done, serve, store_after}
 use Rattle.txs_world_book.specs.Served.{event_of, adds, served}
@@ -146,11 +146,12 @@ serve_kept s a (ask.Fail p q) l h = let m = lawful s a (ask.Fail p q) l in adds_
 serve_kept s a (ask.Peek c) l h = let m = lawful s a (ask.Peek c) l in adds_kept s.cells s.threads s.book a (Read c) _ (h.legal, h.undisturbed) m.0 m.1 tt
 serve_kept s a (ask.Send x) l h = let m = lawful s a (ask.Send x) l in sends_kept s.cells s.threads (is_failed s.cells s.book x.agent) a x s.book refl m.0 m.1 (h.legal, h.undisturbed)
 serve_kept s a (ask.Take g) l h = (h.legal, h.undisturbed)
-serve_kept s a (ask.Finish g new) l h =
-    let m = lawful s a (ask.Finish g new) l in
-    let n = both (has_agent s.cells g) (is_taken s.taken g) m.1 in
-    let t = h.taken g.number n.1 in
-    adds_kept s.cells s.threads s.book a (Act g (suc (mail_after s.cells s.book g.number).acts) new) _ (h.legal, h.undisturbed) m.0 (n.0, t.0, t.1, refl) tt
+serve_kept s a (ask.Finish g new sends) l h =
+    let m = lawful s a (ask.Finish g new sends) l in
+    let n = both (has_agent s.cells g) (is_taken s.taken g && is_empty sends) m.1 in
+    let k = both (is_taken s.taken g) (is_empty sends) n.1 in
+    let t = h.taken g.number k.0 in
+    adds_kept s.cells s.threads s.book a (Act g (suc (mail_after s.cells s.book g.number).acts) new sends) _ (h.legal, h.undisturbed) m.0 (n.0, t.0, t.1, refl, k.1) tt
 serve_kept s a (ask.OpenAt c) l h = absurd (false≢true (lawful s a (ask.OpenAt c) l).1)
 serve_kept s a (ask.CloseAt c at new) l h = absurd (false≢true (lawful s a (ask.CloseAt c at new) l).1)
 serve_kept s a (ask.Broke c at) l h = absurd (false≢true (lawful s a (ask.Broke c at) l).1)
@@ -162,7 +163,7 @@ Held cells book k = (is_there (mail_after cells book k).fault ≡ false) × (wai
 
 -- whether an event isn't an action of the agent with this number
 abbrev pub no_act : EventKind → ℕ → Bool
-no_act (Act g n new) k = not (g.number == k)
+no_act (Act g n new sends) k = not (g.number == k)
 no_act _ k = true
 
 waits_more : (xs ys : List Action) → waits xs ≡ true → waits (xs ++ ys) ≡ true
@@ -177,7 +178,7 @@ held_changed goes k (Fail at view) m n h = h
 held_changed goes k (Refused at view g) m n h = h
 held_changed goes k (Send x) m n h = (h.0, waits_more m.actions (sent_to k (x ∷ [])) h.1)
 held_changed goes k (SendRefused g) m n h = h
-held_changed goes k (Act g i new) m n h = go (g.number == k) n
+held_changed goes k (Act g i new sends) m n h = let r = go (g.number == k) n in (r.0, waits_more (if g.number == k then acted goes new m else m).actions (sent_to k sends) r.1)
   where
     go : (t : Bool) → not t ≡ true → (is_there (if t then acted goes new m else m).fault ≡ false) × (waits (if t then acted goes new m else m).actions ≡ true)
     go true e = absurd (false≢true e)
@@ -253,7 +254,7 @@ serve_waits s a (ask.Fail p q) l h = λ k t. held_adds s.cells s.book a (Fail p 
 serve_waits s a (ask.Peek c) l h = λ k t. held_adds s.cells s.book a (Read c) _ k refl (h k t)
 serve_waits s a (ask.Send x) l h = sends_waits s (is_failed s.cells s.book x.agent) a x h
 serve_waits s a (ask.Take g) l h = takes_waits s g (is_failed s.cells s.book g) (mail_after s.cells s.book g.number).actions _ _ refl refl h
-serve_waits s a (ask.Finish g new) l h = finish_waits s a g (Act g (suc (mail_after s.cells s.book g.number).acts) new) (λ k e. ap not e) h
+serve_waits s a (ask.Finish g new sends) l h = finish_waits s a g (Act g (suc (mail_after s.cells s.book g.number).acts) new sends) (λ k e. ap not e) h
 serve_waits s a (ask.OpenAt c) l h = h
 serve_waits s a (ask.CloseAt c at new) l h = h
 serve_waits s a (ask.Broke c at) l h = h

@@ -45,14 +45,14 @@ pub entered_leaves : (old mid now : List PlainInbox) (xs : List Action) → mid 
 entered_leaves old mid now xs same put = ap taken_of put ∙ taken_mailed mid xs ∙ ap taken_of same
 
 -- an action that is over
-pub over : (s : PlainStore) (cells : List StoreCell) (threads : ℕ) (book more : List Event) (old now : List PlainInbox) (a n : ℕ) (g : CellId) (new : Result Value Fault) (f : Option Fault) → store_with cells threads book (taken_of old) ≡ s
-    → more ≡ book ++ event_of a (Act g n new) ∷ [] → now ≡ set old g.number (finished f (get_or old g.number no_inbox)) → n ≡ suc (mail_after s.cells s.book g.number).acts
-    → store_with cells threads more (taken_of now) ≡ store_with s.cells s.threads (s.book ++ event_of a (Act g (suc (mail_after s.cells s.book g.number).acts) new) ∷ []) (set s.taken g.number false)
-over s cells threads book more old now a n g new f is added gone number =
-    subst (λ (u : PlainStore). store_with cells threads more (taken_of now) ≡ store_with u.cells u.threads (u.book ++ event_of a (Act g n new) ∷ []) (set u.taken g.number false)) is
+pub over : (s : PlainStore) (cells : List StoreCell) (threads : ℕ) (book more : List Event) (old now : List PlainInbox) (a n : ℕ) (g : CellId) (new : Result Value Fault) (sends : List Action) (f : Option Fault) → store_with cells threads book (taken_of old) ≡ s
+    → more ≡ book ++ event_of a (Act g n new sends) ∷ [] → now ≡ set old g.number (finished f (get_or old g.number no_inbox)) → n ≡ suc (mail_after s.cells s.book g.number).acts
+    → store_with cells threads more (taken_of now) ≡ store_with s.cells s.threads (s.book ++ event_of a (Act g (suc (mail_after s.cells s.book g.number).acts) new sends) ∷ []) (set s.taken g.number false)
+over s cells threads book more old now a n g new sends f is added gone number =
+    subst (λ (u : PlainStore). store_with cells threads more (taken_of now) ≡ store_with u.cells u.threads (u.book ++ event_of a (Act g n new sends) ∷ []) (set u.taken g.number false)) is
     (ap (λ b. store_with cells threads b (taken_of now)) added
-    ∙ ap (store_with cells threads (book ++ event_of a (Act g n new) ∷ [])) (ap taken_of gone ∙ taken_set old g.number (finished f (get_or old g.number no_inbox))))
-    ∙ ap (λ m. store_with s.cells s.threads (s.book ++ event_of a (Act g m new) ∷ []) (set s.taken g.number false)) number
+    ∙ ap (store_with cells threads (book ++ event_of a (Act g n new sends) ∷ [])) (ap taken_of gone ∙ taken_set old g.number (finished f (get_or old g.number no_inbox))))
+    ∙ ap (λ m. store_with s.cells s.threads (s.book ++ event_of a (Act g m new sends) ∷ []) (set s.taken g.number false)) number
 
 -- an action that is taken
 pub handed : (s : PlainStore) (cells : List StoreCell) (threads : ℕ) (book : List Event) (old now : List PlainInbox) (g : CellId) → store_with cells threads book (taken_of old) ≡ s

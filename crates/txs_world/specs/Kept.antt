@@ -59,7 +59,7 @@ ChangesNothing (Fail at view) = Unit {0}
 ChangesNothing (Refused at view g) = Unit {0}
 ChangesNothing (Send x) = ⊥
 ChangesNothing (SendRefused g) = Unit {0}
-ChangesNothing (Act g n new) = ⊥
+ChangesNothing (Act g n new sends) = ⊥
 ChangesNothing (Swap new) = ⊥
 ChangesNothing (Broke at) = ⊥
 

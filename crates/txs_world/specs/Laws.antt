@@ -53,7 +53,7 @@ acts_for k (event.Fail at view) = false
 acts_for k (event.Refused at view g) = false
 acts_for k (event.Send x) = false
 acts_for k (event.SendRefused g) = false
-acts_for k (event.Act g n new) = g.number == k
+acts_for k (event.Act g n new sends) = g.number == k
 acts_for k (event.Swap new) = false
 acts_for k (event.Broke at) = false
 

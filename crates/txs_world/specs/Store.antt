@@ -16,7 +16,7 @@ use Rattle.txs_world_protocol.specs.declared.event.EventKind.{EventKind}
 use Rattle.txs_world_protocol.specs.declared.event.EventKind.TheVariants.{Read, Commit, Retry, Fail, Refused, Send, SendRefused, Act}
 use Rattle.txs_value_data.specs.declared.value.CellId.{CellId}
 use Rattle.txs_value_data.specs.declared.value.Value.{Value}
-use Rattle.txs_world_book.specs.Book.{has_ref, has_agent, has_readable, cells_in, are_refs, has_refs, are_sends, actor_of, may_name, may_end, opening, after, newest, written, least_written, mail_after, is_failed, first_failed}
+use Rattle.txs_world_book.specs.Book.{has_ref, has_agent, has_readable, cells_in, are_refs, has_refs, are_sends, actor_of, may_name, may_end, opening, after, newest, written, least_written, mail_after, is_failed, first_failed, is_empty}
 use Rattle.txs_value_data.specs.Limits.{most_events}
 use Rattle.txs_world_book.specs.Served.{Served, served, adds}
 use Rattle.txs_world_book.specs.declared.cell.StoreCell.{StoreCell}
@@ -65,13 +65,13 @@ may_ask cells threads a (ask.Fail at view) = nat_lt a threads
 may_ask cells threads a (ask.Peek c) = nat_lt a threads
 may_ask cells threads a (ask.Send x) = nat_lt a threads
 may_ask cells threads a (ask.Take g) = a == actor_of threads cells g
-may_ask cells threads a (ask.Finish g new) = a == actor_of threads cells g
+may_ask cells threads a (ask.Finish g new sends) = a == actor_of threads cells g
 may_ask cells threads a (ask.OpenAt c) = nat_lt a threads
 may_ask cells threads a (ask.CloseAt c at new) = nat_lt a threads
 may_ask cells threads a (ask.Broke c at) = nat_lt a threads
 
 -- whether the store has what an actor names: the cells, of the kind that is wanted; what is written ascends, and no ref is both set and commuted; the actor may name the places;
--- an agent takes an action where it has none, and finishes one where it has. What names an atom goes to the atom's book
+-- an agent takes an action where it has none, and finishes one where it has, which sends nothing. What names an atom goes to the atom's book
 abbrev pub has_named : PlainStore → ℕ → Ask → Bool
 has_named s a ask.Begin = true
 has_named s a (ask.Look c at) = has_ref s.cells c && may_name false s.book a at
@@ -82,7 +82,7 @@ has_named s a (ask.Fail at view) = may_end s.book a at view
 has_named s a (ask.Peek c) = has_readable s.cells c
 has_named s a (ask.Send x) = has_agent s.cells x.agent
 has_named s a (ask.Take g) = has_agent s.cells g && not (is_taken s.taken g)
-has_named s a (ask.Finish g new) = has_agent s.cells g && is_taken s.taken g
+has_named s a (ask.Finish g new sends) = has_agent s.cells g && (is_taken s.taken g && is_empty sends)
 has_named s a (ask.OpenAt c) = false
 has_named s a (ask.CloseAt c at new) = false
 has_named s a (ask.Broke c at) = false
@@ -142,8 +142,8 @@ serve cells a (ask.Peek c) book = adds a (Read c) (reply.Is (newest (opening cel
 serve cells a (ask.Send x) book = sends_to (is_failed cells book x.agent) a x book
 -- the agent's first action
 serve cells a (ask.Take g) book = served (takes (next_action cells book g) (suc (mail_after cells book g.number).acts) (newest (opening cells) book g.number)) book
--- what an agent's action came to
-serve cells a (ask.Finish g new) book = adds a (Act g (suc (mail_after cells book g.number).acts) new) reply.Done book
+-- what an agent's action came to, with its sends
+serve cells a (ask.Finish g new sends) book = adds a (Act g (suc (mail_after cells book g.number).acts) new sends) reply.Done book
 -- an atom's book answers these; no such ask is lawful here
 serve cells a (ask.OpenAt c) book = served reply.Idle book
 serve cells a (ask.CloseAt c at new) book = served reply.Idle book
@@ -169,7 +169,7 @@ taken_after (ask.Fail at view) r taken = taken
 taken_after (ask.Peek c) r taken = taken
 taken_after (ask.Send x) r taken = taken
 taken_after (ask.Take g) r taken = if hands_out r then set taken g.number true else taken
-taken_after (ask.Finish g new) r taken = if is_done r then set taken g.number false else taken
+taken_after (ask.Finish g new sends) r taken = if is_done r then set taken g.number false else taken
 taken_after (ask.OpenAt c) r taken = taken
 taken_after (ask.CloseAt c at new) r taken = taken
 taken_after (ask.Broke c at) r taken = taken

@@ -2,7 +2,7 @@
 
 ghost use Rattle.std.specs.Prelude.{◌≡◌, ◌≤◌, ◌<◌, ◌==◌, ◌↔◌, length, true, false, IsTrue};
 ghost use Rattle.txs_world_protocol.specs.declared.ask.Ask.TheVariants as ask;
-ghost use Rattle.txs_world_book.specs.Book.{has_cell, has_ref, has_agent, has_readable, are_refs, has_refs, are_sends, cells_in, actor_of, all_before, may_name, may_end};
+ghost use Rattle.txs_world_book.specs.Book.{has_cell, has_ref, has_agent, has_readable, are_refs, has_refs, are_sends, cells_in, actor_of, all_before, may_name, may_end, is_empty};
 ghost use Rattle.txs_world_book.specs.Stands.{StandsAt};
 ghost use Rattle.txs_world.specs.Store.{is_lawful, may_ask, has_named, is_taken};
 
@@ -12,6 +12,13 @@ use txs_value_cell::Action;
 use txs_value_data::{CellId, CellKind, Listed, Value};
 use txs_world_book::stand_of;
 use txs_world_protocol::Ask;
+
+/// Whether these are no actions.
+fn sends_nothing(sends: &Listed<Action>) -> bool
+    ensures { result ≡ is_empty sends.now }
+{
+    sends.as_slice().is_empty()
+}
 
 impl Store {
     /// Whether the actor may ask this of the store: it makes such asks, and the store has what it names.
@@ -35,7 +42,7 @@ impl Store {
     /// Whether the store has what an actor names: the cells, each of the kind that is wanted; what is written ascends, and no ref
     /// is both set and commuted; each place is at most the number of events, with all that the actor did before it (but for
     /// commute phases made again, where it is a read point), and a read point is at most its view; an agent takes an action where
-    /// it has none in hand, and finishes one where it has. An atom's book takes what names an atom.
+    /// it has none in hand, and finishes one where it has, which sends nothing. An atom's book takes what names an atom.
     fn has_named(&self, actor: u16, ask: &Ask) -> bool
         ensures { result ≡ has_named self.now actor ask.now }
     {
@@ -55,7 +62,9 @@ impl Store {
             Ask::Peek { cell } => cell.kind != CellKind::Atom && self.has_cell(*cell),
             Ask::Send { action } => self.has_agent(action.agent),
             Ask::Take { agent } => self.has_agent(*agent) && !self.is_taken(*agent),
-            Ask::Finish { agent, .. } => self.has_agent(*agent) && self.is_taken(*agent),
+            Ask::Finish { agent, sends, .. } => {
+                self.has_agent(*agent) && self.is_taken(*agent) && sends_nothing(sends)
+            }
             Ask::OpenAt { .. } | Ask::CloseAt { .. } | Ask::Broke { .. } => false,
         }
     }

@@ -2,7 +2,7 @@
 
 ghost use Rattle.std.specs.Prelude.{◌≡◌, ◌==◌, nat_lt, suc, true, false, is_some, OnOk};
 ghost use Rattle.txs_world_protocol.specs.declared.ask.Ask.TheVariants as ask;
-ghost use Rattle.txs_world_book.specs.Book.{has_agent, actor_of, is_failed, mail_after, state_of, waits};
+ghost use Rattle.txs_world_book.specs.Book.{has_agent, actor_of, is_failed, mail_after, state_of, waits, is_empty};
 ghost use Rattle.txs_world.specs.Inboxes.{fault_of};
 ghost use Rattle.txs_world.specs.Store.{is_taken, sends_to, next_action, serve, store_after, Answers, Replies};
 
@@ -12,7 +12,7 @@ use crate::store::Store;
 use std::alloc::AllocError;
 use txs_value_base::Fault;
 use txs_value_cell::Action;
-use txs_value_data::{CellId, Value};
+use txs_value_data::{CellId, Listed, Value};
 use txs_world_protocol::{EventKind, Reply};
 
 /// The fault that an action came to, if it faulted.
@@ -127,15 +127,23 @@ impl Store {
         self.inboxes[usize::from(agent.number)].acts + 1
     }
 
-    /// What an agent's action came to, which is over: its new state, or a fault.
-    pub(crate) fn finish(&mut self, actor: u16, agent: CellId, new: Result<Value, Fault>) -> Reply
+    /// What an agent's action came to, which is over: its new state, or a fault. It sends nothing.
+    pub(crate) fn finish(
+        &mut self,
+        actor: u16,
+        agent: CellId,
+        new: Result<Value, Fault>,
+        sends: Listed<Action>,
+    ) -> Reply
         requires own { (actor == actor_of self.old.threads self.old.cells agent) ≡ true }
         requires agent { has_agent self.old.cells agent ≡ true }
         requires taken { is_taken self.old.taken agent ≡ true }
-        ensures { Answers self.old (serve self.old.cells actor (ask.Finish agent new) self.old.book) (store_after self.old (ask.Finish agent new) (serve self.old.cells actor (ask.Finish agent new) self.old.book)) result self.new }
+        requires none { is_empty sends ≡ true }
+        ensures { Answers self.old (serve self.old.cells actor (ask.Finish agent new sends) self.old.book) (store_after self.old (ask.Finish agent new sends) (serve self.old.cells actor (ask.Finish agent new sends) self.old.book)) result self.new }
     {
         if self.is_full() {
             drop(new);
+            drop(sends);
             return Reply::Full;
         }
         let number = self.number_taken(agent);
@@ -144,13 +152,17 @@ impl Store {
             Ok(()) => (),
             Err(_) => {
                 drop(new);
+                drop(sends);
                 return Reply::Memory;
             }
         }
-        match self
-            .journal
-            .add(actor, EventKind::Act { agent, number, new })
-        {
+        let kind = EventKind::Act {
+            agent,
+            number,
+            new,
+            sends,
+        };
+        match self.journal.add(actor, kind) {
             Ok(events) => {
                 put_all(&mut self.slots, &mut self.spare, events);
                 finish_at(&mut self.inboxes, agent.number, fault);

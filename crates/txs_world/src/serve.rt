@@ -50,7 +50,7 @@ impl Store {
             Ask::Peek { cell } => self.peek(actor, cell),
             Ask::Send { action } => self.send(actor, action),
             Ask::Take { agent } => self.take(actor, agent),
-            Ask::Finish { agent, new } => self.finish(actor, agent, new),
+            Ask::Finish { agent, new, sends } => self.finish(actor, agent, new, sends),
             Ask::OpenAt { .. } | Ask::Broke { .. } => Reply::Idle,
             Ask::CloseAt { new, .. } => {
                 drop(new);

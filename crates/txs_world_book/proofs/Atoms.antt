@@ -73,7 +73,7 @@ no_value (Fail at view) e = refl
 no_value (Refused at view g) e = refl
 no_value (Send x) e = refl
 no_value (SendRefused g) e = refl
-no_value (Act g n new) e = refl
+no_value (Act g n new sends) e = refl
 no_value (Swap new) e = absurd (false≢true (sym e))
 no_value (Broke at) e = refl
 
@@ -160,4 +160,4 @@ atom_serves c v a (ask.Commit p sets ensured q commuted sends) book l h = h
 atom_serves c v a (ask.Fail p q) book l h = h
 atom_serves c v a (ask.Send x) book l h = h
 atom_serves c v a (ask.Take g) book l h = h
-atom_serves c v a (ask.Finish g new) book l h = h
+atom_serves c v a (ask.Finish g new sends) book l h = h

@@ -70,7 +70,7 @@ same_event cells w a done rest (Fail at view) h = ended_worlds w a at view done 
 same_event cells w a done rest (Refused at view g) h = ended_worlds w a at view done rest (Refused at view g) refl refl h.1
 same_event cells w a done rest (Send x) h = same_worlds w done rest (Send x) (omega arith) (omega arith)
 same_event cells w a done rest (SendRefused g) h = same_worlds w done rest (SendRefused g) (omega arith) (omega arith)
-same_event cells w a done rest (Act g n new) h = same_worlds w done rest (Act g n new) (omega arith) (omega arith)
+same_event cells w a done rest (Act g n new sends) h = same_worlds w done rest (Act g n new sends) (omega arith) (omega arith)
 same_event cells w a done rest (Swap new) h = absurd h
 same_event cells w a done rest (Broke at) h = absurd h
 

@@ -33,7 +33,7 @@ swapped_to (Fail at view) = None
 swapped_to (Refused at view g) = None
 swapped_to (Send x) = None
 swapped_to (SendRefused g) = None
-swapped_to (Act g n new) = None
+swapped_to (Act g n new sends) = None
 swapped_to (Swap new) = Some new
 swapped_to (Broke at) = None
 
@@ -56,7 +56,7 @@ is_swap (Fail at view) = false
 is_swap (Refused at view g) = false
 is_swap (Send x) = false
 is_swap (SendRefused g) = false
-is_swap (Act g n new) = false
+is_swap (Act g n new sends) = false
 is_swap (Swap new) = true
 is_swap (Broke at) = false
 
@@ -75,7 +75,7 @@ LegalAtomKind cell done a (Fail at view) = ⊥
 LegalAtomKind cell done a (Refused at view g) = ⊥
 LegalAtomKind cell done a (Send x) = ⊥
 LegalAtomKind cell done a (SendRefused g) = ⊥
-LegalAtomKind cell done a (Act g n new) = ⊥
+LegalAtomKind cell done a (Act g n new sends) = ⊥
 LegalAtomKind cell done a (Swap new) = Unit {0}
 LegalAtomKind cell done a (Broke at) = may_name true done a at ≡ true
 
@@ -112,7 +112,7 @@ serve_atom cell v a (ask.Commit at sets ensured view commuted sends) book = serv
 serve_atom cell v a (ask.Fail at view) book = served reply.Idle book
 serve_atom cell v a (ask.Send x) book = served reply.Idle book
 serve_atom cell v a (ask.Take g) book = served reply.Idle book
-serve_atom cell v a (ask.Finish g new) book = served reply.Idle book
+serve_atom cell v a (ask.Finish g new sends) book = served reply.Idle book
 
 -- whether a place of a swap may be named, where there is one
 abbrev pub may_close : List Event → ℕ → Option ℕ → Bool
@@ -132,7 +132,7 @@ is_lawful_atom cell a (ask.Commit at sets ensured view commuted sends) book = fa
 is_lawful_atom cell a (ask.Fail at view) book = false
 is_lawful_atom cell a (ask.Send x) book = false
 is_lawful_atom cell a (ask.Take g) book = false
-is_lawful_atom cell a (ask.Finish g new) book = false
+is_lawful_atom cell a (ask.Finish g new sends) book = false
 
 -- which replies of an atom's book take memory: those behind an event, and those that hand out its value; that it has changed is told without
 abbrev pub AtomTakesMemory : Reply → Type 0

@@ -104,7 +104,7 @@ writes_of (Fail at view) = []
 writes_of (Refused at view g) = []
 writes_of (Send x) = []
 writes_of (SendRefused g) = []
-writes_of (Act g n new) = state_of g new
+writes_of (Act g n new sends) = state_of g new
 writes_of (Swap new) = []
 writes_of (Broke at) = []
 
@@ -175,7 +175,7 @@ acted goes (Ok v) m = record { actions = drop 1 m.actions; fault = m.fault; acts
 acted true (Err f) m = record { actions = drop 1 m.actions; fault = m.fault; acts = suc m.acts }
 acted false (Err f) m = record { actions = drop 1 m.actions; fault = Some f; acts = suc m.acts }
 
--- the mail of the agent with this number after an event
+-- the mail of the agent with this number after an event; what an action sends enters once its agent's state is set
 abbrev pub mail_changed : Bool → ℕ → EventKind → Mail → Mail
 mail_changed goes k (Read c) m = m
 mail_changed goes k (Commit at view ws sends) m = mailed (sent_to k sends) m
@@ -184,7 +184,7 @@ mail_changed goes k (Fail at view) m = m
 mail_changed goes k (Refused at view g) m = m
 mail_changed goes k (Send x) m = mailed (sent_to k (x ∷ [])) m
 mail_changed goes k (SendRefused g) m = m
-mail_changed goes k (Act g n new) m = if g.number == k then acted goes new m else m
+mail_changed goes k (Act g n new sends) m = mailed (sent_to k sends) (if g.number == k then acted goes new m else m)
 mail_changed goes k (Swap new) m = m
 mail_changed goes k (Broke at) m = m
 
@@ -211,6 +211,11 @@ abbrev pub waits : List Action → Bool
 waits [] = false
 waits (x ∷ xs) = true
 
+-- whether there is nothing
+abbrev pub is_empty : {A : Type 0} → List A → Bool
+is_empty [] = true
+is_empty (x ∷ xs) = false
+
 -- ---- legal books
 
 -- whether an actor makes such events: a thread all but actions, an agent's actor those of its agent
@@ -222,7 +227,7 @@ makes cells threads a (Fail at view) = nat_lt a threads
 makes cells threads a (Refused at view g) = nat_lt a threads
 makes cells threads a (Send x) = nat_lt a threads
 makes cells threads a (SendRefused g) = nat_lt a threads
-makes cells threads a (Act g n new) = a == actor_of threads cells g
+makes cells threads a (Act g n new sends) = a == actor_of threads cells g
 makes cells threads a (Swap new) = nat_lt a threads
 makes cells threads a (Broke at) = nat_lt a threads
 
@@ -235,7 +240,7 @@ is_redo (Fail at view) = false
 is_redo (Refused at view g) = false
 is_redo (Send x) = false
 is_redo (SendRefused g) = false
-is_redo (Act g n new) = false
+is_redo (Act g n new sends) = false
 is_redo (Swap new) = false
 is_redo (Broke at) = false
 
@@ -257,7 +262,7 @@ may_name all done a p = nat_le p (length done) && all_before all a p done
 abbrev pub may_end : List Event → ℕ → ℕ → ℕ → Bool
 may_end done a at view = nat_le at view && (may_name false done a at && may_name true done a view)
 
--- what an actor may have done after these events
+-- what an actor may have done after these events; an action sends nothing
 abbrev pub LegalKind : List StoreCell → List Event → ℕ → EventKind → Type 0
 LegalKind cells done a (Read c) = has_readable cells c ≡ true
 LegalKind cells done a (Commit at view ws sends) =
@@ -267,8 +272,9 @@ LegalKind cells done a (Fail at view) = may_end done a at view ≡ true
 LegalKind cells done a (Refused at view g) = (has_agent cells g ≡ true) × (may_end done a at view ≡ true) × (is_failed cells done g ≡ true)
 LegalKind cells done a (Send x) = (has_agent cells x.agent ≡ true) × (is_failed cells done x.agent ≡ false)
 LegalKind cells done a (SendRefused g) = (has_agent cells g ≡ true) × (is_failed cells done g ≡ true)
-LegalKind cells done a (Act g n new) =
+LegalKind cells done a (Act g n new sends) =
     (has_agent cells g ≡ true) × (is_failed cells done g ≡ false) × (waits (mail_after cells done g.number).actions ≡ true) × (n ≡ suc (mail_after cells done g.number).acts)
+    × (is_empty sends ≡ true)
 LegalKind cells done a (Swap new) = ⊥
 LegalKind cells done a (Broke at) = ⊥
 
@@ -297,7 +303,7 @@ Guarded done (Fail at view) = Unit {0}
 Guarded done (Refused at view g) = Unit {0}
 Guarded done (Send x) = Unit {0}
 Guarded done (SendRefused g) = Unit {0}
-Guarded done (Act g n new) = Unit {0}
+Guarded done (Act g n new sends) = Unit {0}
 Guarded done (Swap new) = Unit {0}
 Guarded done (Broke at) = Unit {0}
 

@@ -16,7 +16,7 @@ at_of (Fail at view) k = at
 at_of (Refused at view g) k = at
 at_of (Send x) k = k
 at_of (SendRefused g) k = k
-at_of (Act g n new) k = k
+at_of (Act g n new sends) k = k
 at_of (Swap new) k = k
 at_of (Broke at) k = at
 
@@ -29,7 +29,7 @@ view_of (Fail at view) k = view
 view_of (Refused at view g) k = view
 view_of (Send x) k = k
 view_of (SendRefused g) k = k
-view_of (Act g n new) k = k
+view_of (Act g n new sends) k = k
 view_of (Swap new) k = k
 view_of (Broke at) k = k
 

@@ -194,9 +194,10 @@ same_ask-sound (Fail p q) (Fail p1 q1) h =
 same_ask-sound (Peek c) (Peek d) h = ap Peek (same_cell-sound c d h)
 same_ask-sound (Send a) (Send b) h = ap Send (same_action-sound a b h)
 same_ask-sound (Take g) (Take k) h = ap Take (same_cell-sound g k h)
-same_ask-sound (Finish g v) (Finish k w) h =
-    let both = and_both (same_cell g k) (same_new v w) h in
-    λ i. Finish (same_cell-sound g k both.0 i) (same_new-sound v w both.1 i)
+same_ask-sound (Finish g v xs) (Finish k w xs1) h =
+    let one = and_both (same_cell g k) (same_new v w && same_actions xs xs1) h in
+    let two = and_both (same_new v w) (same_actions xs xs1) one.1 in
+    λ i. Finish (same_cell-sound g k one.0 i) (same_new-sound v w two.0 i) (same_actions-sound xs xs1 two.1 i)
 same_ask-sound (OpenAt c) (OpenAt d) h = ap OpenAt (same_cell-sound c d h)
 same_ask-sound (CloseAt c p v) (CloseAt d q w) h =
     let one = and_both (same_cell c d) (same_place p q && same_value v w) h in
@@ -217,7 +218,7 @@ same_ask-itself (Fail p q) = and_true _ _ (number-itself p) (number-itself q)
 same_ask-itself (Peek c) = same_cell-itself c
 same_ask-itself (Send a) = same_action-itself a
 same_ask-itself (Take g) = same_cell-itself g
-same_ask-itself (Finish g v) = and_true _ _ (same_cell-itself g) (same_new-itself v)
+same_ask-itself (Finish g v xs) = and_true _ _ (same_cell-itself g) (and_true _ _ (same_new-itself v) (same_actions-itself xs))
 same_ask-itself (OpenAt c) = same_cell-itself c
 same_ask-itself (CloseAt c p v) = and_true _ _ (same_cell-itself c) (and_true _ _ (same_place-itself p) (same_value-itself v))
 same_ask-itself (Broke c p) = and_true _ _ (same_cell-itself c) (number-itself p)

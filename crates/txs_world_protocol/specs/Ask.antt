@@ -111,7 +111,7 @@ same_ask (Fail p q) (Fail p1 q1) = p == p1 && q == q1
 same_ask (Peek c) (Peek d) = same_cell c d
 same_ask (Send a) (Send b) = same_action a b
 same_ask (Take g) (Take h) = same_cell g h
-same_ask (Finish g v) (Finish h w) = same_cell g h && same_new v w
+same_ask (Finish g v xs) (Finish h w xs1) = same_cell g h && (same_new v w && same_actions xs xs1)
 same_ask (OpenAt c) (OpenAt d) = same_cell c d
 same_ask (CloseAt c p v) (CloseAt d q w) = same_cell c d && (same_place p q && same_value v w)
 same_ask (Broke c p) (Broke d q) = same_cell c d && p == q

@@ -51,10 +51,11 @@ pub enum Ask {
     Take {
         agent: CellId,
     },
-    /// An agent's action is over: its new state, or the fault.
+    /// An agent's action is over: its new state, or the fault, and the actions that it sends, in order.
     Finish {
         agent: CellId,
         new: Result<Value, Fault>,
+        sends: Listed<Action>,
     },
     /// `swap!` begins with an atom's value.
     OpenAt {

@@ -89,10 +89,15 @@ pub fn copy_ask(alloc: Global, ask: &Ask) -> Result<Ask, AllocError>
             action: copy_action(alloc, action)?,
         }),
         Ask::Take { agent } => Ok(Ask::Take { agent: *agent }),
-        Ask::Finish { agent, new } => Ok(Ask::Finish {
-            agent: *agent,
-            new: copy_new(new)?,
-        }),
+        Ask::Finish { agent, new, sends } => {
+            let sends = copy_actions(alloc, sends)?;
+            let new = copy_new(new)?;
+            Ok(Ask::Finish {
+                agent: *agent,
+                new,
+                sends,
+            })
+        }
         Ask::OpenAt { cell } => Ok(Ask::OpenAt { cell: *cell }),
         Ask::CloseAt { cell, at, new } => Ok(Ask::CloseAt {
             cell: *cell,
@@ -180,11 +185,21 @@ fn copy_kind(alloc: Global, kind: &EventKind) -> Result<EventKind, AllocError>
             action: copy_action(alloc, action)?,
         }),
         EventKind::SendRefused { agent } => Ok(EventKind::SendRefused { agent: *agent }),
-        EventKind::Act { agent, number, new } => Ok(EventKind::Act {
-            agent: *agent,
-            number: *number,
-            new: copy_new(new)?,
-        }),
+        EventKind::Act {
+            agent,
+            number,
+            new,
+            sends,
+        } => {
+            let sends = copy_actions(alloc, sends)?;
+            let new = copy_new(new)?;
+            Ok(EventKind::Act {
+                agent: *agent,
+                number: *number,
+                new,
+                sends,
+            })
+        }
         EventKind::Swap { new } => Ok(EventKind::Swap {
             new: copy_value(new)?,
         }),

@@ -45,11 +45,13 @@ pub enum EventKind {
     SendRefused {
         agent: CellId,
     },
-    /// An agent ran an action, the so many-th of its own, counted from 1: its new state, or the fault.
+    /// An agent ran an action, the so many-th of its own, counted from 1: its new state, or the fault, and the actions that it
+    /// sent, in order.
     Act {
         agent: CellId,
         number: u32,
         new: Result<Value, Fault>,
+        sends: Listed<Action>,
     },
     /// The atom got a value.
     Swap {

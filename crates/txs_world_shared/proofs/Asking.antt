@@ -93,7 +93,7 @@ module _ (cells : List CellDefinition) (threads : ℕ) (taken : List Bool) (a : 
       go false e r = none c r
   asks_atom (ask.Send x) c h = none c h
   asks_atom (ask.Take g) c h = none c h
-  asks_atom (ask.Finish g new) c h = none c h
+  asks_atom (ask.Finish g new sends) c h = none c h
   asks_atom (ask.OpenAt d) c h = asks_of (ask.OpenAt d) d c h (opens_at d)
   asks_atom (ask.CloseAt d p v) c h = asks_of (ask.CloseAt d p v) d c h (closes_at d p v)
   asks_atom (ask.Broke d p) c h = asks_of (ask.Broke d p) d c h (breaks d p)
@@ -121,7 +121,7 @@ module _ (cells : List CellDefinition) (threads : ℕ) (taken : List Bool) (a : 
       go false e r = peeks_store d e
   asks_store (ask.Send x) h = record { book_is = refl; may = refl; served = refl }
   asks_store (ask.Take g) h = record { book_is = refl; may = refl; served = refl }
-  asks_store (ask.Finish g new) h = record { book_is = refl; may = refl; served = refl }
+  asks_store (ask.Finish g new sends) h = record { book_is = refl; may = refl; served = refl }
   asks_store (ask.OpenAt d) h = some d h
   asks_store (ask.CloseAt d p v) h = some d h
   asks_store (ask.Broke d p) h = some d h

@@ -245,4 +245,5 @@ fn is_cell(cell: &CellDefinition, other: &CellDefinition) -> bool
         && cell.name.as_bytes() == other.name.as_bytes()
         && same(&cell.opening, &other.opening)
         && cell.error_mode == other.error_mode
+        && cell.validator == other.validator
 }

@@ -31,7 +31,7 @@ may_be_full (ask.Fail p q) n0 n1 n2 n3 = tt
 may_be_full (ask.Peek c) n0 n1 n2 n3 = tt
 may_be_full (ask.Send x) n0 n1 n2 n3 = tt
 may_be_full (ask.Take g) n0 n1 n2 n3 = absurd (n2 g refl)
-may_be_full (ask.Finish g new) n0 n1 n2 n3 = tt
+may_be_full (ask.Finish g new sends) n0 n1 n2 n3 = tt
 may_be_full (ask.OpenAt c) n0 n1 n2 n3 = absurd (n3 c refl)
 may_be_full (ask.CloseAt c p v) n0 n1 n2 n3 = tt
 may_be_full (ask.Broke c p) n0 n1 n2 n3 = tt
@@ -46,7 +46,7 @@ may_want_memory (ask.Fail p q) n0 = tt
 may_want_memory (ask.Peek c) n0 = tt
 may_want_memory (ask.Send x) n0 = tt
 may_want_memory (ask.Take g) n0 = tt
-may_want_memory (ask.Finish g new) n0 = tt
+may_want_memory (ask.Finish g new sends) n0 = tt
 may_want_memory (ask.OpenAt c) n0 = tt
 may_want_memory (ask.CloseAt c p v) n0 = tt
 may_want_memory (ask.Broke c p) n0 = tt
@@ -61,7 +61,7 @@ no_read_point (ask.Fail p q) n n0 m = m
 no_read_point (ask.Peek c) n n0 m = m
 no_read_point (ask.Send x) n n0 m = m
 no_read_point (ask.Take g) n n0 m = m
-no_read_point (ask.Finish g new) n n0 m = m
+no_read_point (ask.Finish g new sends) n n0 m = m
 no_read_point (ask.OpenAt c) n n0 m = m
 no_read_point (ask.CloseAt c p v) n n0 m = m
 no_read_point (ask.Broke c p) n n0 m = m
@@ -76,7 +76,7 @@ no_value (ask.Fail p q) v0 n0 n1 m = m
 no_value (ask.Peek c) v0 n0 n1 m = n1 c refl
 no_value (ask.Send x) v0 n0 n1 m = m
 no_value (ask.Take g) v0 n0 n1 m = m
-no_value (ask.Finish g new) v0 n0 n1 m = m
+no_value (ask.Finish g new sends) v0 n0 n1 m = m
 no_value (ask.OpenAt c) v0 n0 n1 m = m
 no_value (ask.CloseAt c p v) v0 n0 n1 m = m
 no_value (ask.Broke c p) v0 n0 n1 m = m
@@ -91,13 +91,13 @@ no_views (ask.Fail p q) n vs n0 m = m
 no_views (ask.Peek c) n vs n0 m = m
 no_views (ask.Send x) n vs n0 m = m
 no_views (ask.Take g) n vs n0 m = m
-no_views (ask.Finish g new) n vs n0 m = m
+no_views (ask.Finish g new sends) n vs n0 m = m
 no_views (ask.OpenAt c) n vs n0 m = m
 no_views (ask.CloseAt c p v) n vs n0 m = m
 no_views (ask.Broke c p) n vs n0 m = m
 
 -- what is done is a commit, a fault, a send, an action, or the close of an atom
-not_done : (q0 : Ask) → ((p : ℕ) (ws : Writes) (es : List CellId) (q : ℕ) (cs : Writes) (xs : List Action) → q0 ≡ ask.Commit p ws es q cs xs → ⊥) → ((p q : ℕ) → q0 ≡ ask.Fail p q → ⊥) → ((x : Action) → q0 ≡ ask.Send x → ⊥) → ((g : CellId) (new : Result Value Fault) → q0 ≡ ask.Finish g new → ⊥) → ((c : CellId) (p : Option ℕ) (v : Value) → q0 ≡ ask.CloseAt c p v → ⊥) → ((c : CellId) (p : ℕ) → q0 ≡ ask.Broke c p → ⊥) → MayAnswer q0 reply.Done → ⊥
+not_done : (q0 : Ask) → ((p : ℕ) (ws : Writes) (es : List CellId) (q : ℕ) (cs : Writes) (xs : List Action) → q0 ≡ ask.Commit p ws es q cs xs → ⊥) → ((p q : ℕ) → q0 ≡ ask.Fail p q → ⊥) → ((x : Action) → q0 ≡ ask.Send x → ⊥) → ((g : CellId) (new : Result Value Fault) (xs : List Action) → q0 ≡ ask.Finish g new xs → ⊥) → ((c : CellId) (p : Option ℕ) (v : Value) → q0 ≡ ask.CloseAt c p v → ⊥) → ((c : CellId) (p : ℕ) → q0 ≡ ask.Broke c p → ⊥) → MayAnswer q0 reply.Done → ⊥
 not_done ask.Begin n0 n1 n2 n3 n4 n5 m = m
 not_done (ask.Look c p) n0 n1 n2 n3 n4 n5 m = m
 not_done (ask.View cs) n0 n1 n2 n3 n4 n5 m = m
@@ -106,7 +106,7 @@ not_done (ask.Fail p q) n0 n1 n2 n3 n4 n5 m = n1 p q refl
 not_done (ask.Peek c) n0 n1 n2 n3 n4 n5 m = m
 not_done (ask.Send x) n0 n1 n2 n3 n4 n5 m = n2 x refl
 not_done (ask.Take g) n0 n1 n2 n3 n4 n5 m = m
-not_done (ask.Finish g new) n0 n1 n2 n3 n4 n5 m = n3 g new refl
+not_done (ask.Finish g new sends) n0 n1 n2 n3 n4 n5 m = n3 g new sends refl
 not_done (ask.OpenAt c) n0 n1 n2 n3 n4 n5 m = m
 not_done (ask.CloseAt c p v) n0 n1 n2 n3 n4 n5 m = n4 c p v refl
 not_done (ask.Broke c p) n0 n1 n2 n3 n4 n5 m = n5 c p refl
@@ -121,7 +121,7 @@ not_refused (ask.Fail p q) a n0 n1 m = m
 not_refused (ask.Peek c) a n0 n1 m = m
 not_refused (ask.Send x) a n0 n1 m = n1 x refl
 not_refused (ask.Take g) a n0 n1 m = m
-not_refused (ask.Finish g new) a n0 n1 m = m
+not_refused (ask.Finish g new sends) a n0 n1 m = m
 not_refused (ask.OpenAt c) a n0 n1 m = m
 not_refused (ask.CloseAt c p v) a n0 n1 m = m
 not_refused (ask.Broke c p) a n0 n1 m = m
@@ -136,7 +136,7 @@ not_opened (ask.Fail p q) n v0 n0 m = m
 not_opened (ask.Peek c) n v0 n0 m = m
 not_opened (ask.Send x) n v0 n0 m = m
 not_opened (ask.Take g) n v0 n0 m = m
-not_opened (ask.Finish g new) n v0 n0 m = m
+not_opened (ask.Finish g new sends) n v0 n0 m = m
 not_opened (ask.OpenAt c) n v0 n0 m = n0 c refl
 not_opened (ask.CloseAt c p v) n v0 n0 m = m
 not_opened (ask.Broke c p) n v0 n0 m = m
@@ -157,11 +157,11 @@ has_refusal q0 a (inl h) = subst (λ (q : Ask). MayAnswer q (reply.AgentIsFailed
 has_refusal q0 a (inr h) = subst (λ (q : Ask). MayAnswer q (reply.AgentIsFailed a)) (sym h.1) tt
 
 -- a commit, a fault, a send, an action and the close of an atom may be done
-may_be_done : (q0 : Ask) → ((p : ℕ) × (ws : Writes) × (es : List CellId) × (q : ℕ) × (cs : Writes) × (xs : List Action) × (q0 ≡ ask.Commit p ws es q cs xs)) ⊎ ((p : ℕ) × (q : ℕ) × (q0 ≡ ask.Fail p q)) ⊎ ((x : Action) × (q0 ≡ ask.Send x)) ⊎ ((g : CellId) × (new : Result Value Fault) × (q0 ≡ ask.Finish g new)) ⊎ ((c : CellId) × (p : Option ℕ) × (v : Value) × (q0 ≡ ask.CloseAt c p v)) ⊎ ((c : CellId) × (p : ℕ) × (q0 ≡ ask.Broke c p)) → MayAnswer q0 reply.Done
+may_be_done : (q0 : Ask) → ((p : ℕ) × (ws : Writes) × (es : List CellId) × (q : ℕ) × (cs : Writes) × (xs : List Action) × (q0 ≡ ask.Commit p ws es q cs xs)) ⊎ ((p : ℕ) × (q : ℕ) × (q0 ≡ ask.Fail p q)) ⊎ ((x : Action) × (q0 ≡ ask.Send x)) ⊎ ((g : CellId) × (new : Result Value Fault) × (xs : List Action) × (q0 ≡ ask.Finish g new xs)) ⊎ ((c : CellId) × (p : Option ℕ) × (v : Value) × (q0 ≡ ask.CloseAt c p v)) ⊎ ((c : CellId) × (p : ℕ) × (q0 ≡ ask.Broke c p)) → MayAnswer q0 reply.Done
 may_be_done q0 (inl h) = subst (λ (q : Ask). MayAnswer q reply.Done) (sym h.6) tt
 may_be_done q0 (inr (inl h)) = subst (λ (q : Ask). MayAnswer q reply.Done) (sym h.2) tt
 may_be_done q0 (inr (inr (inl h))) = subst (λ (q : Ask). MayAnswer q reply.Done) (sym h.1) tt
-may_be_done q0 (inr (inr (inr (inl h)))) = subst (λ (q : Ask). MayAnswer q reply.Done) (sym h.2) tt
+may_be_done q0 (inr (inr (inr (inl h)))) = subst (λ (q : Ask). MayAnswer q reply.Done) (sym h.3) tt
 may_be_done q0 (inr (inr (inr (inr (inl h))))) = subst (λ (q : Ask). MayAnswer q reply.Done) (sym h.3) tt
 may_be_done q0 (inr (inr (inr (inr (inr h))))) = subst (λ (q : Ask). MayAnswer q reply.Done) (sym h.2) tt
 

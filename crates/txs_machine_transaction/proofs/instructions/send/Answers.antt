@@ -4,9 +4,8 @@ use Rattle.txs_value_cell.specs.Forms.{rule, cell_of}
 use Rattle.txs_value_cell.specs.declared.form.CellForm.TheVariants as form
 use Rattle.txs_frame.specs.Frame.{Work, hold_send}
 use Rattle.txs_machine_stack.specs.PlainFrame.{PlainStack}
-use Rattle.txs_machine_transaction.specs.Effect.{moves, waits, sends_cell}
+use Rattle.txs_machine_transaction.specs.Effect.{moves, dispatches, sends_cell}
 use Rattle.txs_machine_transaction.specs.Transaction.{is_running}
-use Rattle.txs_machine_transaction.specs.declared.state.Pending.TheVariants as pending
 use Rattle.txs_value_data.specs.declared.value.Value.TheVariants.{Cell}
 use Rattle.txs_value_data.specs.declared.value.Value.{Value}
 use Rattle.txs_machine_transaction.proofs.instructions.send.Goals as goal
@@ -22,7 +21,7 @@ returns-then-not-inside-clause-comes c = λ k.
     let e : cell_of (rule form.Send) (is_running tx) (under a.n vs) ≡ Ok g =
     sym (c.in-Ok.ensures ∙ ap (λ v. cell_of (rule form.Send) c.is_running-inside.result v) c.under.ensures ∙ ap (λ b. cell_of (rule form.Send) b (under a.n vs)) c.is_running-inside.ensures) in
     ap (λ r. sends_cell (is_running tx) a.callee a.n a.span vs tx w k r) e ∙ ap (λ b. sends_cell b a.callee a.n a.span vs tx w k (Ok g)) inside
-    ∙ ap (λ (ts : List Value). waits (pending.Send (record { agent = g; callee = a.callee; args = ts; span = a.span }) a.n) vs tx w k) (sym c.in-Ok-copy_topmost.ensures)
+    ∙ ap (λ (ts : List Value). dispatches (record { agent = g; callee = a.callee; args = ts; span = a.span }) a.n vs tx w k) (sym c.in-Ok-copy_topmost.ensures)
 
 pub returns-in-Ok-hold_send-clause-comes : goal.returns-in-Ok-hold_send-clause-comes
 returns-in-Ok-hold_send-clause-comes c = λ k.

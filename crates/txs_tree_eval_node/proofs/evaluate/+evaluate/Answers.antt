@@ -353,7 +353,7 @@ act_outside-returns-in_err-event t c =
     let told = subst (λ f. Told (Ok c.in_ok-cell.cell) (result_of (cell_of (rule f) false c.args.value.now) c.args.span tt)) c.form.ensures c.in_ok-cell.ensures in
     let stopped : c.from_residual-in_err-event.result ≡ Err y = halted c.from_residual-in_err-event.result y c.from_residual-in_err-event.ensures.1 in
     λ wanted. stops_gives (λ v. v) false c.from_residual-in_err-event.result y before (outside_means x c.args.act (mark_of c.args.span wanted) c.args.value.now c.args.args.items before) stopped
-    (none_outside x (mark_of c.args.span wanted) c.args.value.now before c.in_ok-cell.cell c.args.act c.args.args.items y c.home.result c.home.ensures c.requires told c.in_err-event.ensures)
+    (none_outside x (mark_of c.args.span wanted) c.args.value.now before c.in_ok-cell.cell c.args.act c.args.args.items y c.home.result refl c.home.ensures c.requires told c.in_err-event.ensures)
 
 pub apply_callee-call-given-requires : goal.apply_callee-call-given-requires
 apply_callee-call-given-requires t c =
@@ -996,7 +996,7 @@ act_outside-returns-in-Send t c =
     let given = gives_at c.home.result 0 (c.home.ensures ∙ send_home x c.args.value.now c.args.span cell told) (λ a s. sends (record { agent = cell; callee = callee; args = vs; span = c.args.span }) c.args.span a.kind s) e before later h r (c.eat-in-Send.ensures.eaten (seen_event e) h.0 h.1)
     (c.send_at.ensures (with_todo h.0 before)) in
     λ wanted. subst₂ (λ a q. Gives false q later (outside_means x a (mark_of c.args.span wanted) c.args.value.now vs before)) (sym c.in-Send.is) (sym c.eat-in-Send.ensures.same)
-    (send_outside x (mark_of c.args.span wanted) c.args.value.now before cell r later callee vs told given)
+    (send_outside x (mark_of c.args.span wanted) c.args.value.now before cell r later refl callee vs told given)
 
 pub act_outside-eat-requires-in-Send : goal.act_outside-eat-requires-in-Send
 act_outside-eat-requires-in-Send t c =

@@ -1,6 +1,8 @@
-use Rattle.std.proofs.Common.{◌≡◌, ◌∙◌, ℕ, List, ap, sym}
+use Rattle.std.proofs.Common.{◌≡◌, ◌∙◌, ℕ, List, Result, ap, sym}
 use Rattle.std.proofs.lemmas.Result.{err_from_is_err_and}
+use Rattle.txs_value_base.specs.declared.fault.Fault.{Fault}
 use Rattle.txs_value_data.specs.declared.value.CellId.{CellId}
+use Rattle.txs_value_data.specs.declared.value.Value.{Value}
 use Rattle.txs_value_cell.specs.declared.action.Action.{Action}
 use Rattle.txs_world_protocol.specs.Ask.{Writes}
 use Rattle.txs_world_protocol.specs.declared.ask.Ask.{Ask}
@@ -11,6 +13,10 @@ use Rattle.txs_world_protocol.proofs.copy.copy_ask.Goals as goal
 commit : (ask : Ask) (at view : ℕ) (sets sets1 : Writes) (ensured ensured1 : List CellId) (commuted commuted1 : Writes) (sends sends1 : List Action) → sets1 ≡ sets → ensured1 ≡ ensured → commuted1 ≡ commuted → sends1 ≡ sends
     → ask ≡ Commit at sets ensured view commuted sends → Commit at sets1 ensured1 view commuted1 sends1 ≡ ask
 commit ask at view sets sets1 ensured ensured1 commuted commuted1 sends sends1 a b d e is = cc
+
+-- and so is what an action came to
+finish : (ask : Ask) (agent : CellId) (new new1 : Result Value Fault) (sends sends1 : List Action) → new1 ≡ new → sends1 ≡ sends → ask ≡ Finish agent new sends → Finish agent new1 sends1 ≡ ask
+finish ask agent new new1 sends sends1 a b is = cc
 
 pub returns-in-Begin : goal.returns-in-Begin
 returns-in-Begin c = sym c.in-Begin.is
@@ -46,8 +52,10 @@ returns-in_ok-sends-in-Commit c =
 pub returns-in_ok-copy_action-in-Send : goal.returns-in_ok-copy_action-in-Send
 returns-in_ok-copy_action-in-Send c = ap Send c.in_ok-copy_action-in-Send.ensures ∙ sym c.in-Send.is
 
-pub returns-in_ok-copy_new-in-Finish : goal.returns-in_ok-copy_new-in-Finish
-returns-in_ok-copy_new-in-Finish c = ap (Finish c.in-Finish.agent) c.in_ok-copy_new-in-Finish.ensures ∙ sym c.in-Finish.is
+pub returns-in_ok-new-in-Finish : goal.returns-in_ok-new-in-Finish
+returns-in_ok-new-in-Finish c =
+    let of = c.in-Finish in
+    finish c.args.ask.now of.agent of.new c.in_ok-new-in-Finish.new of.sends c.in_ok-sends-in-Finish.sends c.in_ok-new-in-Finish.ensures c.in_ok-sends-in-Finish.ensures of.is
 
 pub returns-in_ok-copy_value-in-CloseAt : goal.returns-in_ok-copy_value-in-CloseAt
 returns-in_ok-copy_value-in-CloseAt c = ap (CloseAt c.in-CloseAt.cell c.in-CloseAt.at) c.in_ok-copy_value-in-CloseAt.ensures ∙ sym c.in-CloseAt.is
@@ -70,8 +78,11 @@ returns-in_err-sends-in-Commit c = rw (err_from_is_err_and c.from_residual-in_er
 pub returns-in_err-copy_action-in-Send : goal.returns-in_err-copy_action-in-Send
 returns-in_err-copy_action-in-Send c = rw (err_from_is_err_and c.from_residual-in_err-copy_action-in-Send.result c.from_residual-in_err-copy_action-in-Send.ensures.1).1 tt
 
-pub returns-in_err-copy_new-in-Finish : goal.returns-in_err-copy_new-in-Finish
-returns-in_err-copy_new-in-Finish c = rw (err_from_is_err_and c.from_residual-in_err-copy_new-in-Finish.result c.from_residual-in_err-copy_new-in-Finish.ensures.1).1 tt
+pub returns-in_err-sends-in-Finish : goal.returns-in_err-sends-in-Finish
+returns-in_err-sends-in-Finish c = rw (err_from_is_err_and c.from_residual-in_err-sends-in-Finish.result c.from_residual-in_err-sends-in-Finish.ensures.1).1 tt
+
+pub returns-in_err-new-in-Finish : goal.returns-in_err-new-in-Finish
+returns-in_err-new-in-Finish c = rw (err_from_is_err_and c.from_residual-in_err-new-in-Finish.result c.from_residual-in_err-new-in-Finish.ensures.1).1 tt
 
 pub returns-in_err-copy_value-in-CloseAt : goal.returns-in_err-copy_value-in-CloseAt
 returns-in_err-copy_value-in-CloseAt c = rw (err_from_is_err_and c.from_residual-in_err-copy_value-in-CloseAt.result c.from_residual-in_err-copy_value-in-CloseAt.ensures.1).1 tt

@@ -1,5 +1,8 @@
-use Rattle.std.proofs.Common.{◌≡◌, ◌∙◌, ℕ, List, ap, sym}
+use Rattle.std.proofs.Common.{◌≡◌, ◌∙◌, ℕ, List, Result, ap, sym}
 use Rattle.std.proofs.lemmas.Result.{err_from_is_err_and}
+use Rattle.txs_value_base.specs.declared.fault.Fault.{Fault}
+use Rattle.txs_value_data.specs.declared.value.CellId.{CellId}
+use Rattle.txs_value_data.specs.declared.value.Value.{Value}
 use Rattle.txs_value_cell.specs.declared.action.Action.{Action}
 use Rattle.txs_world_protocol.specs.Ask.{Writes}
 use Rattle.txs_world_protocol.specs.declared.event.EventKind.{EventKind}
@@ -9,6 +12,10 @@ use Rattle.txs_world_protocol.proofs.copy.copy_kind.Goals as goal
 -- a commit whose parts are the same is the same
 commit : (kind : EventKind) (at view : ℕ) (writes writes1 : Writes) (sends sends1 : List Action) → writes1 ≡ writes → sends1 ≡ sends → kind ≡ Commit at view writes sends → Commit at view writes1 sends1 ≡ kind
 commit kind at view writes writes1 sends sends1 a b is = cc
+
+-- and so is an action that was run
+act : (kind : EventKind) (agent : CellId) (number : ℕ) (new new1 : Result Value Fault) (sends sends1 : List Action) → new1 ≡ new → sends1 ≡ sends → kind ≡ Act agent number new sends → Act agent number new1 sends1 ≡ kind
+act kind agent number new new1 sends sends1 a b is = cc
 
 pub returns-in-Read : goal.returns-in-Read
 returns-in-Read c = sym c.in-Read.is
@@ -36,8 +43,10 @@ returns-in_ok-sends-in-Commit c =
 pub returns-in_ok-copy_action-in-Send : goal.returns-in_ok-copy_action-in-Send
 returns-in_ok-copy_action-in-Send c = ap Send c.in_ok-copy_action-in-Send.ensures ∙ sym c.in-Send.is
 
-pub returns-in_ok-copy_new-in-Act : goal.returns-in_ok-copy_new-in-Act
-returns-in_ok-copy_new-in-Act c = ap (Act c.in-Act.agent c.in-Act.number) c.in_ok-copy_new-in-Act.ensures ∙ sym c.in-Act.is
+pub returns-in_ok-new-in-Act : goal.returns-in_ok-new-in-Act
+returns-in_ok-new-in-Act c =
+    let of = c.in-Act in
+    act c.args.kind.now of.agent of.number of.new c.in_ok-new-in-Act.new of.sends c.in_ok-sends-in-Act.sends c.in_ok-new-in-Act.ensures c.in_ok-sends-in-Act.ensures of.is
 
 pub returns-in_ok-copy_value-in-Swap : goal.returns-in_ok-copy_value-in-Swap
 returns-in_ok-copy_value-in-Swap c = ap Swap c.in_ok-copy_value-in-Swap.ensures ∙ sym c.in-Swap.is
@@ -51,8 +60,11 @@ returns-in_err-sends-in-Commit c = rw (err_from_is_err_and c.from_residual-in_er
 pub returns-in_err-copy_action-in-Send : goal.returns-in_err-copy_action-in-Send
 returns-in_err-copy_action-in-Send c = rw (err_from_is_err_and c.from_residual-in_err-copy_action-in-Send.result c.from_residual-in_err-copy_action-in-Send.ensures.1).1 tt
 
-pub returns-in_err-copy_new-in-Act : goal.returns-in_err-copy_new-in-Act
-returns-in_err-copy_new-in-Act c = rw (err_from_is_err_and c.from_residual-in_err-copy_new-in-Act.result c.from_residual-in_err-copy_new-in-Act.ensures.1).1 tt
+pub returns-in_err-sends-in-Act : goal.returns-in_err-sends-in-Act
+returns-in_err-sends-in-Act c = rw (err_from_is_err_and c.from_residual-in_err-sends-in-Act.result c.from_residual-in_err-sends-in-Act.ensures.1).1 tt
+
+pub returns-in_err-new-in-Act : goal.returns-in_err-new-in-Act
+returns-in_err-new-in-Act c = rw (err_from_is_err_and c.from_residual-in_err-new-in-Act.result c.from_residual-in_err-new-in-Act.ensures.1).1 tt
 
 pub returns-in_err-copy_value-in-Swap : goal.returns-in_err-copy_value-in-Swap
 returns-in_err-copy_value-in-Swap c = rw (err_from_is_err_and c.from_residual-in_err-copy_value-in-Swap.result c.from_residual-in_err-copy_value-in-Swap.ensures.1).1 tt

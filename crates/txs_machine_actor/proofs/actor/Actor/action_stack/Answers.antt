@@ -12,8 +12,8 @@ function_of-most-requires c = (c.requires.body, c.requires.is_body)
 
 pub of_function-requires-clause-many : goal.of_function-requires-clause-many
 of_function-requires-clause-many c =
-    let given : c.in_ok-values.values.items ≡ c.take_last-state.result ∷ args_of (taken c.self.inside.tx) = first_of (search rules, cc) in
-    let here : args_of (taken c.self.inside.tx) ≡ args_of (taken c.args.self.now.tx) = ap (λ (a : PlainActor). args_of (taken a.tx)) c.self.view_is in
+    let given : c.in_ok-values.values.items ≡ c.take_last-state.result ∷ args_of (taken c.self.inside.role) = first_of (search rules, cc) in
+    let here : args_of (taken c.self.inside.role) ≡ args_of (taken c.args.self.now.role) = ap (λ (a : PlainActor). args_of (taken a.role)) c.self.view_is in
     ap length given ∙ ap (λ (xs : List Value). suc (length xs)) here ∙ c.requires.many ∙ ap (λ (x : CodeBody). x.parameters) (one_there c.requires.is_body c.function_of-most.ensures.body)
 
 pub of_function-requires-clause-fits : goal.of_function-requires-clause-fits
@@ -21,11 +21,11 @@ of_function-requires-clause-fits c = subst (λ (x : CodeBody). x.parameters ≤ 
 
 pub returns-clause-made : goal.returns-clause-made
 returns-clause-made c =
-    let given : c.in_ok-values.values.items ≡ c.take_last-state.result ∷ args_of (taken c.self.inside.tx) = first_of (search rules, cc) in
+    let given : c.in_ok-values.values.items ≡ c.take_last-state.result ∷ args_of (taken c.self.inside.role) = first_of (search rules, cc) in
     let state : c.take_last-state.result ≡ last_of c.args.self.now.values = c.take_last-state.ensures.value ∙ ap (λ (a : PlainActor). last_of a.values) c.self.view_is in
-    let here : args_of (taken c.self.inside.tx) ≡ args_of (taken c.args.self.now.tx) = ap (λ (a : PlainActor). args_of (taken a.tx)) c.self.view_is in
+    let here : args_of (taken c.self.inside.role) ≡ args_of (taken c.args.self.now.role) = ap (λ (a : PlainActor). args_of (taken a.role)) c.self.view_is in
     let whole : c.in_ok-values.values.items ≡ action_values c.args.self.now =
-    given ∙ ap (λ (v : Value). v ∷ args_of (taken c.self.inside.tx)) state ∙ ap (λ (xs : List Value). last_of c.args.self.now.values ∷ xs) here
+    given ∙ ap (λ (v : Value). v ∷ args_of (taken c.self.inside.role)) state ∙ ap (λ (xs : List Value). last_of c.args.self.now.values ∷ xs) here
     in
     let g = c.function_of-most in
     action_so c.args.code.now c.args.self.now c.args.f g.result.0.now g.result.1 c.in_ok-values.values.items c.of_function.result g.ensures.body g.ensures.needs whole c.of_function.ensures

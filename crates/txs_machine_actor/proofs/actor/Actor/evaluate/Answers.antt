@@ -16,5 +16,5 @@ returns-in-Applying c =
     let x = c.self.inside in
     let k = c.replace-aside.new.dest in
     has_begun c.args.code.now c.args.self.now c.args.f c.args.turn.now c.in-Ok.stack
-    (record { number = x.number; body = k.body; frames = k.frames; locals = k.locals; place = k.place; values = k.values; printed = x.printed.items; at = x.at; view = x.view; done = x.frame; commuting = x.commuting; tx = c.put.new.self; pending = x.pending; outcome = x.outcome; steps = x.steps; limit = x.limit; room = k.room })
+    (record { number = x.number; role = x.role; body = k.body; frames = k.frames; locals = k.locals; place = k.place; values = k.values; printed = x.printed.items; at = x.at; view = x.view; done = x.frame; commuting = x.commuting; tx = c.put.new.self; pending = x.pending; outcome = x.outcome; steps = x.steps; limit = x.limit; room = k.room })
     c.requires.went c.in-Ok.ensures (search rules)

@@ -14,11 +14,11 @@ one_body e = cc
 pub returns-in-Return-clause-yes : goal.returns-in-Return-clause-yes
 returns-in-Return-clause-yes c = λ t.
     let h = c.at_hand-instr.ensures in
-    let acting : IsActing c.args.self.now.tx = first_of (search rules, cc) in
+    let acting : IsActing c.args.self.now.role c.args.self.now.tx = first_of (search rules, cc) in
     (h.body, h.is, record { returns = subst IsReturn (sym c.in-Return.is ∙ h.instr) tt; first = ap (λ (a : PlainActor). a.frames) (sym c.self.view_is) ∙ c.if-not-is_first.ensures.first refl; acting = acting })
 
-pub returns-in_default-matches : goal.returns-in_default-matches
-returns-in_default-matches c =
+pub returns-in_default : goal.returns-in_default
+returns-in_default c =
     let a = c.args.self.now in
     let h = c.at_hand-instr.ensures in
-    record { yes = λ t. absurd (false≢true t); no = λ e g. c.in_default-matches.not-Return (h.instr ∙ ap (λ (b : CodeBody). instr_at b.instrs a.place) (one_body (sym h.is ∙ g.1)) ∙ return_is (instr_at g.0.instrs a.place) g.2.returns) }
+    record { yes = λ t. absurd (false≢true t); no = λ e g. c.in_default.not-Return (h.instr ∙ ap (λ (b : CodeBody). instr_at b.instrs a.place) (one_body (sym h.is ∙ g.1)) ∙ return_is (instr_at g.0.instrs a.place) g.2.returns) }

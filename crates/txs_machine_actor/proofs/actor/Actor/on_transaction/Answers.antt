@@ -22,7 +22,7 @@ pub returns-in-Some : goal.returns-in-Some
 returns-in-Some c =
     let x = c.self.inside in
     let k = x.stack in
-    let a : PlainActor = record { number = x.number; body = k.body; frames = k.frames; locals = k.locals; place = k.place; values = k.values; printed = x.printed.items; at = x.at; view = x.view; done = x.frame; commuting = x.commuting; tx = x.tx; pending = x.pending; outcome = x.outcome; steps = x.steps; limit = x.limit; room = k.room } in
+    let a : PlainActor = record { number = x.number; role = x.role; body = k.body; frames = k.frames; locals = k.locals; place = k.place; values = k.values; printed = x.printed.items; at = x.at; view = x.view; done = x.frame; commuting = x.commuting; tx = x.tx; pending = x.pending; outcome = x.outcome; steps = x.steps; limit = x.limit; room = k.room } in
     let m = c.transact-quick in
     let f = c.follow_quickly in
     subst (λ (y : PlainActor). Transacts y c.args.instr c.args.span c.args.next f.new.turn f.new.self) c.self.view_is
@@ -32,7 +32,7 @@ pub on_rare-requires-clause-can : goal.on_rare-requires-clause-can
 on_rare-requires-clause-can c =
     let x = c.self.inside in
     let k = x.stack in
-    let a : PlainActor = record { number = x.number; body = k.body; frames = k.frames; locals = k.locals; place = k.place; values = k.values; printed = x.printed.items; at = x.at; view = x.view; done = x.frame; commuting = x.commuting; tx = x.tx; pending = x.pending; outcome = x.outcome; steps = x.steps; limit = x.limit; room = k.room } in
+    let a : PlainActor = record { number = x.number; role = x.role; body = k.body; frames = k.frames; locals = k.locals; place = k.place; values = k.values; printed = x.printed.items; at = x.at; view = x.view; done = x.frame; commuting = x.commuting; tx = x.tx; pending = x.pending; outcome = x.outcome; steps = x.steps; limit = x.limit; room = k.room } in
     let m = c.transact-quick in
     let r = c.in-None.ensures.rare refl in
     let same : record (with_stack a m.new.stack) { tx = m.new.tx; done = m.new.frame; commuting = m.new.commuting } ≡ c.args.self.now = same_actor a k m.new.stack m.new.tx m.new.frame m.new.commuting refl r.1 r.2 r.3 r.4 ∙ c.self.view_is in
@@ -48,7 +48,7 @@ pub returns-in-None : goal.returns-in-None
 returns-in-None c =
     let x = c.self.inside in
     let k = x.stack in
-    let a : PlainActor = record { number = x.number; body = k.body; frames = k.frames; locals = k.locals; place = k.place; values = k.values; printed = x.printed.items; at = x.at; view = x.view; done = x.frame; commuting = x.commuting; tx = x.tx; pending = x.pending; outcome = x.outcome; steps = x.steps; limit = x.limit; room = k.room } in
+    let a : PlainActor = record { number = x.number; role = x.role; body = k.body; frames = k.frames; locals = k.locals; place = k.place; values = k.values; printed = x.printed.items; at = x.at; view = x.view; done = x.frame; commuting = x.commuting; tx = x.tx; pending = x.pending; outcome = x.outcome; steps = x.steps; limit = x.limit; room = k.room } in
     let m = c.transact-quick in
     let r = c.in-None.ensures.rare refl in
     let same : record (with_stack a m.new.stack) { tx = m.new.tx; done = m.new.frame; commuting = m.new.commuting } ≡ c.args.self.now = same_actor a k m.new.stack m.new.tx m.new.frame m.new.commuting refl r.1 r.2 r.3 r.4 ∙ c.self.view_is in

@@ -21,13 +21,13 @@ put_all-requires c =
 pub invariant_of-self-in-Ok-add : goal.invariant_of-self-in-Ok-add
 invariant_of-self-in-Ok-add c =
     let x = c.self.inside in
-    let d = Act c.args.agent c.number_taken-number.result c.args.new in
+    let d = Act c.args.agent c.number_taken-number.result c.args.new c.args.sends in
     let room : length x.journal.book.items < most_events = subst (λ (s : PlainStore). length s.book < most_events) (sym c.self.view_is) (has_room c.is_full.result (length c.args.self.now.book) most_events c.is_full.ensures c.if-is_full.false) in
     let made : makes x.cells x.threads c.args.actor d ≡ true = subst (λ (s : PlainStore). makes s.cells s.threads c.args.actor d ≡ true) (sym c.self.view_is) c.requires.own in
     let legal : LegalKind x.cells x.journal.book.items c.args.actor d =
-    subst (λ (s : PlainStore). LegalKind s.cells s.book c.args.actor d) (sym c.self.view_is) (c.requires.agent, c.number_taken-number.ensures.runs, c.number_taken-number.ensures.waits, c.number_taken-number.ensures.number) in
+    subst (λ (s : PlainStore). LegalKind s.cells s.book c.args.actor d) (sym c.self.view_is) (c.requires.agent, c.number_taken-number.ensures.runs, c.number_taken-number.ensures.waits, c.number_taken-number.ensures.number, c.requires.none) in
     acted_on x.cells x.threads x.slots.items c.put_all.new.slots.items (plain_inboxes x.inboxes.items) (plain_inboxes c.finish_at.new.inboxes.items) x.journal.views.items x.journal.tries.items c.add.new.self.views.items c.add.new.self.tries.items x.journal.book.items c.add.new.self.book.items
-    c.args.actor c.in-Ok-add.events c.number_taken-number.result c.args.agent c.args.new c.self.invariant room made legal c.in-Ok-add.ensures.views c.in-Ok-add.ensures.tries c.in-Ok-add.ensures.added c.in-Ok-add.ensures.many
+    c.args.actor c.in-Ok-add.events c.number_taken-number.result c.args.agent c.args.new c.args.sends c.self.invariant room made legal c.in-Ok-add.ensures.views c.in-Ok-add.ensures.tries c.in-Ok-add.ensures.added c.in-Ok-add.ensures.many
     (c.put_all.ensures ∙ ap (put_all c.in-Ok-add.events x.slots.items) c.in-Ok.ensures)
     (c.finish_at.ensures ∙ ap (λ f. set (plain_inboxes x.inboxes.items) c.args.agent.number (finished f (get_or (plain_inboxes x.inboxes.items) c.args.agent.number no_inbox))) c.fault_of-fault.ensures)
 
@@ -43,21 +43,21 @@ returns-in-Ok-add c =
     let x = c.self.inside in
     let s = c.args.self.now in
     let now = plain_inboxes c.finish_at.new.inboxes.items in
-    acted_so s (store_with x.cells x.threads c.add.new.self.book.items (taken_of now)) c.args.actor c.args.agent c.args.new (has_room c.is_full.result (length c.args.self.now.book) most_events c.is_full.ensures c.if-is_full.false)
-    (over s x.cells x.threads x.journal.book.items c.add.new.self.book.items (plain_inboxes x.inboxes.items) now c.args.actor c.number_taken-number.result c.args.agent c.args.new c.fault_of-fault.result
+    acted_so s (store_with x.cells x.threads c.add.new.self.book.items (taken_of now)) c.args.actor c.args.agent c.args.new c.args.sends (has_room c.is_full.result (length c.args.self.now.book) most_events c.is_full.ensures c.if-is_full.false)
+    (over s x.cells x.threads x.journal.book.items c.add.new.self.book.items (plain_inboxes x.inboxes.items) now c.args.actor c.number_taken-number.result c.args.agent c.args.new c.args.sends c.fault_of-fault.result
     c.self.view_is c.in-Ok-add.ensures.added c.finish_at.ensures c.number_taken-number.ensures.number)
 
 pub returns-in-Err : goal.returns-in-Err
 returns-in-Err c =
     let x = c.self.inside in
-    acted_not c.args.self.now (store_with x.cells x.threads x.journal.book.items (taken_of (plain_inboxes x.inboxes.items))) c.args.actor c.args.agent c.args.new (has_room c.is_full.result (length c.args.self.now.book) most_events c.is_full.ensures c.if-is_full.false) c.self.view_is
+    acted_not c.args.self.now (store_with x.cells x.threads x.journal.book.items (taken_of (plain_inboxes x.inboxes.items))) c.args.actor c.args.agent c.args.new c.args.sends (has_room c.is_full.result (length c.args.self.now.book) most_events c.is_full.ensures c.if-is_full.false) c.self.view_is
 
 pub returns-in-Err-add : goal.returns-in-Err-add
 returns-in-Err-add c =
     let x = c.self.inside in
     let s = c.args.self.now in
     let bs = plain_inboxes x.inboxes.items in
-    acted_not s (store_with x.cells x.threads c.add.new.self.book.items (taken_of bs)) c.args.actor c.args.agent c.args.new (has_room c.is_full.result (length c.args.self.now.book) most_events c.is_full.ensures c.if-is_full.false)
+    acted_not s (store_with x.cells x.threads c.add.new.self.book.items (taken_of bs)) c.args.actor c.args.agent c.args.new c.args.sends (has_room c.is_full.result (length c.args.self.now.book) most_events c.is_full.ensures c.if-is_full.false)
     (unstored s x.cells x.threads x.journal.book.items c.add.new.self.book.items bs bs c.self.view_is c.in-Err-add.ensures.same refl)
 
 pub finish_at-requires-clause-place : goal.finish_at-requires-clause-place
@@ -73,7 +73,7 @@ finish_at-requires-clause-taken c =
     sym (taken_at (plain_inboxes c.self.inside.inboxes.items) n) ∙ ap (λ (s : PlainStore). get_or s.taken n false) c.self.view_is ∙ c.requires.taken
 
 pub returns-then-is_full : goal.returns-then-is_full
-returns-then-is_full c = acted_full c.args.self.now c.args.actor c.args.agent c.args.new (c.is_full.ensures.0 c.if-is_full.true)
+returns-then-is_full c = acted_full c.args.self.now c.args.actor c.args.agent c.args.new c.args.sends (c.is_full.ensures.0 c.if-is_full.true)
 
 pub invariant_of-self : goal.invariant_of-self
 invariant_of-self c = c.self.invariant

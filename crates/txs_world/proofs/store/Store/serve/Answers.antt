@@ -1,9 +1,9 @@
-use Rattle.std.proofs.Common.{◌≡◌, ℕ, Bool, ap, false, length, map, not, refl, subst, sym, true}
+use Rattle.std.proofs.Common.{◌≡◌, ◌&&◌, ℕ, Bool, ap, false, length, map, not, refl, subst, sym, true}
 use Rattle.txs_world_protocol.specs.declared.ask.Ask.{Ask}
 use Rattle.txs_world_protocol.specs.declared.ask.Ask.TheVariants as ask
 use Rattle.txs_world_protocol.specs.declared.ask.Reply.{Reply}
 use Rattle.txs_world_protocol.specs.declared.ask.Reply.TheVariants as reply
-use Rattle.txs_world_book.specs.Book.{has_agent, has_ref, may_name, opening, newest, has_refs}
+use Rattle.txs_world_book.specs.Book.{has_agent, has_ref, may_name, opening, newest, has_refs, is_empty}
 use Rattle.txs_world.specs.Store.{PlainStore, has_named, is_lawful, is_taken, may_ask, serve, store_after, Answers, Replies}
 use Rattle.txs_world_book.specs.Served.{served}
 use Rattle.txs_world_book.proofs.Outcomes.{both}
@@ -63,13 +63,24 @@ pub take-requires-clause-free : goal.take-requires-clause-free
 take-requires-clause-free c = let s = c.args.self.now in not_so (is_taken s.taken c.in-Take.agent) (both (has_agent s.cells c.in-Take.agent) (not (is_taken s.taken c.in-Take.agent)) (asked c.args.self.now c.args.actor c.args.ask (ask.Take c.in-Take.agent) c.requires c.in-Take.is).1).1
 
 pub finish-requires-clause-own : goal.finish-requires-clause-own
-finish-requires-clause-own c = (asked c.args.self.now c.args.actor c.args.ask (ask.Finish c.in-Finish.agent c.in-Finish.new) c.requires c.in-Finish.is).0
+finish-requires-clause-own c = (asked c.args.self.now c.args.actor c.args.ask (ask.Finish c.in-Finish.agent c.in-Finish.new c.in-Finish.sends) c.requires c.in-Finish.is).0
 
 pub finish-requires-clause-agent : goal.finish-requires-clause-agent
-finish-requires-clause-agent c = let s = c.args.self.now in (both (has_agent s.cells c.in-Finish.agent) (is_taken s.taken c.in-Finish.agent) (asked c.args.self.now c.args.actor c.args.ask (ask.Finish c.in-Finish.agent c.in-Finish.new) c.requires c.in-Finish.is).1).0
+finish-requires-clause-agent c = let s = c.args.self.now in (both (has_agent s.cells c.in-Finish.agent) (is_taken s.taken c.in-Finish.agent && is_empty c.in-Finish.sends) (asked c.args.self.now c.args.actor c.args.ask (ask.Finish c.in-Finish.agent c.in-Finish.new c.in-Finish.sends) c.requires c.in-Finish.is).1).0
 
 pub finish-requires-clause-taken : goal.finish-requires-clause-taken
-finish-requires-clause-taken c = let s = c.args.self.now in (both (has_agent s.cells c.in-Finish.agent) (is_taken s.taken c.in-Finish.agent) (asked c.args.self.now c.args.actor c.args.ask (ask.Finish c.in-Finish.agent c.in-Finish.new) c.requires c.in-Finish.is).1).1
+finish-requires-clause-taken c =
+    let s = c.args.self.now in
+    let h = both (has_agent s.cells c.in-Finish.agent) (is_taken s.taken c.in-Finish.agent && is_empty c.in-Finish.sends)
+    (asked s c.args.actor c.args.ask (ask.Finish c.in-Finish.agent c.in-Finish.new c.in-Finish.sends) c.requires c.in-Finish.is).1 in
+    (both (is_taken s.taken c.in-Finish.agent) (is_empty c.in-Finish.sends) h.1).0
+
+pub finish-requires-clause-none : goal.finish-requires-clause-none
+finish-requires-clause-none c =
+    let s = c.args.self.now in
+    let h = both (has_agent s.cells c.in-Finish.agent) (is_taken s.taken c.in-Finish.agent && is_empty c.in-Finish.sends)
+    (asked s c.args.actor c.args.ask (ask.Finish c.in-Finish.agent c.in-Finish.new c.in-Finish.sends) c.requires c.in-Finish.is).1 in
+    (both (is_taken s.taken c.in-Finish.agent) (is_empty c.in-Finish.sends) h.1).1
 
 pub returns-in-Look : goal.returns-in-Look
 returns-in-Look c = by_kind c.args.self.now c.look.new.self c.args.actor c.args.ask (ask.Look c.in-Look.cell c.in-Look.at) c.look.result c.in-Look.is c.look.ensures
@@ -87,7 +98,7 @@ pub returns-in-Take : goal.returns-in-Take
 returns-in-Take c = by_kind c.args.self.now c.take.new.self c.args.actor c.args.ask (ask.Take c.in-Take.agent) c.take.result c.in-Take.is c.take.ensures
 
 pub returns-in-Finish : goal.returns-in-Finish
-returns-in-Finish c = by_kind c.args.self.now c.finish.new.self c.args.actor c.args.ask (ask.Finish c.in-Finish.agent c.in-Finish.new) c.finish.result c.in-Finish.is c.finish.ensures
+returns-in-Finish c = by_kind c.args.self.now c.finish.new.self c.args.actor c.args.ask (ask.Finish c.in-Finish.agent c.in-Finish.new c.in-Finish.sends) c.finish.result c.in-Finish.is c.finish.ensures
 
 pub returns-in-Begin : goal.returns-in-Begin
 returns-in-Begin c = by_kind c.args.self.now c.args.self.now c.args.actor c.args.ask ask.Begin (reply.At c.read_point.result) c.in-Begin.is (ap reply.At c.read_point.ensures, refl)
