@@ -11,9 +11,10 @@ pub mod law;
 mod parts;
 mod place;
 pub mod program;
-mod size;
+pub mod size;
 mod walk;
 
 pub use callee::is_pure_callee;
 pub use error::{CheckError, CheckErrorKind};
 pub use program::check;
+pub use size::nodes_left;

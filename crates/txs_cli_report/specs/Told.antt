@@ -14,6 +14,7 @@ use Rattle.txs_theorem_threads.specs.FollowsAgent.{FollowsAgents}
 use Rattle.txs_theorem_threads.specs.FollowsAll.{FollowsAll}
 use Rattle.txs_theorem_threads.specs.Sends.{CodesSendSound}
 use Rattle.txs_gen.specs.Generated.{IsCodeOf}
+use Rattle.txs_opt.specs.Optimised.{optimised}
 use Rattle.txs_machine.specs.Agents.{actors_of, AgentsAreDone, AreDrained, AreExplainedBy}
 use Rattle.txs_machine.specs.RunOver.{IsStateOf, books_of}
 use Rattle.txs_machine.specs.RunTheorem.{ExplainsAll}
@@ -28,7 +29,7 @@ use Rattle.txs_cli_plays.specs.Plays.{plays_in}
 use Rattle.txs_cli_plays.specs.declared.plays.WrongPlay.{WrongPlay}
 use Rattle.txs_world_shared.specs.SharedState.{PlainShared, shared_of, numbered_book, newest_of}
 use Rattle.txs_tree_meaning.specs.Tree.{PlainProgram}
-use Rattle.txs_value_data.specs.Limits.{most_script}
+use Rattle.txs_value_data.specs.Limits.{most_nodes, most_script}
 use Rattle.txs_value_cell.specs.declared.cell.CellDefinition.{CellDefinition}
 
 -- what is told: the bytes of both streams, and the status
@@ -99,11 +100,11 @@ pub record FormTold (code : PlainCode) (t : Told) : Type 0 where
 
 -- ---- what is told of a script
 
--- A script is compiled to a program and its code: the script is that program, the code is that of its trees, each thread of the code follows the
--- program's, its functions follow the actions of agents, it sends only what the program may send, and it has the program's cells.
+-- A script is compiled to a program and code: the script is that program, the code is that of its trees folded and with calls inlined, each thread of
+-- the code follows the program's, its functions follow the actions of agents, it sends only what the program may send, and it has the program's cells.
 pub record IsCompiled (text : List ℕ) (p : PlainProgram) (code : PlainCode) : Type 0 where
   pub program : IsProgramOf text p
-  pub generated : IsCodeOf code p
+  pub generated : IsCodeOf code (optimised most_nodes p)
   pub follows : FollowsAll (codes_of code) p
   pub agents : FollowsAgents (library_of code) p.functions
   pub sends : CodesSendSound p.functions (codes_of code)

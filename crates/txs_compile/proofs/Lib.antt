@@ -1,1 +1,2 @@
+pub mod Optimised
 pub mod OwnCells

@@ -125,15 +125,15 @@ mutual
 
 -- ---- lists of constants
 
-both : (cells : List CellDefinition) (vs ws : List Value) → NameDefined cells vs → NameDefined cells ws → NameDefined cells (vs ++ ws)
+pub both : (cells : List CellDefinition) (vs ws : List Value) → NameDefined cells vs → NameDefined cells ws → NameDefined cells (vs ++ ws)
 both cells [] ws h k = k
 both cells (v ∷ vs) ws h k = (h.0, both cells vs ws h.1 k)
 
-ahead : (cells : List CellDefinition) (vs ws : List Value) → NameDefined cells (vs ++ ws) → NameDefined cells vs
+pub ahead : (cells : List CellDefinition) (vs ws : List Value) → NameDefined cells (vs ++ ws) → NameDefined cells vs
 ahead cells [] ws h = tt
 ahead cells (v ∷ vs) ws h = (h.0, ahead cells vs ws h.1)
 
-behind : (cells : List CellDefinition) (vs ws : List Value) → NameDefined cells (vs ++ ws) → NameDefined cells ws
+pub behind : (cells : List CellDefinition) (vs ws : List Value) → NameDefined cells (vs ++ ws) → NameDefined cells ws
 behind cells [] ws h = h
 behind cells (v ∷ vs) ws h = behind cells vs ws h.1
 

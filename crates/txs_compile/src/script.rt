@@ -5,6 +5,7 @@ ghost use Rattle.txs_code_decode.specs.CodeForm.{HasForm};
 ghost use Rattle.txs_check.specs.Refused.{CheckStops};
 ghost use Rattle.txs_code_meaning.specs.OwnCells.{NamesOwnCells};
 ghost use Rattle.txs_code_meaning.specs.PlainCode.{library_of};
+ghost use Rattle.txs_opt.specs.Optimised.{optimised};
 ghost use Rattle.txs_theorem_threads.specs.FollowsAgent.{FollowsAgents};
 ghost use Rattle.txs_theorem_threads.specs.FollowsAll.{FollowsAll};
 ghost use Rattle.txs_theorem_threads.specs.Sends.{CodesSendSound};
@@ -16,6 +17,7 @@ ghost use Rattle.txs_resolve.specs.Names.{Resolves, ResolveStops};
 ghost use Rattle.txs_tree_meaning.specs.Marked.{Exactly, ProgramMarkedBy};
 ghost use Rattle.txs_tree_meaning.specs.Sound.{Sound};
 ghost use Rattle.txs_tree_meaning.specs.View.{program_of};
+ghost use Rattle.txs_value_data.specs.Limits.{most_nodes};
 ghost use Rattle.txs_compile.specs.Compiled.{IsProgramOf, IsRefusal, codes_of};
 
 use crate::compile_error::CompileError;
@@ -23,14 +25,17 @@ use std::alloc::Global;
 use txs_check::{CheckErrorKind, check};
 use txs_code_meaning::Verified;
 use txs_gen::follows::{
-    code_of_agents_follows, code_of_program_follows, code_of_program_sends_sound,
+    code_of_actions_behaves, code_of_program_behaves, code_of_program_sends_sound,
 };
 use txs_gen::generate;
+use txs_opt::optimised_copy;
 use txs_reader::{Form, ReadErrorKind, read_script};
 use txs_resolve::law::resolved_is_marked;
 use txs_resolve::{ResolveErrorKind, resolve};
 use txs_theorem_byte_form::law::code_of_script_has_form;
+use txs_theorem_opt::{optimised_code_follows, optimised_code_follows_agents};
 use txs_tree_meaning::{Program, Raw};
+use txs_value_data::limits::MOST_NODES;
 
 /// The forms of a script.
 fn forms_of(alloc: Global, bytes: &[u8]) -> Result<Vec<Form>, CompileError>
@@ -78,7 +83,8 @@ fn program_of_forms(alloc: Global, bytes: &[u8], forms: &[Form]) -> Result<Progr
     }
 }
 
-/// Compiles a script: its program, and the code of that program, which follows it.
+/// Compiles a script: its program, and code that follows it, which is that of the program optimised. The program is the one from
+/// before it is optimised.
 ///
 /// # Errors
 /// `Read` where the script isn't read, with the first refusal from left to right; `Resolve` where its names don't resolve,
@@ -87,7 +93,7 @@ fn program_of_forms(alloc: Global, bytes: &[u8], forms: &[Form]) -> Result<Progr
 pub fn compile(alloc: Global, bytes: &[u8]) -> Result<(Program, Verified), CompileError>
     ensures program { IfOk result (λ c. IsProgramOf bytes.now (program_of c.0)) }
     ensures marked { IfOk result (λ c. ProgramMarkedBy Exactly (program_of c.0)) }
-    ensures generated { IfOk result (λ c. IsCodeOf c.1 (program_of c.0)) }
+    ensures generated { IfOk result (λ c. IsCodeOf c.1 (optimised most_nodes (program_of c.0))) }
     ensures code { IfOk result (λ c. FollowsAll (codes_of c.1) (program_of c.0)) }
     ensures agents { IfOk result (λ c. FollowsAgents (library_of c.1) (program_of c.0).functions) }
     ensures sends { IfOk result (λ c. CodesSendSound (program_of c.0).functions (codes_of c.1)) }
@@ -98,11 +104,14 @@ pub fn compile(alloc: Global, bytes: &[u8]) -> Result<(Program, Verified), Compi
 {
     let forms = forms_of(alloc, bytes)?;
     let program = program_of_forms(alloc, bytes, forms.as_slice())?;
-    let verified = generate(alloc, &program)?;
+    let improved = optimised_copy(alloc, &program, MOST_NODES)?;
+    let verified = generate(alloc, &improved)?;
     let _rooms = verified.rooms();
     resolved_is_marked();
-    code_of_program_follows();
-    code_of_agents_follows();
+    code_of_program_behaves();
+    optimised_code_follows();
+    code_of_actions_behaves();
+    optimised_code_follows_agents();
     code_of_program_sends_sound();
     code_of_script_has_form();
     Ok((program, verified))

@@ -12,12 +12,11 @@ use Rattle.txs_tree_meaning.specs.Sound.{SoundFunctions}
 use Rattle.txs_tree_meaning.specs.Tree.{PlainFunction}
 use Rattle.txs_code_meaning.specs.ActorState.{ActorState, InHand}
 use Rattle.txs_code_meaning.specs.Machine.{ThreadCode, agent_body, agent_code, Outside, Configuration, to_stack, called, Library}
-use Rattle.txs_code_meaning.specs.PlainCode.{parameters_of}
+use Rattle.txs_code_meaning.specs.PlainCode.{parameters_of, library_of}
 use Rattle.txs_theorem_threads.specs.ActionsBehave.{acting, CallComes, ActionsBehave, SoundFollowsAgents}
-use Rattle.txs_theorem_threads.specs.FollowsAgent.{FollowsAgents}
 use Rattle.txs_theorem_threads.specs.OnReplies.{on_replies}
 use Rattle.txs_theorem_threads.proofs.Quiet.{carried, callee_carried}
-use Rattle.txs_gen.specs.Agents.{AgentsFollow}
+use Rattle.txs_gen.specs.Agents.{AgentsFollow, CodeOfActionsBehaves}
 use Rattle.txs_gen.specs.Gen.{functions_code}
 use Rattle.txs_gen.proofs.Calls.{calls_simulate}
 use Rattle.txs_gen.proofs.CodesFollow.{functions_are}
@@ -71,8 +70,10 @@ module _ (va : Validators) (fs : List PlainFunction) (sound : SoundFunctions [] 
 actions_behave : (va : Validators) (fs : List PlainFunction) → SoundFunctions [] fs → ActionsBehave (with_validators va fs) fs
 actions_behave va fs sound = record { calls = λ g a f n vs s pure. call_comes va fs sound g a f n vs s pure }
 
-pub agents_follow : SoundFollowsAgents → AgentsFollow
-agents_follow law code p sound h =
+pub code_of_actions_behaves : CodeOfActionsBehaves
+code_of_actions_behaves code p sound h =
     let va = validators_of code.cells in
-    subst (λ l. FollowsAgents (record { bodies = l; validators = va }) p.functions) (sym (functions_are (parameters_of code.functions) code.constants code.functions p.functions h.functions))
-    (law (with_validators va p.functions) p.functions sound.functions (actions_behave va p.functions sound.functions))
+    subst (λ l. ActionsBehave (record { bodies = l; validators = va }) p.functions) (sym (functions_are (parameters_of code.functions) code.constants code.functions p.functions h.functions)) (actions_behave va p.functions sound.functions)
+
+pub agents_follow : SoundFollowsAgents → AgentsFollow
+agents_follow law code p sound h = law (library_of code) p.functions sound.functions (code_of_actions_behaves code p sound h)

@@ -1,11 +1,16 @@
 -- The code of a program follows it, since it is generated from its trees.
-use Rattle.std.proofs.Common.{◌≡◌, ℕ, List, [], ◌∷◌, map, refl, sym, ap, ◌∙◌, subst}
+use Rattle.std.proofs.Common.{◌≡◌, ℕ, zero, suc, List, [], ◌∷◌, length, map, Some, refl, sym, ap, ◌∙◌, subst}
 use Rattle.txs_value_data.specs.declared.value.Value.{Value}
+use Rattle.txs_value_base.specs.Places.{nth}
+use Rattle.txs_tree_meaning.proofs.Callable.{missing, same_some}
+use Rattle.txs_tree_meaning.specs.Known.{known}
+use Rattle.txs_tree_meaning.specs.Sound.{SoundFunctions, SoundThreads}
 use Rattle.txs_tree_meaning.specs.Tree.{PlainFunction, PlainThread, PlainProgram}
 use Rattle.txs_code_meaning.specs.Machine.{PlainBody, ThreadCode}
 use Rattle.txs_code_meaning.specs.PlainCode.{CodeBody, PlainCode, parameters_of, plain_bodies, thread_code}
-use Rattle.txs_theorem_threads.specs.FollowsAll.{FollowsAll, GeneratedFollows, source_of}
-use Rattle.txs_gen.specs.CodeFollows.{CodeFollows}
+use Rattle.txs_theorem_threads.specs.Behaves.{Behaves}
+use Rattle.txs_theorem_threads.specs.FollowsAll.{BehavesAll, FollowsAll, GeneratedFollows, source_of}
+use Rattle.txs_gen.specs.CodeFollows.{CodeFollows, CodeOfProgramBehaves}
 use Rattle.txs_gen.specs.Gen.{function_code, body_code, functions_code, generated}
 use Rattle.txs_gen.specs.Generated.{AreFunctionsOf, AreBodiesOf, IsBodyOf}
 use Rattle.txs_gen.proofs.Ends.{code_behaves}
@@ -32,6 +37,29 @@ threads_are code p [] (t ∷ ts) c e h = absurd h
 threads_are code p (b ∷ bs) [] c e h = absurd h
 threads_are code p (b ∷ bs) (t ∷ ts) c e h =
     ap (λ x. x ∷ map (λ b. thread_code code b) bs) (thread_is code p b t c e h.0) ∙ ap (λ l. generated (source_of p t) ∷ l) (threads_are code p bs ts c e h.1)
+
+module _ (p : PlainProgram) (functions : SoundFunctions [] p.functions) where
+  abbrev code_for : PlainThread → ThreadCode
+  code_for t = generated (source_of p t)
+
+  as_many : (ts : List PlainThread) → length (map code_for ts) ≡ length ts
+  as_many [] = refl
+  as_many (t ∷ ts) = ap suc (as_many ts)
+
+  each_behaves : (ts : List PlainThread) → SoundThreads (known p.functions) ts → (i : ℕ) (c : ThreadCode) (t : PlainThread) → nth (map code_for ts) i ≡ Some c → nth ts i ≡ Some t → Behaves c (source_of p t)
+  each_behaves [] sound i c t e k = absurd (missing t k)
+  each_behaves (u ∷ ts) sound zero c t e k =
+      let one : code_for u ≡ c = same_some (code_for u) c e in
+      let two : u ≡ t = same_some u t k in
+      subst (λ x. Behaves c (source_of p x)) two (subst (λ x. Behaves x (source_of p u)) one (code_behaves (source_of p u) (record { functions = functions; main = sound.0.0 })))
+  each_behaves (u ∷ ts) sound (suc i) c t e k = each_behaves ts sound.1 i c t e k
+
+pub code_of_program_behaves : CodeOfProgramBehaves
+code_of_program_behaves code p sound h =
+    subst (λ l. BehavesAll l p) (sym (threads_are code p code.threads p.threads h.cells h.functions h.threads)) (record {
+      as_many = as_many p sound.functions p.threads;
+      each = each_behaves p sound.functions p.threads sound.threads;
+    })
 
 pub code_follows : GeneratedFollows → CodeFollows
 code_follows law code p sound h =

@@ -1,10 +1,20 @@
 //! The laws of a program's code: it follows the program, and the actions of its agents, and sends only what a program may send.
 
-ghost use Rattle.txs_gen.specs.Agents.{AgentsFollow};
-ghost use Rattle.txs_gen.specs.CodeFollows.{CodeFollows};
-ghost use Rattle.txs_gen.specs.Sends.{CodeOfProgramSendsSound};
+ghost use Rattle.txs_gen.specs.Agents.{AgentsFollow, CodeOfActionsBehaves};
+ghost use Rattle.txs_gen.specs.CodeFollows.{CodeFollows, CodeOfProgramBehaves};
+ghost use Rattle.txs_gen.specs.Sends.{CodeOfProgramSendsSound, SoundProgramSendsSound};
 
 use txs_theorem_threads::{generated_follows, sound_follows_agents};
+
+/// The code of a sound program does what its trees do, on any replies.
+pub fn code_of_program_behaves()
+    ensures { CodeOfProgramBehaves }
+{}
+
+/// The code of a sound program's functions does what they mean, where actions call them.
+pub fn code_of_actions_behaves()
+    ensures { CodeOfActionsBehaves }
+{}
 
 /// The code of a sound program follows it: on replies that fit a thread's events, the thread's meaning
 /// eats those events with what the code printed, and ends as the code has.
@@ -23,8 +33,9 @@ pub fn code_of_agents_follows()
     sound_follows_agents();
 }
 
-/// Each send in the code of a sound program names a callee that is pure and takes the agent's state and
-/// the arguments: so what the code sends, a program may send.
+/// Each send of a sound program names a callee that is pure and takes the agent's state and the arguments. Where each send of a
+/// program does, by what is known of some functions, so does each send in its code: so what the code sends, a program may send.
 pub fn code_of_program_sends_sound()
-    ensures { CodeOfProgramSendsSound }
+    ensures program { SoundProgramSendsSound }
+    ensures code { CodeOfProgramSendsSound }
 {}

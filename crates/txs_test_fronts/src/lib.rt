@@ -15,6 +15,8 @@ mod gathered;
 #[cfg(test)]
 mod mail;
 #[cfg(test)]
+mod optimised;
+#[cfg(test)]
 mod program;
 #[cfg(test)]
 mod replies;

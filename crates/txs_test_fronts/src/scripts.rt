@@ -11,8 +11,8 @@ use txs_tree::{
 };
 use txs_value::{Listed, Outcome, Value};
 
-// The program of a script that has so many forms; none where one of its layers refuses it.
-fn program_of(alloc: Global, script: &str, forms: usize) -> Option<Program> {
+/// The program of a script that has so many forms; none where one of its layers refuses it.
+pub fn program_of(alloc: Global, script: &str, forms: usize) -> Option<Program> {
     let Ok(read) = read_script(alloc, script.as_bytes()) else {
         return None;
     };

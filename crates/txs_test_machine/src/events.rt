@@ -397,6 +397,9 @@ swap 0 0 0 = 4;swap 1 1 1 = 9
 4
 #(future (println (+ 1 2)))
 rooms
+- 1
+#(future (let [x 1] (println (+ x 2))))
+rooms
 - 2
 #(future (let [x 5] (do x (println x))))
 rooms
@@ -412,7 +415,7 @@ rooms
 - 3
 #(defn twice [x] (* 2 x)) (future (println (twice 4)))
 rooms
-2 1
+2 2
 #(defn down [n] (if (= n 0) n (recur (dec n)))) (future (println (down 3)))
 rooms
 2 1

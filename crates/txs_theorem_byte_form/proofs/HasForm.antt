@@ -22,10 +22,13 @@ use Rattle.txs_code_decode.specs.CellForm.{cell_format, constant_format, kinds_o
 use Rattle.txs_code_decode.specs.CodeForm.{paired, body_of, body_parts, body_format, instructions, all_instructions, magic, magic_format, cells_format, constants_format, functions_format, threads_format, program_format, code_format, HasForm}
 use Rattle.txs_code_decode.specs.Format.{SharingFits}
 use Rattle.txs_code_decode.specs.ValueForm.{must}
-use Rattle.txs_theorem_byte_form.specs.ReadProgram.{IsLiteral, CellIsRead, FunctionIsRead, ThreadIsRead}
+use Rattle.txs_opt.specs.Optimised.{optimised}
+use Rattle.txs_theorem_opt.proofs.Programs.{optimised_sound, optimised_has}
+use Rattle.txs_theorem_byte_form.specs.ReadProgram.{IsLiteral, is_read, CellIsRead, FunctionIsRead, ThreadIsRead}
 use Rattle.txs_theorem_byte_form.specs.Law.{ScriptsHaveForms}
 use Rattle.txs_theorem_byte_form.proofs.Counts.{AreFew, body_short}
 use Rattle.txs_theorem_byte_form.proofs.Instrs.{Named, IsSized, all_named, placed_fit}
+use Rattle.txs_theorem_byte_form.proofs.Literals.{literals_kept}
 use Rattle.txs_theorem_byte_form.proofs.ReadForms.{forms_are_read}
 use Rattle.txs_theorem_byte_form.proofs.ReadProgram.{program_read}
 use Rattle.txs_theorem_byte_form.proofs.Values.{must_true, is_within, constants_fit, cells_fit}
@@ -265,22 +268,25 @@ parts_fit code p =
     )
 
 pub scripts_have_forms : ScriptsHaveForms
-scripts_have_forms bytes forms p code function_rooms thread_rooms reads resolves sound made names typed =
-    let read = program_read forms p (forms_are_read bytes forms reads) resolves in
-    let scoped = sound.scoped in
-    let literals = literals_cat most_nodes (constants_of_functions p.functions) (constants_of_threads p.threads) (functions_literals p.functions read.functions) (threads_literals p.threads read.threads) sound.few_nodes in
+scripts_have_forms bytes forms p limit code function_rooms thread_rooms reads resolves sound made names typed =
+    let from = program_read forms p (forms_are_read bytes forms reads) resolves in
+    let q = optimised limit p in
+    let kept = optimised_sound limit p sound in
+    let read = optimised_has is_read literals_kept limit p (record { functions = from.functions; threads = from.threads }) in
+    let scoped = kept.scoped in
+    let literals = literals_cat most_nodes (constants_of_functions q.functions) (constants_of_threads q.threads) (functions_literals q.functions read.functions) (threads_literals q.threads read.threads) kept.few_nodes in
     let several : length code.constants ≤ 200000 = omega (arith, literals.few, ap length made.constants) in
-    let fs = functions_made code typed.kinds 0 code.functions p.functions [] typed.kinds function_rooms (omega arith) made.functions scoped.functions read.functions typed.functions in
-    let ts = threads_made code typed.kinds code.threads p.threads (known p.functions) thread_rooms made.threads scoped.threads read.threads typed.threads in
+    let fs = functions_made code typed.kinds 0 code.functions q.functions [] typed.kinds function_rooms (omega arith) made.functions scoped.functions read.functions typed.functions in
+    let ts = threads_made code typed.kinds code.threads q.threads (known q.functions) thread_rooms made.threads scoped.threads read.threads typed.threads in
     let few_cells : length code.cells ≤ 1000 = omega (arith, scoped.few_cells, ap length made.cells) in
     parts_fit code (record {
       few_cells = few_cells;
       few_constants = omega (arith, several);
-      few_functions = omega (arith, scoped.few_functions, functions_as_many (parameters_of code.functions) code.constants code.functions p.functions made.functions);
-      few_threads = omega (arith, scoped.few_threads, threads_as_many (parameters_of code.functions) code.constants code.threads p.threads made.threads);
-      cells = cells_fit code.cells (subst (AllByRecursion CellIsRead) (sym made.cells) read.cells) names.openings;
+      few_functions = omega (arith, scoped.few_functions, functions_as_many (parameters_of code.functions) code.constants code.functions q.functions made.functions);
+      few_threads = omega (arith, scoped.few_threads, threads_as_many (parameters_of code.functions) code.constants code.threads q.threads made.threads);
+      cells = cells_fit code.cells (subst (AllByRecursion CellIsRead) (sym made.cells) from.cells) names.openings;
       constants = constants_fit code.cells few_cells code.constants (subst (AllByRecursion IsLiteral) (sym made.constants) literals.each) names.constants;
       functions = fs.each;
       threads = ts.each;
-      sum = omega (arith, fs.sum, ts.sum, sound.few_nodes);
+      sum = omega (arith, fs.sum, ts.sum, kept.few_nodes);
     })

@@ -1,6 +1,7 @@
 pub mod Counts
 pub mod HasForm
 pub mod Instrs
+pub mod Literals
 pub mod ReadForms
 pub mod ReadProgram
 pub mod Utf8

@@ -8,11 +8,13 @@ use Rattle.txs_tree_meaning.specs.Tree.{PlainProgram}
 use Rattle.txs_code_meaning.specs.OwnCells.{NamesOwnCells}
 use Rattle.txs_code_meaning.specs.PlainCode.{PlainCode}
 use Rattle.txs_code_meaning.specs.WellTyped.{WellTyped}
+use Rattle.txs_opt.specs.Optimised.{optimised}
 use Rattle.txs_gen.specs.Generated.{IsCodeOf}
 use Rattle.txs_code_decode.specs.CodeForm.{HasForm}
 
--- Code that is that of the sound program of a script's forms, that is well typed, and that names its own cells alone, has a byte form.
+-- Code that is that of the sound program of a script's forms, optimised, that is well typed, and that names its own cells alone, has a
+-- byte form.
 abbrev pub ScriptsHaveForms : Type 0
 ScriptsHaveForms =
-    (bytes : List ℕ) (forms : List Form) (p : PlainProgram) (code : PlainCode) (function_rooms thread_rooms : List ℕ)
-    → Reads bytes forms → Resolves forms p → Sound p → IsCodeOf code p → NamesOwnCells code → WellTyped code function_rooms thread_rooms → HasForm code
+    (bytes : List ℕ) (forms : List Form) (p : PlainProgram) (limit : ℕ) (code : PlainCode) (function_rooms thread_rooms : List ℕ)
+    → Reads bytes forms → Resolves forms p → Sound p → IsCodeOf code (optimised limit p) → NamesOwnCells code → WellTyped code function_rooms thread_rooms → HasForm code

@@ -13,7 +13,8 @@ use Rattle.txs_value_data.specs.declared.value.CellKind.TheVariants.{Ref, Atom, 
 use Rattle.txs_value_data.specs.declared.value.Value.{Value}
 use Rattle.txs_reader.specs.Bytes.{is_i64}
 use Rattle.txs_code_meaning.specs.Spans.{IsOrdered}
-use Rattle.txs_tree_meaning.specs.Tree.{Tree, Const, Local, If, Do, Let, Loop, Recur, Core, Call, VectorOf, Println, Dosync, Look, Put, Update, Send, Trees, none, more, PlainFunction, PlainThread, PlainProgram}
+use Rattle.txs_tree_meaning.specs.Tree.{Tree, Trees, PlainFunction, PlainThread, PlainProgram}
+use Rattle.txs_tree_build.specs.Everywhere.{Facts, Everywhere, EverywhereIn, InFunction, InThread}
 use Rattle.txs_theorem_byte_form.specs.ReadForms.{IsSymbol}
 
 -- A value that a literal may be, with vectors in at most so many levels: numbers of 64 bits, names, texts of UTF-8, short vectors. Of a cell
@@ -50,38 +51,25 @@ pub record CellIsRead (d : CellDefinition) : Type 0 where
   pub opening : IsLiteral d.opening
   pub validator : d.validator ≡ None
 
--- each constant of a tree is a literal or a cell, and the span of each node is in order
-abbrev mutual
-  pub TreeIsRead : Tree → Type 0
-  TreeIsRead (Const v m) = IsLiteral v × IsOrdered m.span
-  TreeIsRead (Local i m) = IsOrdered m.span
-  TreeIsRead (If c a b m) = TreeIsRead c × TreeIsRead a × TreeIsRead b × IsOrdered m.span
-  TreeIsRead (Do items m) = TreesAreRead items × IsOrdered m.span
-  TreeIsRead (Let values body m) = TreesAreRead values × TreeIsRead body × IsOrdered m.span
-  TreeIsRead (Loop values body m) = TreesAreRead values × TreeIsRead body × IsOrdered m.span
-  TreeIsRead (Recur values m) = TreesAreRead values × IsOrdered m.span
-  TreeIsRead (Core op args m) = TreesAreRead args × IsOrdered m.span
-  TreeIsRead (Call f args m) = TreesAreRead args × IsOrdered m.span
-  TreeIsRead (VectorOf items m) = TreesAreRead items × IsOrdered m.span
-  TreeIsRead (Println args m) = TreesAreRead args × IsOrdered m.span
-  TreeIsRead (Dosync body m) = TreeIsRead body × IsOrdered m.span
-  TreeIsRead (Look form cell m) = TreeIsRead cell × IsOrdered m.span
-  TreeIsRead (Put form cell value m) = TreeIsRead cell × TreeIsRead value × IsOrdered m.span
-  TreeIsRead (Update form cell callee args m) = TreeIsRead cell × TreesAreRead args × IsOrdered m.span
-  TreeIsRead (Send cell callee args m) = TreeIsRead cell × TreesAreRead args × IsOrdered m.span
+-- each constant is a literal or a cell, and the span of each node is in order
+abbrev pub is_read : Facts
+is_read = record { constant = IsLiteral; span = IsOrdered; send = λ f n span. IsOrdered span }
 
-  -- so is each of these
-  pub TreesAreRead : Trees → Type 0
-  TreesAreRead none = Unit {0}
-  TreesAreRead (more e rest) = TreeIsRead e × TreesAreRead rest
+-- so it is in a tree
+abbrev pub TreeIsRead : Tree → Type 0
+TreeIsRead e = Everywhere is_read e
 
--- so is a function, and its own span
+-- so it is in each of these
+abbrev pub TreesAreRead : Trees → Type 0
+TreesAreRead es = EverywhereIn is_read es
+
+-- so it is in a function, and of its own span
 abbrev pub FunctionIsRead : PlainFunction → Type 0
-FunctionIsRead f = TreeIsRead f.body × IsOrdered f.span
+FunctionIsRead f = InFunction is_read f
 
--- so is a thread
+-- so it is in a thread
 abbrev pub ThreadIsRead : PlainThread → Type 0
-ThreadIsRead t = TreeIsRead t.body × IsOrdered t.span
+ThreadIsRead t = InThread is_read t
 
 -- so is a program: its functions, its threads and its cells
 pub record ProgramIsRead (p : PlainProgram) : Type 0 where

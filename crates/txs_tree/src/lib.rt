@@ -1,7 +1,8 @@
 //! Programs as trees, and the evaluators that answer what they mean. This crate only offers what txs_tree_meaning (trees and
-//! programs) and txs_tree_eval (`eval_pure`, `eval_tx`, `eval_thread`) promise.
+//! programs), txs_tree_build (`copy_program`) and txs_tree_eval (`eval_pure`, `eval_tx`, `eval_thread`) promise.
 #![tactic(auto)]
 
+pub use txs_tree_build::copy_program;
 pub use txs_tree_eval::{
     EvalStop, Needs, RefView, Seen, ThreadMeaning, TxMeaning, eval_pure, eval_thread, eval_tx,
 };

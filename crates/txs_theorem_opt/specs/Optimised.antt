@@ -1,0 +1,30 @@
+-- Code that behaves as an optimised program's trees follows the program from before.
+use Rattle.std.specs.Prelude.{ℕ, List}
+use Rattle.txs_tree_meaning.specs.Sound.{Sound}
+use Rattle.txs_tree_meaning.specs.Tree.{PlainProgram}
+use Rattle.txs_code_meaning.specs.Machine.{Library, ThreadCode}
+use Rattle.txs_theorem_threads.specs.ActionsBehave.{ActionsBehave}
+use Rattle.txs_theorem_threads.specs.FollowsAgent.{FollowsAgents}
+use Rattle.txs_theorem_threads.specs.FollowsAll.{BehavesAll, FollowsAll}
+use Rattle.txs_opt.specs.Keeps.{MeansSame}
+use Rattle.txs_opt.specs.Optimised.{optimised}
+
+-- code that behaves as the optimised trees behaves as those from before, for every bound on loops
+abbrev pub BehavesBefore : Type 0
+BehavesBefore = (codes : List ThreadCode) (limit : ℕ) (p : PlainProgram) → BehavesAll codes (optimised limit p) → BehavesAll codes p
+
+-- so it follows the program from before
+abbrev pub OptimisedFollows : Type 0
+OptimisedFollows = (codes : List ThreadCode) (limit : ℕ) (p : PlainProgram) → Sound p → BehavesAll codes (optimised limit p) → FollowsAll codes p
+
+-- an optimised program is sound
+abbrev pub OptimisedSound : Type 0
+OptimisedSound = (limit : ℕ) (p : PlainProgram) → Sound p → Sound (optimised limit p)
+
+-- code that does in actions what the optimised functions mean follows the agents' actions by the functions from before
+abbrev pub OptimisedFollowsAgents : Type 0
+OptimisedFollowsAgents = (code : Library) (limit : ℕ) (p : PlainProgram) → Sound p → ActionsBehave code (optimised limit p).functions → FollowsAgents code p.functions
+
+-- an optimised program means what the program means, on any events
+abbrev pub OptimisedMeansSame : Type 0
+OptimisedMeansSame = (limit : ℕ) (p : PlainProgram) → Sound p → MeansSame p (optimised limit p)

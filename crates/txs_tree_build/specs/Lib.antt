@@ -1,0 +1,4 @@
+pub mod Everywhere
+pub mod Locals
+pub mod Shapes
+pub mod Shift
