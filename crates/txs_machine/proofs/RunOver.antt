@@ -41,7 +41,7 @@ use Rattle.txs_machine_actor.proofs.Saying.{turn_says}
 use Rattle.txs_world_book.specs.Book as world_book
 use Rattle.txs_world.proofs.Merging.{joined}
 use Rattle.txs_world_book.specs.Atom.{closes, closes_at, swapped_since}
-use Rattle.txs_world_book.specs.Book.{written, least_written, cells_in, is_failed, first_failed, has_cell}
+use Rattle.txs_world_book.specs.Book.{is_outdated, least_written, cells_in, is_failed, first_failed, has_cell}
 use Rattle.txs_world_book.specs.Served as entry
 use Rattle.txs_world.specs.Store as world
 use Rattle.txs_world_book.specs.Served.{cells_of, Served}
@@ -879,7 +879,7 @@ length_map f (x ∷ xs) = ap suc (length_map f xs)
 -- what is answered to an ask
 serve_may : (cells : List CellDefinition) (a : ℕ) (q : Ask) (book : List Event) → MayAnswer q (serve_on cells a q book).reply
 serve_may cells a ask.Begin book = tt
-serve_may cells a (ask.Look c p) book = looked_may _ a c p book (written c.number p book)
+serve_may cells a (ask.Look c p) book = looked_may _ a c p book (is_outdated c.number p book)
 serve_may cells a (ask.View cs) book = length_map (λ c. world_book.newest (world_book.opening (cells_of cells)) book c.number) cs
 serve_may cells a (ask.Commit p sets ensured q commuted sends) book =
     committed_may a p q sets commuted _ ensured sends book (least_written book p (cells_in sets ++ ensured)) (least_written book q (cells_in commuted)) (first_failed (cells_of cells) book sends)

@@ -12,7 +12,7 @@ use txs_value::Ask;
 const STEPS: u64 = 100;
 
 // Serves and answers the actor's ask: whether it was answered.
-fn answer(shared: &mut SharedState, served: &mut u64, played: &mut Played<'_>, ask: Ask) -> bool {
+fn answer(shared: &mut SharedState, played: &mut Played<'_>, ask: Ask) -> bool {
     if !shared.lawful(played.number(), &ask) {
         drop(ask);
         return false;
@@ -24,32 +24,26 @@ fn answer(shared: &mut SharedState, served: &mut u64, played: &mut Played<'_>, a
         drop(reply);
         return false;
     }
-    played.answer(*served, at, reply);
-    *served = served.saturating_add(1);
+    played.answer(at, reply);
     true
 }
 
 // One turn of the actor, with its ask served and answered: whether there may be another.
-fn step(shared: &mut SharedState, served: &mut u64, played: &mut Played<'_>) -> bool {
+fn step(shared: &mut SharedState, played: &mut Played<'_>) -> bool {
     if played.is_asking() {
         return false;
     }
     match played.turn() {
         Turn::Went => true,
         Turn::Ended(_) => false,
-        Turn::Asks(ask) => answer(shared, served, played, ask),
+        Turn::Asks(ask) => answer(shared, played, ask),
     }
 }
 
 // Runs the actor to its end: whether it has ended as its script says, having printed this.
-fn is_done(
-    shared: &mut SharedState,
-    served: &mut u64,
-    played: &mut Played<'_>,
-    text: &[u8],
-) -> bool {
+fn is_done(shared: &mut SharedState, played: &mut Played<'_>, text: &[u8]) -> bool {
     for _ in 0..STEPS {
-        if !step(shared, served, played) {
+        if !step(shared, played) {
             break;
         }
     }
@@ -86,13 +80,12 @@ fn agrees(alloc: Global, code: &Verified, callees: &[bool], text: &[u8]) -> bool
         drop(played);
         return false;
     };
-    let mut served = 0;
-    let done = is_done(&mut shared, &mut served, &mut played, text);
+    let done = is_done(&mut shared, &mut played, text);
     let mut all = Vec::new(alloc);
     if let Err(back) = all.push(played) {
         drop(back);
     }
-    match gather(alloc, code, STEPS, shared, served, all) {
+    match gather(alloc, code, STEPS, shared, all) {
         Ok(gathered) => done && is_reported(&gathered, text),
         Err(_) => false,
     }

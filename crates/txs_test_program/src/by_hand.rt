@@ -9,7 +9,7 @@ use txs_machine::Ran;
 use txs_machine_actor::{Actor, Turn};
 use txs_threads::{Gathered, Played, RunError, gather};
 use txs_threads_gather::sent_functions;
-use txs_value_data::Value;
+use txs_value_data::{CellId, CellKind, Value};
 use txs_world_protocol::{Ask, Reply};
 use txs_world_shared::SharedState;
 
@@ -25,14 +25,18 @@ const TAKERS: &str =
 const FROM_ONE: &str =
     "(def c (ref 1)) (future (dosync (commute c inc))) (future (dosync (commute c inc)))";
 
+/// One thread that adds one to a ref, and one that reads this and another.
+const READS: &str =
+    "(def c (ref 0)) (def d (ref 1)) (future (dosync (commute c inc))) (future (println @c @d))";
+
 /// How many steps an actor may make.
 const STEPS: u64 = 1_000;
 
-/// What two actors shared, how many of their asks were served, and what they did.
+/// What two actors shared, how many requests of the one that runs were answered, and what they did.
 #[derive(Drop)]
 struct Parts<'a> {
     shared: SharedState,
-    served: u64,
+    answered: u64,
     both: Vec<Played<'a>>,
 }
 
@@ -49,8 +53,14 @@ enum Change {
     NoActor,
     /// The second actor stands before the first.
     Order,
-    /// One ask less was served.
-    NoEntry,
+    /// The first read of the second actor is served twice, and recorded once.
+    LeftOut,
+    /// Its first read is recorded for its second one, too.
+    Twice,
+    /// Its second read is served before its first one.
+    OtherOrder,
+    /// Its first read is recorded at the index behind its own.
+    OtherPlace,
     /// The state is one to which nothing was done.
     NoEvents,
     /// The state is one that the actors of another script have made.
@@ -70,24 +80,70 @@ fn told(reply: Reply, change: &Change) -> Reply {
     }
 }
 
-/// Serves and answers an actor's ask: whether it goes on.
-fn answer(parts: &mut Parts<'_>, played: &mut Played<'_>, ask: Ask, change: &Change) -> bool {
-    if matches!(change, Change::NoReply) || !parts.shared.lawful(played.number(), &ask) {
+/// The ref that is read once more before the first request of the second actor, if it is.
+fn read_before(change: &Change) -> Option<u16> {
+    match change {
+        Change::LeftOut => Some(0),
+        Change::OtherOrder => Some(1),
+        _ => None,
+    }
+}
+
+/// Reads a ref for an actor, which isn't told of it, if one is to be read.
+fn read_apart(shared: &mut SharedState, actor: u16, number: Option<u16>) {
+    let Some(number) = number else {
+        return;
+    };
+    let cell = CellId {
+        kind: CellKind::Ref,
+        number,
+    };
+    let ask = Ask::Peek { cell };
+    if shared.lawful(actor, &ask) {
+        drop(shared.serve(actor, ask));
+    } else {
         drop(ask);
-        return false;
+    }
+}
+
+/// Serves a request, if the actor may make it: the reply, with the index that is to be recorded.
+fn serve(parts: &mut Parts<'_>, actor: u16, ask: Ask, change: &Change) -> Option<(u32, Reply)> {
+    if parts.answered == 1 && matches!(change, Change::Twice | Change::OtherOrder) {
+        drop(ask);
+        return Some((1, Reply::Is(Value::Int(1))));
+    }
+    if parts.answered == 0 {
+        read_apart(&mut parts.shared, actor, read_before(change));
+    }
+    if !parts.shared.lawful(actor, &ask) {
+        drop(ask);
+        return None;
     }
     let events = parts
         .shared
         .numbered_events(parts.shared.book_for(&ask))
         .len();
     let at = u32::try_from(events).unwrap_or(u32::MAX);
-    let reply = told(parts.shared.serve(played.number(), ask), change);
+    let later = matches!(change, Change::OtherPlace) && parts.answered == 0;
+    let reply = told(parts.shared.serve(actor, ask), change);
+    Some((at.saturating_add(u32::from(later)), reply))
+}
+
+/// Serves and answers an actor's request: whether it goes on.
+fn answer(parts: &mut Parts<'_>, played: &mut Played<'_>, ask: Ask, change: &Change) -> bool {
+    if matches!(change, Change::NoReply) {
+        drop(ask);
+        return false;
+    }
+    let Some((at, reply)) = serve(parts, played.number(), ask, change) else {
+        return false;
+    };
     if !played.may_answer(&reply) {
         drop(reply);
         return false;
     }
-    played.answer(parts.served, at, reply);
-    parts.served = parts.served.saturating_add(1);
+    played.answer(at, reply);
+    parts.answered = parts.answered.saturating_add(1);
     true
 }
 
@@ -135,6 +191,7 @@ fn add<'a>(
         return false;
     };
     let mut played = Played::new(alloc, code, callees, actor, STEPS);
+    parts.answered = 0;
     play(parts, &mut played, change);
     match parts.both.push(played) {
         Ok(()) => true,
@@ -159,7 +216,7 @@ fn play_both<'a>(
     };
     let mut parts = Parts {
         shared,
-        served: 0,
+        answered: 0,
         both: Vec::new(alloc),
     };
     if add(alloc, code, callees, &mut parts, 0, &Change::Nothing)
@@ -204,7 +261,6 @@ fn alter(alloc: Global, code: &Verified, parts: &mut Parts<'_>, change: &Change)
     match change {
         Change::NoActor => drop(parts.both.pop()),
         Change::Order => parts.both.reverse(),
-        Change::NoEntry => parts.served = parts.served.saturating_sub(1),
         Change::NoEvents => {
             let state = SharedState::open(alloc, code.code().cells(), 2).ok();
             return renew(&mut parts.shared, state);
@@ -215,13 +271,15 @@ fn alter(alloc: Global, code: &Verified, parts: &mut Parts<'_>, change: &Change)
     true
 }
 
-/// Whether parts that agree are gathered as they are. There are two threads: where nothing was changed, the second has one place in its trace, behind
-/// the event of the first, and where it stopped in the middle, it goes on after three steps.
+/// Whether parts that agree are gathered as they are. There are two threads: where nothing was changed, the first place in the second's trace is behind
+/// the event of the first thread, and where it stopped in the middle, it goes on after three steps.
 fn is_gathered(alloc: Global, gathered: &Gathered, change: &Change) -> bool {
     match gathered.report.threads.as_slice() {
         [_, second] => match (change, second.trace.as_slice()) {
-            (Change::Nothing, [place]) => {
-                u64::from(place.at) == 1 && has_left(alloc, gathered, STEPS, "done done 2 ")
+            (Change::Nothing, [place, ..]) => {
+                u64::from(place.at) == 1
+                    && (has_left(alloc, gathered, STEPS, "done done 2 ")
+                        || has_left(alloc, gathered, STEPS, "done 1 1\ndone 1 1 "))
             }
             (Change::Middle, _) => second.outcome.is_none() && second.steps == 3,
             _ => false,
@@ -236,12 +294,8 @@ fn is_told(alloc: Global, by: &Verified, parts: Parts<'_>, change: &Change) -> b
         Change::Limit => STEPS + 1,
         _ => STEPS,
     };
-    let Parts {
-        shared,
-        served,
-        both,
-    } = parts;
-    match gather(alloc, by, steps, shared, served, both) {
+    let Parts { shared, both, .. } = parts;
+    match gather(alloc, by, steps, shared, both) {
         Ok(gathered) => {
             let told = is_gathered(alloc, &gathered, change);
             drop(gathered);
@@ -285,12 +339,11 @@ fn tells(alloc: Global, by: &Verified, script: &str, change: &Change) -> bool {
 }
 
 /// Scripts whose actors are played, what is changed, and its name.
-const CHANGES: [(&str, Change, &str); 11] = [
+const CHANGES: [(&str, Change, &str); 10] = [
     (ADDERS, Change::Nothing, "nothing"),
     (ADDERS, Change::Middle, "in the middle"),
     (ADDERS, Change::NoActor, "no actor"),
     (ADDERS, Change::NoEvents, "no events"),
-    (ADDERS, Change::NoEntry, "no entry"),
     (ADDERS, Change::NoReply, "no reply"),
     (ADDERS, Change::Order, "order"),
     (ADDERS, Change::Read, "read"),
@@ -299,9 +352,22 @@ const CHANGES: [(&str, Change, &str); 11] = [
     (ADDERS, Change::Limit, "limit"),
 ];
 
-/// The name of the first of these changes of which the comparison by the code of the adders doesn't tell what it should, or nothing.
-fn first_other(alloc: Global, rows: &[(&str, Change, &'static str)]) -> &'static str {
-    let Ok(by) = code_of(alloc, ADDERS) else {
+/// The same of a thread that reads, where its reads are compared.
+const READ_CHANGES: [(&str, Change, &str); 5] = [
+    (READS, Change::Nothing, "nothing"),
+    (READS, Change::LeftOut, "left out"),
+    (READS, Change::Twice, "twice"),
+    (READS, Change::OtherOrder, "other order"),
+    (READS, Change::OtherPlace, "other place"),
+];
+
+/// The name of the first of these changes of which the comparison by the code of a script doesn't tell what it should, or nothing.
+fn first_other(
+    alloc: Global,
+    compared: &str,
+    rows: &[(&str, Change, &'static str)],
+) -> &'static str {
+    let Ok(by) = code_of(alloc, compared) else {
         return "no code";
     };
     let mut other = "";
@@ -315,6 +381,8 @@ fn first_other(alloc: Global, rows: &[(&str, Change, &'static str)]) -> &'static
 
 #[test]
 fn agrees_or_is_told(rt: HostRuntime) {
-    let other = first_other(rt.alloc(), &CHANGES);
+    let other = first_other(rt.alloc(), ADDERS, &CHANGES);
+    assert!(rt; other.is_empty(), "{other}");
+    let other = first_other(rt.alloc(), READS, &READ_CHANGES);
     assert!(rt; other.is_empty(), "{other}");
 }

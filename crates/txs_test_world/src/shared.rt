@@ -41,14 +41,36 @@ book 0 =>
 1 peek g => is 10
 book 0 => 1 read 0 commit 1 read 1 read 1 read
 #0 commit 0 0 1=7 - - - => done
+1 look 1 0 => is 2
+2 commit 0 0 1=8 - - - => retry 1
+3 look 1 1 => is 7
+2 begin => at 2
+2 commit 2 2 1=8 - - - => done
+3 look 1 0 => is 2
+3 look 1 2 => is 7
+3 look 1 3 => is 8
+book 0 => 0 commit 2 retry 2 commit
+#0 commit 0 0 1=10 - - - => done
+0 commit 1 1 1=11 - - - => done
+0 commit 2 2 1=12 - - - => done
+0 commit 3 3 1=13 - - - => done
+0 commit 4 4 1=14 - - - => done
+0 commit 5 5 1=15 - - - => done
+0 commit 6 6 1=16 - - - => done
+0 commit 7 7 1=17 - - - => done
+0 commit 8 8 1=18 - - - => done
+0 commit 9 9 1=19 - - - => done
+1 look 1 0 => is 2
+1 look 1 1 => is 10
+0 commit 10 10 0=9 - - - => done
+1 look 1 0 => is 2
+0 commit 11 11 1=20 - - - => done
 1 look 1 0 => retry 1
 1 look 1 0 => unlawful
-2 commit 0 0 1=8 - - - => retry 1
-3 look 1 3 => is 7
-2 begin => at 3
-2 commit 3 3 1=8 - - - => done
-3 look 1 4 => is 8
-book 0 => 0 commit 1 retry 2 retry 2 commit
+2 look 1 1 => is 10
+2 look 1 11 => is 19
+2 look 0 0 => is 1
+2 look 1 12 => is 20
 #0 fail 0 => done
 1 look 0 0 => is 1
 book 0 => 0 fail

@@ -17,7 +17,7 @@ use Rattle.txs_value_base.specs.declared.fault.Fault.{Fault}
 use Rattle.txs_world_book.proofs.Growth.{each_more}
 use Rattle.txs_world_book.proofs.Outcomes.{both}
 use Rattle.txs_world_book.specs.Atom.{closes_at, swapped_since}
-use Rattle.txs_world_book.specs.Book.{cells_in, opening, written, least_written, is_failed, first_failed, mail_after, has_agent, actor_of, is_empty, Each}
+use Rattle.txs_world_book.specs.Book.{cells_in, opening, least_written, is_failed, first_failed, mail_after, has_agent, actor_of, is_empty, Each, is_outdated}
 use Rattle.txs_world_book.specs.Served.{served, adds, event_of, cells_of}
 use Rattle.txs_world.specs.Store.{looks, commits, sends_to, merged, is_taken}
 use Rattle.txs_theorem_runs.specs.Shared.{is_atom, serve_on, may_ask}
@@ -82,7 +82,7 @@ module _ (Q : List Event → EventKind → Type 0) (quiet : (done : List Event) 
 
   pub served_such : (q : Ask) → Brings Q book q → All (serve_on cells b q book).book
   served_such ask.Begin m = h
-  served_such (ask.Look c p) m = looks_such (written c.number p book) c p
+  served_such (ask.Look c p) m = looks_such (is_outdated c.number p book) c p
   served_such (ask.View cs) m = h
   served_such (ask.Commit p sets ensured q commuted sends) m =
       commits_such (least_written book p (cells_in sets ++ ensured)) (least_written book q (cells_in commuted)) (first_failed (cells_of cells) book sends) p q (merged sets commuted) sends (m (merged sets commuted))

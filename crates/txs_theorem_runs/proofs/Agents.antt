@@ -110,7 +110,7 @@ module _ (cells : List CellDefinition) (threads : ℕ) (code : Library) (functio
   abbrev Means : (ℕ → List Event) → Type 0
   Means books = (n : ℕ) → ActsMean functions cells (books n)
 
-  quiet_means : (done : List Event) (kind : EventKind) → IsQuiet kind → ActMeans functions cells done kind
+  pub quiet_means : (done : List Event) (kind : EventKind) → IsQuiet kind → ActMeans functions cells done kind
   quiet_means done (event.Read c) h = tt
   quiet_means done (event.Commit at view ws sends) h = absurd h
   quiet_means done (event.Retry since c commute) h = tt

@@ -23,7 +23,7 @@ use Rattle.txs_value_data.specs.declared.value.Value.{Value}
 use Rattle.txs_theorem_threads.specs.RepliesFit.{Phase, Out, belongs, PhaseFits, Gives, AgreeOn}
 use Rattle.txs_theorem_threads.specs.RepliesFitTo.{RepliesFitTo}
 use Rattle.txs_world_book.specs.Atom.{atom_after, swapped_since, closes_at}
-use Rattle.txs_world_book.specs.Book.{opening, after, newest, written, least_written, cells_in, may_name, may_end, has_cell, is_failed, first_failed, has_ref, has_refs, are_refs, are_sends}
+use Rattle.txs_world_book.specs.Book.{opening, after, newest, is_outdated, least_written, cells_in, may_name, may_end, has_cell, is_failed, first_failed, has_ref, has_refs, are_refs, are_sends}
 use Rattle.txs_tree_meaning.specs.Transaction as tree
 use Rattle.txs_world_book.specs.Laws.{UnwrittenStays}
 use Rattle.txs_world_book.specs.Served.{Served, served, adds, event_of, cells_of}
@@ -189,8 +189,8 @@ module _ (stays : UnwrittenStays) (cells : List CellDefinition) (threads : ℕ) 
     -- in a try on the world at this read point
     open_fits : (at : ℕ) (q : Ask) → AsksIn (Open at) q → AskFits (Open at) q
     open_fits at (ask.Look c p) ok within may =
-        subst (λ i. Fitting (ask.Look c p) k within xs end ps (Open i) (looks (written c.number p (take k (books 0))) w a c p (take k (books 0)))) (sym ok)
-        (looks_fit (written c.number p (take k (books 0))) c p within (in_place false p within (and_both (has_ref (cells_of cells) c) (may_name false (take k (books 0)) a p) (tested (has_ref (cells_of cells) c && may_name false (take k (books 0)) a p) may)).1))
+        subst (λ i. Fitting (ask.Look c p) k within xs end ps (Open i) (looks (is_outdated c.number p (take k (books 0))) w a c p (take k (books 0)))) (sym ok)
+        (looks_fit (is_outdated c.number p (take k (books 0))) c p within (in_place false p within (and_both (has_ref (cells_of cells) c) (may_name false (take k (books 0)) a p) (tested (has_ref (cells_of cells) c && may_name false (take k (books 0)) a p) may)).1))
     open_fits at (ask.View cs) ok within may =
         quietly (ask.View cs) k within xs end ps (Open at) (reply.Views (length (take k (books 0))) (map (λ c. newest w (take k (books 0)) c.number) cs))
         (λ g. (

@@ -2,8 +2,11 @@ pub mod Acting
 pub mod Adding
 pub mod Agents
 pub mod Alone
+pub mod Attended
+pub mod Booked
 pub mod CoreKnown
 pub mod Fits
+pub mod Going
 pub mod Growing
 pub mod Hearing
 pub mod Keeping
@@ -12,6 +15,7 @@ pub mod Lasts
 pub mod Lawful
 pub mod Naming
 pub mod OneActor
+pub mod Placed
 pub mod Refused
 pub mod Replayed
 pub mod Report

@@ -17,7 +17,7 @@ use Rattle.txs_value_cell.specs.declared.cell.CellDefinition.{CellDefinition}
 use Rattle.txs_value_data.specs.declared.value.CellId.{CellId}
 use Rattle.txs_world_book.proofs.Outcomes.{both}
 use Rattle.txs_world.proofs.Merging.{joined}
-use Rattle.txs_world_book.specs.Book.{cells_in, opening, written, least_written, first_failed, counts, all_before, may_name, may_end}
+use Rattle.txs_world_book.specs.Book.{cells_in, opening, is_outdated, least_written, first_failed, counts, all_before, may_name, may_end}
 use Rattle.txs_world_book.specs.Served.{Served, event_of, cells_of}
 use Rattle.txs_world.specs.Store.{looks, commits, merged}
 use Rattle.txs_theorem_runs.specs.Shared.{book_for, serve_on}
@@ -208,7 +208,7 @@ module _ (cells : List CellDefinition) (a : ℕ) (books : ℕ → List Event) wh
   names_after Idle (ask.Take g) ok h = absurd ok
   names_after Idle (ask.Finish g new sends) ok h = absurd ok
   names_after Idle (ask.Broke c p) ok h = absurd ok
-  names_after (Open at) (ask.Look c p) ok h = look_named at c p h (written c.number p (books 0))
+  names_after (Open at) (ask.Look c p) ok h = look_named at c p h (is_outdated c.number p (books 0))
   names_after (Open at) (ask.View cs) ok h = viewed_named at h
   names_after (Open at) (ask.Commit p sets ensured q commuted sends) ok h =
       subst (λ ws. NamesAfter (Open at) (ask.Commit p sets ensured q ws sends) (commits (least_written (books 0) p (cells_in sets ++ ensured)) (least_written (books 0) q (cells_in ws)) (first_failed (cells_of cells) (books 0) sends) a p q (merged sets ws) sends (books 0))) (sym ok.1)
@@ -286,7 +286,7 @@ module _ (cells : List CellDefinition) (a : ℕ) (books : ℕ → List Event) wh
   view_after Idle (ask.Take g) ok n h = absurd ok
   view_after Idle (ask.Finish g new sends) ok n h = absurd ok
   view_after Idle (ask.Broke c p) ok n h = absurd ok
-  view_after (Open at) (ask.Look c p) ok n (inl h) = look_viewed at c p h (written c.number p (books 0))
+  view_after (Open at) (ask.Look c p) ok n (inl h) = look_viewed at c p h (is_outdated c.number p (books 0))
   view_after (Open at) (ask.Look c p) ok n (inr h) = absurd h
   view_after (Open at) (ask.View cs) ok n h = tt
   view_after (Open at) (ask.Commit p sets ensured q commuted sends) ok n h =

@@ -28,7 +28,7 @@ use Rattle.txs_theorem_runs.proofs.Typed as typed
 use Rattle.txs_theorem_runs.proofs.Whole.{Lower, FreshStands, has_code, run_explained}
 
 -- a code there is for each number below their count
-code_below : (cs : List ThreadCode) (a : ℕ) → nat_lt a (length cs) ≡ true → (c : ThreadCode) × (nth cs a ≡ Some c)
+pub code_below : (cs : List ThreadCode) (a : ℕ) → nat_lt a (length cs) ≡ true → (c : ThreadCode) × (nth cs a ≡ Some c)
 code_below [] a lt = absurd (grind (arith, nat_tests, lt))
 code_below (c ∷ cs) zero lt = (c, refl)
 code_below (c ∷ cs) (suc a) lt = code_below cs a (grind (arith, nat_tests, lt))

@@ -30,17 +30,17 @@ use Rattle.txs_theorem_runs.proofs.Keeping.{IsKept, SendsOwn, SendsSuch, Holds, 
 
 module _ (functions : List PlainFunction) where
   -- what an ask sends is such as a program may send
-  abbrev AskSound : Ask → Type 0
+  abbrev pub AskSound : Ask → Type 0
   AskSound (ask.Send x) = SoundAction functions x
   AskSound (ask.Commit p sets ensured q commuted sends) = AreSound functions sends
   AskSound _ = Unit {0}
 
-  abbrev WantSound : Option Ask → Type 0
+  abbrev pub WantSound : Option Ask → Type 0
   WantSound None = Unit {0}
   WantSound (Some q) = AskSound q
 
   -- what the transaction holds is such, and so what the actor asks
-  abbrev HoldsSound : ActorState → Type 0
+  abbrev pub HoldsSound : ActorState → Type 0
   HoldsSound s = AreSound functions s.done.sends × WantSound s.wants
 
   own_sound : (s : ActorState) (q : Ask) → SendsOwn (SoundAction functions) s q → AreSound functions s.done.sends → AskSound q
@@ -71,16 +71,16 @@ module _ (functions : List PlainFunction) where
   sends_such : (code : ThreadCode) → CodeSendsSound functions code → (b at : ℕ) → SendsSuch (SoundAction functions) (fetch code b at)
   sends_such code by b at f n span e g vs many = subst (λ k. SoundCallee (known functions) f (suc k)) (sym many) (by b at n f span e)
 
-  turn_sound : (code : ThreadCode) → CodeSendsSound functions code → (c : Configuration) → HoldsSound c.state → Holds HoldsSound HoldsSound (turn code c)
+  pub turn_sound : (code : ThreadCode) → CodeSendsSound functions code → (c : Configuration) → HoldsSound c.state → Holds HoldsSound HoldsSound (turn code c)
   turn_sound code by c h = turn_keeps (SoundAction functions) HoldsSound HoldsSound sound_kept (λ s k. k) (λ s out k. k) code c h (sends_such code by c.body c.place)
 
   -- ---- the books
 
   -- what an event sends is such
-  abbrev Sent : List Event → EventKind → Type 0
+  abbrev pub Sent : List Event → EventKind → Type 0
   Sent done kind = SendsSound functions kind
 
-  quiet_sound : (done : List Event) (kind : EventKind) → IsQuiet kind → Sent done kind
+  pub quiet_sound : (done : List Event) (kind : EventKind) → IsQuiet kind → Sent done kind
   quiet_sound done (event.Read c) h = tt
   quiet_sound done (event.Commit at view ws sends) h = absurd h
   quiet_sound done (event.Retry since c commute) h = tt
@@ -97,7 +97,7 @@ module _ (functions : List PlainFunction) where
   none_sound (x ∷ xs) e = absurd (false≢true e)
 
   -- threads alone send
-  threads_bring : (cells : List CellDefinition) (threads b : ℕ) (taken : List Bool) (book : List Event) (q : Ask) → may_ask cells threads taken b q book ≡ true → (nat_lt b threads ≡ true → AskSound q) → Brings Sent book q
+  pub threads_bring : (cells : List CellDefinition) (threads b : ℕ) (taken : List Bool) (book : List Event) (q : Ask) → may_ask cells threads taken b q book ≡ true → (nat_lt b threads ≡ true → AskSound q) → Brings Sent book q
   threads_bring cells threads b taken book (ask.Send x) may s = s (both (nat_lt b threads) _ may).0
   threads_bring cells threads b taken book (ask.Commit p sets ensured q commuted sends) may s = λ ws. s (both (nat_lt b threads) _ may).0
   threads_bring cells threads b taken book (ask.Finish g new sends) may s = λ i. none_sound sends (sends_nothing cells threads b taken book g new sends may)

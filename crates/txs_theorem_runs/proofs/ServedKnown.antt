@@ -17,7 +17,7 @@ use Rattle.txs_value_data.specs.declared.value.CellId.{CellId}
 use Rattle.txs_value_data.specs.declared.value.Value.{Value}
 use Rattle.txs_code_meaning.specs.Machine.{ThreadCode}
 use Rattle.txs_world_book.specs.Atom.{swapped_to, atom_after, atom_newest, swapped_since, closes_at}
-use Rattle.txs_world_book.specs.Book.{cells_in, opening, value_or, state_of, writes_of, changed, after, newest, written, least_written, Mail, no_mail, sent_to, acted, mail_changed, mail_from, mail_after, is_failed, first_failed}
+use Rattle.txs_world_book.specs.Book.{cells_in, opening, value_or, state_of, writes_of, changed, after, newest, is_outdated, least_written, Mail, no_mail, sent_to, acted, mail_changed, mail_from, mail_after, is_failed, first_failed}
 use Rattle.txs_world_book.specs.Served.{Served, event_of, cells_of, adds}
 use Rattle.txs_world.specs.Store.{looks, commits, sends_to, takes, first_action, merged, serve}
 use Rattle.txs_world_book.specs.declared.cell.StoreCell.{StoreCell}
@@ -194,7 +194,7 @@ module _ (cells : List CellDefinition) (opens : OpeningIsKnown cells) where
 
     pub serve_known : (Tidy Fresh Clean : Type 0) (code : ThreadCode) (q : Ask) → AskKnown cells Tidy Fresh Clean code q → ServedKnown (serve_on cells a q es)
     serve_known Tidy Fresh Clean code ask.Begin k = (tt, h)
-    serve_known Tidy Fresh Clean code (ask.Look c p) k = looks_known (written c.number p es) c p
+    serve_known Tidy Fresh Clean code (ask.Look c p) k = looks_known (is_outdated c.number p es) c p
     serve_known Tidy Fresh Clean code (ask.View cs) k = (all_newest cs, h)
     serve_known Tidy Fresh Clean code (ask.Commit p sets ensured q commuted sends) k =
         commits_known (least_written es p (cells_in sets ++ ensured)) (least_written es q (cells_in commuted)) (first_failed store es sends) p q (merged sets commuted) sends (merged_known sets commuted k.0.1 k.2.1) k.3

@@ -22,7 +22,7 @@ use Rattle.txs_value_data.specs.declared.value.CellKind.{CellKind}
 use Rattle.txs_value_data.specs.declared.value.CellKind.TheVariants.{Ref, Atom, Agent}
 use Rattle.txs_value_data.specs.declared.value.Value.{Value}
 use Rattle.txs_world_book.specs.Atom.{LegalAtom, LegalAtomKind, atom_newest, closes_at, swapped_since}
-use Rattle.txs_world_book.specs.Book.{Each, may_name, has_cell, is_of_kind, written, least_written, cells_in, is_failed, first_failed, opening, after}
+use Rattle.txs_world_book.specs.Book.{Each, may_name, has_cell, is_of_kind, is_outdated, least_written, cells_in, is_failed, first_failed, opening, after}
 use Rattle.txs_world.specs.Laws.{ServeKeeps, StoreStands}
 use Rattle.txs_world.specs.Store.{store_with, takes, next_action, is_lawful, looks, commits, sends_to, merged, serve, taken_after}
 use Rattle.txs_world_book.specs.Served.{Served, served, adds, event_of, cells_of}
@@ -94,7 +94,7 @@ module _ (a : ℕ) (book : List Event) where
   -- whatever is asked, an event of the actor is added at most
   pub serves : (cells : List CellDefinition) (q : Ask) → Serves a book (serve_on cells a q book)
   serves cells ask.Begin = quiet_serves (reply.At (length book)) (λ f. f)
-  serves cells (ask.Look c p) = looks_serve (written c.number p book) cells c p
+  serves cells (ask.Look c p) = looks_serve (is_outdated c.number p book) cells c p
   serves cells (ask.View cs) = quiet_serves _ (λ f. f)
   serves cells (ask.Commit p sets ensured q commuted sends) =
       commits_serve (least_written book p (cells_in sets ++ ensured)) (least_written book q (cells_in commuted)) (first_failed (cells_of cells) book sends) p q (merged sets commuted) sends

@@ -19,7 +19,7 @@ use Rattle.txs_value_data.specs.declared.value.Value.{Value}
 use Rattle.txs_tree_meaning.specs.Thread.{TxRun}
 use Rattle.txs_theorem_threads.specs.Noted.{Front, AreWritten, Commits, NotedAt, AreNoted}
 use Rattle.txs_world_book.specs.Atom.{atom_newest, closes_at, swapped_since}
-use Rattle.txs_world_book.specs.Book.{opening, after, newest, written, least_written, cells_in, is_failed, first_failed, mail_after, Untouched}
+use Rattle.txs_world_book.specs.Book.{opening, after, newest, is_outdated, written, least_written, cells_in, is_failed, first_failed, mail_after, Untouched}
 use Rattle.txs_world_book.specs.Served.{Served, served, adds, event_of, cells_of}
 use Rattle.txs_world.specs.Store.{looks, commits, sends_to, takes, next_action, merged}
 use Rattle.txs_theorem_runs.specs.Explains.{CommitUndisturbed, CommitsUndisturbed}
@@ -160,7 +160,7 @@ module _ (cells : List CellDefinition) (books : ℕ → List Event) (a : ℕ) wh
 
     ask_calm : (q : Ask) → AskCalm q
     ask_calm ask.Begin within = quietly ask.Begin k within Rest ps rest xs (reply.At (length (take k (books 0)))) (λ n. n)
-    ask_calm (ask.Look c p) within = looks_calm (written c.number p (take k (books 0))) c p within
+    ask_calm (ask.Look c p) within = looks_calm (is_outdated c.number p (take k (books 0))) c p within
     ask_calm (ask.View cs) within = quietly (ask.View cs) k within Rest ps rest xs (reply.Views (length (take k (books 0))) (map (λ c. newest (opening (cells_of cells)) (take k (books 0)) c.number) cs)) (λ n. n)
     ask_calm (ask.Commit p sets ensured v commuted sends) within =
         commits_calm (least_written (take k (books 0)) p (cells_in sets ++ ensured)) (least_written (take k (books 0)) v (cells_in commuted)) (first_failed (cells_of cells) (take k (books 0)) sends) p v sets commuted (merged sets commuted) ensured sends within

@@ -105,7 +105,7 @@ pub all_undisturbed : DoneIsUndisturbed → (cells : List CellDefinition) (threa
 all_undisturbed done cells threads books a [] h = tt
 all_undisturbed done cells threads books a (e ∷ es) h = (entry_undisturbed done cells threads books a e.ask e.reply e.at h.0, all_undisturbed done cells threads books a es h.1)
 
-actor_explained : Lower → (cells : List CellDefinition) (threads : ℕ) (code : ThreadCode) (books : ℕ → List Event) (a : ℕ) (x : Actor) → ActorInvariant cells threads code books a x → ActorExplained cells code books a x
+pub actor_explained : Lower → (cells : List CellDefinition) (threads : ℕ) (code : ThreadCode) (books : ℕ → List Event) (a : ℕ) (x : Actor) → ActorInvariant cells threads code books a x → ActorExplained cells code books a x
 actor_explained by cells threads code books a x k =
     let xs = map exchange_of x.entries in
     let seen = history_of cells books a x.entries in

@@ -66,7 +66,7 @@ consumed (Asking s) h = h
 consumed (Unfinished c) h = h
 consumed Stuck h = tt
 
-turn_consumed : (code : ThreadCode) (c : Configuration) → c.state.todo ≡ [] → HasConsumed (turn code c)
+pub turn_consumed : (code : ThreadCode) (c : Configuration) → c.state.todo ≡ [] → HasConsumed (turn code c)
 turn_consumed code c h = consumed (turn code c) (turn_keeps Any Empty Empty empty_kept (λ s k. k) (λ s out k. k) code c h (λ f n span e g vs many. tt))
 
 module _ (cells : List CellDefinition) (threads : ℕ) (code : Library) (functions : List PlainFunction) where

@@ -16,7 +16,7 @@ use Rattle.txs_machine.specs.Agents.{agents_of, AreDrained}
 use Rattle.txs_machine.specs.RunOver.{IsStateOf}
 use Rattle.txs_world_protocol.specs.declared.report.Ran.{Ran}
 use Rattle.txs_machine.proofs.Together.{agent_at}
-use Rattle.txs_threads_gather.specs.Gather.{Agrees}
+use Rattle.txs_threads_gather.specs.ByPlace.{AgreesByPlace}
 use Rattle.txs_threads_gather.specs.Played.{PlainPlayed}
 use Rattle.txs_threads.specs.Run.{AreAgents, IsDrained, AllDrained}
 
@@ -52,8 +52,8 @@ acts_at code gs i threads number g all many place below read =
     subst (λ n. IsActorOf code n g) (sym (place ∙ ap (λ n. n + i) many)) (agent_at code i g there).acts
 
 -- a state that agrees with actors of the code is of its cells and threads
-pub state_of : (code : PlainCode) (s t : PlainShared) (limit served : ℕ) (ps : List PlainPlayed) → s ≡ t → Agrees code limit t served ps → IsStateOf code s
-state_of code s t limit served ps same agrees = record {
+pub state_of : (code : PlainCode) (s t : PlainShared) (limit : ℕ) (ps : List PlainPlayed) → s ≡ t → AgreesByPlace code limit t ps → IsStateOf code s
+state_of code s t limit ps same agrees = record {
   cells = ap (λ (x : PlainShared). x.cells) same ∙ agrees.cells;
   threads = ap (λ (x : PlainShared). x.threads) same ∙ agrees.threads;
 }

@@ -51,6 +51,7 @@ use Rattle.txs_world_protocol.specs.contracts.ask.Reply as reply_is
 use Rattle.txs_world_protocol.specs.contracts.event.EventKind as event_kind_is
 use Rattle.txs_world_protocol.specs.contracts.event.Event as event_is
 use Rattle.txs_threads_replay.specs.contracts.kept.Kept as kept_is
+use Rattle.txs_threads_replay.specs.contracts.stored.Stored as stored_is
 use Rattle.txs_threads_replay.specs.contracts.kept.KeptEntries as kept_entries_is
 use Rattle.txs_threads_replay.specs.contracts.kept.KeptEntries.TheInside as kept_entries_in
 use Rattle.txs_frame.specs.contracts.frame.Commute as commute_is
@@ -82,6 +83,9 @@ use Rattle.txs_mail.specs.contracts.mailbox.Mailbox as mailbox_is
 use Rattle.txs_mail.specs.contracts.mailbox.Mailbox.TheInside as mailbox_in
 use Rattle.txs_world_book.specs.contracts.atom.AtomBook as atom_book_is
 use Rattle.txs_world_book.specs.contracts.atom.AtomBook.TheInside as atom_book_in
+use Rattle.circular_buffer.proofs.heap.HeapCircularBuffer.TheSendSync as ring
+use Rattle.txs_world.specs.contracts.slot.Version as version_is
+use Rattle.txs_world.specs.contracts.slot.Slot as slot_is
 use Rattle.txs_world.specs.contracts.store.Store as store_is
 use Rattle.txs_world.specs.contracts.store.Store.TheInside as store_in
 use Rattle.txs_world_shared.specs.contracts.state.SharedState as shared_state_is
@@ -127,13 +131,19 @@ pub event_send : IsSend event_is.the_row
 event_send = recorded_send (event_is.the_field).row _ _ (event_is.the_type).to_one event_field_send
 
 pub kept_field_send : IsSend (kept_is.the_field).row
-kept_field_send = struct_send (S.shape kept_is.the_type) ((search (ask_field_send, crosses, sendable) depth 60 fits 20000), ((search (reply_field_send, crosses, sendable) depth 60 fits 20000), (plain_send _ _ _ _ _, (plain_send _ _ _ _ _, tt))))
+kept_field_send = struct_send (S.shape kept_is.the_type) ((search (ask_field_send, crosses, sendable) depth 60 fits 20000), ((search (reply_field_send, crosses, sendable) depth 60 fits 20000), (plain_send _ _ _ _ _, tt)))
 
 pub kept_send : IsSend kept_is.the_row
 kept_send = recorded_send (kept_is.the_field).row _ _ (kept_is.the_type).to_one kept_field_send
 
+pub stored_field_send : IsSend (stored_is.the_field).row
+stored_field_send = enum_send (E.shape stored_is.the_type) ((plain_send _ _ _ _ _, (plain_send _ _ _ _ _, tt)), ((cell_id_sent.the_field_send, (plain_send _ _ _ _ _, (value_field_send, (plain_send _ _ _ _ _, tt)))), ((cell_id_sent.the_field_send, (value_field_send, (plain_send _ _ _ _ _, tt))), ((cell_id_sent.the_field_send, (plain_send _ _ _ _ _, (value_field_send, (plain_send _ _ _ _ _, tt)))), ((cell_id_sent.the_field_send, (plain_send _ _ _ _ _, (value_field_send, (plain_send _ _ _ _ _, tt)))), (((search (kept_send, crosses, sendable) depth 60 fits 20000), tt), tt))))))
+
+pub stored_send : IsSend stored_is.the_row
+stored_send = recorded_send (stored_is.the_field).row _ _ (stored_is.the_type).to_one stored_field_send
+
 pub kept_entries_send : IsSend kept_entries_is.the_row
-kept_entries_send = view_send kept_entries_in.the_row _ _ _ _ (recorded_send (kept_entries_in.the_field).row _ _ (kept_entries_in.the_type).to_one (struct_send (S.shape kept_entries_in.the_type) ((search (kept_send, crosses, sendable) depth 60 fits 20000), tt)))
+kept_entries_send = view_send kept_entries_in.the_row _ _ _ _ (recorded_send (kept_entries_in.the_field).row _ _ (kept_entries_in.the_type).to_one (struct_send (S.shape kept_entries_in.the_type) ((search (global.the_field_send, crosses, sendable) depth 60 fits 20000), ((search (stored_send, crosses, sendable) depth 60 fits 20000), tt))))
 
 pub commute_field_send : IsSend (commute_is.the_field).row
 commute_field_send = struct_send (S.shape commute_is.the_type) (cell_id_sent.the_field_send, ((search (callee_sent.the_field_send, crosses, sendable) depth 60 fits 20000), ((search (value_send, listed.the_send, crosses, sendable) depth 60 fits 20000), tt)))
@@ -209,8 +219,20 @@ atom_book_send = view_send atom_book_in.the_row _ _ _ _ (recorded_send (atom_boo
 pub cells_send : IsSend cells_is.the_row
 cells_send = view_send cells_in.the_row _ _ _ _ (recorded_send (cells_in.the_field).row _ _ (cells_in.the_type).to_one (struct_send (S.shape cells_in.the_type) ((search (store_cell_send, vec.the_send, crosses, sendable) depth 60 fits 20000), ((search (plain_send, vec.the_send, crosses, sendable) depth 60 fits 20000), (plain_send _ _ _ _ _, tt)))))
 
+pub version_field_send : IsSend (version_is.the_field).row
+version_field_send = struct_send (S.shape version_is.the_type) (value_field_send, (plain_send _ _ _ _ _, tt))
+
+pub version_send : IsSend version_is.the_row
+version_send = recorded_send (version_is.the_field).row _ _ (version_is.the_type).to_one version_field_send
+
+pub slot_field_send : IsSend (slot_is.the_field).row
+slot_field_send = struct_send (S.shape slot_is.the_type) ((search (ring.the_send, version_send, global.the_send, heap.the_frees, crosses, sendable) depth 60 fits 20000), tt)
+
+pub slot_send : IsSend slot_is.the_row
+slot_send = recorded_send (slot_is.the_field).row _ _ (slot_is.the_type).to_one slot_field_send
+
 pub store_send : IsSend store_is.the_row
-store_send = view_send store_in.the_row _ _ _ _ (recorded_send (store_in.the_field).row _ _ (store_in.the_type).to_one (struct_send (S.shape store_in.the_type) ((search (global.the_field_send, crosses, sendable) depth 60 fits 20000), ((search (cells_send, crosses, sendable) depth 60 fits 20000), ((search (plain_send, crosses, sendable) depth 60 fits 20000), ((search (value_field_send, plain_send, vec.the_send, crosses, sendable) depth 60 fits 20000), ((search (mailbox_send, plain_send, option.the_field_send, vec.the_send, fault_sent.the_send, crosses, sendable) depth 60 fits 20000), ((search (event_send, plain_send, vec.the_send, crosses, sendable) depth 60 fits 20000), ((search (value_send, vec.the_send, cell_id_sent.the_send, crosses, sendable) depth 60 fits 20000), ((search (action_send, crosses, sendable) depth 60 fits 20000), tt))))))))))
+store_send = view_send store_in.the_row _ _ _ _ (recorded_send (store_in.the_field).row _ _ (store_in.the_type).to_one (struct_send (S.shape store_in.the_type) ((search (global.the_field_send, crosses, sendable) depth 60 fits 20000), ((search (cells_send, crosses, sendable) depth 60 fits 20000), ((search (plain_send, crosses, sendable) depth 60 fits 20000), ((search (slot_send, vec.the_send, crosses, sendable) depth 60 fits 20000), ((search (mailbox_send, plain_send, option.the_field_send, vec.the_send, fault_sent.the_send, crosses, sendable) depth 60 fits 20000), ((search (event_send, plain_send, vec.the_send, crosses, sendable) depth 60 fits 20000), ((search (value_send, vec.the_send, cell_id_sent.the_send, crosses, sendable) depth 60 fits 20000), ((search (action_send, crosses, sendable) depth 60 fits 20000), tt))))))))))
 
 pub shared_state_send : IsSend shared_state_is.the_row
 shared_state_send = view_send shared_state_in.the_row _ _ _ _ (recorded_send (shared_state_in.the_field).row _ _ (shared_state_in.the_type).to_one (struct_send (S.shape shared_state_in.the_type) ((search (cell_definition_send, vec.the_send, crosses, sendable) depth 60 fits 20000), ((search (store_send, crosses, sendable) depth 60 fits 20000), ((search (atom_book_send, vec.the_send, crosses, sendable) depth 60 fits 20000), ((search (plain_send, vec.the_send, crosses, sendable) depth 60 fits 20000), tt))))))
@@ -236,7 +258,7 @@ module _ (a : NamedLft) where
   played_send = view_send (played_in.the_row a) _ _ _ _ (recorded_send (played_in.the_field a).row _ _ (played_in.the_type a).to_one (struct_send (S.shape (played_in.the_type a)) (search (global.the_field_send, crosses, sendable) depth 60 fits 20000, (shr_send _ _ verified_is.the_row verified_sync, (shr_slice_send _ _ Builtin.bool (plain_sync _ _ _ _ _), (actor_send, (plain_send _ _ _ _ _, (search (ask_send, option.the_field_send, crosses, sendable) depth 60 fits 20000, (kept_entries_send, (search (ask_send, option.the_field_send, crosses, sendable) depth 60 fits 20000, (plain_send _ _ _ _ _, tt)))))))))))
 
 pub server_field_send : IsSend (server_is.the_field).row
-server_field_send = struct_send (S.shape server_is.the_type) (shared_state_send, (plain_send _ _ _ _ _, tt))
+server_field_send = struct_send (S.shape server_is.the_type) (shared_state_send, tt)
 
 module _ (P : RattleType) (p : IsSend P) where
   pub desk_send : IsSend (desk_is.the_row P)

@@ -7,24 +7,21 @@ ghost use Rattle.txs_world_shared.specs.SharedState.{is_lawful, answer_to, Answe
 use crate::player::Player;
 use std::alloc::{AllocError, Global};
 use std::mem;
-use txs_threads_replay::replay::is_exchanged;
 use txs_value_data::CellId;
 use txs_world_protocol::{Ask, Event, EventKind, Reply};
 use txs_world_shared::SharedState;
 
-/// What all actors share, and how many of their asks were served and kept so far.
+/// What all actors share.
 #[derive(Drop)]
 pub struct Server {
     pub shared: SharedState,
-    pub served: u64,
 }
 
-/// An answer, with the place of its book and behind how many asks of all actors it was served.
+/// An answer, and how many events its book had before.
 #[derive(Drop)]
 pub struct Served {
     pub reply: Reply,
     pub at: u32,
-    pub number: u64,
 }
 
 impl Server {
@@ -41,10 +38,8 @@ impl Server {
         }
         let events = self.shared.numbered_events(self.shared.book_for(&ask));
         let at = u32::try_from(events.len()).unwrap_or(u32::MAX);
-        let number = self.served;
         let reply = self.shared.serve(actor, ask);
-        self.served = self.served.saturating_add(u64::from(is_exchanged(&reply)));
-        Some(Served { reply, at, number })
+        Some(Served { reply, at })
     }
 
     /// Whether an action waits for the agent of this actor, if it is an agent's.
@@ -193,11 +188,11 @@ fn wake_by<P: Player>(actors: &mut Actors<P>, events: &[Event], at: usize) -> bo
 impl<P: Player> Desk<P> {
     /// What lies under the lock before there are actors.
     pub fn new(alloc: Global, shared: SharedState) -> Desk<P>
-        ensures shared { (result.server.shared ≡ shared) × (result.server.served ≡ 0) }
+        ensures shared { result.server.shared ≡ shared }
         ensures none { (result.actors.ready.items ≡ []) × (result.actors.parked.items ≡ []) × (result.actors.down.items ≡ []) × (result.actors.live ≡ 0) }
     {
         Desk {
-            server: Server { shared, served: 0 },
+            server: Server { shared },
             actors: Actors {
                 ready: Vec::new(alloc),
                 parked: Vec::new(alloc),

@@ -26,7 +26,7 @@ fn play_rounds<P: Player>(server: &mut Server, actors: &mut [P]) {
                 Some(Turn::Went) => more = true,
                 Some(Turn::Asks(ask)) => {
                     let served = server.serve(one.place(), ask);
-                    more |= matches!(one.hear(served), Next::GoesOn | Next::Again);
+                    more |= matches!(one.hear(served), Next::GoesOn | Next::Redoes | Next::Again);
                 }
                 Some(Turn::Ended(_)) | None => {}
             }
@@ -121,8 +121,8 @@ pub(crate) fn gather_left(
 {
     let Desk { mut server, actors } = desk;
     let all = play_out(&mut server, actors);
-    let Server { shared, served } = server;
-    let gathered = gather(alloc, code, max_steps, shared, served, all)?;
+    let Server { shared } = server;
+    let gathered = gather(alloc, code, max_steps, shared, all)?;
     if is_whole(&gathered, agents) {
         return Ok(gathered);
     }

@@ -3,6 +3,7 @@
 use crate::desk::Served;
 use txs_machine_actor::Turn;
 use txs_threads_gather::Played;
+use txs_value_data::CellKind;
 use txs_world_protocol::Reply;
 
 /// What an actor that asked is to do next.
@@ -10,6 +11,8 @@ use txs_world_protocol::Reply;
 pub enum Next {
     /// It goes on.
     GoesOn,
+    /// It goes on within its transaction, whose commutes are made again.
+    Redoes,
     /// Its transaction runs again.
     Again,
     /// Nothing waits for it.
@@ -43,7 +46,7 @@ impl<'a> Player for Played<'a> {
     }
 
     fn hear(&mut self, served: Option<Served>) -> Next {
-        let Some(Served { reply, at, number }) = served else {
+        let Some(Served { reply, at }) = served else {
             return Next::Broken;
         };
         if !self.may_answer(&reply) {
@@ -52,10 +55,11 @@ impl<'a> Player for Played<'a> {
         }
         let next = match &reply {
             Reply::Retry(_) => Next::Again,
+            Reply::Changed(cell) if cell.kind == CellKind::Ref => Next::Redoes,
             Reply::Idle => Next::Idle,
             _ => Next::GoesOn,
         };
-        self.answer(number, at, reply);
+        self.answer(at, reply);
         next
     }
 }

@@ -13,7 +13,7 @@ ghost use Rattle.txs_threads.specs.Run.{IsLeft};
 
 use crate::actors::{agents_in, open_all};
 use crate::desk::{Desk, Step};
-use crate::gate::{Gate, Moment, kind_of};
+use crate::gate::{AskKind, Gate, Moment, kind_of};
 use crate::left::gather_left;
 use crate::player::{Next, Player};
 use crossbeam_channel::{Receiver, Sender};
@@ -30,8 +30,16 @@ use txs_value_data::CellId;
 use txs_world_protocol::Ask;
 use txs_world_shared::SharedState;
 
-/// After so many asks an actor is handed on, so that others have their turns.
+/// After so many asks an actor is handed on, so that others have their turns: then, or at the end of its transaction, swap or action.
 const ASKS: u32 = 64;
+
+/// Whether an actor that goes on after such an ask is within a transaction, a swap or an action.
+fn is_within(kind: AskKind) -> bool {
+    matches!(
+        kind,
+        AskKind::Begin | AskKind::Look | AskKind::View | AskKind::OpenAt | AskKind::Take
+    )
+}
 
 /// How often a worker that finds the lock held looks again before it sleeps.
 const LOOKS: u32 = 200;
@@ -110,14 +118,18 @@ fn taker(ask: &Ask) -> Option<CellId> {
     }
 }
 
-/// How it stands with an actor after an answer, by what it is to do next; its ask may have been for an action for this agent. Nothing where it has asks left,
-/// and goes on.
-fn after_answer(next: Next, taker: Option<CellId>, left: &mut u32) -> Option<Standing> {
+/// How it stands with an actor after an answer, by what it is to do next; its ask may have been for an action for this agent. Nothing where it goes on, and has
+/// asks left or is within a transaction, a swap or an action.
+fn after_answer(
+    next: Next,
+    taker: Option<CellId>,
+    within: bool,
+    left: &mut u32,
+) -> Option<Standing> {
+    *left = left.saturating_sub(1);
     match next {
-        Next::GoesOn if *left > 1 => {
-            *left -= 1;
-            None
-        }
+        Next::Redoes => None,
+        Next::GoesOn if within || *left > 0 => None,
         Next::GoesOn | Next::Again => Some(Standing::GoesOn),
         Next::Idle => Some(Standing::Rests(taker)),
         Next::Broken => Some(Standing::Rests(None)),
@@ -145,7 +157,7 @@ fn serve_ask<R: Wait, P: Player, G: Gate>(
     if !matches!(next, Next::Broken) {
         gate.pass(actor, Moment::Answered(kind));
     }
-    after_answer(next, agent, left)
+    after_answer(next, agent, is_within(kind), left)
 }
 
 /// Runs an actor up to so many asks, each of which is served, to a retry, until nothing waits for it, or to its end. It is turned so often at once as the gate
@@ -328,7 +340,8 @@ fn run_all<R: Threads + Wait + Sync, G: Gate>(
 }
 
 /// Runs all threads and agents of the code by so many workers, each on a thread of its own, until each thread has ended and nothing waits for an
-/// agent that goes on. An actor makes no more than `max_steps` steps; it stays with its worker for 64 asks, and is handed on where its transaction runs again.
+/// agent that goes on. An actor makes no more than `max_steps` steps. It stays with its worker for 64 asks and to the end of its transaction, swap or action,
+/// and is handed on where its transaction runs again.
 ///
 /// # Errors
 /// `NoThread` where `workers` is 0 or over 64, or a worker couldn't be started, and nothing was run; `Memory` where there was no memory for actors, books or

@@ -16,7 +16,7 @@ use Rattle.txs_machine_transaction.specs.declared.state.Pending.{Pending}
 use Rattle.txs_machine_transaction.specs.declared.state.Pending.TheVariants.{Begin, Read, Ensure, Open, View, Reset, Send, Swap, Close, Commit, Fail, Broke, Take, Finish}
 use Rattle.txs_machine_actor.proofs.Following.{Unstopped, unstopped_if}
 use Rattle.txs_theorem_runs.specs.Told.{Entry, exchange_of}
-use Rattle.txs_threads_replay.specs.Goes.{AsksNothing, WalksTo, AsksAt, GoesTo}
+use Rattle.txs_theorem_runs.specs.Goes.{AsksNothing, WalksTo, AsksAt, GoesTo}
 use Rattle.txs_machine.specs.RunOver.{IsLimited}
 use Rattle.txs_machine.proofs.Answered.{full_stops, memory_stops, full_state, memory_state, idle_outcome}
 use Rattle.txs_threads_gather.specs.Goes.{IsThere, HasGone}

@@ -1,7 +1,9 @@
-pub mod Adding
+pub mod ByPlace
 pub mod Counting
 pub mod Gathering
 pub mod Going
 pub mod Noting
 pub mod Playing
 pub mod Sent
+pub mod Tests
+pub mod Tracing

@@ -24,7 +24,7 @@ use Rattle.txs_theorem_runs.specs.Staged.{StagedCode, stage_of}
 use Rattle.txs_theorem_runs.specs.Stages.{Stage, Idle, stage_after}
 use Rattle.txs_theorem_runs.specs.Told.{Entry, exchange_of, AreStaged}
 use Rattle.txs_theorem_runs.proofs.Known.{standing_staged}
-use Rattle.txs_threads_replay.specs.Replay.{entry_of}
+use Rattle.txs_threads_replay.specs.Entries.{entry_of}
 use Rattle.txs_threads_replay.specs.declared.kept.Kept.{Kept}
 use Rattle.txs_machine.specs.RunOver.{IsLimited, AskedOn}
 use Rattle.txs_machine.proofs.Answered.{answer_leaves, memory_stops, stop_ends, idle_number, idle_outcome}
@@ -225,17 +225,17 @@ kept_more [] k = refl
 kept_more (x ∷ ks) k = ap (λ l. entry_of x ∷ l) (kept_more ks k)
 
 -- a reply keeps what it is, of what is kept behind it
-pub answer_played : ActorsRun → (code : PlainCode) (ks : List Kept) (o : Option Ask) (a : PlainActor) (q : Ask) (r : Reply) (at number : ℕ) → Lives code a → unanswered a ≡ Some q → unanswered (answered a r) ≡ None → MayAnswer q r → HasPlayed code (map entry_of ks) o a
-    → HasPlayed code (map entry_of (kept_after r (kept_of q r at number) ks)) (stopped_after r q o) (answered a r)
-answer_played laws code ks o a q r at number runs f free may h = go r free may
+pub answer_played : ActorsRun → (code : PlainCode) (ks : List Kept) (o : Option Ask) (a : PlainActor) (q : Ask) (r : Reply) (at : ℕ) → Lives code a → unanswered a ≡ Some q → unanswered (answered a r) ≡ None → MayAnswer q r → HasPlayed code (map entry_of ks) o a
+    → HasPlayed code (map entry_of (kept_after r (kept_of q r at) ks)) (stopped_after r q o) (answered a r)
+answer_played laws code ks o a q r at runs f free may h = go r free may
   where
     e : a.outcome ≡ None
     e = asker_goes code a q runs f
 
-    heard : (r : Reply) → unanswered (answered a r) ≡ None → MayAnswer q r → (Stops r → ⊥) → (r ≡ reply.Idle → ⊥) → HasPlayed code (map entry_of (ks ++ kept_of q r at number ∷ [])) o (answered a r)
-    heard r free may on unless = subst (λ es. HasPlayed code es o (answered a r)) (sym (kept_more ks (kept_of q r at number))) (heard_played laws code (map entry_of ks) o a q r at e f free may on unless h)
+    heard : (r : Reply) → unanswered (answered a r) ≡ None → MayAnswer q r → (Stops r → ⊥) → (r ≡ reply.Idle → ⊥) → HasPlayed code (map entry_of (ks ++ kept_of q r at ∷ [])) o (answered a r)
+    heard r free may on unless = subst (λ es. HasPlayed code es o (answered a r)) (sym (kept_more ks (kept_of q r at))) (heard_played laws code (map entry_of ks) o a q r at e f free may on unless h)
 
-    go : (r : Reply) → unanswered (answered a r) ≡ None → MayAnswer q r → HasPlayed code (map entry_of (kept_after r (kept_of q r at number) ks)) (stopped_after r q o) (answered a r)
+    go : (r : Reply) → unanswered (answered a r) ≡ None → MayAnswer q r → HasPlayed code (map entry_of (kept_after r (kept_of q r at) ks)) (stopped_after r q o) (answered a r)
     go (reply.At p) free may = heard (reply.At p) free may (λ x. x) (λ i. cc)
     go (reply.Is v) free may = heard (reply.Is v) free may (λ x. x) (λ i. cc)
     go (reply.Views p vs) free may = heard (reply.Views p vs) free may (λ x. x) (λ i. cc)

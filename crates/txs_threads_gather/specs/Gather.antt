@@ -1,6 +1,8 @@
 -- When what actors kept agrees with what they shared, and what a report says of them then.
-use Rattle.std.specs.Prelude.{◌≡◌, ◌≤◌, ◌+◌, ℕ, suc, false, List, [], ◌∷◌, length, map, Option, Some, None}
+use Rattle.std.specs.Prelude.{◌≡◌, ◌≤◌, ◌+◌, ℕ, suc, false, List, [], ◌∷◌, ◌++◌, length, map, Option, Some, None}
 use Rattle.txs_world_protocol.specs.declared.ask.Ask.{Ask}
+use Rattle.txs_world_protocol.specs.declared.event.Place.{Place}
+use Rattle.txs_value_cell.specs.declared.cell.CellDefinition.{CellDefinition}
 use Rattle.txs_world_protocol.specs.declared.event.Outcome.TheVariants.{JournalFull}
 use Rattle.txs_value_data.specs.Limits.{most_events}
 use Rattle.txs_value_base.specs.Places.{nth}
@@ -8,13 +10,13 @@ use Rattle.txs_code_meaning.specs.PlainCode.{PlainCode}
 use Rattle.txs_machine_actor.specs.PlainActor.{unanswered}
 use Rattle.txs_theorem_runs.specs.Shared.{book_for}
 use Rattle.txs_world_shared.specs.SharedState.{PlainShared, numbered_book}
-use Rattle.txs_threads_replay.specs.Replay.{entry_of, AreReplayed}
+use Rattle.txs_threads_replay.specs.Entries.{entry_of}
 use Rattle.txs_threads_replay.specs.declared.kept.Kept.{Kept}
 use Rattle.txs_machine.specs.Agents.{actors_of, AgentHasDone}
 use Rattle.txs_machine.specs.RunOver.{books_of, places_of}
 use Rattle.txs_machine.specs.RunTheorem.{HasDone}
 use Rattle.txs_world_protocol.specs.declared.report.Ran.{Ran}
-use Rattle.txs_threads_gather.specs.Adds.{kept_trace}
+use Rattle.txs_threads_replay.specs.Adds.{kept_before, kept_trace}
 use Rattle.txs_threads_gather.specs.Played.{PlainPlayed, HasPlayed}
 
 -- the book for the ask at which an actor was stopped has as many events as it may have
@@ -59,15 +61,6 @@ IsMadeFor code s actors = (s.cells ≡ code.cells) × (s.threads ≡ length code
 abbrev pub kept_by : List PlainPlayed → List (List Kept)
 kept_by ps = map (λ p. p.kept) ps
 
--- Parts agree: what is shared is of the code's cells and threads, there is one actor for each thread, behind them one for each agent in the order of the
--- cells, and no other, each made for so many steps, and what they kept, all that was served, is answered as it was, from the beginning to what they share.
-pub record Agrees (code : PlainCode) (limit : ℕ) (s : PlainShared) (served : ℕ) (ps : List PlainPlayed) : Type 0 where
-  pub cells : s.cells ≡ code.cells
-  pub threads : s.threads ≡ length code.threads
-  pub one_each : length ps ≡ actors_of code
-  pub each : ArePlayers code limit s 0 ps
-  pub replayed : AreReplayed s served (kept_by ps)
-
 -- an entry of a report says what its actor came to, and has the places of the events that the actor's entries added
 pub record IsReportOf (s : PlainShared) (p : PlainPlayed) (ran : Ran) : Type 0 where
   pub ended : p.actor.outcome ≡ ran.outcome
@@ -90,3 +83,7 @@ AllHaveDone code limit s rans = (k : ℕ) (ran : Ran) → nth rans k ≡ Some ra
 -- so does each of the actor of an agent, in the order of the agents
 abbrev pub AllHaveAttended : PlainCode → ℕ → PlainShared → List Ran → Type 0
 AllHaveAttended code limit s rans = (i : ℕ) (ran : Ran) → nth rans i ≡ Some ran → AgentHasDone code (length code.threads + i) limit (books_of s) ran
+
+-- the place of an entry's event, where it added one, is noted behind the others
+abbrev pub IsNotedBehind : List CellDefinition → Kept → List Place → List Place → Type 0
+IsNotedBehind cells k ps later = places_of later ≡ places_of ps ++ kept_before cells k []

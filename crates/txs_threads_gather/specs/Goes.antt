@@ -7,7 +7,7 @@ use Rattle.txs_code_meaning.specs.Machine.{ThreadCode, Configuration, Turned, En
 use Rattle.txs_code_meaning.specs.Opening.{opening}
 use Rattle.txs_machine_actor.specs.PlainActor.{PlainActor, Awaits, configuration_of, state_of, unanswered}
 use Rattle.txs_theorem_runs.specs.Told.{Entry}
-use Rattle.txs_threads_replay.specs.Goes.{GoesTo}
+use Rattle.txs_theorem_runs.specs.Goes.{GoesTo}
 
 -- An actor that goes on is there, and one that asks is at its ask; one that is done or has failed has ended so; one that was stopped has printed and written
 -- what it had there.

@@ -1,6 +1,7 @@
-pub mod Adds
 pub mod Asked
+pub mod ByPlace
 pub mod Callees
 pub mod Gather
 pub mod Goes
 pub mod Played
+pub mod Tests

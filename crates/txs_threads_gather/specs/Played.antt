@@ -1,5 +1,5 @@
 -- An actor with what it kept of its asks, and that it is where its code comes to on them.
-use Rattle.std.specs.Prelude.{◌≡◌, ◌<◌, ℕ, Bool, true, false, List, [], ◌∷◌, ◌++◌, length, map, Option, Some, None}
+use Rattle.std.specs.Prelude.{◌≡◌, ◌<◌, ℕ, Bool, true, false, List, [], ◌∷◌, ◌++◌, ◌⊎◌, length, map, Option, Some, None}
 use Rattle.txs_world_protocol.specs.Ask.{Exchange}
 use Rattle.txs_world_protocol.specs.declared.ask.Ask.{Ask}
 use Rattle.txs_world_protocol.specs.declared.ask.Reply.{Reply}
@@ -7,11 +7,12 @@ use Rattle.txs_world_protocol.specs.declared.ask.Reply.TheVariants as reply
 use Rattle.txs_world_protocol.specs.declared.event.Outcome.TheVariants.{JournalFull}
 use Rattle.txs_code_meaning.specs.Machine.{ThreadCode}
 use Rattle.txs_code_meaning.specs.PlainCode.{PlainCode}
-use Rattle.txs_machine_actor.specs.PlainActor.{PlainActor, Lives, HasRun, AsksLast, MayAnswerIf, unanswered, code_of}
+use Rattle.txs_machine_actor.specs.PlainActor.{PlainActor, Lives, HasRun, AsksLast, MayAnswer, MayAnswerIf, answered, unanswered, code_of}
 use Rattle.txs_theorem_runs.specs.Stages.{Stage, Idle}
 use Rattle.txs_theorem_runs.specs.Standing.{StandingCode}
-use Rattle.txs_theorem_runs.specs.Told.{Entry, exchange_of, AreStaged}
-use Rattle.txs_threads_replay.specs.Replay.{entry_of}
+use Rattle.txs_theorem_runs.specs.Told.{Entry, IsExchanged, exchange_of, AreStaged}
+use Rattle.txs_threads_replay.specs.Adds.{adds_event}
+use Rattle.txs_threads_replay.specs.Entries.{entry_of}
 use Rattle.txs_threads_replay.specs.declared.kept.Kept.{Kept}
 use Rattle.txs_machine.specs.RunOver.{IsIn, IsLimited, AskedOn}
 use Rattle.txs_threads_gather.specs.Callees.{HandsOutSent}
@@ -84,5 +85,32 @@ stopped_after reply.Memory q o = Some q
 stopped_after r q o = o
 
 -- an entry of these
-abbrev pub kept_of : Ask → Reply → ℕ → ℕ → Kept
-kept_of q r at number = record { ask = q; reply = r; at = at; number = number }
+abbrev pub kept_of : Ask → Reply → ℕ → Kept
+kept_of q r at = record { ask = q; reply = r; at = at }
+
+-- there is no memory to keep a reply, and the actor is told that: its ask may be answered so, and added no event
+pub record IsUnkept (q : Ask) (r : Reply) : Type 0 where
+  pub exchanged : IsExchanged r
+  pub answers : MayAnswer q reply.Memory
+  pub unseen : adds_event q r ≡ false
+
+-- a reply may be lost where there is no memory to keep it: it has to be kept, and no other may be told in its place
+pub record IsLostBy (q : Ask) (r : Reply) : Type 0 where
+  pub exchanged : IsExchanged r
+  pub seen : MayAnswer q reply.Memory → adds_event q r ≡ false → ⊥
+
+-- what an actor is told of a reply: the reply, or that there is no memory to keep it
+abbrev pub IsToldFor : Ask → Reply → Reply → Type 0
+IsToldFor q r t = (t ≡ r) ⊎ ((t ≡ reply.Memory) × IsUnkept q r)
+
+-- and what is kept of it
+pub record IsTold (q : Ask) (r : Reply) (at : ℕ) (ks : List Kept) (o : Option Ask) (t : Reply) (later : List Kept) (last : Option Ask) : Type 0 where
+  pub told : IsToldFor q r t
+  pub kept : later ≡ kept_after t (kept_of q t at) ks
+  pub stopped : last ≡ stopped_after t q o
+
+-- an actor goes on after what it is told of a reply to its ask, and that is kept
+pub record GoesOnTold (q : Ask) (r : Reply) (at : ℕ) (p later : PlainPlayed) : Type 0 where
+  pub word : Reply
+  pub goes : later.actor ≡ answered p.actor word
+  pub told : IsTold q r at p.kept p.stopped word later.kept later.stopped

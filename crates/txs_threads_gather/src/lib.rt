@@ -3,6 +3,7 @@
 #![tactic(auto)]
 
 pub mod callees;
+pub mod law;
 pub mod parts;
 pub mod played;
 

@@ -1,31 +1,29 @@
 //! The comparison of what actors kept with what they shared.
 
-ghost use Rattle.std.specs.Prelude.{◌≡◌, ◌≤◌, ◌<◌, ◌↔◌, ◌⊎◌, [], length, take, drop, false, IsTrue, IfOk, IfErr, OnOk, vec_capacity};
+ghost use Rattle.std.specs.Prelude.{◌≡◌, ◌≤◌, ◌<◌, ◌↔◌, ◌⊎◌, ℕ, [], length, take, drop, false, IsTrue, IfOk, IfErr, OnOk};
 ghost use Rattle.txs_machine.specs.Agents.{agents_of, AreExplainedBy};
 ghost use Rattle.txs_value_cell.specs.Agents.{agents_from, with_agent};
-ghost use Rattle.txs_machine.specs.RunOver.{places_of};
+ghost use Rattle.txs_machine.specs.RunOver.{books_of, places_of};
 ghost use Rattle.txs_machine.specs.Schedule.{IsExplainedBy};
-ghost use Rattle.txs_threads_gather.specs.Adds.{adds_event, kept_trace, IsNotedBehind};
-ghost use Rattle.txs_threads_gather.specs.Gather.{StoppedSo, IsPlayer, AreWhole, ArePlayed, ArePlayers, IsMadeFor, kept_by, Agrees, IsReportOf, AreReportsOf, AllHaveDone, AllHaveAttended};
+ghost use Rattle.txs_threads_replay.specs.Adds.{kept_trace};
+ghost use Rattle.txs_threads_replay.specs.ByPlace.{AreBelow};
+ghost use Rattle.txs_threads_replay.specs.Storing.{kept_in};
+ghost use Rattle.txs_threads_gather.specs.ByPlace.{AllHoldByPlace, AgreesByPlace};
+ghost use Rattle.txs_threads_gather.specs.Gather.{StoppedSo, IsPlayer, AreWhole, ArePlayed, ArePlayers, IsMadeFor, IsNotedBehind, IsReportOf, AreReportsOf, AllHaveDone, AllHaveAttended};
 ghost use Rattle.txs_machine.specs.declared.run_error.RunError.TheVariants.{JournalMismatch, Memory};
-ghost use Rattle.txs_threads_replay.specs.Replay.{AreReplayed};
 ghost use Rattle.txs_world_shared.specs.SharedState.{shared_of};
 
+use crate::law::by_place_explains;
 use crate::played::Played;
 use std::alloc::{AllocError, Global};
 use txs_code_encode::same_code;
 use txs_code_meaning::Verified;
-use txs_machine::{Entries, Place, Ran, RunError, actors_explained};
-use txs_theorem_runs::law::{every_report_is_explained, told_fits, typed_threads_are_staged};
-use txs_theorem_threads::replies_fit;
-use txs_threads_replay::law::replay_runs;
-use txs_threads_replay::replay::replays;
-use txs_threads_replay::{Kept, KeptEntries};
+use txs_machine::{Entries, Place, Ran, RunError};
+use txs_theorem_runs::law::typed_threads_are_staged;
+use txs_threads_replay::{Index, KeptEntries, Stored, all_below};
 use txs_value_cell::CellDefinition;
 use txs_value_data::CellKind;
-use txs_world::law::{done_is_undisturbed, refused_is_undisturbed};
-use txs_world_book::law::unwritten_stays;
-use txs_world_protocol::{Ask, Outcome, Reply};
+use txs_world_protocol::Outcome;
 use txs_world_shared::SharedState;
 
 /// What actors shared, and what each of them did.
@@ -133,29 +131,17 @@ fn is_made_for(code: &Verified, shared: &SharedState, actors: usize) -> bool
         && actors - threads == count_agents(code.code().cells())
 }
 
-/// Whether an ask that was answered so added an event to its book.
-fn adds_event(ask: &Ask, reply: &Reply) -> bool
-    ensures { result ≡ adds_event ask.now reply.now }
-{
-    match ask {
-        Ask::Begin | Ask::View { .. } | Ask::Take { .. } | Ask::OpenAt { .. } => false,
-        Ask::Look { .. } => matches!(reply, Reply::Retry(_)),
-        Ask::CloseAt { .. } => matches!(reply, Reply::Done),
-        _ => !matches!(reply, Reply::Full),
-    }
-}
-
 /// Notes the place of the event that an entry added, if it did.
-#[tactic(auto, using(crate::proofs::Adding::noted_added, crate::proofs::Adding::noted_none))]
-fn note(trace: &mut Vec<Place>, shared: &SharedState, kept: &Kept) -> Result<(), AllocError>
-    ensures { OnOk result (IsNotedBehind shared.now.cells kept.now trace.old.items trace.new.items) }
+#[tactic(auto, using(crate::proofs::Tracing::noted_added, crate::proofs::Tracing::noted_none))]
+fn note(trace: &mut Vec<Place>, shared: &SharedState, kept: &Stored) -> Result<(), AllocError>
+    ensures { OnOk result (IsNotedBehind shared.now.cells (kept_in kept.now) trace.old.items trace.new.items) }
 {
-    if !adds_event(&kept.ask, &kept.reply) {
+    if !kept.adds_event() {
         return Ok(());
     }
     let place = Place {
-        book: shared.book_for(&kept.ask) as u32,
-        at: kept.at,
+        book: kept.book(shared) as u32,
+        at: kept.at(),
     };
     match trace.push(place) {
         Ok(()) => Ok(()),
@@ -231,17 +217,6 @@ fn report_parts(
     Ok(report)
 }
 
-/// Moves what each of them kept into a list with just that room.
-fn move_kept(played: Vec<Played<'_>>, kept: &mut Vec<KeptEntries>)
-    requires room { vec_capacity kept.old ≡ length played.items }
-    requires empty { kept.old.items ≡ [] }
-    ensures { kept.new.items ≡ kept_by played.entry.items }
-{
-    for one in played {
-        kept.push_reserved(one.into_kept());
-    }
-}
-
 /// Whether they are the actors of a run over what is shared: one for each thread and behind these one for each agent, each made with this code and for
 /// `max_steps` steps, and each with all that it should have kept.
 ///
@@ -272,25 +247,37 @@ fn check_actors(
     Ok(())
 }
 
-/// Whether what they kept, `served` asks in all, is answered from the beginning as it was and leads to what is shared.
+/// Whether what each of them kept agrees with the books.
+fn all_agree(alloc: Global, index: &Index<'_>, played: &[Played<'_>]) -> Result<bool, AllocError>
+    requires { length played.now ≤ 65536 }
+    ensures { IfOk result (λ ok. IsTrue ok ↔ AllHoldByPlace index.now 0 played.now) }
+{
+    for number in 0..played.len() {
+        let agrees = index.agrees(alloc, number as u16, played[number].kept())?;
+        if !agrees {
+            return Ok(false);
+        }
+    }
+    Ok(true)
+}
+
+/// Whether what they kept agrees with the books, and the books with it: each event is of one of them.
 ///
 /// # Errors
 /// `JournalMismatch` where it isn't so; `Memory` where there was no memory to tell.
-fn check_kept(
-    alloc: Global,
-    shared: &SharedState,
-    served: u64,
-    played: Vec<Played<'_>>,
-) -> Result<(), RunError>
-    requires { length played.items ≤ 65536 }
-    ensures replayed { OnOk result (AreReplayed shared.now served (kept_by played.entry.items)) }
-    ensures differs { IfErr result (λ e. e ≡ JournalMismatch → AreReplayed shared.now served (kept_by played.entry.items) → ⊥) }
+fn check_kept(alloc: Global, shared: &SharedState, played: &[Played<'_>]) -> Result<(), RunError>
+    requires { length played.now ≤ 65536 }
+    ensures below { OnOk result ((n : ℕ) → AreBelow (length played.now) (books_of shared.now n)) }
+    ensures holds { OnOk result (AllHoldByPlace shared.now 0 played.now) }
+    ensures differs { IfErr result (λ e. e ≡ JournalMismatch → ((n : ℕ) → AreBelow (length played.now) (books_of shared.now n)) → AllHoldByPlace shared.now 0 played.now → ⊥) }
     ensures refusals { IfErr result (λ e. (e ≡ JournalMismatch) ⊎ (e ≡ Memory)) }
 {
-    let mut kept = Vec::with_capacity(alloc, played.len())?;
-    move_kept(played, &mut kept);
-    let agrees = replays(alloc, shared, served, kept)?;
-    if !agrees {
+    if !all_below(shared, played.len()) {
+        return Err(RunError::JournalMismatch);
+    }
+    let index = Index::open(alloc, shared)?;
+    let agree = all_agree(alloc, &index, played)?;
+    if !agree {
         return Err(RunError::JournalMismatch);
     }
     Ok(())
@@ -306,28 +293,26 @@ fn compare(
     code: &Verified,
     max_steps: u64,
     shared: &SharedState,
-    served: u64,
-    played: Vec<Played<'_>>,
+    actors: &[Played<'_>],
 ) -> Result<Entries, RunError>
-    ensures agrees { IfOk result (λ r. Agrees code.now max_steps shared.now served played.entry.items) }
-    ensures played { IfOk result (λ r. ArePlayed played.entry.items) }
-    ensures threads { IfOk result (λ r. AreReportsOf shared.now (take shared.now.threads played.entry.items) r.threads.items) }
-    ensures agents { IfOk result (λ r. AreReportsOf shared.now (drop shared.now.threads played.entry.items) r.agents.items) }
-    ensures differs { IfErr result (λ e. e ≡ JournalMismatch → Agrees code.now max_steps shared.now served played.entry.items → ⊥) }
+    ensures agrees { OnOk result (AgreesByPlace code.now max_steps shared.now actors.now) }
+    ensures played { OnOk result (ArePlayed actors.now) }
+    ensures threads { IfOk result (λ r. AreReportsOf shared.now (take shared.now.threads actors.now) r.threads.items) }
+    ensures agents { IfOk result (λ r. AreReportsOf shared.now (drop shared.now.threads actors.now) r.agents.items) }
+    ensures differs { IfErr result (λ e. e ≡ JournalMismatch → AgreesByPlace code.now max_steps shared.now actors.now → ⊥) }
     ensures refusals { IfErr result (λ e. (e ≡ JournalMismatch) ⊎ (e ≡ Memory)) }
 {
-    let actors = played.as_slice();
     check_actors(code, max_steps, shared, actors)?;
+    check_kept(alloc, shared, actors)?;
     let threads = usize::from(shared.threads());
     let report = report_parts(alloc, shared, actors, threads)?;
-    check_kept(alloc, shared, served, played)?;
     Ok(report)
 }
 
-/// The comparison of the actors of a run with what they share: they agree where there is one for each thread and behind these one for each agent, each
-/// was made with this code and for `max_steps` steps, and what they kept, `served` asks in all, is answered from the beginning as it was and leads to
-/// these books. Then the report is that of these actors: the books told each just what it kept, it is where its code comes to on that within its steps,
-/// and each program that the code follows explains the report.
+/// The comparison of the actors of a run with what they share, which waits for nobody. They agree where there is one for each thread and behind these one for
+/// each agent, each was made with this code and for `max_steps` steps, each event of the books is of one of them, and what each kept agrees with the books by
+/// place: what is answered at each place is what it was answered, and the events that its asks added are its own in each book, in order. Then the report is that
+/// of these actors: each is where its code comes to on what it kept within its steps, and each program that the code follows explains the report.
 ///
 /// # Errors
 /// `JournalMismatch` where they don't agree; `Memory` where there was no memory, also of an actor that lost what it should have kept.
@@ -336,11 +321,10 @@ pub fn gather(
     code: &Verified,
     max_steps: u64,
     shared: SharedState,
-    served: u64,
     played: Vec<Played<'_>>,
 ) -> Result<Gathered, RunError>
     ensures shared { IfOk result (λ g. g.shared ≡ shared) }
-    ensures agrees { IfOk result (λ g. Agrees code.now max_steps shared served played.entry.items) }
+    ensures agrees { OnOk result (AgreesByPlace code.now max_steps shared played.entry.items) }
     ensures threads { IfOk result (λ g. AreReportsOf shared (take (length code.now.threads) played.entry.items) g.report.threads.items) }
     ensures agents { IfOk result (λ g. AreReportsOf shared (drop (length code.now.threads) played.entry.items) g.report.agents.items) }
     ensures one_each { IfOk result (λ g. length g.report.threads.items ≡ length code.now.threads) }
@@ -349,20 +333,13 @@ pub fn gather(
     ensures attended { IfOk result (λ g. AllHaveAttended code.now max_steps shared g.report.agents.items) }
     ensures explained { IfOk result (λ g. IsExplainedBy code.now (shared_of g.shared) g.report.threads.items) }
     ensures all_explained { IfOk result (λ g. AreExplainedBy code.now (shared_of g.shared) g.report.threads.items g.report.agents.items) }
-    ensures differs { IfErr result (λ e. e ≡ JournalMismatch → Agrees code.now max_steps shared served played.entry.items → ⊥) }
+    ensures differs { IfErr result (λ e. e ≡ JournalMismatch → AgreesByPlace code.now max_steps shared played.entry.items → ⊥) }
     ensures refusals { IfErr result (λ e. (e ≡ JournalMismatch) ⊎ (e ≡ Memory)) }
 {
-    replay_runs();
-    every_report_is_explained();
+    by_place_explains();
     typed_threads_are_staged();
-    actors_explained();
-    replies_fit();
-    told_fits();
-    done_is_undisturbed();
-    refused_is_undisturbed();
-    unwritten_stays();
     let (_functions, _threads) = code.rooms();
     let _stands = shared.events();
-    let report = compare(alloc, code, max_steps, &shared, served, played)?;
+    let report = compare(alloc, code, max_steps, &shared, played.as_slice())?;
     Ok(Gathered { shared, report })
 }

@@ -1,17 +1,20 @@
 //! An actor with what it kept.
 
-ghost use Rattle.std.specs.Prelude.{◌≡◌, ◌≤◌, ◌<◌, ◌↔◌, [], length, map, true, false, Some, None, IsTrue};
-ghost use Rattle.txs_machine_actor.specs.PlainActor.{HandsOut, Lives, MayAnswerIf, answered, unanswered};
+ghost use Rattle.std.specs.Prelude.{◌≡◌, ◌≤◌, ◌<◌, ◌↔◌, ◌++◌, ◌∷◌, [], length, map, true, false, Some, None, IsTrue, IfSome, IfErr, OnOk};
+ghost use Rattle.txs_machine_actor.specs.PlainActor.{HandsOut, Lives, MayAnswer, MayAnswerIf, answered, unanswered};
 ghost use Rattle.txs_machine_actor.specs.Turns.{IsNew, Turns, TurnsOf};
 ghost use Rattle.txs_machine_actor.specs.declared.outcome.Turn.TheVariants as turned;
 ghost use Rattle.txs_world_protocol.specs.declared.ask.Ask.{Ask as AnAsk};
+ghost use Rattle.txs_world_protocol.specs.declared.ask.Reply.TheVariants as replied;
 ghost use Rattle.txs_world_protocol.specs.declared.event.Outcome.{Outcome as AnOutcome};
 ghost use Rattle.txs_world_protocol.specs.declared.event.Outcome.TheVariants as outcome;
 ghost use Rattle.txs_threads_gather.specs.Asked.{asked_after};
+ghost use Rattle.txs_theorem_runs.specs.Told.{IsExchanged};
 ghost use Rattle.txs_threads_gather.specs.Callees.{AreCallees};
 ghost use Rattle.txs_threads_gather.specs.Gather.{HasFullBook};
-ghost use Rattle.txs_threads_gather.specs.Played.{PlainPlayed, HasPlayed, MayBeTold, new_player, kept_after, stopped_after, kept_of};
-ghost use Rattle.txs_threads_replay.specs.Replay.{entry_of};
+ghost use Rattle.txs_threads_gather.specs.Played.{PlainPlayed, HasPlayed, MayBeTold, GoesOnTold, IsTold, IsUnkept, IsLostBy, new_player, kept_of};
+ghost use Rattle.txs_threads_replay.specs.Adds.{adds_event};
+ghost use Rattle.txs_threads_replay.specs.Entries.{entry_of};
 
 use crate::callees::hands_out;
 use std::alloc::Global;
@@ -20,8 +23,7 @@ use std::mem;
 use txs_code_meaning::Verified;
 use txs_machine_actor::{Actor, Turn, actors_run, may_answer};
 use txs_theorem_runs::law::typed_stands;
-use txs_threads_replay::replay::is_exchanged;
-use txs_threads_replay::{Kept, KeptEntries};
+use txs_threads_replay::{Kept, KeptEntries, adds_event, is_exchanged};
 use txs_value_data::limits::MOST_EVENTS;
 use txs_world_protocol::{Ask, Outcome, Reply, copy_ask, copy_reply};
 use txs_world_shared::SharedState;
@@ -84,7 +86,7 @@ impl<'a> Model for Played<'a> {
 fn note_ask(alloc: Global, kept: &mut KeptEntries, asked: &mut Option<Ask>, turn: &Turn) -> bool
     ensures same { kept.new ≡ kept.old }
     ensures noted { IsTrue result → asked.new ≡ asked_after turn.now asked.old }
-    ensures lost { result ≡ false → asked.new ≡ asked.old }
+    ensures lost { result ≡ false → (asked.new ≡ asked.old) × (q : AnAsk) × (turn.now ≡ turned.Asks q) }
 {
     let ask = match turn {
         Turn::Asks(ask) => ask,
@@ -102,41 +104,88 @@ fn note_ask(alloc: Global, kept: &mut KeptEntries, asked: &mut Option<Ask>, turn
     }
 }
 
-/// Keeps an ask with a copy of its reply, or as the one at which the actor was stopped; one that has no action for an agent is put away. Whether it was lost,
-/// as there was no memory to keep it.
-fn keep_or_lose(
+/// Keeps an ask with a copy of its reply.
+///
+/// # Errors
+/// The ask, where there was no memory to keep it; all is then as before.
+fn push_copy(
     alloc: Global,
     kept: &mut KeptEntries,
-    stopped: &mut Option<Ask>,
     ask: Ask,
     reply: &Reply,
     at: u32,
-    number: u64,
-) -> bool
-    ensures kept { result ≡ false → kept.new ≡ kept_after reply.now (kept_of ask reply.now at number) kept.old }
-    ensures stopped { result ≡ false → stopped.new ≡ stopped_after reply.now ask stopped.old }
+) -> Result<(), Ask>
+    ensures kept { OnOk result (kept.new ≡ kept.old ++ kept_of ask reply.now at ∷ []) }
+    ensures back { IfErr result (λ q. (q ≡ ask) × (kept.new ≡ kept.old)) }
 {
-    if let Reply::Idle = reply {
-        drop(ask);
-        return false;
-    }
-    if !is_exchanged(reply) {
-        drop(mem::replace(stopped, Some(ask)));
-        return false;
-    }
     let Ok(copy) = copy_reply(alloc, reply) else {
-        drop(ask);
-        return true;
+        return Err(ask);
     };
     let entry = Kept {
         ask,
         reply: copy,
         at,
-        number,
     };
     match kept.push(entry) {
-        Ok(()) => false,
-        Err(_) => true,
+        Ok(()) => Ok(()),
+        Err(entry) => {
+            let Kept { ask, reply, .. } = entry;
+            drop(reply);
+            Err(ask)
+        }
+    }
+}
+
+/// Whether an ask may be answered that there is no memory, and such a reply to it added no event.
+fn may_stop(ask: &Ask, reply: &Reply) -> bool
+    ensures yes { IsTrue result → MayAnswer ask.now replied.Memory × (adds_event ask.now reply.now ≡ false) }
+    ensures no { result ≡ false → MayAnswer ask.now replied.Memory → adds_event ask.now reply.now ≡ false → ⊥ }
+{
+    may_answer(ask, &Reply::Memory) && !adds_event(ask, reply)
+}
+
+/// What an actor is told where there was no memory to keep a reply: that, if its ask may be answered so and added no event. Its ask is then the one at which it
+/// was stopped. Else nothing.
+fn stop_unkept(stopped: &mut Option<Ask>, ask: Ask, reply: Reply) -> Option<Reply>
+    requires { IsExchanged reply }
+    ensures told { IfSome result (λ t. (t ≡ replied.Memory) × IsUnkept ask reply × (stopped.new ≡ Some ask)) }
+    ensures lost { result ≡ None → IsLostBy ask reply }
+{
+    let stops = may_stop(&ask, &reply);
+    drop(reply);
+    if stops {
+        drop(mem::replace(stopped, Some(ask)));
+        return Some(Reply::Memory);
+    }
+    drop(ask);
+    None
+}
+
+/// What an actor is told of a reply to its ask. It is the reply, and that is kept with the ask; of one that stops the actor the ask alone, and of one that has no
+/// action for an agent nothing. Where there is no memory to keep it, it is that there is none, if the ask may be answered so and added no event; else it is
+/// nothing, and the reply is lost.
+fn keep_or_lose(
+    alloc: Global,
+    kept: &mut KeptEntries,
+    stopped: &mut Option<Ask>,
+    ask: Ask,
+    reply: Reply,
+    at: u32,
+) -> Option<Reply>
+    ensures told { IfSome result (λ t. IsTold ask reply at kept.old stopped.old t kept.new stopped.new) }
+    ensures lost { result ≡ None → IsLostBy ask reply }
+{
+    if let Reply::Idle = &reply {
+        drop(ask);
+        return Some(reply);
+    }
+    if !is_exchanged(&reply) {
+        drop(mem::replace(stopped, Some(ask)));
+        return Some(reply);
+    }
+    match push_copy(alloc, kept, ask, &reply, at) {
+        Ok(()) => Some(reply),
+        Err(ask) => stop_unkept(stopped, ask, reply),
     }
 }
 
@@ -184,6 +233,7 @@ impl<'a> Played<'a> {
         ensures asks { (q : AnAsk) → result ≡ turned.Asks q → (self.new.lost ≡ false) × (unanswered self.new.actor ≡ Some q) }
         ensures ended { (o : AnOutcome) → result ≡ turned.Ended o → self.new.lost ≡ false → self.new.actor.outcome ≡ Some o }
         ensures lost { self.new.lost ≡ true → result ≡ turned.Ended outcome.Memory }
+        ensures asked { self.old.lost ≡ false → self.new.lost ≡ true → (q : AnAsk) × TurnsOf self.old.code budget self.old.actor (turned.Asks q) self.new.actor }
         ensures stays { self.old.lost ≡ true → self.new ≡ self.old }
     {
         actors_run();
@@ -212,23 +262,24 @@ impl<'a> Played<'a> {
         ensures asks { (q : AnAsk) → result ≡ turned.Asks q → (self.new.lost ≡ false) × (unanswered self.new.actor ≡ Some q) }
         ensures ended { (o : AnOutcome) → result ≡ turned.Ended o → self.new.lost ≡ false → self.new.actor.outcome ≡ Some o }
         ensures lost { self.new.lost ≡ true → result ≡ turned.Ended outcome.Memory }
+        ensures asked { self.old.lost ≡ false → self.new.lost ≡ true → (q : AnAsk) × Turns self.old.code self.old.actor (turned.Asks q) self.new.actor }
         ensures stays { self.old.lost ≡ true → self.new ≡ self.old }
     {
         self.run(1)
     }
 
-    /// The actor goes on after the reply to its ask, which was served where its book had `at` events, and behind `number` asks of all
-    /// actors. The reply is kept with the ask, and of one that stops the actor the ask alone; where there is no action for an agent, nothing is kept, and
-    /// it is where it was. Where there is no memory to keep it, the actor makes no more turns; one that lost something stays as it is.
-    pub fn answer(&mut self, number: u64, at: u32, reply: Reply)
+    /// The actor goes on after the reply to its ask, which was served where its book had `at` events. The reply is kept with the ask, and of one that stops
+    /// the actor the ask alone; where there is no action for an agent, nothing is kept, and it is where it was. Where there is no memory to keep a reply whose
+    /// ask added no event, the actor is told that, and has ended so. Where an event was added, it has lost what it should have kept, and makes no more turns; one
+    /// that lost something stays as it is.
+    pub fn answer(&mut self, at: u32, reply: Reply)
         requires answers { self.old.lost ≡ false → MayAnswerIf (unanswered self.old.actor) reply }
         requires hands_out { self.old.lost ≡ false → HandsOut self.old.code reply }
         ensures stays { self.old.lost ≡ true → self.new ≡ self.old }
         ensures code { self.new.code ≡ self.old.code }
-        ensures answered { self.new.lost ≡ false → self.new.actor ≡ answered self.old.actor reply }
         ensures free { self.new.lost ≡ false → unanswered self.new.actor ≡ None }
-        ensures kept { (q : AnAsk) → unanswered self.old.actor ≡ Some q → self.new.lost ≡ false → self.new.kept ≡ kept_after reply (kept_of q reply at number) self.old.kept }
-        ensures stopped { (q : AnAsk) → unanswered self.old.actor ≡ Some q → self.new.lost ≡ false → self.new.stopped ≡ stopped_after reply q self.old.stopped }
+        ensures told { (q : AnAsk) → unanswered self.old.actor ≡ Some q → self.new.lost ≡ false → GoesOnTold q reply at self.old self.new }
+        ensures lost { (q : AnAsk) → unanswered self.old.actor ≡ Some q → self.old.lost ≡ false → self.new.lost ≡ true → IsLostBy q reply }
     {
         actors_run();
         if self.lost {
@@ -238,16 +289,17 @@ impl<'a> Played<'a> {
         let Some(ask) = self.asked.take() else {
             unreachable!();
         };
-        self.lost = keep_or_lose(
+        match keep_or_lose(
             self.alloc,
             &mut self.kept,
             &mut self.stopped,
             ask,
-            &reply,
+            reply,
             at,
-            number,
-        );
-        self.actor.answer(self.code, reply);
+        ) {
+            Some(told) => self.actor.answer(self.code, told),
+            None => self.lost = true,
+        }
     }
 
     /// The number of its actor.
@@ -334,26 +386,5 @@ impl<'a> Played<'a> {
         ensures { result.now ≡ self.now.kept }
     {
         &self.kept
-    }
-
-    /// What it kept, without the rest.
-    pub(crate) fn into_kept(self) -> KeptEntries
-        ensures { result ≡ self.entry.kept }
-    {
-        let Played {
-            alloc: _,
-            code: _,
-            callees: _,
-            actor,
-            limit: _,
-            asked,
-            kept,
-            stopped,
-            lost: _,
-        } = self;
-        drop(actor);
-        drop(asked);
-        drop(stopped);
-        kept
     }
 }

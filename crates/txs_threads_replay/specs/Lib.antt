@@ -1,4 +1,11 @@
-pub mod Goes
-pub mod Holders
-pub mod Laws
-pub mod Replay
+pub mod Adds
+pub mod Agrees
+pub mod ByPlace
+pub mod Entries
+pub mod Fits
+pub mod Looks
+pub mod Moves
+pub mod Past
+pub mod Rows
+pub mod Storing
+pub mod Walk

@@ -1,39 +1,53 @@
 //! What an actor keeps of its asks.
 
-ghost use Rattle.std.specs.Prelude.{◌≡◌, ◌<◌, ◌++◌, ◌∷◌, [], length, IfSome, None, OnOk, OnErr};
+ghost use Rattle.std.specs.Prelude.{◌≡◌, ◌<◌, ◌++◌, ◌∷◌, [], false, length, IsTrue, IfErr, OnOk};
 ghost use Rattle.std.proofs.Common.{get_or};
-ghost use Rattle.txs_threads_replay.specs.Replay.{is_next};
+ghost use Rattle.txs_theorem_runs.specs.Told.{IsExchanged};
+ghost use Rattle.txs_threads_replay.specs.Storing.{kept_in};
 
+use crate::stored::{Stored, pack, unpack};
 use std::alloc::{AllocError, Global};
 use std::collections::VecDeque;
 use std::marker::Model;
 use txs_world_protocol::{Ask, Reply};
 
-/// An ask with its reply, how many events its book had when it was served, and how many asks of all actors were served before it.
+/// An ask with its reply, and how many events its book had when it was served.
 #[derive(Drop)]
 pub struct Kept {
     pub ask: Ask,
     pub reply: Reply,
     pub at: u32,
-    pub number: u64,
+}
+
+/// Whether an actor goes on with a reply, so that it keeps it.
+pub fn is_exchanged(reply: &Reply) -> bool
+    ensures yes { IsTrue result → IsExchanged reply.now }
+    ensures no { result ≡ false → IsExchanged reply.now → ⊥ }
+{
+    !matches!(reply, Reply::Idle | Reply::Full | Reply::Memory)
 }
 
 /// What an actor kept of its asks, in order. Contracts see it as a list.
 pub struct KeptEntries {
-    entries: VecDeque<Kept>,
+    alloc: Global,
+    entries: VecDeque<Stored>,
 }
 
 // Dropped by a call that is proved here, so that no crate above proves it again.
 impl Drop for KeptEntries {
     fn drop(self) {
-        let KeptEntries { entries } = self;
+        let KeptEntries {
+            alloc: _alloc,
+            entries,
+        } = self;
         drop(entries);
     }
 }
 
 impl Model for KeptEntries {
     ghost use Rattle.std.specs.Coded.{codes};
-    ghost use Rattle.std.specs.Prelude.{List};
+    ghost use Rattle.std.specs.Prelude.{List, map};
+    ghost use Rattle.txs_threads_replay.specs.Storing.{kept_in};
     ghost use Rattle.txs_threads_replay.specs.declared.kept.Kept.{Kept};
     ghost use Rattle.txs_value_data.specs.contracts.value.Value as value;
 
@@ -41,7 +55,7 @@ impl Model for KeptEntries {
 
     ghost coded = { Prim.hlevel (codes, value.the_row.coded) };
 
-    ghost view = { λ k. k.entries.items };
+    ghost view = { λ k. map kept_in k.entries.items };
 }
 
 impl KeptEntries {
@@ -50,6 +64,7 @@ impl KeptEntries {
         ensures { result ≡ [] }
     {
         KeptEntries {
+            alloc,
             entries: VecDeque::new(alloc),
         }
     }
@@ -61,17 +76,17 @@ impl KeptEntries {
         self.entries.reserve(1)
     }
 
-    /// One more entry behind the others; the actor keeps none where there is no memory for it.
-    pub fn push(&mut self, kept: Kept) -> Result<(), AllocError>
+    /// One more entry behind the others.
+    ///
+    /// # Errors
+    /// The entry, where there is no memory for it.
+    pub fn push(&mut self, kept: Kept) -> Result<(), Kept>
         ensures ok { OnOk result (self.new ≡ self.old ++ kept ∷ []) }
-        ensures err { OnErr result (self.new ≡ self.old) }
+        ensures err { IfErr result (λ back. (back ≡ kept) × (self.new ≡ self.old)) }
     {
-        match self.entries.push_back(kept) {
+        match self.entries.push_back(pack(self.alloc, kept)?) {
             Ok(()) => Ok(()),
-            Err(refused) => {
-                drop(refused);
-                Err(AllocError)
-            }
+            Err(refused) => Err(unpack(refused.value)),
         }
     }
 
@@ -82,29 +97,11 @@ impl KeptEntries {
         self.entries.len()
     }
 
-    /// The one at this place, from 0 on.
-    pub fn get(&self, place: usize) -> &Kept
+    /// The one at this place, from 0 on, as it is stored.
+    pub fn get(&self, place: usize) -> &Stored
         requires { place < length self.now }
-        ensures { result.now ≡ get_or self.now place result.now }
+        ensures { kept_in result.now ≡ get_or self.now place (kept_in result.now) }
     {
         &self.entries[place]
-    }
-
-    /// Whether so many asks were served before the first of these.
-    pub(crate) fn is_next(&self, number: u64) -> bool
-        ensures { result ≡ is_next number self.now }
-    {
-        match self.entries.front() {
-            Some(kept) => kept.number == number,
-            None => false,
-        }
-    }
-
-    /// The first, which is taken out; nothing, where there is none, and then there is none afterwards.
-    pub fn take(&mut self) -> Option<Kept>
-        ensures some { IfSome result (λ k. self.old ≡ k ∷ self.new) }
-        ensures none { result ≡ None → (self.old ≡ []) × (self.new ≡ []) }
-    {
-        self.entries.pop_front()
     }
 }

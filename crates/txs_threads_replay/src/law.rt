@@ -1,13 +1,44 @@
-//! What holds of actors whose entries were served again. Each law stands on a function of its own, which does nothing when it runs.
+//! What holds of what actors kept. Each law stands on a function of its own, which does nothing when it runs.
 
-ghost use Rattle.txs_threads_replay.specs.Laws.{ReplayRuns};
+ghost use Rattle.txs_threads_replay.specs.Looks.{LooksDecide, PlacesAnswer};
+ghost use Rattle.txs_threads_replay.specs.Moves.{PlacesHold, TakesHold, ThreadsAgree};
+ghost use Rattle.txs_threads_replay.specs.Walk.{WalkDecides, WalksAgree};
 
-use txs_theorem_runs::law::every_trace_holds;
+use txs_world::law::action_stays;
 
-/// Where what actors kept was served again and led to these books, and their code asks for it, it is a run of the laws of runs; and so the books told
-/// each actor just what it kept.
-pub fn replay_runs()
-    ensures { ReplayRuns }
+/// An entry holds just where it looks right at its place.
+pub fn looks_decide()
+    ensures { LooksDecide }
+{}
+
+/// At the place that an ask or a reply names, the answer is told by the world there.
+pub fn places_answer()
+    ensures { PlacesAnswer }
+{}
+
+/// The walk along a book from any place on tells whether what is left of what was kept agrees with the rest of the book.
+pub fn walk_decides()
+    ensures { WalkDecides }
+{}
+
+/// The walks along all books come to their ends just where each entry holds at its place and each trace names the actor's own events.
+pub fn walks_agree()
+    ensures { WalksAgree }
+{}
+
+/// What was answered when it was asked is what is answered at the place where it is looked at.
+pub fn places_hold()
+    ensures { PlacesHold }
+{}
+
+/// What an agent was handed out is what it would be handed out later, as long as it did nothing.
+pub fn takes_hold()
+    ensures { TakesHold }
 {
-    every_trace_holds();
+    action_stays();
 }
+
+/// A thread that was told what the books say agrees with them by place.
+pub fn threads_agree()
+    ensures { ThreadsAgree }
+{}

@@ -1,13 +1,24 @@
-//! Serving again what actors kept. Promises that what each kept of its asks, served again from the beginning in the order in which it was
-//! served, is answered with the replies that they kept and leads to these books, or that it isn't so; and that then the books told
-//! each actor just what it kept.
+//! Whether what actors kept agrees with the books. Promises that what an actor kept agrees just where each ask might be asked at its place of its
+//! book, the reply is what is answered there, and the events that its asks added are the actor's own in each book, in order; in no order of the actors.
 #![tactic(auto)]
 
-mod holders;
+pub mod agrees;
+mod atom;
+mod by_place;
+mod cells;
+mod events;
+pub mod index;
+mod joined;
 pub mod kept;
 pub mod law;
-pub mod replay;
+mod lists;
+mod looking;
+mod past;
+mod rows;
 mod same;
+pub mod stored;
 
-pub use kept::{Kept, KeptEntries};
-pub use replay::replays;
+pub use agrees::{adds_event, all_below};
+pub use index::Index;
+pub use kept::{Kept, KeptEntries, is_exchanged};
+pub use stored::Stored;

@@ -16,28 +16,49 @@ use Rattle.txs_value_cell.specs.declared.action.Action.{Action}
 use Rattle.txs_value_base.specs.declared.fault.Fault.{Fault}
 use Rattle.txs_value_data.specs.declared.value.CellId.{CellId}
 use Rattle.txs_value_data.specs.declared.value.Value.{Value}
-use Rattle.txs_world_book.specs.Book.{cells_in, opening, after, newest, written, least_written, first_failed, is_failed, mail_after, LegalKind, Guarded}
-use Rattle.txs_world.specs.Kept.{IsEnd}
+use Rattle.txs_world_book.specs.Book.{cells_in, opening, after, newest, written, is_outdated, is_there, value_or, least_written, first_failed, is_failed, mail_after, LegalKind, Guarded}
+use Rattle.txs_world.specs.Kept.{IsEnd, kept_at}
 use Rattle.txs_world.specs.Store.{PlainStore, store_with, merged, is_lawful, looks, commits, first_action, next_action, takes, hands_out, serve, store_after, TakesMemory, sends_to, Answers, Replies}
 use Rattle.txs_world_book.specs.Served.{Served, served, adds, event_of}
 use Rattle.txs_world.specs.declared.commit.End.{End}
 use Rattle.txs_world.specs.declared.commit.End.TheVariants.{Reruns, Redoes, Refuses, Commits}
 use Rattle.txs_world.proofs.Merging.{ltb_yes, ltb_no, refs_has, Finds, finds, untouched_parts}
-use Rattle.txs_world_book.proofs.Older.{after_unwritten, ends}
+use Rattle.txs_world_book.proofs.Older.{ends, outdated_written}
 use Rattle.txs_world.proofs.Serves.{Lawful, lawful_commit, refs_tested, legal_commit, guarded_commit, FindsFailed, finds_failed}
 
 -- ---- reads
 
 -- a value that is looked up
-pub looked : (s : PlainStore) (w : World) (a : ℕ) (c : CellId) (p : ℕ) (v : Value) → written c.number p s.book ≡ false → v ≡ newest w s.book c.number
-    → Replies s (looks (written c.number p s.book) w a c p s.book) (reply.Is v) s
-looked s w a c p v e is =
-    let there = ap reply.Is (is ∙ after_unwritten w s.book p c.number e) in
-    subst (λ b. Replies s (looks b w a c p s.book) (reply.Is v) s) (sym e) (there, refl)
+pub looked : (s : PlainStore) (w : World) (a : ℕ) (c : CellId) (p : ℕ) (v : Value) → kept_at w c.number p s.book ≡ Some v → Replies s (looks (is_outdated c.number p s.book) w a c p s.book) (reply.Is v) s
+looked s w a c p v is = go (is_outdated c.number p s.book) is
+  where
+    go : (b : Bool) → (if b then None else Some (after w s.book p c.number)) ≡ Some v → Replies s (looks b w a c p s.book) (reply.Is v) s
+    go true q = absurd (false≢true (ap is_there q))
+    go false q = (sym (ap (λ o. reply.Is (value_or o v)) q), refl)
 
 -- no memory for it
-pub looked_not : (s : PlainStore) (w : World) (a : ℕ) (c : CellId) (p : ℕ) → written c.number p s.book ≡ false → Replies s (looks (written c.number p s.book) w a c p s.book) reply.Memory s
-looked_not s w a c p e = subst (λ b. Replies s (looks b w a c p s.book) reply.Memory s) (sym e) (tt, refl)
+pub looked_not : (s : PlainStore) (w : World) (a : ℕ) (c : CellId) (p : ℕ) (v : Value) → kept_at w c.number p s.book ≡ Some v → Replies s (looks (is_outdated c.number p s.book) w a c p s.book) reply.Memory s
+looked_not s w a c p v is = go (is_outdated c.number p s.book) is
+  where
+    go : (b : Bool) → (if b then None else Some (after w s.book p c.number)) ≡ Some v → Replies s (looks b w a c p s.book) reply.Memory s
+    go true q = absurd (false≢true (ap is_there q))
+    go false q = (tt, refl)
+
+-- a value that isn't kept
+pub looked_lost : (s : PlainStore) (w : World) (a : ℕ) (c : CellId) (p : ℕ) (r : Reply) (t : PlainStore) → kept_at w c.number p s.book ≡ None → Replies s (adds a (Retry p c false) (reply.Retry c) s.book) r t
+    → Replies s (looks (is_outdated c.number p s.book) w a c p s.book) r t
+looked_lost s w a c p r t is h = go (is_outdated c.number p s.book) is
+  where
+    go : (b : Bool) → (if b then None else Some (after w s.book p c.number)) ≡ None → Replies s (looks b w a c p s.book) r t
+    go true q = h
+    go false q = absurd (false≢true (sym (ap is_there q)))
+
+pub lost_written : (w : World) (k p : ℕ) (book : List Event) → kept_at w k p book ≡ None → written k p book ≡ true
+lost_written w k p book is = go (is_outdated k p book) refl is
+  where
+    go : (b : Bool) → is_outdated k p book ≡ b → (if b then None else Some (after w book p k)) ≡ None → written k p book ≡ true
+    go true e q = outdated_written k p book e
+    go false e q = absurd (false≢true (sym (ap is_there q)))
 
 -- ---- an event that the book may have room for
 

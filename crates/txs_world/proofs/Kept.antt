@@ -1,5 +1,5 @@
 -- The store's parts agree from its opening on, and after each event.
-use Rattle.std.proofs.Common.{◌≡◌, ◌≢◌, ◌<◌, ℕ, zero, suc, Bool, true, false, ◌&&◌, ◌==◌, nat_lt, nat_le, slice_index, List, [], ◌∷◌, ◌++◌, length, get_or, set, Option, Some, None, Result, Ok, Err, refl, ap, subst, sym, ◌∙◌, arith, length-append, append-nil, if◌then◌else◌}
+use Rattle.std.proofs.Common.{◌≡◌, ◌≢◌, ◌<◌, ℕ, zero, suc, Bool, true, false, ◌&&◌, ◌==◌, nat_lt, nat_le, List, [], ◌∷◌, ◌++◌, length, get_or, set, Option, Some, None, Result, Ok, Err, refl, ap, subst, sym, ◌∙◌, arith, append-nil, if◌then◌else◌}
 use Rattle.std.proofs.lemmas.Bool.{ltb-true, false≢true}
 use Rattle.std.proofs.lemmas.Bool.Decides.{nat_tests}
 use Rattle.std.proofs.lemmas.List.{get_or-set_same, get_or-set_other, length-set}
@@ -16,20 +16,22 @@ use Rattle.txs_value_base.specs.declared.fault.Fault.{Fault}
 use Rattle.txs_value_data.specs.declared.value.CellId.{CellId}
 use Rattle.txs_value_data.specs.declared.value.CellKind.TheVariants.{Ref, Agent}
 use Rattle.txs_value_data.specs.declared.value.Value.{Value}
-use Rattle.txs_world_book.specs.Book.{is_of_kind, goes_on, opening, are_refs, are_sends, cells_in, value_or, state_of, writes_of, changed, after, is_there, writes_to, counts, no_mail, Mail, waits, is_empty, acted, mailed, sent_to, mail_after, mail_changed, has_cell, has_ref, has_agent, makes, LegalKind, Guarded}
+use Rattle.txs_world_book.specs.Book.{is_of_kind, goes_on, opening, are_refs, are_sends, cells_in, state_of, writes_of, after, is_there, counts, no_mail, Mail, waits, is_empty, acted, mailed, sent_to, mail_after, mail_changed, has_cell, has_ref, has_agent, makes, LegalKind, Guarded}
 use Rattle.txs_value_data.specs.Limits.{most_events}
 use Rattle.txs_world.specs.Inboxes.{PlainInbox, no_inbox, open_inboxes, inbox_of, mailed_all, all_sent_below, finished, fault_of, taken_up}
-use Rattle.txs_world.specs.Kept.{slot_of, no_slot, IsSlot, open_slots, put_all, all_below, IsInbox, ChangesNothing, IsKept}
+use Rattle.txs_world.specs.Kept.{version, slot_of, no_slot, IsSlot, open_slots, put_version, put_one, put_all, all_below, IsInbox, ChangesNothing, IsKept}
+use Rattle.txs_world.specs.Places.{Ascend}
 use Rattle.txs_world_book.specs.Stands.{StandsAt, Marked, StandAsBefore}
 use Rattle.txs_world_book.specs.Served.{event_of}
 use Rattle.txs_world_book.specs.declared.cell.StoreCell.{StoreCell}
 use Rattle.txs_world.specs.declared.slot.Slot.{Slot}
-use Rattle.txs_world_book.proofs.Growth.{after_last, unwritten_more, written_more, written_end, mail_last}
+use Rattle.txs_world_book.proofs.Growth.{mail_last}
 use Rattle.txs_world.proofs.Mailing.{equal, unequal, mailed_many, mailed_at, is_inbox, inbox_entered, inbox_taken, inbox_finished, no_fault, failed_is}
 use Rattle.txs_world_book.proofs.Outcomes.{both}
 use Rattle.txs_world_book.proofs.Standing.{actor_more}
-use Rattle.txs_world_book.proofs.Older.{unset}
 use Rattle.txs_world.proofs.Serves.{keeps}
+use Rattle.txs_world.proofs.Versions.{slot_same, slot_put}
+use Rattle.txs_world.proofs.Zipping.{ascend_refs}
 
 -- ---- the opening
 
@@ -37,7 +39,7 @@ slots_many : (cells : List StoreCell) → length (open_slots cells) ≡ length c
 slots_many [] = refl
 slots_many (c ∷ cs) = ap suc (slots_many cs)
 
-slots_open : (cells : List StoreCell) (k : ℕ) → get_or (open_slots cells) k no_slot ≡ slot_of (opening cells k) 0
+slots_open : (cells : List StoreCell) (k : ℕ) → get_or (open_slots cells) k no_slot ≡ slot_of (version (opening cells k) 0 ∷ [])
 slots_open [] k = refl
 slots_open (c ∷ cs) zero = refl
 slots_open (c ∷ cs) (suc k) = slots_open cs k
@@ -56,7 +58,7 @@ opening_kept cells threads =
     record {
       many = slots_many cells;
       as_many = inboxes_many cells;
-      values = λ k lt. subst (λ s. IsSlot (opening cells) [] k s) (sym (slots_open cells k)) (record { value = refl; since = λ p h. absurd (omega (arith, h)); not_since = λ p h. refl });
+      values = λ k lt. subst (λ s. IsSlot (opening cells) [] k s) (sym (slots_open cells k)) (record { is = refl });
       mail = λ k lt. subst (λ b. IsInbox (goes_on (nth cells k)) no_mail b) (sym (inboxes_open cells k)) refl;
       all = λ a. record { stands = λ p h. refl; passed = λ p h. absurd (omega (arith, h)) };
       some = λ a. record { stands = λ p h. refl; passed = λ p h. absurd (omega (arith, h)) };
@@ -77,31 +79,14 @@ opened_kept cells threads slots inboxes views tries book is boxes no_views no_tr
 -- the slot of a cell after an event
 abbrev pub put_in : Option Value → ℕ → Slot → Slot
 put_in None n s = s
-put_in (Some v) n s = slot_of v n
-
-slot_same : (w : World) (es : List Event) (e : Event) (k : ℕ) (s : Slot) → writes_to e.kind k ≡ false → IsSlot w es k s → IsSlot w (es ++ e ∷ []) k s
-slot_same w es e k s off h =
-    record {
-      value = h.value ∙ sym (ap (λ R. R k) (after_last w es e) ∙ unset e.kind (after w es (length es)) k off);
-      since = λ p lt. unwritten_more k p es e off ∙ h.since p lt;
-      not_since = λ p le. unwritten_more k p es e off ∙ h.not_since p le;
-    }
-
-slot_put : (w : World) (es : List Event) (e : Event) (k : ℕ) (v : Value) → writes_to e.kind k ≡ true → changed e.kind (after w es (length es)) k ≡ v → IsSlot w (es ++ e ∷ []) k (slot_of v (suc (length es)))
-slot_put w es e k v on is =
-    let n = length-append es (e ∷ []) in
-    record {
-      value = sym (ap (λ R. R k) (after_last w es e) ∙ is);
-      since = λ p lt. written_more k p es e on (omega (arith, lt));
-      not_since = λ p le. written_end k p (es ++ e ∷ []) (omega (arith, le, n));
-    }
+put_in (Some v) n s = put_version v n s
 
 slot_more : (w : World) (es : List Event) (e : Event) (k : ℕ) (s : Slot) → IsSlot w es k s → IsSlot w (es ++ e ∷ []) k (put_in (buffered (writes_of e.kind) k) (suc (length es)) s)
 slot_more w es e k s h = go (buffered (writes_of e.kind) k) refl
   where
     go : (o : Option Value) → buffered (writes_of e.kind) k ≡ o → IsSlot w (es ++ e ∷ []) k (put_in o (suc (length es)) s)
-    go None q = slot_same w es e k s (ap is_there q) h
-    go (Some v) q = slot_put w es e k v (ap is_there q) (ap (λ o. value_or o (after w es (length es) k)) q)
+    go None q = slot_same w es e k s q h
+    go (Some v) q = slot_put w es e k v s q h
 
 -- an inbox after an event
 abbrev pub InboxMoves : List StoreCell → List PlainInbox → List PlainInbox → List Event → EventKind → Type 0
@@ -195,23 +180,40 @@ same_stands cells threads slots inboxes boxes views tries vs ts book more boxes_
 
 pub put_many : (n : ℕ) (slots : List Slot) (ws : Writes) → length (put_all n slots ws) ≡ length slots
 put_many n slots [] = refl
-put_many n slots (w ∷ ws) = length-set (put_all n slots ws) w.0.number (slot_of w.1 n) ∙ put_many n slots ws
+put_many n slots (w ∷ ws) = length-set (put_all n slots ws) w.0.number (put_version w.1 n (get_or (put_all n slots ws) w.0.number no_slot)) ∙ put_many n slots ws
 
-pub put_moves : (n : ℕ) (slots : List Slot) (ws : Writes) (k : ℕ) → k < length slots → get_or (put_all n slots ws) k no_slot ≡ put_in (buffered ws k) n (get_or slots k no_slot)
-put_moves n slots [] k lt = refl
-put_moves n slots (w ∷ ws) k lt = go (put_moves n slots ws k lt) (w.0.number == k) refl
+-- a cell whose number is below those that are written isn't written
+unset_below : (k n : ℕ) (ws : Writes) → k < n → Ascend n ws → buffered ws k ≡ None
+unset_below k n [] lt h = refl
+unset_below k n (w ∷ ws) lt h =
+    let le = h.0 in
+    let off : (w.0.number == k) ≡ false = other w.0.number k (omega (arith, lt, le)) in
+    ap (λ b. if b then Some w.1 else buffered ws k) off ∙ unset_below k (suc w.0.number) ws (omega (arith, lt, le)) h.1
   where
-    go : get_or (put_all n slots ws) k no_slot ≡ put_in (buffered ws k) n (get_or slots k no_slot) → (t : Bool) → (w.0.number == k) ≡ t → get_or (set (put_all n slots ws) w.0.number (slot_of w.1 n)) k no_slot ≡ put_in (if t then Some w.1 else buffered ws k) n (get_or slots k no_slot)
+    other : (i j : ℕ) → j < i → (i == j) ≡ false
+    other i j less = grind (arith, nat_tests, less)
+
+pub put_moves : (n m : ℕ) (slots : List Slot) (ws : Writes) → Ascend m ws → (k : ℕ) → k < length slots → get_or (put_all n slots ws) k no_slot ≡ put_in (buffered ws k) n (get_or slots k no_slot)
+put_moves n m slots [] h k lt = refl
+put_moves n m slots (w ∷ ws) h k lt = go (put_moves n (suc w.0.number) slots ws h.1 k lt) (w.0.number == k) refl
+  where
+    old : Slot
+    old = get_or (put_all n slots ws) w.0.number no_slot
+
+    go : get_or (put_all n slots ws) k no_slot ≡ put_in (buffered ws k) n (get_or slots k no_slot) → (t : Bool) → (w.0.number == k) ≡ t
+        → get_or (set (put_all n slots ws) w.0.number (put_version w.1 n old)) k no_slot ≡ put_in (if t then Some w.1 else buffered ws k) n (get_or slots k no_slot)
     go r true e =
         let same = equal w.0.number k e in
         let in_now : w.0.number < length (put_all n slots ws) = omega (arith, put_many n slots ws, same, lt) in
-        ap (λ i. get_or (set (put_all n slots ws) w.0.number (slot_of w.1 n)) i no_slot) (sym same) ∙ get_or-set_same (put_all n slots ws) w.0.number (slot_of w.1 n) no_slot in_now
-    go r false e = let off : k ≢ w.0.number = λ q. unequal w.0.number k e (sym q) in get_or-set_other (put_all n slots ws) w.0.number k (slot_of w.1 n) no_slot off ∙ r
+        let none : buffered ws k ≡ None = unset_below k (suc w.0.number) ws (omega (arith, same)) h.1 in
+        ap (λ i. get_or (set (put_all n slots ws) w.0.number (put_version w.1 n old)) i no_slot) (sym same) ∙ get_or-set_same (put_all n slots ws) w.0.number (put_version w.1 n old) no_slot in_now
+        ∙ ap (λ i. put_version w.1 n (get_or (put_all n slots ws) i no_slot)) same ∙ ap (put_version w.1 n) (r ∙ ap (λ o. put_in o n (get_or slots k no_slot)) none)
+    go r false e = let off : k ≢ w.0.number = λ q. unequal w.0.number k e (sym q) in get_or-set_other (put_all n slots ws) w.0.number k (put_version w.1 n old) no_slot off ∙ r
 
 -- the last one put first
-pub put_back : (n : ℕ) (slots : List Slot) (ws : Writes) (w : CellId × Value) → put_all n slots (ws ++ w ∷ []) ≡ put_all n (set slots w.0.number (slot_of w.1 n)) ws
+pub put_back : (n : ℕ) (slots : List Slot) (ws : Writes) (w : CellId × Value) → put_all n slots (ws ++ w ∷ []) ≡ put_all n (put_one n slots w) ws
 put_back n slots [] w = refl
-put_back n slots (x ∷ ws) w = ap (λ l. set l x.0.number (slot_of x.1 n)) (put_back n slots ws w)
+put_back n slots (x ∷ ws) w = ap (λ l. put_one n l x) (put_back n slots ws w)
 
 pub below_back : (n : ℕ) (ws : Writes) (w : CellId × Value) → all_below n (ws ++ w ∷ []) ≡ true → (w.0.number < n) × (all_below n ws ≡ true)
 below_back n [] w h = (ltb-true w.0.number n (both (nat_lt w.0.number n) true h).0, refl)
@@ -259,6 +261,10 @@ pub state_below : (n : ℕ) (g : CellId) (new : Result Value Fault) → g.number
 state_below n g (Ok v) lt = ap (λ t. t && true) (below g.number n lt)
 state_below n g (Err f) lt = refl
 
+state_ascends : (g : CellId) (new : Result Value Fault) → Ascend 0 (state_of g new)
+state_ascends g (Ok v) = (omega arith, tt)
+state_ascends g (Err f) = tt
+
 moves_mailed : (cells : List StoreCell) (bs : List PlainInbox) (book : List Event) (xs : List Action) (k : ℕ) → k < length bs → IsInbox (goes_on (nth cells k)) (mail_after cells book k) (get_or bs k no_inbox)
     → IsInbox (goes_on (nth cells k)) (mailed (sent_to k xs) (mail_after cells book k)) (get_or (mailed_all bs xs) k no_inbox)
 moves_mailed cells bs book xs k lt h =
@@ -274,7 +280,7 @@ committed cells threads slots put inboxes boxes views tries vs ts book more a n 
     subst (λ u. IsKept cells threads u boxes vs ts more) (sym to)
     (subst (λ u. IsKept cells threads (put_all (suc (length book)) slots ws) u vs ts more) (sym boxes_are)
     (kept_more cells threads slots (put_all (suc (length book)) slots ws) inboxes (mailed_all inboxes sends) views tries vs ts book more a (Commit at view ws sends) h lt by l g
-    (put_many (suc (length book)) slots ws) (put_moves (suc (length book)) slots ws) (mailed_many inboxes sends) (λ k in_old i. moves_mailed cells inboxes book sends k in_old i) all some is))
+    (put_many (suc (length book)) slots ws) (put_moves (suc (length book)) 0 slots ws (ascend_refs cells 0 ws l.0)) (mailed_many inboxes sends) (λ k in_old i. moves_mailed cells inboxes book sends k in_old i) all some is))
 
 -- one more send
 pub sent : (cells : List StoreCell) (threads : ℕ) (slots : List Slot) (inboxes boxes : List PlainInbox) (views tries vs ts : List ℕ) (book more : List Event) (a : ℕ) (x : Action)
@@ -301,7 +307,7 @@ acted_on cells threads slots put inboxes boxes views tries vs ts book more a n i
     subst (λ u. IsKept cells threads u boxes vs ts more) (sym to)
     (subst (λ u. IsKept cells threads (put_all (suc (length book)) slots (state_of g new)) u vs ts more) (sym boxes_are)
     (kept_more cells threads slots (put_all (suc (length book)) slots (state_of g new)) inboxes (set inboxes g.number over) views tries vs ts book more a (Act g i new sends) h lt by l tt
-    (put_many (suc (length book)) slots (state_of g new)) (put_moves (suc (length book)) slots (state_of g new)) (length-set inboxes g.number over) (λ k in_old e. sends_no_more k (go k in_old e (g.number == k) refl)) all some is))
+    (put_many (suc (length book)) slots (state_of g new)) (put_moves (suc (length book)) 0 slots (state_of g new) (state_ascends g new)) (length-set inboxes g.number over) (λ k in_old e. sends_no_more k (go k in_old e (g.number == k) refl)) all some is))
   where
     over : PlainInbox
     over = finished (fault_of new) (get_or inboxes g.number no_inbox)

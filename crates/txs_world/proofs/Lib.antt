@@ -5,4 +5,5 @@ pub mod Mailing
 pub mod Merging
 pub mod Serves
 pub mod Storing
+pub mod Versions
 pub mod Zipping

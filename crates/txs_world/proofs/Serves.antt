@@ -15,7 +15,7 @@ use Rattle.txs_value_data.specs.declared.value.CellId.{CellId}
 use Rattle.txs_value_data.specs.declared.value.Value.{Value}
 use Rattle.txs_value_data.specs.Limits.{most_events}
 use Rattle.txs_value_base.specs.Places.{nth}
-use Rattle.txs_world_book.specs.Book.{has_ref, has_agent, cells_in, are_refs, has_refs, are_sends, makes, least, least_written, goes_on, is_there, Mail, no_mail, sent_to, acted, mail_after, mail_changed, is_failed, first_failed, waits, is_empty, may_name, may_end, written, LegalKind, Untouched, Guarded, Legal, Undisturbed, opening}
+use Rattle.txs_world_book.specs.Book.{has_ref, has_agent, cells_in, are_refs, has_refs, are_sends, makes, least, least_written, goes_on, is_there, Mail, no_mail, sent_to, acted, mail_after, mail_changed, is_failed, first_failed, waits, is_empty, may_name, may_end, written, LegalKind, Untouched, Guarded, Legal, Undisturbed, opening, is_outdated}
 use Rattle.txs_world.specs.Laws.{TakenWait, StoreStands}
 use Rattle.txs_world.specs.Store.{PlainStore, store_with, may_ask, has_named, is_lawful, is_taken, are_apart, merged, looks, commits, sends_to, first_action, takes, hands_out, is_done, serve, store_after}
 use Rattle.txs_world_book.specs.Served.{event_of, adds, served}
@@ -24,7 +24,7 @@ use Rattle.txs_world_book.proofs.Growth.{each_more, mail_last}
 use Rattle.txs_world.proofs.Mailing.{equal, unequal}
 use Rattle.txs_world_book.proofs.Outcomes.{both}
 use Rattle.txs_world.proofs.Merging.{Finds, finds, refs_has, refs_joined, untouched_parts, refs_merged, untouched_merged, untouched_later}
-use Rattle.txs_world_book.proofs.Older.{ends}
+use Rattle.txs_world_book.proofs.Older.{ends, outdated_written}
 
 abbrev pub Kept : List StoreCell → ℕ → List Event → Type 0
 Kept cells threads book = Legal cells threads book × Undisturbed book
@@ -49,9 +49,9 @@ adds_kept cells threads book a d r h by l g = go (nat_lt (length book) most_even
     go true e = keeps cells threads book a d h (ltb-true (length book) most_events e) by l g
     go false e = h
 
-looks_kept : (cells : List StoreCell) (threads : ℕ) (b : Bool) (a : ℕ) (c : CellId) (p : ℕ) (book : List Event) → written c.number p book ≡ b → has_ref cells c ≡ true → may_name false book a p ≡ true → nat_lt a threads ≡ true → Kept cells threads book
+looks_kept : (cells : List StoreCell) (threads : ℕ) (b : Bool) (a : ℕ) (c : CellId) (p : ℕ) (book : List Event) → is_outdated c.number p book ≡ b → has_ref cells c ≡ true → may_name false book a p ≡ true → nat_lt a threads ≡ true → Kept cells threads book
     → Kept cells threads (looks b (opening cells) a c p book).book
-looks_kept cells threads true a c p book e has n by h = adds_kept cells threads book a (Retry p c false) _ h by (has, n, e) tt
+looks_kept cells threads true a c p book e has n by h = adds_kept cells threads book a (Retry p c false) _ h by (has, n, outdated_written c.number p book e) tt
 looks_kept cells threads false a c p book e has n by h = h
 
 -- a failed agent of a send is one of the store's
@@ -139,7 +139,7 @@ serve_kept s a ask.Begin l h = (h.legal, h.undisturbed)
 serve_kept s a (ask.Look c p) l h =
     let m = lawful s a (ask.Look c p) l in
     let n = both (has_ref s.cells c) (may_name false s.book a p) m.1 in
-    looks_kept s.cells s.threads (written c.number p s.book) a c p s.book refl n.0 n.1 m.0 (h.legal, h.undisturbed)
+    looks_kept s.cells s.threads (is_outdated c.number p s.book) a c p s.book refl n.0 n.1 m.0 (h.legal, h.undisturbed)
 serve_kept s a (ask.View cs) l h = (h.legal, h.undisturbed)
 serve_kept s a (ask.Commit at sets ensured view commuted sends) l h = commit_kept s a at view sets commuted ensured sends (lawful_commit s a at view sets commuted ensured sends l) (h.legal, h.undisturbed)
 serve_kept s a (ask.Fail p q) l h = let m = lawful s a (ask.Fail p q) l in adds_kept s.cells s.threads s.book a (Fail p q) _ (h.legal, h.undisturbed) m.0 m.1 tt
@@ -246,7 +246,7 @@ finish_waits s a g d n h = go (nat_lt (length s.book) most_events)
 
 pub serve_waits : (s : PlainStore) (a : ℕ) (q : Ask) → is_lawful s a q ≡ true → TakenWait s → TakenWait (store_after s q (serve s.cells a q s.book))
 serve_waits s a ask.Begin l h = h
-serve_waits s a (ask.Look c p) l h = looks_waits s (written c.number p s.book) a c p h
+serve_waits s a (ask.Look c p) l h = looks_waits s (is_outdated c.number p s.book) a c p h
 serve_waits s a (ask.View cs) l h = h
 serve_waits s a (ask.Commit at sets ensured view commuted sends) l h =
     commits_waits s (least_written s.book at (cells_in sets ++ ensured)) (least_written s.book view (cells_in commuted)) (first_failed s.cells s.book sends) a at view (merged sets commuted) sends h

@@ -1,5 +1,5 @@
 -- What becomes of a store's book and of what is taken.
-use Rattle.std.proofs.Common.{◌≡◌, ◌≤◌, ◌<◌, ◌+◌, ℕ, zero, suc, Bool, nat_lt, true, false, List, [], ◌∷◌, ◌++◌, length, get_or, set, Option, Result, refl, sym, ap, ◌∙◌, subst, arith, Fits, w32}
+use Rattle.std.proofs.Common.{◌≡◌, ◌≤◌, ◌<◌, ◌+◌, ℕ, zero, suc, Bool, nat_lt, true, false, List, [], ◌∷◌, ◌++◌, length, get_or, set, Option, Some, None, Result, refl, sym, ap, ◌∙◌, subst, arith, Fits, w32}
 use Rattle.std.specs.Prelude.{is_some}
 use Rattle.std.proofs.lemmas.Bool.{ltb-true}
 use Rattle.std.proofs.lemmas.Bool.Decides.{nat_tests}
@@ -14,14 +14,21 @@ use Rattle.txs_value_data.specs.declared.value.CellId.{CellId}
 use Rattle.txs_value_data.specs.declared.value.Value.{Value}
 use Rattle.txs_world_book.specs.Book.{goes_on, has_agent, has_cell, has_ref, is_failed, mail_after, newest, opening, waits, written}
 use Rattle.txs_world.specs.Inboxes.{PlainInbox, plain_inbox, plain_inboxes, no_inbox, open_inboxes, mailed_all, finished, taken_up, taken_of}
+use Rattle.circular_buffer.specs.Buffer.{last_item}
+use Rattle.txs_value_cell.specs.Cells.{World}
+use Rattle.txs_value_cell.specs.Forms.{same_kind}
+use Rattle.txs_value_data.specs.declared.value.CellKind.TheVariants.{Ref}
 use Rattle.txs_world.specs.Kept.{IsKept, IsSlot, no_slot}
 use Rattle.txs_world.specs.Store.{PlainStore, store_with, is_taken, next_action, none_taken}
 use Rattle.txs_world_book.specs.Served.{event_of}
 use Rattle.txs_world_book.specs.declared.cell.StoreCell.{StoreCell}
 use Rattle.txs_world.specs.declared.inbox.Inbox.{Inbox}
 use Rattle.txs_world.specs.declared.slot.Slot.{Slot}
-use Rattle.txs_world.proofs.Kept.{agent_in, cell_in, ref_in, taken_waits}
+use Rattle.txs_world.specs.declared.slot.Version.{Version}
+use Rattle.txs_world.proofs.Kept.{agent_in, cell_in, taken_waits}
+use Rattle.txs_world.proofs.Versions.{Newest, newest_kept}
 use Rattle.txs_world.proofs.Mailing.{inbox_is, next_is, few_acts, taken_is, taken_set, taken_mailed, none_open, many_inboxes}
+use Rattle.txs_world_book.proofs.Outcomes.{both}
 use Rattle.txs_world_book.proofs.Sizes.{fits_next}
 
 -- a store as it opens
@@ -143,24 +150,42 @@ slot_is cells threads slots boxes views tries book n i x h lt is at =
     let below : n < length slots = omega (arith, lt, many) in
     subst (IsSlot (opening cells) book n) (default_free slots n no_slot x below ∙ sym (subst (λ k. x ≡ get_or slots k x) is at)) (h.values n below)
 
--- the newest value of its cell
-pub newest_read : (s : PlainStore) (cells : List StoreCell) (threads : ℕ) (slots : List Slot) (boxes : List PlainInbox) (views tries : List ℕ) (book : List Event) (i : ℕ) (x : Slot) (c : CellId) → store_with cells threads book (taken_of boxes) ≡ s
-    → IsKept cells threads slots boxes views tries book → has_cell s.cells c ≡ true → i ≡ c.number → x ≡ get_or slots i x → x.value ≡ newest (opening s.cells) s.book c.number
-newest_read s cells threads slots boxes views tries book i x c is h has at there =
+-- the slot of a cell of the store
+pub slot_read : (s : PlainStore) (cells : List StoreCell) (threads : ℕ) (slots : List Slot) (boxes : List PlainInbox) (views tries : List ℕ) (book : List Event) (i : ℕ) (x : Slot) (c : CellId) → store_with cells threads book (taken_of boxes) ≡ s
+    → IsKept cells threads slots boxes views tries book → has_cell s.cells c ≡ true → i ≡ c.number → x ≡ get_or slots i x → IsSlot (opening s.cells) s.book c.number x
+slot_read s cells threads slots boxes views tries book i x c is h has at there =
     let in_cells = cell_in cells c (subst (λ (u : PlainStore). has_cell u.cells c ≡ true) (sym is) has) in
-    (slot_is cells threads slots boxes views tries book c.number i x h in_cells at there).value ∙ ap (λ (u : PlainStore). newest (opening u.cells) u.book c.number) is
+    subst (λ (u : PlainStore). IsSlot (opening u.cells) u.book c.number x) is (slot_is cells threads slots boxes views tries book c.number i x h in_cells at there)
+
+-- a cell that is a ref is one
+pub ref_is_cell : (cells : List StoreCell) (c : CellId) → has_ref cells c ≡ true → has_cell cells c ≡ true
+ref_is_cell cells c h = (both (same_kind c.kind Ref) (has_cell cells c) h).1
+
+-- the newest value of its cell
+pub newest_read : (w : World) (book : List Event) (k : ℕ) (s : Slot) (x : Version) → IsSlot w book k s → last_item s.ring.items ≡ Some x → x.value ≡ newest w book k
+newest_read w book k s x h last = let n = newest_kept w book k s h in ap (λ o. value_in o n.mid) (sym last ∙ n.last) ∙ n.value
+  where
+    value_in : Option Version → Version → Value
+    value_in None y = y.value
+    value_in (Some y) z = y.value
 
 -- whether its cell was written at a place or later
-pub written_read : (s : PlainStore) (cells : List StoreCell) (threads : ℕ) (slots : List Slot) (boxes : List PlainInbox) (views tries : List ℕ) (book : List Event) (i : ℕ) (x : Slot) (c : CellId) (p : ℕ) → store_with cells threads book (taken_of boxes) ≡ s
-    → IsKept cells threads slots boxes views tries book → has_ref s.cells c ≡ true → i ≡ c.number → x ≡ get_or slots i x → nat_lt p x.written ≡ written c.number p s.book
-written_read s cells threads slots boxes views tries book i x c p is h has at there = go (nat_lt p x.written) refl ∙ ap (λ (u : PlainStore). written c.number p u.book) is
+pub written_read : (w : World) (book : List Event) (k p : ℕ) (s : Slot) (x : Version) → IsSlot w book k s → last_item s.ring.items ≡ Some x → nat_lt p x.written ≡ written k p book
+written_read w book k p s x h last = go (nat_lt p x.written) refl
   where
-    in_cells : c.number < length cells
-    in_cells = ref_in cells c (subst (λ (u : PlainStore). has_ref u.cells c ≡ true) (sym is) has)
+    n : Newest w book k s.ring.items
+    n = newest_kept w book k s h
+
+    written_in : Option Version → Version → ℕ
+    written_in None y = y.written
+    written_in (Some y) z = y.written
+
+    same : x.written ≡ n.mid.written
+    same = ap (λ o. written_in o n.mid) (sym last ∙ n.last)
 
     no_less : nat_lt p x.written ≡ false → x.written ≤ p
     no_less q = grind (arith, nat_tests)
 
-    go : (t : Bool) → nat_lt p x.written ≡ t → t ≡ written c.number p book
-    go true q = sym ((slot_is cells threads slots boxes views tries book c.number i x h in_cells at there).since p (ltb-true p x.written q))
-    go false q = sym ((slot_is cells threads slots boxes views tries book c.number i x h in_cells at there).not_since p (no_less q))
+    go : (t : Bool) → nat_lt p x.written ≡ t → t ≡ written k p book
+    go true q = sym (n.since p (subst (λ m. p < m) same (ltb-true p x.written q)))
+    go false q = sym (n.not_since p (subst (λ m. m ≤ p) same (no_less q)))

@@ -16,7 +16,7 @@ use Rattle.txs_world_protocol.specs.declared.event.EventKind.{EventKind}
 use Rattle.txs_world_protocol.specs.declared.event.EventKind.TheVariants.{Read, Commit, Retry, Fail, Refused, Send, SendRefused, Act}
 use Rattle.txs_value_data.specs.declared.value.CellId.{CellId}
 use Rattle.txs_value_data.specs.declared.value.Value.{Value}
-use Rattle.txs_world_book.specs.Book.{has_ref, has_agent, has_readable, cells_in, are_refs, has_refs, are_sends, actor_of, may_name, may_end, opening, after, newest, written, least_written, mail_after, is_failed, first_failed, is_empty}
+use Rattle.txs_world_book.specs.Book.{has_ref, has_agent, has_readable, cells_in, are_refs, has_refs, are_sends, actor_of, may_name, may_end, opening, after, newest, written, least_written, mail_after, is_failed, first_failed, is_empty, is_outdated}
 use Rattle.txs_value_data.specs.Limits.{most_events}
 use Rattle.txs_world_book.specs.Served.{Served, served, adds}
 use Rattle.txs_world_book.specs.declared.cell.StoreCell.{StoreCell}
@@ -91,7 +91,7 @@ has_named s a (ask.Broke c at) = false
 abbrev pub is_lawful : PlainStore → ℕ → Ask → Bool
 is_lawful s a q = may_ask s.cells s.threads a q && has_named s a q
 
--- a read in a transaction: that it has to run again where the ref was written since, else the value at the read point
+-- a read in a transaction: that it has to run again where the value at the read point is no longer kept, else that value
 abbrev pub looks : Bool → World → ℕ → CellId → ℕ → List Event → Served
 looks true w a c at book = adds a (Retry at c false) (reply.Retry c) book
 looks false w a c at book = served (reply.Is (after w book at c.number)) book
@@ -127,8 +127,8 @@ next_action cells book g = first_action (is_failed cells book g) (mail_after cel
 abbrev pub serve : List StoreCell → ℕ → Ask → List Event → Served
 -- the read point is the number of events
 serve cells a ask.Begin book = served (reply.At (length book)) book
--- the value at the read point, unless the ref was written since
-serve cells a (ask.Look c at) book = looks (written c.number at book) (opening cells) a c at book
+-- the value at the read point, unless the ref was written too often since
+serve cells a (ask.Look c at) book = looks (is_outdated c.number at book) (opening cells) a c at book
 -- the number of events, and the newest values
 serve cells a (ask.View cs) book = served (reply.Views (length book) (map (λ c. newest (opening cells) book c.number) cs)) book
 -- the writes and sends, unless a test comes out otherwise

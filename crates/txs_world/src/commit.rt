@@ -35,7 +35,7 @@ pub(crate) enum End {
 }
 
 /// The one of two cells with the lesser number.
-fn least(a: Option<CellId>, b: Option<CellId>) -> Option<CellId>
+pub fn least(a: Option<CellId>, b: Option<CellId>) -> Option<CellId>
     ensures { result ≡ least a b }
 {
     match (a, b) {

@@ -11,6 +11,8 @@ mod serve;
 mod slot;
 pub mod store;
 
+pub use commit::least;
+pub use slot::{are_apart, place_for};
 pub use store::Store;
 pub use txs_world_book::AtomBook;
 pub use txs_world_protocol::{Ask, Event, EventKind, Reply};

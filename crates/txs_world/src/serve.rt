@@ -1,9 +1,9 @@
 //! What the store answers.
 
-ghost use Rattle.std.specs.Prelude.{◌≡◌, ◌≤◌, ◌<◌, nat_lt, [], ◌↔◌, map, length, true, false, IsTrue, IfOk, OnOk};
-ghost use Rattle.txs_world_book.specs.Book.{has_cell, has_ref, has_readable, has_refs, may_name, may_end, opening, newest, written, makes, LegalKind};
+ghost use Rattle.std.specs.Prelude.{◌≡◌, ◌≤◌, ◌<◌, nat_lt, [], ◌↔◌, map, length, true, false, option_copied, IsTrue, IfOk, OnOk};
+ghost use Rattle.txs_world_book.specs.Book.{has_cell, has_ref, has_readable, has_refs, may_name, may_end, opening, newest, written, is_outdated, makes, LegalKind};
 ghost use Rattle.txs_value_data.specs.Limits.{most_events};
-ghost use Rattle.txs_world.specs.Kept.{ChangesNothing};
+ghost use Rattle.txs_world.specs.Kept.{kept_at, ChangesNothing};
 ghost use Rattle.txs_world.specs.Store.{is_lawful, looks, serve, store_after, TakesMemory, Answers, Replies};
 ghost use Rattle.txs_world_book.specs.Served.{adds, served};
 ghost use Rattle.txs_world_protocol.specs.declared.ask.Reply.TheVariants as reply;
@@ -80,7 +80,7 @@ impl Store {
         requires { has_ref self.now.cells cell ≡ true }
         ensures { result ≡ written cell.number at self.now.book }
     {
-        at < self.slots[usize::from(cell.number)].written
+        at < self.slots[usize::from(cell.number)].newest().written
     }
 
     /// Adds an event that writes nothing and changes no agent, and gives this reply.
@@ -105,20 +105,28 @@ impl Store {
         }
     }
 
-    /// The value at the read point, or that the ref was written since.
+    /// The value at the read point, or that it is no longer kept, since the ref was written too often since.
     fn look(&mut self, actor: u16, cell: CellId, at: u32) -> Reply
         requires thread { nat_lt actor self.old.threads ≡ true }
         requires cell { has_ref self.old.cells cell ≡ true }
         requires place { may_name false self.old.book actor at ≡ true }
-        ensures { Replies self.old (looks (written cell.number at self.old.book) (opening self.old.cells) actor cell at self.old.book) result self.new }
+        ensures { Replies self.old (looks (is_outdated cell.number at self.old.book) (opening self.old.cells) actor cell at self.old.book) result self.new }
     {
-        if self.is_written(cell, at) {
-            return self.rerun(actor, cell, at);
+        match self.kept(cell, at) {
+            Some(value) => match copy_value(value) {
+                Ok(value) => Reply::Is(value),
+                Err(_) => Reply::Memory,
+            },
+            None => self.rerun(actor, cell, at),
         }
-        match self.share_newest(cell) {
-            Ok(value) => Reply::Is(value),
-            Err(_) => Reply::Memory,
-        }
+    }
+
+    /// The value that the ref had after the first `at` events, if it is still kept.
+    fn kept(&self, cell: CellId, at: u32) -> Option<&Value>
+        requires { has_ref self.now.cells cell ≡ true }
+        ensures { option_copied result ≡ kept_at (opening self.now.cells) cell.number at self.now.book }
+    {
+        self.slots[usize::from(cell.number)].value_at(at)
     }
 
     /// The newest value, which the store goes on sharing.

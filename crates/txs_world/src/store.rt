@@ -120,7 +120,7 @@ impl Store {
         requires { has_cell self.now.cells cell ≡ true }
         ensures { result.now ≡ newest (opening self.now.cells) self.now.book cell.number }
     {
-        &self.slots[usize::from(cell.number)].value
+        &self.slots[usize::from(cell.number)].newest().value
     }
 
     /// The fault of an agent that has failed.

@@ -1,5 +1,5 @@
 -- The refs at an earlier place from the newest, and the worlds of events from the whole book.
-use Rattle.std.proofs.Common.{◌≡◌, ◌≤◌, ℕ, zero, suc, Bool, true, false, ◌&&◌, ◌==◌, nat_le, List, [], ◌∷◌, ◌++◌, length, Option, Some, None, refl, sym, ap, subst, ◌∙◌, arith, append_assoc, length-append}
+use Rattle.std.proofs.Common.{◌≡◌, ◌<◌, ◌≤◌, ℕ, zero, suc, Bool, true, false, ◌&&◌, ◌||◌, ◌==◌, nat_lt, nat_le, List, [], ◌∷◌, ◌++◌, length, Option, Some, None, refl, sym, ap, subst, ◌∙◌, arith, append_assoc, length-append, if◌then◌else◌}
 use Rattle.std.proofs.lemmas.Bool.{false≢true}
 use Rattle.std.proofs.lemmas.Bool.Decides.{nat_tests}
 use Rattle.txs_world_protocol.specs.Ask.{buffered}
@@ -8,10 +8,10 @@ use Rattle.txs_world_protocol.specs.declared.event.Event.{Event}
 use Rattle.txs_world_protocol.specs.declared.event.EventKind.{EventKind}
 use Rattle.txs_world_protocol.specs.declared.event.EventKind.TheVariants.{Read, Commit, Retry, Fail, Refused, Send, SendRefused, Act, Swap, Broke}
 use Rattle.txs_value_data.specs.declared.value.Value.{Value}
-use Rattle.txs_world_book.specs.Book.{value_or, changed, after, is_there, writes_of, writes_to, written, all_before, may_name, may_end, LegalKind, Each}
+use Rattle.txs_world_book.specs.Book.{value_or, changed, after, is_there, writes_of, writes_to, written, times_written, most_older, is_outdated, all_before, may_name, may_end, LegalKind, Each}
 use Rattle.txs_world_book.specs.History.{at_of, view_of, seen_event, past_of, before, history_from, past_at, replayed_from}
 use Rattle.txs_world_book.specs.declared.cell.StoreCell.{StoreCell}
-use Rattle.txs_world_book.proofs.Growth.{neither, after_front}
+use Rattle.txs_world_book.proofs.Growth.{neither, after_front, written_end}
 use Rattle.txs_world_book.proofs.Outcomes.{both}
 
 after_none : (w : World) (es : List Event) → after w es 0 ≡ w
@@ -33,6 +33,40 @@ after_unwritten w (d ∷ es) zero k e =
     let h = neither (writes_to d.kind k) (written k 0 es) e in
     after_unwritten (changed d.kind w) es 0 k h.1 ∙ ap (λ u. u k) (after_none (changed d.kind w) es) ∙ unset d.kind w k h.0
 after_unwritten w (d ∷ es) (suc p) k e = after_unwritten (changed d.kind w) es p k e
+
+-- a cell that isn't written since is written no time
+pub times_unwritten : (k p : ℕ) (es : List Event) → written k p es ≡ false → times_written k p es ≡ 0
+times_unwritten k p [] h = refl
+times_unwritten k zero (e ∷ es) h =
+    let n = neither (writes_to e.kind k) (written k 0 es) h in
+    ap (λ b. if b then suc (times_written k 0 es) else times_written k 0 es) n.0 ∙ times_unwritten k 0 es n.1
+times_unwritten k (suc p) (e ∷ es) h = times_unwritten k p es h
+
+-- one that is, is written once at least
+pub times_some : (k p : ℕ) (es : List Event) → written k p es ≡ true → 0 < times_written k p es
+times_some k p [] h = absurd (false≢true h)
+times_some k zero (e ∷ es) h = go (writes_to e.kind k) (λ q. times_some k 0 es q) h
+  where
+    go : (b : Bool) → (written k 0 es ≡ true → 0 < times_written k 0 es) → (b || written k 0 es) ≡ true → 0 < (if b then suc (times_written k 0 es) else times_written k 0 es)
+    go true rest q = omega arith
+    go false rest q = rest q
+times_some k (suc p) (e ∷ es) h = times_some k p es h
+
+-- behind the last event nothing is written
+pub times_end : (k p : ℕ) (es : List Event) → length es ≤ p → times_written k p es ≡ 0
+times_end k p es le = times_unwritten k p es (written_end k p es le)
+
+-- a value that isn't kept was written over
+pub outdated_written : (k p : ℕ) (es : List Event) → is_outdated k p es ≡ true → written k p es ≡ true
+outdated_written k p es h = go (written k p es) refl
+  where
+    go : (b : Bool) → written k p es ≡ b → b ≡ true
+    go true e = refl
+    go false e = absurd (false≢true (sym (ap (nat_lt most_older) (times_unwritten k p es e)) ∙ h))
+
+-- one that wasn't written over is kept
+pub unwritten_kept : (k p : ℕ) (es : List Event) → written k p es ≡ false → is_outdated k p es ≡ false
+unwritten_kept k p es h = ap (nat_lt most_older) (times_unwritten k p es h)
 
 -- a place that may be named is one of the events' or their end
 pub named : (all : Bool) (done : List Event) (a p : ℕ) → may_name all done a p ≡ true → p ≤ length done

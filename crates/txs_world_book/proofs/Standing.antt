@@ -1,5 +1,5 @@
 -- Where an actor stands after one more event.
-use Rattle.std.proofs.Common.{◌≡◌, ◌≤◌, ◌<◌, ℕ, suc, Bool, true, false, ◌&&◌, ◌==◌, slice_index, List, [], ◌∷◌, ◌++◌, length, refl, subst, sym, ◌∙◌, arith, length-append, if◌then◌else◌}
+use Rattle.std.proofs.Common.{◌≡◌, ℕ, suc, Bool, true, false, ◌&&◌, ◌==◌, slice_index, List, [], ◌∷◌, ◌++◌, length, refl, subst, sym, ◌∙◌, arith, length-append, if◌then◌else◌}
 use Rattle.txs_world_protocol.specs.declared.event.Event.{Event}
 use Rattle.txs_world_protocol.specs.declared.event.EventKind.{EventKind}
 use Rattle.txs_world_book.specs.Book.{counts}

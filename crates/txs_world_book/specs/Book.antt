@@ -137,6 +137,20 @@ written k p [] = false
 written k zero (e ∷ es) = writes_to e.kind k || written k zero es
 written k (suc p) (e ∷ es) = written k p es
 
+-- how often the cell with this number is written at place p or later
+abbrev pub times_written : ℕ → ℕ → List Event → ℕ
+times_written k p [] = 0
+times_written k zero (e ∷ es) = if writes_to e.kind k then suc (times_written k zero es) else times_written k zero es
+times_written k (suc p) (e ∷ es) = times_written k p es
+
+-- how many values of a cell are kept beside its newest
+abbrev pub most_older : ℕ
+most_older = 10
+
+-- whether the value that the cell with this number had at place p is no longer kept: it was written more often since
+abbrev pub is_outdated : ℕ → ℕ → List Event → Bool
+is_outdated k p book = nat_lt most_older (times_written k p book)
+
 -- the one of two cells with the lesser number
 abbrev pub least : Option CellId → Option CellId → Option CellId
 least None o = o

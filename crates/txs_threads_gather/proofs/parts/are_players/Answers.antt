@@ -3,7 +3,7 @@ use Rattle.std.proofs.lemmas.Bool.{false≢true}
 use Rattle.std.proofs.lemmas.List.{drop_all}
 use Rattle.txs_threads_gather.specs.Gather.{AreWhole, ArePlayers}
 use Rattle.txs_threads_gather.specs.Played.{PlainPlayed}
-use Rattle.txs_threads_gather.proofs.Adding.{drop_read}
+use Rattle.txs_threads_gather.proofs.Tracing.{drop_read}
 use Rattle.txs_threads_gather.proofs.Gathering.{not_players, players_next}
 use Rattle.txs_threads_gather.proofs.parts.are_players.Goals as goal
 

@@ -2,7 +2,7 @@ use Rattle.std.proofs.Common.{◌≡◌, ◌≤◌, ◌+◌, ◌∷◌, ◌∙�
 use Rattle.std.proofs.lemmas.Bool.{false≢true}
 use Rattle.std.proofs.lemmas.List.{drop_all}
 use Rattle.txs_threads_gather.specs.Gather.{AreWhole, ArePlayed}
-use Rattle.txs_threads_gather.proofs.Adding.{drop_read}
+use Rattle.txs_threads_gather.proofs.Tracing.{drop_read}
 use Rattle.txs_threads_gather.proofs.parts.are_whole.Goals as goal
 
 pub loop-one-preserved : goal.loop-one-preserved

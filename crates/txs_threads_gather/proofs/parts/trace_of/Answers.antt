@@ -1,7 +1,9 @@
 use Rattle.std.proofs.Common.{◌≡◌, ◌≤◌, ◌<◌, ◌+◌, ◌++◌, ◌∙◌, length, drop, get_or, rules, sym, ap}
 use Rattle.txs_machine.specs.RunOver.{places_of}
-use Rattle.txs_threads_gather.specs.Adds.{kept_trace, IsNotedBehind}
-use Rattle.txs_threads_gather.proofs.Adding.{noted_more, noted_all, drop_read}
+use Rattle.txs_threads_replay.specs.Adds.{kept_trace}
+use Rattle.txs_threads_replay.specs.Storing.{kept_in}
+use Rattle.txs_threads_gather.specs.Gather.{IsNotedBehind}
+use Rattle.txs_threads_gather.proofs.Tracing.{noted_more, noted_all, drop_read}
 use Rattle.txs_threads_gather.proofs.parts.trace_of.Goals as goal
 
 pub loop-i-preserved : goal.loop-i-preserved
@@ -9,7 +11,7 @@ loop-i-preserved c =
     let cells = c.args.shared.now.cells in
     let ks = c.args.kept.now in
     let i = c.loop-i.i in
-    let k = c.get.result.now in
+    let k = kept_in c.get.result.now in
     let ps = c.loop-i.trace.items in
     let later = c.note.new.trace.items in
     let within : i < length ks = search rules in

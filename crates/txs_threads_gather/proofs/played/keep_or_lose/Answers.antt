@@ -1,21 +1,27 @@
-use Rattle.std.proofs.Common.{◌≡◌, ◌∙◌, Some, rules, sym}
-use Rattle.std.proofs.lemmas.Bool.{false≢true}
-use Rattle.txs_threads_gather.proofs.Noting.{unkept, unheard}
+use Rattle.std.proofs.Common.{◌≡◌, Some, subst}
+use Rattle.txs_threads_gather.specs.Played.{IsLostBy}
+use Rattle.txs_threads_gather.proofs.Noting.{told_idle, told_stopped, told_kept, told_unkept, some_none}
 use Rattle.txs_threads_gather.proofs.played.keep_or_lose.Goals as goal
+
+pub returns-in-Idle : goal.returns-in-Idle
+returns-in-Idle c = record { told = told_idle c.args.ask c.args.reply c.args.at c.args.kept.now c.args.stopped.now c.in-Idle.is; lost = λ e. absurd (some_none _ e) }
 
 pub returns-then-not-is_exchanged : goal.returns-then-not-is_exchanged
 returns-then-not-is_exchanged c =
     let put : c.replace.new.dest ≡ Some c.args.ask = c.replace.ensures.after in
     record {
-      kept = λ _. unkept c.args.reply.now _ c.args.kept.now (c.is_exchanged.ensures.no c.if-not-is_exchanged.true);
-      stopped = λ _. put ∙ unheard c.args.reply.now c.args.ask c.args.stopped.now (c.is_exchanged.ensures.no c.if-not-is_exchanged.true) c.in_default.not-Idle;
+      told = told_stopped c.args.ask c.args.reply c.args.at c.args.kept.now c.args.stopped.now _ (c.is_exchanged.ensures.no c.if-not-is_exchanged.true) c.in_default.not-Idle put;
+      lost = λ e. absurd (some_none _ e);
     }
 
-pub returns-in_default-copy_reply : goal.returns-in_default-copy_reply
-returns-in_default-copy_reply c = record { kept = λ e. absurd (false≢true (sym e)); stopped = λ e. absurd (false≢true (sym e)) }
-
-pub returns-in-Ok-push : goal.returns-in-Ok-push
-returns-in-Ok-push c = search rules
+pub returns-in-Ok : goal.returns-in-Ok
+returns-in-Ok c = record {
+  told = told_kept c.args.ask c.args.reply c.args.at c.args.kept.now c.push_copy.new.kept c.args.stopped.now (c.is_exchanged.ensures.yes c.if-not-is_exchanged.false) c.in-Ok.ensures.kept;
+  lost = λ e. absurd (some_none _ e);
+}
 
 pub returns-in-Err : goal.returns-in-Err
-returns-in-Err c = record { kept = λ e. absurd (false≢true (sym e)); stopped = λ e. absurd (false≢true (sym e)) }
+returns-in-Err c = record {
+  told = told_unkept _ c.in-Err.ask c.args.ask c.args.reply c.args.at c.args.kept.now c.push_copy.new.kept c.args.stopped.now _ c.in-Err.ensures.back.0 c.in-Err.ensures.back.1 c.stop_unkept.ensures.told;
+  lost = λ e. subst (λ q. IsLostBy q c.args.reply) c.in-Err.ensures.back.0 (c.stop_unkept.ensures.lost e);
+}

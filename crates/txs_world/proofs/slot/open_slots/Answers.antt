@@ -1,6 +1,6 @@
 use Rattle.std.proofs.lemmas.List.{take_all}
-use Rattle.std.proofs.Common.{◌∙◌, ap, length, arith}
-use Rattle.txs_world.specs.Kept.{slot_of, open_slots}
+use Rattle.std.proofs.Common.{◌∙◌, [], ◌∷◌, ap, length, arith}
+use Rattle.txs_world.specs.Kept.{version, slot_of, open_slots}
 use Rattle.txs_world_book.specs.declared.cell.StoreCell.{StoreCell}
 use Rattle.txs_world_book.proofs.Lists.{map_next, one_more}
 use Rattle.txs_world.proofs.slot.open_slots.Goals as goal
@@ -11,12 +11,12 @@ loop-cell-init c = let h = c.in_ok-slots.ensures in record { many = ap length h.
 pub loop-cell-preserved : goal.loop-cell-preserved
 loop-cell-preserved c =
     let h = c.loop-cell in
-    let v = c.in_ok-value in
+    let v = c.in_ok-slot in
     let put = c.push_reserved in
     record {
-      many = one_more h.slots.items put.new.self.items (slot_of v.value 0) h.cell-index h.invariant.many put.ensures.items;
+      many = one_more h.slots.items put.new.self.items v.slot h.cell-index h.invariant.many put.ensures.items;
       room = put.ensures.capacity ∙ h.invariant.room;
-      built = map_next (λ (s : StoreCell). slot_of s.opening 0) c.args.cells.now h.cell-index c.cell-item.result h.slots.items put.new.self.items (slot_of v.value 0) c.loop-cell-test.true c.cell-item.is h.invariant.built put.ensures.items (ap (λ o. slot_of o 0) v.ensures);
+      built = map_next (λ (s : StoreCell). slot_of (version s.opening 0 ∷ [])) c.args.cells.now h.cell-index c.cell-item.result h.slots.items put.new.self.items v.slot c.loop-cell-test.true c.cell-item.is h.invariant.built put.ensures.items v.ensures;
     }
 
 pub push_reserved-requires : goal.push_reserved-requires

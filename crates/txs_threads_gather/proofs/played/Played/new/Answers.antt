@@ -1,5 +1,5 @@
 use Rattle.std.proofs.Common.{rules, map, sym, subst, None}
-use Rattle.txs_threads_replay.specs.Replay.{entry_of}
+use Rattle.txs_threads_replay.specs.Entries.{entry_of}
 use Rattle.txs_threads_gather.specs.Played.{HasPlayed}
 use Rattle.txs_threads_gather.proofs.Playing.{new_played}
 use Rattle.txs_threads_gather.proofs.played.Played.new.Goals as goal

@@ -1,7 +1,9 @@
+use Rattle.std.proofs.lemmas.Bool.{false≢true}
+use Rattle.txs_machine_actor.specs.declared.outcome.Turn.TheVariants as turned
 use Rattle.std.proofs.Common.{rules, ◌≡◌, map, sym, ap, subst, true, false, ◌∙◌, None}
 use Rattle.txs_machine_actor.specs.PlainActor.{unanswered}
 use Rattle.txs_machine_actor.specs.Turns.{TurnsOf}
-use Rattle.txs_threads_replay.specs.Replay.{entry_of}
+use Rattle.txs_threads_replay.specs.Entries.{entry_of}
 use Rattle.txs_threads_gather.specs.Played.{PlainPlayed, HasPlayed, IsPlayed}
 use Rattle.txs_threads_gather.proofs.Playing.{turns_played, turns_number, turns_limit}
 use Rattle.txs_threads_gather.proofs.Noting.{noted_so, says_went, says_asks, says_ended, ended_went, ended_asks, is_whole, is_free}
@@ -44,7 +46,7 @@ invariant_of-self-2 c =
     let free : unanswered a ≡ None = is_free before _ c.self.view_is c.requires.free lost in
     let was = subst (λ l. IsPlayed l before c.self.inside.asked) lost c.self.invariant.0.1 in
     let none : c.note_ask.result ≡ false = c.if-note_ask.false in (
-      (c.run.ensures.lives, c.note_ask.ensures.lost none ∙ was.0 ∙ free),
+      (c.run.ensures.lives, (c.note_ask.ensures.lost none).0 ∙ was.0 ∙ free),
       c.self.invariant.1,
       turns_limit code (map entry_of kept) at c.args.budget a b t c.run.ensures.turns was.1 ∙ c.self.invariant.2,
     )
@@ -88,6 +90,18 @@ returns-clause-asks c = λ q e. absurd (ended_asks _ q e)
 
 pub returns-clause-ended : goal.returns-clause-ended
 returns-clause-ended c = λ o e l. cc
+
+-- what is lost is an ask: the turns of the actor come to it
+pub returns-clause-asked : goal.returns-clause-asked
+returns-clause-asked c = λ l t.
+    (let q = c.note_ask.ensures.lost c.if-note_ask.false in (
+      q.1,
+      subst (λ (p : PlainPlayed). TurnsOf p.code c.args.budget p.actor (turned.Asks q.1) c.run.new.self) c.self.view_is
+          (subst (λ r. TurnsOf c.self.inside.code.now c.args.budget c.self.inside.actor r c.run.new.self) q.2 c.run.ensures.turns),
+    ))
+
+pub returns-then-note_ask-clause-asked : goal.returns-then-note_ask-clause-asked
+returns-then-note_ask-clause-asked c = λ l t. absurd (false≢true (sym c.if-self.false ∙ t))
 
 pub run-requires-clause-answered : goal.run-requires-clause-answered
 run-requires-clause-answered c =

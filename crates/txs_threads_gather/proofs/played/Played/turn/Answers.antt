@@ -1,3 +1,4 @@
+use Rattle.txs_machine_actor.specs.declared.outcome.Turn.TheVariants as turned
 use Rattle.txs_threads_gather.proofs.Playing.{one_turn}
 use Rattle.txs_threads_gather.proofs.played.Played.turn.Goals as goal
 
@@ -14,5 +15,6 @@ returns c =
       asks = run.asks;
       ended = run.ended;
       lost = run.lost;
+      asked = λ l t. (let q = run.asked l t in (q.0, one_turn c.args.self.now.code c.args.self.now.actor c.run.new.self.actor (turned.Asks q.0) q.1));
       stays = run.stays;
     }

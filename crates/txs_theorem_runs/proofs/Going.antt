@@ -1,0 +1,128 @@
+-- Where code comes to that asks for entries one after another: it was told these, each ask came in its stage, and what it sent is what it may send.
+use Rattle.std.proofs.Common.{◌≡◌, ℕ, zero, suc, List, [], ◌∷◌, ◌++◌, map, Option, Some, None, refl, sym, ap, ◌∙◌, subst, append_assoc}
+use Rattle.txs_world_protocol.specs.Ask.{Exchange}
+use Rattle.txs_world_protocol.specs.declared.ask.Ask.{Ask}
+use Rattle.txs_world_protocol.specs.declared.ask.Reply.{Reply}
+use Rattle.txs_tree_meaning.specs.Tree.{PlainFunction}
+use Rattle.txs_code_meaning.specs.ActorState.{ActorState}
+use Rattle.txs_code_meaning.specs.Machine.{ThreadCode, Configuration, Turned, Ended, Failed, Asking, Unfinished, Stuck, and_then, turn, run}
+use Rattle.txs_code_meaning.specs.Opening.{given, opening}
+use Rattle.txs_code_meaning.proofs.Acts.{run_more}
+use Rattle.txs_code_meaning.proofs.Later.{more_to_come}
+use Rattle.txs_theorem_threads.specs.Sends.{CodeSendsSound}
+use Rattle.txs_theorem_runs.specs.Agents.{HasConsumed}
+use Rattle.txs_theorem_runs.specs.Goes.{AsksNothing, WalksTo, AsksAt, GoesTo}
+use Rattle.txs_theorem_runs.specs.Run.{exchange}
+use Rattle.txs_theorem_runs.specs.Staged.{StagedCode, IsStaged, StagedFrom}
+use Rattle.txs_theorem_runs.specs.Stages.{Stage, AsksIn, stage_after}
+use Rattle.txs_theorem_runs.specs.Told.{Entry, exchange_of, AreStaged}
+use Rattle.txs_theorem_runs.proofs.Acting.{append_nil}
+use Rattle.txs_theorem_runs.proofs.Keeping.{Holds}
+use Rattle.txs_theorem_runs.proofs.Sending.{AskSound, WantSound, HoldsSound, turn_sound}
+use Rattle.txs_theorem_runs.proofs.Working.{turn_consumed}
+
+abbrev ask_or : Ask → Option Ask → Ask
+ask_or q None = q
+ask_or q (Some r) = r
+
+-- one ask is wanted
+same_want : (s : ActorState) (p q : Ask) → s.wants ≡ Some p → s.wants ≡ Some q → p ≡ q
+same_want s p q e f = ap (ask_or p) (sym e ∙ f)
+
+module _ (code : ThreadCode) where
+  -- the code came there on what it was told
+  pub record Came (xs : List Exchange) (o : Turned Configuration) : Type 0 where
+    pub turns : ℕ
+    pub ran : run code turns (opening code xs) ≡ o
+
+  pub starts : Came [] (Unfinished (opening code []))
+  starts = record { turns = 0; ran = refl }
+
+  -- one turn more
+  step : (xs : List Exchange) (c : Configuration) → Came xs (Unfinished c) → Came xs (turn code c)
+  step xs c h = record { turns = suc h.turns; ran = run_more code h.turns (opening code xs) ∙ ap (λ r. and_then r (turn code)) h.ran }
+
+  pub walked : (xs : List Exchange) (n : ℕ) (at there : Turned Configuration) → Came xs at → WalksTo code n at there → Came xs there
+  walked xs zero at there h w = subst (Came xs) w h
+  walked xs (suc n) at there h w = walked xs n (turn code w.0) there (step xs w.0 (subst (Came xs) w.1 h)) w.3
+
+  -- one exchange more
+  pub heard : (xs : List Exchange) (c : Configuration) (x : Exchange) → Came xs (Unfinished c) → Came (xs ++ x ∷ []) (turn code (given (x ∷ []) c))
+  heard xs c x h = record {
+    turns = suc h.turns;
+    ran = run_more code h.turns (opening code (xs ++ x ∷ [])) ∙ ap (λ o. and_then o (turn code)) (more_to_come code h.turns (opening code xs) c (x ∷ []) h.ran);
+  }
+
+  -- all these exchanges more
+  pub went : (es : List Entry) (xs : List Exchange) (at there : Turned Configuration) → Came xs at → GoesTo code at es there → Came (xs ++ map exchange_of es) there
+  went [] xs at there h g = subst (λ l. Came l there) (sym (append_nil xs)) (walked xs g.0 at there h g.1)
+  went (e ∷ es) xs at there h g =
+      subst (λ l. Came l there) (append_assoc xs (exchange_of e ∷ []) (map exchange_of es))
+      (went es (xs ++ exchange_of e ∷ []) (turn code (given (exchange_of e ∷ []) g.1)) there (heard xs g.1 (exchange_of e) (walked xs g.0 at (Unfinished g.1) h g.2)) g.4)
+
+  -- ---- consumed
+
+  pub walk_consumes : (n : ℕ) (at there : Turned Configuration) → HasConsumed at → WalksTo code n at there → HasConsumed there
+  walk_consumes zero at there h w = subst HasConsumed w h
+  walk_consumes (suc n) at there h w = walk_consumes n (turn code w.0) there (turn_consumed code w.0 (subst HasConsumed w.1 h)) w.3
+
+  -- ---- stages
+
+  module _ (staged : StagedCode code) where
+    turn_staged : (st : Stage) (o : Turned Configuration) (go : Ask → Reply → Turned Configuration) → AsksNothing o → StagedFrom st o go → IsStaged st o
+    turn_staged st (Ended s) go n h = h
+    turn_staged st (Failed f s) go n h = h
+    turn_staged st (Asking s) go n h = absurd n
+    turn_staged st (Unfinished d) go n h = h
+    turn_staged st Stuck go n h = tt
+
+    -- the turn from here, as it is staged
+    turn_in : (xs : List Exchange) (st : Stage) (c : Configuration) → Came xs (Unfinished c) → IsStaged st (Unfinished c) → StagedFrom st (turn code c) (λ q r. turn code (given (exchange q r ∷ []) c))
+    turn_in xs st c h s = subst (λ i. StagedFrom i (turn code c) (λ q r. turn code (given (exchange q r ∷ []) c))) s.1 (staged h.turns xs c h.ran s.0)
+
+    walk_staged : (xs : List Exchange) (st : Stage) (n : ℕ) (at there : Turned Configuration) → Came xs at → IsStaged st at → WalksTo code n at there → IsStaged st there
+    walk_staged xs st zero at there h s w = subst (IsStaged st) w s
+    walk_staged xs st (suc n) at there h s w =
+        let came : Came xs (Unfinished w.0) = subst (Came xs) w.1 h in
+        let here : IsStaged st (Unfinished w.0) = subst (IsStaged st) w.1 s in
+        walk_staged xs st n (turn code w.0) there (step xs w.0 came) (turn_staged st (turn code w.0) _ w.2 (turn_in xs st w.0 came here)) w.3
+
+    asked_staged : (st : Stage) (c : Configuration) (q : Ask) → AsksAt code c q → StagedFrom st (turn code c) (λ q r. turn code (given (exchange q r ∷ []) c))
+        → AsksIn st q × ((r : Reply) → IsStaged (stage_after st q r) (turn code (given (exchange q r ∷ []) c)))
+    asked_staged st c q a h =
+        let t : StagedFrom st (Asking a.0) (λ q r. turn code (given (exchange q r ∷ []) c)) = subst (λ o. StagedFrom st o (λ q r. turn code (given (exchange q r ∷ []) c))) a.1 h in
+        subst (λ p. AsksIn st p × ((r : Reply) → IsStaged (stage_after st p r) (turn code (given (exchange p r ∷ []) c)))) (same_want a.0 t.0 q t.1 a.2) (t.2, t.3)
+
+    pub goes_staged : (es : List Entry) (xs : List Exchange) (st : Stage) (at there : Turned Configuration) → Came xs at → IsStaged st at → GoesTo code at es there → (end : Stage) × AreStaged st es end × IsStaged end there
+    goes_staged [] xs st at there h s g = (st, refl, walk_staged xs st g.0 at there h s g.1)
+    goes_staged (e ∷ es) xs st at there h s g =
+        let c = g.1 in
+        let came : Came xs (Unfinished c) = walked xs g.0 at (Unfinished c) h g.2 in
+        let here : IsStaged st (Unfinished c) = walk_staged xs st g.0 at (Unfinished c) h s g.2 in
+        let asks = asked_staged st c e.ask g.3 (turn_in xs st c came here) in
+        let rest = goes_staged es (xs ++ exchange_of e ∷ []) (stage_after st e.ask e.reply) (turn code (given (exchange_of e ∷ []) c)) there (heard xs c (exchange_of e) came) (asks.1 e.reply) g.4 in
+        (rest.0, (asks.0, rest.1), rest.2)
+
+  -- ---- what is sent
+
+  module _ (functions : List PlainFunction) (by : CodeSendsSound functions code) where
+    abbrev Sound : Turned Configuration → Type 0
+    Sound o = Holds (HoldsSound functions) (HoldsSound functions) o
+
+    walk_sound : (n : ℕ) (at there : Turned Configuration) → Sound at → WalksTo code n at there → Sound there
+    walk_sound zero at there h w = subst Sound w h
+    walk_sound (suc n) at there h w = walk_sound n (turn code w.0) there (turn_sound functions code by w.0 (subst Sound w.1 h)) w.3
+
+    -- each of these asks sends only what a program may send
+    abbrev pub SendSound : List Entry → Type 0
+    SendSound [] = Unit {0}
+    SendSound (e ∷ es) = AskSound functions e.ask × SendSound es
+
+    asked_sound : (c : Configuration) (q : Ask) → AsksAt code c q → Sound (turn code c) → AskSound functions q
+    asked_sound c q a h = subst (WantSound functions) a.2 (subst Sound a.1 h).1
+
+    pub goes_sound : (es : List Entry) (at there : Turned Configuration) → Sound at → GoesTo code at es there → SendSound es
+    goes_sound [] at there h g = tt
+    goes_sound (e ∷ es) at there h g =
+        let here : HoldsSound functions g.1.state = walk_sound g.0 at (Unfinished g.1) h g.2 in
+        (asked_sound g.1 e.ask g.3 (turn_sound functions code by g.1 here), goes_sound es (turn code (given (exchange_of e ∷ []) g.1)) there (turn_sound functions code by (given (exchange_of e ∷ []) g.1) here) g.4)

@@ -1,0 +1,23 @@
+use Rattle.std.proofs.Common.{◌≡◌, ◌≤◌, ◌<◌, ◌==◌, ◌++◌, ◌∙◌, ℕ, suc, Bool, true, false, List, [], Option, Some, None, length, map, take, refl, sym, ap, subst, rules, arith, if◌then◌else◌}
+use Rattle.std.specs.Prelude.{◌↔◌, IsTrue}
+use Rattle.std.proofs.lemmas.Bool.{false≢true}
+use Rattle.txs_value_data.specs.declared.value.CellId.{CellId}
+use Rattle.txs_value_data.specs.declared.value.Value.{Value}
+use Rattle.txs_world_protocol.specs.declared.ask.Ask.TheVariants as ask
+use Rattle.txs_world_protocol.specs.declared.ask.Reply.{Reply}
+use Rattle.txs_world_protocol.specs.declared.ask.Reply.TheVariants as reply
+use Rattle.txs_world_protocol.specs.declared.event.EventKind.TheVariants as event
+use Rattle.txs_world_book.specs.Served.{cells_of, event_of}
+use Rattle.txs_world_shared.specs.SharedState.{shared_of, numbered_book}
+use Rattle.txs_threads_replay.specs.Fits.{LooksAt}
+use Rattle.txs_threads_replay.proofs.Fitting.{view_is}
+use Rattle.txs_threads_replay.proofs.Testing.{no, views_is}
+use Rattle.txs_threads_replay.specs.ByPlace.{named_or}
+use Rattle.txs_threads_replay.proofs.index.Index.views.Goals as goal
+
+pub returns-in-Views : goal.returns-in-Views
+returns-in-Views c = λ own. subst (λ r. IsTrue c.is_view.result ↔ LooksAt c.args.self.now c.args.actor (ask.View c.args.cells.now) (named_or own r) r) (sym c.in-Views.is)
+    (subst (λ vs. IsTrue c.is_view.result ↔ LooksAt c.args.self.now c.args.actor (ask.View c.args.cells.now) c.in-Views.place (reply.Views c.in-Views.place vs)) c.as_slice.ensures c.is_view.ensures)
+
+pub returns-in_default : goal.returns-in_default
+returns-in_default c = λ own. no (λ l. let i = views_is c.args.reply.now (view_is c.args.self.now c.shared-stands.ensures.stands c.args.actor c.args.cells.now (named_or own c.args.reply.now) c.args.reply.now l) in c.in_default.not-Views i.0 i.1 i.2)

@@ -1,0 +1,34 @@
+-- When an ask with its reply looks right at a place, told in parts.
+use Rattle.std.specs.Prelude.{◌≡◌, ℕ, suc, true, false, List, length, take, Option, Some, None}
+use Rattle.txs_value_cell.specs.declared.action.Action.{Action}
+use Rattle.txs_value_data.specs.declared.value.CellId.{CellId}
+use Rattle.txs_world_protocol.specs.Ask.{Writes}
+use Rattle.txs_world_protocol.specs.declared.ask.Ask.{Ask}
+use Rattle.txs_world_protocol.specs.declared.ask.Reply.{Reply}
+use Rattle.txs_world_protocol.specs.declared.event.Event.{Event}
+use Rattle.txs_world_book.specs.Atom.{swapped_since}
+use Rattle.txs_world_book.specs.Book.{cells_in, are_refs, has_refs, are_sends, may_name, newest, opening, mail_after}
+use Rattle.txs_world_book.specs.Served.{cells_of}
+use Rattle.txs_world_book.specs.declared.cell.StoreCell.{StoreCell}
+use Rattle.txs_world.specs.Store.{are_apart, next_action, takes}
+use Rattle.txs_world_shared.specs.SharedState.{PlainShared, shared_of, numbered_book}
+use Rattle.txs_threads_replay.specs.Looks.{EntryLooks, entry_at}
+
+-- an actor's ask with this reply looks right at a place of the books
+abbrev pub LooksAt : PlainShared → ℕ → Ask → ℕ → Reply → Type 0
+LooksAt s a q k r = EntryLooks s.cells s.threads (shared_of s).books a (entry_at q k r)
+
+-- the store has what a commit names, but for places
+abbrev pub HasCommit : List StoreCell → Writes → List CellId → Writes → List Action → Type 0
+HasCommit cells sets ensured commuted sends =
+    (are_refs cells 0 (cells_in sets) ≡ true) × (has_refs cells ensured ≡ true) × (are_refs cells 0 (cells_in commuted) ≡ true) × (are_apart (cells_in commuted) (cells_in sets) ≡ true) × (are_sends cells sends ≡ true)
+
+-- what an agent takes after so many events
+abbrev pub taken_at : PlainShared → CellId → ℕ → Reply
+taken_at s g k =
+    takes (next_action (cells_of s.cells) (take k (numbered_book s 0)) g) (suc (mail_after (cells_of s.cells) (take k (numbered_book s 0)) g.number).acts) (newest (opening (cells_of s.cells)) (take k (numbered_book s 0)) g.number)
+
+-- a swap that was opened at a place, or a reset, may end after these events, and the atom hasn't changed
+abbrev pub MayClose : List Event → ℕ → Option ℕ → Type 0
+MayClose book a None = Unit {0}
+MayClose book a (Some p) = (may_name true book a p ≡ true) × (swapped_since p book ≡ false)

@@ -1,0 +1,123 @@
+//! Whether what actors kept agrees with the books.
+
+ghost use Rattle.std.specs.Prelude.{◌≡◌, ◌<◌, ◌+◌, ◌↔◌, ℕ, [], length, true, false, IfOk, IsTrue};
+ghost use Rattle.std.proofs.Common.{drop};
+ghost use Rattle.txs_world_shared.specs.SharedState.{numbered_book};
+ghost use Rattle.txs_threads_replay.specs.Adds.{adds_event};
+ghost use Rattle.txs_threads_replay.specs.ByPlace.{AreBelow, HoldsByPlace, next_place};
+ghost use Rattle.txs_threads_replay.specs.Agrees.{IsClaimed, AllClaimed};
+ghost use Rattle.txs_threads_replay.specs.Storing.{kept_in};
+
+use crate::by_place::are_below;
+use crate::index::Index;
+use crate::kept::KeptEntries;
+use crate::stored::Stored;
+use std::alloc::{AllocError, Global};
+use txs_world_protocol::{Ask, Reply};
+use txs_world_shared::SharedState;
+
+/// Whether an ask that was answered so added an event to its book.
+pub fn adds_event(ask: &Ask, reply: &Reply) -> bool
+    ensures { result ≡ adds_event ask.now reply.now }
+{
+    match ask {
+        Ask::Begin | Ask::View { .. } | Ask::Take { .. } | Ask::OpenAt { .. } => false,
+        Ask::Look { .. } => matches!(reply, Reply::Retry(_)),
+        Ask::CloseAt { .. } => matches!(reply, Reply::Done),
+        _ => !matches!(reply, Reply::Full),
+    }
+}
+
+/// Whether each event of the books is of one of the first so many actors.
+pub fn all_below(shared: &SharedState, actors: usize) -> bool
+    ensures { IsTrue result ↔ ((n : ℕ) → AreBelow actors (numbered_book shared.now n)) }
+{
+    for n in 0..shared.books() {
+        if !are_below(shared.numbered_events(n), actors) {
+            return false;
+        }
+    }
+    true
+}
+
+impl Index<'_> {
+    /// The place of the event of the entry behind this one: the end of the store's book, where there is none.
+    fn next_place(&self, kept: &KeptEntries, i: usize) -> usize
+        requires { i < length kept.now }
+        ensures { result ≡ next_place (length (numbered_book self.now 0)) (drop (i + 1) kept.now) }
+    {
+        let count = kept.len();
+        if i + 1 < count {
+            kept.get(i + 1).at() as usize
+        } else {
+            self.len()
+        }
+    }
+
+    /// Takes the event that an entry added, if it added one, as the next one of its actor in its book: whether it is that. Of each book it is noted how many of
+    /// the actor's events were taken.
+    fn claim(&self, taken: &mut Vec<usize>, actor: u16, kept: &Stored) -> bool
+        requires { length taken.old.items ≡ length self.now.books }
+        ensures { IsClaimed self.now actor (kept_in kept.now) result taken.old.items taken.new.items }
+    {
+        if !kept.adds_event() {
+            return true;
+        }
+        let book = kept.book(self.shared());
+        if book >= taken.len() {
+            // A book that isn't there has no events.
+            return false;
+        }
+        let own = self.own(book, actor);
+        let next = taken[book];
+        if next >= own.len() {
+            return false;
+        }
+        if own[next] != kept.at() as usize {
+            return false;
+        }
+        taken[book] = next + 1;
+        true
+    }
+
+    /// Whether all events of the actor were taken.
+    fn all_claimed(&self, taken: &[usize], actor: u16) -> bool
+        requires { length taken.now ≡ length self.now.books }
+        ensures { IsTrue result ↔ AllClaimed self.now actor taken.now }
+    {
+        for book in 0..taken.len() {
+            let own = self.own(book, actor);
+            if taken[book] < own.len() {
+                return false;
+            }
+        }
+        true
+    }
+
+    /// Whether what an actor kept agrees with the books: each entry looks right at its place, what they added are the actor's events in each book, in order, and its
+    /// actions come in turn.
+    ///
+    /// # Errors
+    /// `AllocError` where there was no memory to tell.
+    pub fn agrees(&self, alloc: Global, actor: u16, kept: &KeptEntries) -> Result<bool, AllocError>
+        ensures { IfOk result (λ ok. IsTrue ok ↔ HoldsByPlace self.now actor kept.now) }
+    {
+        let mut taken = vec![in alloc; 0usize; self.shared().books()]?;
+        let mut held = false;
+        for i in 0..kept.len() {
+            let one = kept.get(i);
+            let next = self.next_place(kept, i);
+            if !one.in_turn(held) {
+                return Ok(false);
+            }
+            if !self.fits(actor, one, next) {
+                return Ok(false);
+            }
+            if !self.claim(&mut taken, actor, one) {
+                return Ok(false);
+            }
+            held = one.held_after(held);
+        }
+        Ok(self.all_claimed(taken.as_slice(), actor))
+    }
+}

@@ -1,0 +1,25 @@
+use Rattle.std.proofs.Common.{◌≡◌, ◌∙◌, arith, subst, sym, true}
+use Rattle.txs_world_book.specs.Book.{has_ref, opening}
+use Rattle.txs_world.specs.Inboxes.{plain_inboxes}
+use Rattle.txs_world.specs.Store.{PlainStore}
+use Rattle.txs_world.proofs.Kept.{ref_in}
+use Rattle.txs_world.proofs.Storing.{slot_read, ref_is_cell}
+use Rattle.txs_world.proofs.Versions.{kept_value}
+use Rattle.txs_world.proofs.store.Store.kept.Goals as goal
+
+pub returns : goal.returns
+returns c =
+    let x = c.self.inside in
+    let s = c.args.self.now in
+    c.value_at.ensures ∙ kept_value (opening s.cells) s.book c.args.cell.number c.args.at c.index.result.now
+    (slot_read s x.cells x.threads x.slots.items (plain_inboxes x.inboxes.items) x.journal.views.items x.journal.tries.items x.journal.book.items c.from.result c.index.result.now c.args.cell
+    c.self.view_is c.self.invariant (ref_is_cell s.cells c.args.cell c.requires) c.from.ensures c.index.ensures)
+
+pub index-requires : goal.index-requires
+index-requires c =
+    let x = c.self.inside in
+    let in_cells = ref_in x.cells c.args.cell (subst (λ (s : PlainStore). has_ref s.cells c.args.cell ≡ true) (sym c.self.view_is) c.requires) in
+    let many = c.self.invariant.many in
+    let is = c.from.ensures in
+    let size = x.slots.ok.0 in
+    omega (arith, in_cells, many, is, size)
