@@ -14,7 +14,7 @@ use std::thread::Threads;
 use std::{env, fs, io};
 use txs_cli::play_with;
 use txs_cli_args::{Words, parse_words};
-use txs_cli_report::told::{DONE, UNUSABLE};
+use txs_cli_report::told::{DONE, SPENT, UNUSABLE};
 use txs_cli_report::write_told;
 use txs_code_meaning::Verified;
 use txs_machine::{Entries, RunError};
@@ -78,6 +78,15 @@ fn explain_file(rt: &HostRuntime, words: &Words, name: &str, error: &io::Error) 
     }
 }
 
+/// Says that there is a file of the name under which the code would be written first, where the words ask for explanations.
+fn explain_part(rt: &HostRuntime, words: &Words, name: &str) {
+    if explains(words) {
+        let _ = eprintln!(rt;
+            "{name}.part: the code is written there first, and this file is there"
+        );
+    }
+}
+
 /// Plays the words on their file or on standard input, over this writer.
 fn play_on<
     X: Fn(Global, &Verified, usize, u64) -> Result<(SharedState, Entries), RunError>,
@@ -101,6 +110,60 @@ fn play_on<
     }
 }
 
+/// Whether a file is there that isn't made of bytes on a disk, as a pipe or a device.
+fn is_special(rt: &HostRuntime, out: &str) -> bool {
+    match fs::metadata(rt, out) {
+        Ok(data) => !data.is_file(),
+        Err(_) => false,
+    }
+}
+
+/// Writes a new file beside this one, and gives it this name once it is whole. So where it fails, what was there is left as it is.
+fn write_beside(rt: &HostRuntime, out: &str, code: &[u8]) -> io::Result<()> {
+    let mut part = String::new(rt.alloc());
+    part.push_str(out)?;
+    part.push_str(".part")?;
+    let mut file = File::create_new(rt, part.as_str())?;
+    let written = match file.write_all(code) {
+        Ok(()) => fs::rename(rt, part.as_str(), out),
+        Err(error) => Err(error),
+    };
+    if written.is_err() {
+        let _ = fs::remove_file(rt, part.as_str());
+    }
+    written
+}
+
+/// Writes the code to the file of this name: a link is followed, and a pipe or a device is written to as it is.
+fn write_code(rt: &HostRuntime, out: &str, code: &[u8]) -> io::Result<()> {
+    if is_special(rt, out) {
+        return fs::write(rt, out, code);
+    }
+    match fs::canonicalize(rt, out) {
+        Ok(path) => write_beside(rt, path.as_path().as_str(), code),
+        Err(_) => write_beside(rt, out, code),
+    }
+}
+
+/// Whether two names are of one file that is there.
+fn are_one(rt: &HostRuntime, one: &str, other: &str) -> bool {
+    match (fs::canonicalize(rt, one), fs::canonicalize(rt, other)) {
+        (Ok(a), Ok(b)) => a.as_path().as_str() == b.as_path().as_str(),
+        _ => false,
+    }
+}
+
+/// Whether the code would go over the script that it is compiled from, also where that is a file that standard input is read from.
+fn covers_source(rt: &HostRuntime, words: &Words, out: &str) -> bool {
+    let name = file_of(words).unwrap_or("/dev/stdin");
+    !is_special(rt, out) && are_one(rt, name, out)
+}
+
+/// A line on the standard error, and this status.
+fn complain(rt: &HostRuntime, line: &[u8], status: u8) -> u8 {
+    write_told(&[], line, status, &mut io::writer(rt), &mut rt.stderr())
+}
+
 /// Plays words whose code goes to a file. That is written where all went well, and else left as it is.
 fn build_to<X: Fn(Global, &Verified, usize, u64) -> Result<(SharedState, Entries), RunError>>(
     rt: &HostRuntime,
@@ -111,22 +174,27 @@ fn build_to<X: Fn(Global, &Verified, usize, u64) -> Result<(SharedState, Entries
     requires call { (a : _) (code : _) (n : _) (steps : _) → IsRunnable code.now → X.pre runner.now a code n steps }
     requires ran { (a : _) (code : _) (n : _) (steps : _) (r : _) → X.post runner.now a code n steps r → RunsLawfully code.now steps r }
 {
+    if covers_source(rt, words, out) {
+        return complain(
+            rt,
+            b"error: the file of --out is the script itself\n",
+            UNUSABLE,
+        );
+    }
     let mut code = Vec::new(rt.alloc());
     let status = play_on(rt, runner, words, &mut code);
     if status != DONE {
         return status;
     }
-    match fs::write(rt, out, code) {
+    match write_code(rt, out, code.as_slice()) {
         Ok(()) => DONE,
         Err(error) => {
-            let status = write_told(
-                &[],
-                b"write failed\n",
-                UNUSABLE,
-                &mut io::writer(rt),
-                &mut rt.stderr(),
-            );
-            explain_file(rt, words, out, &error);
+            let status = complain(rt, b"write failed\n", UNUSABLE);
+            if error.kind() == ErrorKind::AlreadyExists {
+                explain_part(rt, words, out);
+            } else {
+                explain_file(rt, words, out, &error);
+            }
             status
         }
     }
@@ -168,9 +236,28 @@ fn play_by_workers<T: Threads + Wait + Sync>(rt: &HostRuntime, threads: &T, word
     )
 }
 
-fn main(rt: HostRuntime) -> io::Result<ExitCode> {
-    let args = args_of(&rt)?;
-    let words = parse_words(rt.alloc(), args.as_slice())?;
-    let status = play_by_workers(&rt, &rt, &words);
-    Ok(ExitCode::from(status))
+/// Says why the arguments couldn't be read: there is no memory for them, or one isn't UTF-8.
+fn unread(rt: &HostRuntime, error: &io::Error) -> u8 {
+    match error.kind() {
+        ErrorKind::OutOfMemory => complain(rt, b"out of memory\n", SPENT),
+        _ => complain(
+            rt,
+            b"error: invalid UTF-8 was detected in one or more arguments\n",
+            UNUSABLE,
+        ),
+    }
+}
+
+/// The words of the command line.
+fn words_of(rt: &HostRuntime) -> io::Result<Words> {
+    let args = args_of(rt)?;
+    Ok(parse_words(rt.alloc(), args.as_slice())?)
+}
+
+fn main(rt: HostRuntime) -> ExitCode {
+    let status = match words_of(&rt) {
+        Ok(words) => play_by_workers(&rt, &rt, &words),
+        Err(error) => unread(&rt, &error),
+    };
+    ExitCode::from(status)
 }

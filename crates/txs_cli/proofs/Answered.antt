@@ -4,6 +4,7 @@ use Rattle.std.specs.Option.{IfSome}
 use Rattle.txs_code_load.specs.Load.{IsRefusal}
 use Rattle.txs_code_load.specs.declared.error.LoadError.{LoadError}
 use Rattle.txs_code_load.specs.declared.error.LoadError.TheVariants.{Memory as NoMemory}
+use Rattle.txs_code_meaning.specs.PlainCode.{PlainCode}
 use Rattle.txs_machine.specs.ErrorName.{error_name}
 use Rattle.txs_machine.specs.declared.run_error.RunError.{RunError}
 use Rattle.txs_machine.specs.declared.run_error.RunError.TheVariants.{Memory}
@@ -38,10 +39,10 @@ unread_told (Ok t) known P unread is = some_always known (λ input. P input (tol
 unread_told (Err e) known P unread is = tt
 
 -- of bytes that are refused
-pub refused_answered : {E : Type 0} (r : Result owned.Told E) (bytes : List ℕ) (steps : ℕ) (cells events : Bool) (e : LoadError) → IsRefusal bytes e → IfOk r (λ t. e ≢ NoMemory)
-    → IfOk r (λ t. t.output.items ≡ []) → IfOk r (λ t. t.errors.items ≡ load_line e) → IfOk r (λ t. t.status ≡ 1) → IfOk r (λ t. WorkedCodeTells bytes steps cells events (told_of t))
-refused_answered (Ok t) bytes steps cells events e refused told output errors status = of_refused e told refused output errors status
-refused_answered (Err x) bytes steps cells events e refused told output errors status = tt
+pub refused_answered : {E : Type 0} (r : Result owned.Told E) (failed : PlainCode → RunError → Type 0) (bytes : List ℕ) (steps : ℕ) (cells events : Bool) (e : LoadError) → IsRefusal bytes e → IfOk r (λ t. e ≢ NoMemory)
+    → IfOk r (λ t. t.output.items ≡ []) → IfOk r (λ t. t.errors.items ≡ load_line e) → IfOk r (λ t. t.status ≡ 1) → IfOk r (λ t. WorkedCodeTells failed bytes steps cells events (told_of t))
+refused_answered (Ok t) failed bytes steps cells events e refused told output errors status = of_refused e told refused output errors status
+refused_answered (Err x) failed bytes steps cells events e refused told output errors status = tt
 
 -- of a run that has no report
 pub failure_answered : {E : Type 0} (r : Result owned.Told E) (failure : RunError) → failure ≢ Memory → IfOk r (λ t. t.output.items ≡ [])

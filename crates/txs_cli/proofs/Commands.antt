@@ -2,6 +2,8 @@
 use Rattle.std.proofs.Common.{◌≡◌, ℕ, Bool, List, [], Option, String, Global, sym, subst, subst₂}
 use Rattle.std.specs.Prelude.{string_bytes}
 use Rattle.std.specs.Option.{IfSome}
+use Rattle.txs_code_meaning.specs.PlainCode.{PlainCode}
+use Rattle.txs_machine.specs.declared.run_error.RunError.{RunError}
 use Rattle.txs_cli_report.specs.Lines.{Script}
 use Rattle.txs_cli_report.specs.Told.{Told, ScheduleTells, front}
 use Rattle.txs_cli_report.proofs.Fronts.{some_maps}
@@ -52,17 +54,17 @@ pub work_code_told : (known : Option (List ℕ)) (writes : Told → Type 0) (wor
 work_code_told known writes words file workers steps cells events is h = subst (λ (w : Words). IfSome known (λ input. (t : Told) × WordsTell input w t × writes t)) (sym is) h
 
 -- what is told of a script's run by workers is what those words tell
-pub worked_told : (known : Option (List ℕ)) (writes : Told → Type 0) (words : Words) (file : Option (String Global)) (workers steps : ℕ) (cells events explain : Bool) (name : Option (List ℕ))
+pub worked_told : (failed : PlainCode → ℕ → ℕ → RunError → Type 0) (known : Option (List ℕ)) (writes : Told → Type 0) (words : Words) (file : Option (String Global)) (workers steps : ℕ) (cells events explain : Bool) (name : Option (List ℕ))
     → words ≡ Work file workers steps cells events explain → name ≡ explained_as explain file
-    → IfSome known (λ input. (t : Told) × StreamWorkedTells (record { text = front input; file = name }) steps cells events t × writes t)
-    → IfSome known (λ input. (t : Told) × WorkedWordsTell input words t × writes t)
-worked_told known writes words file workers steps cells events explain name is named h =
-    subst (λ (w : Words). IfSome known (λ input. (t : Told) × WorkedWordsTell input w t × writes t)) (sym is)
-    (subst (λ (n : Option (List ℕ)). IfSome known (λ input. (t : Told) × StreamWorkedTells (script_named (front input) n) steps cells events t × writes t)) named h)
+    → IfSome known (λ input. (t : Told) × StreamWorkedTells (λ code. failed code workers steps) (record { text = front input; file = name }) steps cells events t × writes t)
+    → IfSome known (λ input. (t : Told) × WorkedWordsTell failed input words t × writes t)
+worked_told failed known writes words file workers steps cells events explain name is named h =
+    subst (λ (w : Words). IfSome known (λ input. (t : Told) × WorkedWordsTell failed input w t × writes t)) (sym is)
+    (subst (λ (n : Option (List ℕ)). IfSome known (λ input. (t : Told) × StreamWorkedTells (λ code. failed code workers steps) (script_named (front input) n) steps cells events t × writes t)) named h)
 
 -- the same of code
-pub worked_code_told : (known : Option (List ℕ)) (writes : Told → Type 0) (words : Words) (file : Option (String Global)) (workers steps : ℕ) (cells events : Bool)
+pub worked_code_told : (failed : PlainCode → ℕ → ℕ → RunError → Type 0) (known : Option (List ℕ)) (writes : Told → Type 0) (words : Words) (file : Option (String Global)) (workers steps : ℕ) (cells events : Bool)
     → words ≡ WorkCode file workers steps cells events
-    → IfSome known (λ input. (t : Told) × StreamWorkedCodeTells input steps cells events t × writes t)
-    → IfSome known (λ input. (t : Told) × WorkedWordsTell input words t × writes t)
-worked_code_told known writes words file workers steps cells events is h = subst (λ (w : Words). IfSome known (λ input. (t : Told) × WorkedWordsTell input w t × writes t)) (sym is) h
+    → IfSome known (λ input. (t : Told) × StreamWorkedCodeTells (λ code. failed code workers steps) input steps cells events t × writes t)
+    → IfSome known (λ input. (t : Told) × WorkedWordsTell failed input words t × writes t)
+worked_code_told failed known writes words file workers steps cells events is h = subst (λ (w : Words). IfSome known (λ input. (t : Told) × WorkedWordsTell failed input w t × writes t)) (sym is) h

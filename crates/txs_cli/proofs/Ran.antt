@@ -2,6 +2,7 @@
 use Rattle.std.proofs.Common.{◌≡◌, ◌++◌, ◌∙◌, ℕ, Bool, List, ap, subst, sym}
 use Rattle.txs_code_meaning.specs.PlainCode.{PlainCode}
 use Rattle.txs_code_load.specs.Load.{IsFormOf}
+use Rattle.txs_machine.specs.declared.run_error.RunError.{RunError}
 use Rattle.txs_world_shared.specs.SharedState.{numbered_book}
 use Rattle.txs_cli_report.specs.Lines.{Script, all_printed}
 use Rattle.txs_cli_report.specs.Told.{Told, EndsTold, IsCompiled, cells_told, events_told}
@@ -15,9 +16,9 @@ use Rattle.txs_tree_meaning.specs.Tree.{PlainProgram}
 use Rattle.txs_value_cell.specs.declared.cell.CellDefinition.{CellDefinition}
 
 -- of a script, whose program explains the run, and has the code's cells
-pub of_script : (script : Script) (p : PlainProgram) (code : PlainCode) (steps : ℕ) (cells events : Bool) (t : Told)
-    → IsCompiled script.text p code → RunTold code script steps cells events t → WorkedTells script steps cells events t
-of_script script p code steps cells events t compiled (of_report shared report worked told) =
+pub of_script : (failed : PlainCode → RunError → Type 0) (script : Script) (p : PlainProgram) (code : PlainCode) (steps : ℕ) (cells events : Bool) (t : Told)
+    → IsCompiled script.text p code → RunTold (failed code) code script steps cells events t → WorkedTells failed script steps cells events t
+of_script failed script p code steps cells events t compiled (of_report shared report worked told) =
     script_told.of_run p code compiled
     (record {
       shared = shared;
@@ -28,12 +29,12 @@ of_script script p code steps cells events t compiled (of_report shared report w
       errors = told.errors;
       status = told.status;
     })
-of_script script p code steps cells events t compiled (of_failure failure told) = script_told.of_failure p compiled.program failure told.told told.output told.errors told.status
+of_script failed script p code steps cells events t compiled (of_failure failure so told) = script_told.of_failure p code compiled failure so told.told told.output told.errors told.status
 
 -- of bytes, of which no line is explained
-pub of_bytes : (bytes : List ℕ) (code : PlainCode) (script : Script) (steps : ℕ) (cells events : Bool) (t : Told)
-    → IsFormOf bytes code → script ≡ no_script → RunTold code script steps cells events t → WorkedCodeTells bytes steps cells events t
-of_bytes bytes code script steps cells events t of none (of_report shared report worked told) =
+pub of_bytes : (failed : PlainCode → RunError → Type 0) (bytes : List ℕ) (code : PlainCode) (script : Script) (steps : ℕ) (cells events : Bool) (t : Told)
+    → IsFormOf bytes code → script ≡ no_script → RunTold (failed code) code script steps cells events t → WorkedCodeTells failed bytes steps cells events t
+of_bytes failed bytes code script steps cells events t of none (of_report shared report worked told) =
     code_told.of_run code of
     (record {
       shared = shared;
@@ -43,4 +44,4 @@ of_bytes bytes code script steps cells events t of none (of_report shared report
       errors = subst (λ (s : Script). EndsTold code.cells s shared report.threads.items report.agents.items t.errors) none told.errors;
       status = told.status;
     })
-of_bytes bytes code script steps cells events t of none (of_failure failure told) = code_told.of_failure code of failure told.told told.output told.errors told.status
+of_bytes failed bytes code script steps cells events t of none (of_failure failure so told) = code_told.of_failure code of failure so told.told told.output told.errors told.status

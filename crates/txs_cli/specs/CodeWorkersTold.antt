@@ -26,16 +26,16 @@ pub record CodeWorkersTell (code : PlainCode) (steps : ℕ) (cells events : Bool
   pub status : t.status ≡ run_status code.cells shared report.threads.items report.agents.items
 
 -- What is told of bytes whose code workers are to run: what the run of the code that they are the form of told, that they are refused, truly, or why the run has
--- no report.
-pub data WorkedCodeTells (bytes : List ℕ) (steps : ℕ) (cells events : Bool) (t : Told) : Type 0 where
-  of_run : (code : PlainCode) (of : IsFormOf bytes code) (told : CodeWorkersTell code steps cells events t) → WorkedCodeTells bytes steps cells events t
-  of_refused : (e : LoadError) (told : e ≢ NoMemory) (refused : IsRefusal bytes e) (output : t.output ≡ []) (errors : t.errors ≡ load_line e) (status : t.status ≡ 1) → WorkedCodeTells bytes steps cells events t
+-- no report, where what runs the code may have failed so.
+pub data WorkedCodeTells (failed : PlainCode → RunError → Type 0) (bytes : List ℕ) (steps : ℕ) (cells events : Bool) (t : Told) : Type 0 where
+  of_run : (code : PlainCode) (of : IsFormOf bytes code) (told : CodeWorkersTell code steps cells events t) → WorkedCodeTells failed bytes steps cells events t
+  of_refused : (e : LoadError) (told : e ≢ NoMemory) (refused : IsRefusal bytes e) (output : t.output ≡ []) (errors : t.errors ≡ load_line e) (status : t.status ≡ 1) → WorkedCodeTells failed bytes steps cells events t
   of_failure :
-      (code : PlainCode) (of : IsFormOf bytes code) (failure : RunError) (told : failure ≢ Memory)
-      (output : t.output ≡ []) (errors : t.errors ≡ (codes "run failed: " ++ error_name failure) ++ codes "\n") (status : t.status ≡ 4) → WorkedCodeTells bytes steps cells events t
+      (code : PlainCode) (of : IsFormOf bytes code) (failure : RunError) (so : failed code failure) (told : failure ≢ Memory)
+      (output : t.output ≡ []) (errors : t.errors ≡ (codes "run failed: " ++ error_name failure) ++ codes "\n") (status : t.status ≡ 4) → WorkedCodeTells failed bytes steps cells events t
 
 -- What is told of a stream of such bytes: that it couldn't be read, that there was no memory, or what is told of the bytes.
-pub data StreamWorkedCodeTells (bytes : List ℕ) (steps : ℕ) (cells events : Bool) (t : Told) : Type 0 where
-  of_bytes : (told : WorkedCodeTells bytes steps cells events t) → StreamWorkedCodeTells bytes steps cells events t
-  of_unread : (output : t.output ≡ []) (errors : t.errors ≡ codes "read failed" ++ codes "\n") (status : t.status ≡ 2) → StreamWorkedCodeTells bytes steps cells events t
-  of_memory : (output : t.output ≡ []) (errors : t.errors ≡ codes "out of memory\n") (status : t.status ≡ 4) → StreamWorkedCodeTells bytes steps cells events t
+pub data StreamWorkedCodeTells (failed : PlainCode → RunError → Type 0) (bytes : List ℕ) (steps : ℕ) (cells events : Bool) (t : Told) : Type 0 where
+  of_bytes : (told : WorkedCodeTells failed bytes steps cells events t) → StreamWorkedCodeTells failed bytes steps cells events t
+  of_unread : (output : t.output ≡ []) (errors : t.errors ≡ codes "read failed" ++ codes "\n") (status : t.status ≡ 2) → StreamWorkedCodeTells failed bytes steps cells events t
+  of_memory : (output : t.output ≡ []) (errors : t.errors ≡ codes "out of memory\n") (status : t.status ≡ 4) → StreamWorkedCodeTells failed bytes steps cells events t

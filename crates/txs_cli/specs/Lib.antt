@@ -1,3 +1,4 @@
+pub mod CodeStream
 pub mod CodeTold
 pub mod CodeWorkersTold
 pub mod LentCode

@@ -24,8 +24,8 @@ pub record FailureTells (failure : RunError) (t : Told) : Type 0 where
   pub errors : t.errors ≡ (codes "run failed: " ++ error_name failure) ++ codes "\n"
   pub status : t.status ≡ 4
 
--- What is told of a run in which each actor makes no more than so many steps: what its report tells, or why it has none.
-pub data RunTold (code : PlainCode) (script : Script) (steps : ℕ) (cells events : Bool) (t : Told) : Type 0 where
+-- What is told of a run in which each actor makes no more than so many steps: what its report tells, or why it has none, where what runs the code may have failed so.
+pub data RunTold (failed : RunError → Type 0) (code : PlainCode) (script : Script) (steps : ℕ) (cells events : Bool) (t : Told) : Type 0 where
   of_report :
-      (shared : PlainShared) (report : Entries) (worked : IsWorked code steps shared report) (told : ReportTells code script shared report cells events t) → RunTold code script steps cells events t
-  of_failure : (failure : RunError) (told : FailureTells failure t) → RunTold code script steps cells events t
+      (shared : PlainShared) (report : Entries) (worked : IsWorked code steps shared report) (told : ReportTells code script shared report cells events t) → RunTold failed code script steps cells events t
+  of_failure : (failure : RunError) (so : failed failure) (told : FailureTells failure t) → RunTold failed code script steps cells events t

@@ -1,12 +1,14 @@
 -- What runs all threads and agents of a code, whoever makes the turns.
-use Rattle.std.specs.Prelude.{◌≡◌, ◌+◌, ◌≤◌, ℕ, List, IfOk, Some, length}
-use Rattle.std.proofs.Common.{Result}
+use Rattle.std.specs.Prelude.{◌≡◌, ◌+◌, ◌≤◌, ℕ, List, IfOk, Some, Err, length}
+use Rattle.std.specs.Borrow.{Bor}
+use Rattle.std.proofs.Common.{Global, Result}
 use Rattle.txs_code_meaning.specs.PlainCode.{PlainCode}
 use Rattle.txs_machine.specs.Agents.{agents_of, AgentHasDone, AreDrained, AreExplainedBy}
 use Rattle.txs_machine.specs.RunOver.{IsStateOf, books_of}
 use Rattle.txs_machine.specs.RunTheorem.{HasDone}
 use Rattle.txs_machine.specs.Schedule.{HaveEnded}
 use Rattle.txs_machine.specs.declared.run_error.RunError.{RunError}
+use Rattle.txs_machine.specs.declared.run_error.RunError.TheVariants.{JournalMismatch, NoThread, Memory}
 use Rattle.txs_machine.specs.declared.schedule.Entries.{Entries}
 use Rattle.txs_world_protocol.specs.declared.report.Ran.{Ran}
 use Rattle.txs_world_shared.specs.SharedState.{PlainShared, shared_of}
@@ -40,3 +42,13 @@ pub record IsWorked (code : PlainCode) (steps : ℕ) (s : PlainShared) (report :
 -- a run that has a report is such a one
 abbrev pub RunsLawfully : PlainCode → ℕ → Result (PlainShared × Entries) RunError → Type 0
 RunsLawfully code steps r = IfOk r (λ ran. IsWorked code steps ran.0 ran.1)
+
+-- what runs code, which answers so, has failed so of this code, with so many workers and so many steps of each actor
+abbrev pub HasFailed : (Global → Bor PlainCode → ℕ → ℕ → Result (PlainShared × Entries) RunError → Type 0) → PlainCode → ℕ → ℕ → RunError → Type 0
+HasFailed answers code workers steps e = (alloc : Global) × (lent : Bor PlainCode) × (lent.now ≡ code) × answers alloc lent workers steps (Err e)
+
+-- a run that has no report: what runs it has failed so, or memory ran out
+abbrev pub FailsAs : (RunError → Type 0) → RunError → Type 0
+FailsAs failed JournalMismatch = failed JournalMismatch
+FailsAs failed NoThread = failed NoThread
+FailsAs failed Memory = Unit {0}

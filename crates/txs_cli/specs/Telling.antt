@@ -1,6 +1,8 @@
 -- What the program tells for its words.
 use Rattle.std.specs.Prelude.{◌≡◌, ℕ, Bool, true, false, List, [], codes, string_bytes, Option, Some, None}
 use Rattle.std.proofs.Common.{String, Global}
+use Rattle.txs_code_meaning.specs.PlainCode.{PlainCode}
+use Rattle.txs_machine.specs.declared.run_error.RunError.{RunError}
 use Rattle.txs_cli_report.specs.Told.{Told, Tells, ScheduleTells, front}
 use Rattle.txs_cli_report.specs.Told as wanted
 use Rattle.txs_cli.specs.CodeWorkersTold.{StreamWorkedCodeTells}
@@ -35,15 +37,15 @@ pub data ArgsTell (input : List ℕ) (t : Told) : Type 0 where
   of_memory : (output : t.output ≡ []) (errors : t.errors ≡ codes "out of memory\n") (status : t.status ≡ 4) → ArgsTell input t
 
 -- What is told for words where what runs scripts and code is handed in: of a script or of code that workers are to run what is told of their run, and else what
--- is told for the words.
-abbrev pub WorkedWordsTell : List ℕ → Words → Told → Type 0
-WorkedWordsTell input (Check file explain) t = WordsTell input (Check file explain) t
-WorkedWordsTell input (Listing file explain) t = WordsTell input (Listing file explain) t
-WorkedWordsTell input (Build file out explain) t = WordsTell input (Build file out explain) t
-WorkedWordsTell input (Work file workers steps cells events explain) t = StreamWorkedTells (record { text = front input; file = explained_as explain file }) steps cells events t
-WorkedWordsTell input (Run file turns steps cells events explain) t = WordsTell input (Run file turns steps cells events explain) t
-WorkedWordsTell input (ListCode file) t = WordsTell input (ListCode file) t
-WorkedWordsTell input (WorkCode file workers steps cells events) t = StreamWorkedCodeTells input steps cells events t
-WorkedWordsTell input (RunCode file turns steps cells events) t = WordsTell input (RunCode file turns steps cells events) t
-WorkedWordsTell input (Shown text) t = WordsTell input (Shown text) t
-WorkedWordsTell input (Faulty text) t = WordsTell input (Faulty text) t
+-- is told for the words. What runs them may have failed so, of that code, with the words' workers and steps.
+abbrev pub WorkedWordsTell : (PlainCode → ℕ → ℕ → RunError → Type 0) → List ℕ → Words → Told → Type 0
+WorkedWordsTell failed input (Check file explain) t = WordsTell input (Check file explain) t
+WorkedWordsTell failed input (Listing file explain) t = WordsTell input (Listing file explain) t
+WorkedWordsTell failed input (Build file out explain) t = WordsTell input (Build file out explain) t
+WorkedWordsTell failed input (Work file workers steps cells events explain) t = StreamWorkedTells (λ code. failed code workers steps) (record { text = front input; file = explained_as explain file }) steps cells events t
+WorkedWordsTell failed input (Run file turns steps cells events explain) t = WordsTell input (Run file turns steps cells events explain) t
+WorkedWordsTell failed input (ListCode file) t = WordsTell input (ListCode file) t
+WorkedWordsTell failed input (WorkCode file workers steps cells events) t = StreamWorkedCodeTells (λ code. failed code workers steps) input steps cells events t
+WorkedWordsTell failed input (RunCode file turns steps cells events) t = WordsTell input (RunCode file turns steps cells events) t
+WorkedWordsTell failed input (Shown text) t = WordsTell input (Shown text) t
+WorkedWordsTell failed input (Faulty text) t = WordsTell input (Faulty text) t

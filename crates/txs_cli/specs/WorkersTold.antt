@@ -1,7 +1,6 @@
 -- What the program tells of a script whose threads and agents several workers run.
 use Rattle.std.specs.Prelude.{◌≡◌, ◌≢◌, ℕ, Bool, [], ◌++◌, codes}
 use Rattle.txs_code_meaning.specs.PlainCode.{PlainCode}
-use Rattle.txs_compile.specs.Compiled.{IsProgramOf}
 use Rattle.txs_machine.specs.RunTheorem.{ExplainsAll}
 use Rattle.txs_machine.specs.ErrorName.{error_name}
 use Rattle.txs_machine.specs.declared.run_error.RunError.{RunError}
@@ -25,16 +24,17 @@ pub record WorkersTell (p : PlainProgram) (code : PlainCode) (script : Script) (
   pub errors : EndsTold code.cells script shared report.threads.items report.agents.items t.errors
   pub status : t.status ≡ run_status code.cells shared report.threads.items report.agents.items
 
--- What is told of a script that workers are to run: what its run told, that it is refused, or why its run has no report.
-pub data WorkedTells (script : Script) (steps : ℕ) (cells events : Bool) (t : Told) : Type 0 where
-  of_run : (p : PlainProgram) (code : PlainCode) (compiled : IsCompiled script.text p code) (told : WorkersTell p code script steps cells events t) → WorkedTells script steps cells events t
-  of_refused : (told : (wanted : Wanted) → ScriptTells script t wanted) → WorkedTells script steps cells events t
+-- What is told of a script that workers are to run: what its run told, that it is refused, or why its run has no report, where what runs its code may
+-- have failed so.
+pub data WorkedTells (failed : PlainCode → RunError → Type 0) (script : Script) (steps : ℕ) (cells events : Bool) (t : Told) : Type 0 where
+  of_run : (p : PlainProgram) (code : PlainCode) (compiled : IsCompiled script.text p code) (told : WorkersTell p code script steps cells events t) → WorkedTells failed script steps cells events t
+  of_refused : (told : (wanted : Wanted) → ScriptTells script t wanted) → WorkedTells failed script steps cells events t
   of_failure :
-      (p : PlainProgram) (program : IsProgramOf script.text p) (failure : RunError) (told : failure ≢ Memory)
-      (output : t.output ≡ []) (errors : t.errors ≡ (codes "run failed: " ++ error_name failure) ++ codes "\n") (status : t.status ≡ 4) → WorkedTells script steps cells events t
+      (p : PlainProgram) (code : PlainCode) (compiled : IsCompiled script.text p code) (failure : RunError) (so : failed code failure) (told : failure ≢ Memory)
+      (output : t.output ≡ []) (errors : t.errors ≡ (codes "run failed: " ++ error_name failure) ++ codes "\n") (status : t.status ≡ 4) → WorkedTells failed script steps cells events t
 
 -- What is told of a stream whose front is the script: that it couldn't be read, that there was no memory, or what is told of the script.
-pub data StreamWorkedTells (script : Script) (steps : ℕ) (cells events : Bool) (t : Told) : Type 0 where
-  of_script : (told : WorkedTells script steps cells events t) → StreamWorkedTells script steps cells events t
-  of_unread : (output : t.output ≡ []) (errors : t.errors ≡ codes "read failed" ++ codes "\n") (status : t.status ≡ 2) → StreamWorkedTells script steps cells events t
-  of_memory : (output : t.output ≡ []) (errors : t.errors ≡ codes "out of memory\n") (status : t.status ≡ 4) → StreamWorkedTells script steps cells events t
+pub data StreamWorkedTells (failed : PlainCode → RunError → Type 0) (script : Script) (steps : ℕ) (cells events : Bool) (t : Told) : Type 0 where
+  of_script : (told : WorkedTells failed script steps cells events t) → StreamWorkedTells failed script steps cells events t
+  of_unread : (output : t.output ≡ []) (errors : t.errors ≡ codes "read failed" ++ codes "\n") (status : t.status ≡ 2) → StreamWorkedTells failed script steps cells events t
+  of_memory : (output : t.output ≡ []) (errors : t.errors ≡ codes "out of memory\n") (status : t.status ≡ 4) → StreamWorkedTells failed script steps cells events t

@@ -2,7 +2,7 @@
 
 ghost use Rattle.std.specs.Prelude.{◌≡◌, ◌≤◌, length, IsTrue, IfOk, IfErr};
 ghost use Rattle.txs_machine.specs.declared.run_error.RunError.TheVariants.{Memory};
-ghost use Rattle.txs_cli.specs.Runner.{IsRunnable, RunsLawfully};
+ghost use Rattle.txs_cli.specs.Runner.{FailsAs, HasFailed, IsRunnable, RunsLawfully};
 
 use crate::script::Working;
 use std::alloc::Global;
@@ -58,7 +58,9 @@ pub(crate) fn run_all<
     requires call { (a : _) (code : _) (n : _) (steps : _) → IsRunnable code.now → X.pre runner.now a code n steps }
     requires ran { (a : _) (code : _) (n : _) (steps : _) (r : _) → X.post runner.now a code n steps r → RunsLawfully code.now steps r }
     requires runnable { IsRunnable code.now }
-    ensures { RunsLawfully code.now working.steps result }
+    ensures lawful { RunsLawfully code.now working.steps result }
+    // Where it failed, but for want of memory, the runner has, with these workers.
+    ensures failed { IfErr result (FailsAs (HasFailed (X.post runner.now) code.now working.workers working.steps)) }
 {
     if is_alone(code) {
         return run_in_turn(alloc, code, working.steps);

@@ -2,11 +2,11 @@
 
 ghost use Rattle.std.specs.Prelude.{IfSome};
 ghost use Rattle.txs_cli.specs.CodeWorkersTold.{StreamWorkedCodeTells};
-ghost use Rattle.txs_cli.specs.Runner.{IsRunnable, RunsLawfully};
+ghost use Rattle.txs_cli.specs.Runner.{HasFailed, IsRunnable, RunsLawfully};
 ghost use Rattle.txs_cli_report.specs.Told.{Told as PlainTold, Written};
 
 use crate::code::work_code;
-use crate::code_play::read_all;
+use crate::form_stream::read_form;
 use crate::script::Working;
 use crate::workers_play::{unread, write_answer};
 use std::alloc::Global;
@@ -26,10 +26,10 @@ pub(crate) fn play_code_workers<
 >(alloc: Global, runner: &X, working: Working, reader: &mut R, writer: &mut W, faults: &mut F) -> u8
     requires call { (a : _) (code : _) (n : _) (steps : _) → IsRunnable code.now → X.pre runner.now a code n steps }
     requires ran { (a : _) (code : _) (n : _) (steps : _) (r : _) → X.post runner.now a code n steps r → RunsLawfully code.now steps r }
-    ensures { IfSome (R.remaining reader.old) (λ input. (t : PlainTold) × StreamWorkedCodeTells input working.steps working.cells working.events t
+    ensures { IfSome (R.remaining reader.old) (λ input. (t : PlainTold) × StreamWorkedCodeTells (λ code. HasFailed (X.post runner.now) code working.workers working.steps) input working.steps working.cells working.events t
         × Written (W.contents writer.old) (W.contents writer.new) (F.contents faults.old) (F.contents faults.new) t result) }
 {
-    match read_all(alloc, reader) {
+    match read_form(alloc, reader) {
         Ok(bytes) => {
             let told = work_code(alloc, runner, bytes.as_slice(), working);
             write_answer(told, writer, faults)

@@ -2,7 +2,7 @@
 
 ghost use Rattle.std.specs.Prelude.{IfOk};
 ghost use Rattle.txs_cli.specs.CodeWorkersTold.{WorkedCodeTells};
-ghost use Rattle.txs_cli.specs.Runner.{IsRunnable, RunsLawfully};
+ghost use Rattle.txs_cli.specs.Runner.{HasFailed, IsRunnable, RunsLawfully};
 ghost use Rattle.txs_cli_report.specs.Lent.{told_of};
 
 use crate::lines::refused;
@@ -22,7 +22,7 @@ pub(crate) fn work_code<
 >(alloc: Global, runner: &X, bytes: &[u8], working: Working) -> Result<Told, AllocError>
     requires call { (a : _) (code : _) (n : _) (steps : _) → IsRunnable code.now → X.pre runner.now a code n steps }
     requires ran { (a : _) (code : _) (n : _) (steps : _) (r : _) → X.post runner.now a code n steps r → RunsLawfully code.now steps r }
-    ensures { IfOk result (λ t. WorkedCodeTells bytes.now working.steps working.cells working.events (told_of t)) }
+    ensures { IfOk result (λ t. WorkedCodeTells (λ code. HasFailed (X.post runner.now) code working.workers working.steps) bytes.now working.steps working.cells working.events (told_of t)) }
 {
     match load_verified(alloc, bytes) {
         Ok(code) => run_told(alloc, runner, no_script(), &code, working),

@@ -1,32 +1,15 @@
 //! Plays code: reads its bytes, does with it what is wanted, and writes what is told of it.
 
-ghost use Rattle.std.specs.Prelude.{◌≡◌, IfOk, IfSome};
+ghost use Rattle.std.specs.Prelude.{IfSome};
 ghost use Rattle.txs_cli.specs.CodeTold.{BytesTell};
 ghost use Rattle.txs_cli.specs.LentCode.{code_wanted_of};
 ghost use Rattle.txs_cli_report.specs.Told.{Told as PlainTold, Written};
 
+use crate::form_stream::read_form;
 use crate::usage::{CodeUse, use_code};
 use crate::workers_play::{unread, write_answer};
 use std::alloc::Global;
-use std::io::{ErrorKind, Read, Write};
-use txs_cli_report::streams::ReadFault;
-
-/// All bytes of a stream.
-///
-/// # Errors
-/// `Failed` where a call of the reader fails, but for one that was interrupted; `Memory` where the bytes don't fit into memory.
-pub(crate) fn read_all<R: Read>(alloc: Global, reader: &mut R) -> Result<Vec<u8>, ReadFault>
-    ensures { IfOk result (λ bytes. IfSome (R.remaining reader.old) (λ input. bytes.items ≡ input)) }
-{
-    let mut bytes = Vec::new(alloc);
-    match reader.read_to_end(&mut bytes) {
-        Ok(_) => Ok(bytes),
-        Err(e) => Err(match e.kind() {
-            ErrorKind::OutOfMemory => ReadFault::Memory,
-            _ => ReadFault::Failed,
-        }),
-    }
-}
+use std::io::{Read, Write};
 
 /// Does with the code whose byte form the reader has what is wanted, and writes what is told of it. Answers the status: 0 where all ended,
 /// 1 for bytes that are refused, 2 for a play that names no actor or a stream that couldn't be read or written, 3 for a thread or an agent that failed,
@@ -41,7 +24,7 @@ pub(crate) fn play_code<R: Read, W: Write, F: Write>(
     ensures { IfSome (R.remaining reader.old) (λ input. (t : PlainTold) × BytesTell input (code_wanted_of wanted.entry) t
         × Written (W.contents writer.old) (W.contents writer.new) (F.contents faults.old) (F.contents faults.new) t result) }
 {
-    match read_all(alloc, reader) {
+    match read_form(alloc, reader) {
         Ok(bytes) => {
             let told = use_code(alloc, bytes.as_slice(), wanted);
             write_answer(told, writer, faults)

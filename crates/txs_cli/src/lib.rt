@@ -7,6 +7,7 @@ mod alone;
 mod bytes;
 mod code;
 mod code_play;
+mod form_stream;
 mod lines;
 pub mod program;
 mod run;

@@ -2,7 +2,7 @@
 
 ghost use Rattle.std.specs.Prelude.{◌≤◌, length, IfOk};
 ghost use Rattle.txs_cli.specs.RunTold.{FailureTells, ReportTells, RunTold};
-ghost use Rattle.txs_cli.specs.Runner.{IsRunnable, IsWorked, RunsLawfully};
+ghost use Rattle.txs_cli.specs.Runner.{HasFailed, IsRunnable, IsWorked, RunsLawfully};
 ghost use Rattle.txs_cli_report.specs.Lent.{script_of, told_of};
 
 use crate::alone::run_all;
@@ -60,7 +60,7 @@ pub(crate) fn run_told<
     requires ran { (a : _) (code : _) (n : _) (steps : _) (r : _) → X.post runner.now a code n steps r → RunsLawfully code.now steps r }
     requires few_threads { length code.now.threads ≤ 64 }
     requires few_cells { length code.now.cells ≤ 1000 }
-    ensures { IfOk result (λ t. RunTold code.now (script_of script.entry) working.steps working.cells working.events (told_of t)) }
+    ensures { IfOk result (λ t. RunTold (HasFailed (X.post runner.now) code.now working.workers working.steps) code.now (script_of script.entry) working.steps working.cells working.events (told_of t)) }
 {
     match run_all(alloc, runner, code, working) {
         Ok(ran) => of_run(alloc, script, code.code(), &ran.0, &ran.1, working),

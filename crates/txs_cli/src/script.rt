@@ -1,7 +1,7 @@
 //! What is told of a script whose threads and agents workers run.
 
 ghost use Rattle.std.specs.Prelude.{IfOk};
-ghost use Rattle.txs_cli.specs.Runner.{IsRunnable, RunsLawfully};
+ghost use Rattle.txs_cli.specs.Runner.{HasFailed, IsRunnable, RunsLawfully};
 ghost use Rattle.txs_cli.specs.WorkersTold.{WorkedTells};
 ghost use Rattle.txs_cli_report.specs.Lent.{script_of, told_of};
 
@@ -29,7 +29,7 @@ pub(crate) fn work_script<
 >(alloc: Global, runner: &X, script: Script<'_>, working: Working) -> Result<Told, AllocError>
     requires call { (a : _) (code : _) (n : _) (steps : _) → IsRunnable code.now → X.pre runner.now a code n steps }
     requires ran { (a : _) (code : _) (n : _) (steps : _) (r : _) → X.post runner.now a code n steps r → RunsLawfully code.now steps r }
-    ensures { IfOk result (λ t. WorkedTells (script_of script.entry) working.steps working.cells working.events (told_of t)) }
+    ensures { IfOk result (λ t. WorkedTells (λ code. HasFailed (X.post runner.now) code working.workers working.steps) (script_of script.entry) working.steps working.cells working.events (told_of t)) }
 {
     match compile(alloc, script.text) {
         Ok(compiled) => run_told(alloc, runner, script, &compiled.1, working),

@@ -4,6 +4,7 @@ ghost use Rattle.std.specs.Prelude.{◌≡◌, ℕ, List, [], IfOk};
 ghost use Rattle.txs_code_decode.specs.CodeForm.{HasForm};
 ghost use Rattle.txs_disasm.specs.Listing.{listing};
 ghost use Rattle.txs_code_load.specs.Load.{IsFormOf};
+ghost use Rattle.txs_machine.specs.Schedule.{spread};
 ghost use Rattle.txs_cli.specs.CodeTold.{CodeTells, Listed, Ran, no_script};
 ghost use Rattle.txs_cli.specs.LentCode.{code_wanted_of};
 ghost use Rattle.txs_cli_report.specs.Lent.{script_of, told_of};
@@ -16,7 +17,7 @@ use txs_cli_report::told::{Told, UNUSABLE, answer, complaint};
 use txs_code_load::load::{load, load_verified};
 use txs_code_meaning::{Code, Verified};
 use txs_disasm::write_listing;
-use txs_machine::Play;
+use txs_machine::Repeated;
 
 /// What is done with code.
 #[derive(Clone, Copy)]
@@ -26,7 +27,7 @@ pub(crate) enum CodeUse<'a> {
     /// Its threads and agents run by these plays and then in rounds, each for so many steps at most, with its cells and the events of the
     /// run told or not.
     Run {
-        plays: &'a [Play],
+        plays: &'a [Repeated],
         steps: u64,
         cells: bool,
         events: bool,
@@ -70,13 +71,13 @@ pub(crate) fn no_script<'a>() -> Script<'a>
 fn run_verified(
     alloc: Global,
     code: &Verified,
-    plays: &[Play],
+    plays: &[Repeated],
     steps: u64,
     cells: bool,
     events: bool,
 ) -> Result<Told, AllocError>
     requires { HasForm code.now }
-    ensures { IfOk result (λ t. (bytes : List ℕ) → IsFormOf bytes code.now → CodeTells bytes (told_of t) (Ran plays.now steps cells events)) }
+    ensures { IfOk result (λ t. (bytes : List ℕ) → IsFormOf bytes code.now → CodeTells bytes (told_of t) (Ran (spread plays.now) steps cells events)) }
 {
     let bare = code.code();
     let mut shared = open_state(alloc, code)?;
@@ -93,12 +94,12 @@ fn run_verified(
 fn run_bytes(
     alloc: Global,
     bytes: &[u8],
-    plays: &[Play],
+    plays: &[Repeated],
     steps: u64,
     cells: bool,
     events: bool,
 ) -> Result<Told, AllocError>
-    ensures { IfOk result (λ t. CodeTells bytes.now (told_of t) (Ran plays.now steps cells events)) }
+    ensures { IfOk result (λ t. CodeTells bytes.now (told_of t) (Ran (spread plays.now) steps cells events)) }
 {
     match load_verified(alloc, bytes) {
         Ok(code) => run_verified(alloc, &code, plays, steps, cells, events),

@@ -1,7 +1,7 @@
 //! The program, over any streams, with what runs scripts and code handed in.
 
 ghost use Rattle.std.specs.Prelude.{IfSome};
-ghost use Rattle.txs_cli.specs.Runner.{IsRunnable, RunsLawfully};
+ghost use Rattle.txs_cli.specs.Runner.{HasFailed, IsRunnable, RunsLawfully};
 ghost use Rattle.txs_cli.specs.Telling.{WorkedWordsTell};
 ghost use Rattle.txs_cli_report.specs.Told.{Told, Written};
 
@@ -25,7 +25,7 @@ pub fn play_with<
 >(alloc: Global, runner: &X, words: &Words, reader: &mut R, writer: &mut W, faults: &mut F) -> u8
     requires call { (a : _) (code : _) (n : _) (steps : _) → IsRunnable code.now → X.pre runner.now a code n steps }
     requires ran { (a : _) (code : _) (n : _) (steps : _) (r : _) → X.post runner.now a code n steps r → RunsLawfully code.now steps r }
-    ensures { IfSome (R.remaining reader.old) (λ input. (t : Told) × WorkedWordsTell input words.now t
+    ensures { IfSome (R.remaining reader.old) (λ input. (t : Told) × WorkedWordsTell (HasFailed (X.post runner.now)) input words.now t
         × Written (W.contents writer.old) (W.contents writer.new) (F.contents faults.old) (F.contents faults.new) t result) }
 {
     match words {

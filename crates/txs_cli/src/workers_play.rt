@@ -1,7 +1,7 @@
 //! Plays a script by workers: reads it, runs it, and writes what is told of it.
 
 ghost use Rattle.std.specs.Prelude.{◌≡◌, ◌++◌, [], codes, IfOk, IfSome};
-ghost use Rattle.txs_cli.specs.Runner.{IsRunnable, RunsLawfully};
+ghost use Rattle.txs_cli.specs.Runner.{HasFailed, IsRunnable, RunsLawfully};
 ghost use Rattle.txs_cli.specs.WorkersTold.{StreamWorkedTells};
 ghost use Rattle.txs_cli_report.specs.Lent.{answer_of, text_in};
 ghost use Rattle.txs_cli_report.specs.Told.{Told as PlainTold, Written, front};
@@ -66,7 +66,7 @@ pub(crate) fn play_workers<
 ) -> u8
     requires call { (a : _) (code : _) (n : _) (steps : _) → IsRunnable code.now → X.pre runner.now a code n steps }
     requires ran { (a : _) (code : _) (n : _) (steps : _) (r : _) → X.post runner.now a code n steps r → RunsLawfully code.now steps r }
-    ensures { IfSome (R.remaining reader.old) (λ input. (t : PlainTold) × StreamWorkedTells (record { text = front input; file = text_in file.entry }) working.steps working.cells working.events t
+    ensures { IfSome (R.remaining reader.old) (λ input. (t : PlainTold) × StreamWorkedTells (λ code. HasFailed (X.post runner.now) code working.workers working.steps) (record { text = front input; file = text_in file.entry }) working.steps working.cells working.events t
         × Written (W.contents writer.old) (W.contents writer.new) (F.contents faults.old) (F.contents faults.new) t result) }
 {
     match read_bytes(alloc, reader) {

@@ -84,12 +84,17 @@ abbrev pub plays_in : List ℕ → Result (List Play) WrongPlay
 plays_in [] = Ok []
 plays_in (b ∷ bs) = plays_of 0 (items_in (b ∷ bs))
 
--- a refusal of a list: it says where the first wrong item stands; or there was no memory
-abbrev pub IsListError : Result (List Play) WrongPlay → ListError → Type 0
-IsListError read (Wrong w) = read ≡ Err w
-IsListError read Memory = Unit {0}
+-- the first of these items says a play
+abbrev pub BeginsWithPlay : List (List ℕ) → Type 0
+BeginsWithPlay [] = ⊥
+BeginsWithPlay (t ∷ ts) = item_in t ≡ None → ⊥
 
--- what an error tells of an item that begins at this byte: that it says no play, and where it stands; or there was no memory
+-- a refusal of a list: it says where the first wrong item stands; or there was no memory, where the first item is none
+abbrev pub IsListError : List ℕ → ListError → Type 0
+IsListError text (Wrong w) = plays_in text ≡ Err w
+IsListError text Memory = BeginsWithPlay (items_in text)
+
+-- what an error tells of an item that begins at this byte: that it says no play, and where it stands; or there was no memory for the play that it says
 abbrev pub IsItemError : ℕ → List ℕ → ListError → Type 0
 IsItemError from text (Wrong w) = (item_in text ≡ None) × (w ≡ record { from = from; length = length text })
-IsItemError from text Memory = Unit {0}
+IsItemError from text Memory = item_in text ≡ None → ⊥

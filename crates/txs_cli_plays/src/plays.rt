@@ -1,14 +1,15 @@
 //! Lists of plays, read from text.
 
-ghost use Rattle.std.specs.Prelude.{◌≡◌, ◌≤◌, ◌+◌, ◌++◌, List, length, replicate, Some, Ok, IfOk, IfErr, IfSome, IsNone, None, OnOk};
+ghost use Rattle.std.specs.Prelude.{◌≡◌, ◌≤◌, ◌+◌, ◌++◌, ◌∷◌, [], List, length, replicate, Some, Ok, IfOk, IfErr, IfSome, IsNone, None, OnOk};
 ghost use Rattle.std.specs.Char.{is_ascii_digit};
 ghost use Rattle.std.specs.List.{list_all};
+ghost use Rattle.txs_machine.specs.Schedule.{spread};
 ghost use Rattle.txs_machine.specs.declared.schedule.Play.{Play as AnyPlay};
 ghost use Rattle.txs_cli_plays.specs.declared.plays.ListError.TheVariants.{Memory};
 ghost use Rattle.txs_cli_plays.specs.Plays.{number_in, ranged, thread_in, play_in, item_in, plays_in, IsListError, IsItemError};
 
 use std::alloc::{AllocError, Global};
-use txs_machine::Play;
+use txs_machine::{Play, Repeated};
 
 /// How often an item makes its play at most.
 const MOST_TIMES: u32 = 100_000;
@@ -101,23 +102,21 @@ fn item_in(text: &str) -> Option<(Play, u32)>
     }
 }
 
-/// Appends a play so many times.
-fn push_times(plays: &mut Vec<Play>, play: Play, times: u32) -> Result<(), AllocError>
-    ensures { OnOk result (plays.new.items ≡ plays.old.items ++ replicate times play) }
+/// Appends a play with its times.
+fn push_play(plays: &mut Vec<Repeated>, run: Repeated) -> Result<(), AllocError>
+    ensures { OnOk result (plays.new.items ≡ plays.old.items ++ run ∷ []) }
 {
-    for made in 0..times {
-        plays.push(play)?;
-    }
-    Ok(())
+    Ok(plays.push(run)?)
 }
 
-/// Appends the plays of an item, which begins at this byte of its list.
-fn push_item(plays: &mut Vec<Play>, text: &str, from: usize) -> Result<(), ListError>
-    ensures said { OnOk result ((ps : List AnyPlay) × (item_in text.now ≡ Some ps) × (plays.new.items ≡ plays.old.items ++ ps)) }
+/// Appends the play of an item, which begins at this byte of its list, with the times that it is made.
+fn push_item(plays: &mut Vec<Repeated>, text: &str, from: usize) -> Result<(), ListError>
+    ensures said { OnOk result ((ps : List AnyPlay) × (item_in text.now ≡ Some ps) × (spread plays.new.items ≡ spread plays.old.items ++ ps)) }
+    ensures kept { OnOk result (length plays.new.items ≡ length plays.old.items + 1) }
     ensures wrong { IfErr result (λ e. IsItemError from text.now e) }
 {
     match item_in(text) {
-        Some((play, times)) => Ok(push_times(plays, play, times)?),
+        Some((play, times)) => Ok(push_play(plays, Repeated { play, times })?),
         None => Err(ListError::Wrong(WrongPlay {
             from,
             length: text.len(),
@@ -125,10 +124,12 @@ fn push_item(plays: &mut Vec<Play>, text: &str, from: usize) -> Result<(), ListE
     }
 }
 
-/// The plays that a text says.
-pub fn read_plays(alloc: Global, text: &str) -> Result<Vec<Play>, ListError>
-    ensures plays { IfOk result (λ plays. plays_in text.now ≡ Ok plays.items) }
-    ensures wrong { IfErr result (λ e. IsListError (plays_in text.now) e) }
+/// The plays that a text says, each with the times that it is made in a row.
+pub fn read_plays(alloc: Global, text: &str) -> Result<Vec<Repeated>, ListError>
+    ensures plays { IfOk result (λ plays. plays_in text.now ≡ Ok (spread plays.items)) }
+    // A play is kept once, however often it is made.
+    ensures kept { IfOk result (λ plays. length plays.items ≤ length text.now) }
+    ensures wrong { IfErr result (λ e. IsListError text.now e) }
 {
     let mut plays = Vec::new(alloc);
     if text.is_empty() {

@@ -1,5 +1,5 @@
 -- Beginnings of what is to be written to a stream.
-use Rattle.std.proofs.Common.{ℕ, List, [], ◌++◌, Option, Result, Ok, Err, OnOk, OnErr, sym, ap, ◌∙◌, append_assoc}
+use Rattle.std.proofs.Common.{◌⊎◌, inl, inr, ℕ, List, [], ◌++◌, Option, Result, Ok, Err, OnOk, OnErr, sym, ap, ◌∙◌, append_assoc}
 use Rattle.std.proofs.KnownBytes.{Appends-trans, Appends-kept}
 use Rattle.std.specs.Io.KnownBytes.{Appends, Keeps}
 use Rattle.txs_disasm.proofs.SentLemmas.{Sent-all}
@@ -39,3 +39,8 @@ begun_longer a b all more k = record {
 pub begun_either : {A E : Type 0} (r : Result A E) (a b : Option (List ℕ)) (all : List ℕ) → OnOk r (Appends a b all) → OnErr r (IsBegun a b all) → IsBegun a b all
 begun_either (Ok x) a b all p k = begun_all a b all p
 begun_either (Err e) a b all p k = k
+
+-- the standard error is whole, or couldn't be written
+pub errors_either : {A E : Type 0} (r : Result A E) {P Q : Type 0} → OnOk r P → OnErr r Q → P ⊎ Q
+errors_either (Ok x) p q = inl p
+errors_either (Err e) p q = inr q

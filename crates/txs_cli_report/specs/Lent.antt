@@ -2,6 +2,7 @@
 use Rattle.std.specs.Prelude.{ℕ, List, [], Option, Some, None, Result, codes}
 use Rattle.std.specs.Borrow.{Bor}
 use Rattle.std.specs.declared.result.Result.TheVariants.{Ok, Err}
+use Rattle.txs_machine.specs.Schedule.{spread}
 use Rattle.txs_cli_report.specs.Lines.{Script, agent_front, thread_front}
 use Rattle.txs_cli_report.specs.Told.{Told, Wanted, Check, Listing, Build, Run}
 use Rattle.txs_cli_report.specs.declared.explain.Script as lent
@@ -34,7 +35,7 @@ abbrev pub wanted_of : Use → Wanted
 wanted_of lent_use.Check = Check
 wanted_of lent_use.Listing = Listing
 wanted_of lent_use.Build = Build
-wanted_of (lent_use.Run plays steps cells events) = Run plays.now steps cells events
+wanted_of (lent_use.Run plays steps cells events) = Run (spread plays.now) steps cells events
 
 -- how the line begins that tells of one
 abbrev pub front_of : Front → List ℕ

@@ -1,5 +1,5 @@
 -- What the program tells of a script: on its standard output, on its standard error, and by its status.
-use Rattle.std.specs.Prelude.{◌≡◌, ◌≢◌, ℕ, max, Bool, true, false, List, [], ◌++◌, ◌+◌, take, codes, Option, Some, None}
+use Rattle.std.specs.Prelude.{◌≡◌, ◌≢◌, ◌⊎◌, ℕ, max, Bool, true, false, List, [], ◌++◌, ◌+◌, take, codes, Option, Some, None}
 use Rattle.std.specs.Io.KnownBytes.{Appends}
 use Rattle.std.specs.declared.result.Result.TheVariants.{Ok, Err}
 use Rattle.txs_world_protocol.specs.declared.event.Event.{Event}
@@ -171,14 +171,23 @@ pub record IsBegun (old new : Option (List ℕ)) (all : List ℕ) : Type 0 where
   pub left : List ℕ
   pub sent : Sent old new all left
 
--- How what is told is written, where it is known what the streams hold: both whole, and its status; or one of them couldn't be written or flushed, and
--- the status is 2 at least. Where that is the standard output, it got a beginning of its own, and the standard error a beginning of its own with a line
--- behind it that says so; else the standard output is whole, and the standard error got a beginning of its own.
-pub data Written (output_old output_new errors_old errors_new : Option (List ℕ)) (t : Told) (status : ℕ) : Type 0 where
-  whole : (output : Appends output_old output_new t.output) (errors : Appends errors_old errors_new t.errors) (ended : status ≡ t.status) → Written output_old output_new errors_old errors_new t status
+-- What is told is written, and the standard error is whole, where it is known what the streams hold: so is the standard output, with the status; or that got a beginning
+-- of its own, with status 2 at least, and behind the standard error is a line that says so.
+pub data HasErrors (output_old output_new errors_old errors_new : Option (List ℕ)) (t : Told) (status : ℕ) : Type 0 where
+  whole : (output : Appends output_old output_new t.output) (errors : Appends errors_old errors_new t.errors) (ended : status ≡ t.status) → HasErrors output_old output_new errors_old errors_new t status
   output_cut :
-      (output : IsBegun output_old output_new t.output) (errors : IsBegun errors_old errors_new (t.errors ++ codes "write failed\n"))
-      (ended : status ≡ max t.status 2) → Written output_old output_new errors_old errors_new t status
+      (output : IsBegun output_old output_new t.output) (errors : Appends errors_old errors_new (t.errors ++ codes "write failed\n"))
+      (ended : status ≡ max t.status 2) → HasErrors output_old output_new errors_old errors_new t status
+
+-- The standard error couldn't be written or flushed: it got a beginning of that, and the status is 2 at least. The standard output is whole, or got a beginning of its own, too.
+pub data LacksErrors (output_old output_new errors_old errors_new : Option (List ℕ)) (t : Told) (status : ℕ) : Type 0 where
   errors_cut :
       (output : Appends output_old output_new t.output) (errors : IsBegun errors_old errors_new t.errors)
-      (ended : status ≡ max t.status 2) → Written output_old output_new errors_old errors_new t status
+      (ended : status ≡ max t.status 2) → LacksErrors output_old output_new errors_old errors_new t status
+  both_cut :
+      (output : IsBegun output_old output_new t.output) (errors : IsBegun errors_old errors_new (t.errors ++ codes "write failed\n"))
+      (ended : status ≡ max t.status 2) → LacksErrors output_old output_new errors_old errors_new t status
+
+-- How what is told is written: with its whole standard error, or that couldn't be written.
+abbrev pub Written : (output_old output_new errors_old errors_new : Option (List ℕ)) → Told → ℕ → Type 0
+Written output_old output_new errors_old errors_new t status = HasErrors output_old output_new errors_old errors_new t status ⊎ LacksErrors output_old output_new errors_old errors_new t status

@@ -1,12 +1,13 @@
 //! Plays a script: reads it, does with it what is wanted, and writes what is told of it.
 
-ghost use Rattle.std.specs.Prelude.{◌++◌, codes, IfOk, IfSome};
+ghost use Rattle.std.specs.Io.KnownBytes.{Appends};
+ghost use Rattle.std.specs.Prelude.{◌++◌, codes, IfOk, IfSome, OnErr, OnOk};
 ghost use Rattle.txs_cli_report.specs.Lent.{answer_of, text_in, told_of, wanted_of};
-ghost use Rattle.txs_cli_report.specs.Told.{Told as PlainTold, IsBegun, StreamTells, Tells, Written, front};
+ghost use Rattle.txs_cli_report.specs.Told.{Told as PlainTold, HasErrors, IsBegun, LacksErrors, StreamTells, Tells, Written, front};
 
 use crate::explain::Script;
 use crate::script::use_script;
-use crate::streams::{ReadFault, read_bytes, write_bytes};
+use crate::streams::{ReadFault, WriteFault, read_bytes, write_bytes};
 use crate::told::{SPENT, Told, UNUSABLE, Use, complaint};
 use std::alloc::{AllocError, Global};
 use std::io::{Read, Write};
@@ -31,11 +32,33 @@ fn use_stream<R: Read>(
 }
 
 /// Writes the standard error where the standard output couldn't be written, and behind it a line that says so.
-fn write_fault<F: Write>(faults: &mut F, errors: &[u8])
-    ensures { IsBegun (F.contents faults.old) (F.contents faults.new) (errors.now ++ codes "write failed\n") }
+fn write_fault<F: Write>(faults: &mut F, errors: &[u8]) -> Result<(), WriteFault>
+    ensures whole { OnOk result (Appends (F.contents faults.old) (F.contents faults.new) (errors.now ++ codes "write failed\n")) }
+    ensures begun { OnErr result (IsBegun (F.contents faults.old) (F.contents faults.new) (errors.now ++ codes "write failed\n")) }
 {
-    if write_bytes(faults, errors).is_ok() {
-        let _ = write_bytes(faults, b"write failed\n");
+    write_bytes(faults, errors)?;
+    write_bytes(faults, b"write failed\n")
+}
+
+/// Writes the standard output, and then the standard error. Answers the status, which is 2 at least where one of them
+/// couldn't be written; and whether the standard error was, of which only a write that failed says that it wasn't.
+fn write_streams<W: Write, F: Write>(
+    output: &[u8],
+    errors: &[u8],
+    status: u8,
+    writer: &mut W,
+    faults: &mut F,
+) -> (u8, Result<(), WriteFault>)
+    ensures whole { OnOk result.1 (HasErrors (W.contents writer.old) (W.contents writer.new) (F.contents faults.old) (F.contents faults.new) (record { output = output.now; errors = errors.now; status = status }) result.0) }
+    ensures cut { OnErr result.1 (LacksErrors (W.contents writer.old) (W.contents writer.new) (F.contents faults.old) (F.contents faults.new) (record { output = output.now; errors = errors.now; status = status }) result.0) }
+{
+    if write_bytes(writer, output).is_err() {
+        let told = write_fault(faults, errors);
+        return (status.max(UNUSABLE), told);
+    }
+    match write_bytes(faults, errors) {
+        Ok(()) => (status, Ok(())),
+        Err(fault) => (status.max(UNUSABLE), Err(fault)),
     }
 }
 
@@ -50,14 +73,8 @@ pub fn write_told<W: Write, F: Write>(
 ) -> u8
     ensures { Written (W.contents writer.old) (W.contents writer.new) (F.contents faults.old) (F.contents faults.new) (record { output = output.now; errors = errors.now; status = status }) result }
 {
-    if write_bytes(writer, output).is_err() {
-        write_fault(faults, errors);
-        return status.max(UNUSABLE);
-    }
-    if write_bytes(faults, errors).is_err() {
-        return status.max(UNUSABLE);
-    }
-    status
+    let ended = write_streams(output, errors, status, writer, faults);
+    ended.0
 }
 
 /// Writes what is told, or that there was no memory for it. Answers the status.

@@ -1,10 +1,12 @@
 //! What is told of a script: that it is refused, that it compiles, the listing of its code, its code's byte form, or what its run told.
 
 ghost use Rattle.std.specs.Option.{option_map};
-ghost use Rattle.std.specs.Prelude.{◌≡◌, ◌++◌, ◌≤◌, length, [], codes, IfOk, OnErr, OnOk};
+ghost use Rattle.std.specs.Prelude.{◌≡◌, ◌++◌, ◌≤◌, length, [], true, codes, IfOk, OnErr, OnOk};
 ghost use Rattle.txs_code_decode.specs.CodeForm.{HasForm};
 ghost use Rattle.txs_disasm.specs.Listing.{listing};
+ghost use Rattle.txs_machine.specs.Agents.{actors_of};
 ghost use Rattle.txs_machine.specs.RunOver.{IsStateOf};
+ghost use Rattle.txs_machine.specs.Schedule.{all_named, spread};
 ghost use Rattle.txs_theorem_runs.specs.Shared.{untouched};
 ghost use Rattle.txs_world_shared.specs.SharedState.{shared_of, numbered_book};
 ghost use Rattle.txs_cli_report.specs.AgentLines.{named_from};
@@ -23,7 +25,7 @@ use txs_code_encode::encode;
 use txs_code_meaning::Verified;
 use txs_compile::compile;
 use txs_disasm::write_listing;
-use txs_machine::{Entries, Play, ScheduleError, run_schedule};
+use txs_machine::{Entries, Repeated, ScheduleError, run_repeated};
 use txs_tree_meaning::Program;
 use txs_value_cell::CellDefinition;
 use txs_world_shared::SharedState;
@@ -56,7 +58,7 @@ pub fn run_code(
     alloc: Global,
     script: Script<'_>,
     code: &Verified,
-    plays: &[Play],
+    plays: &[Repeated],
     steps: u64,
     shared: &mut SharedState,
 ) -> Result<Option<Told>, AllocError>
@@ -65,9 +67,11 @@ pub fn run_code(
     requires of { IsStateOf code.now shared.old }
     requires unused { shared_of shared.old ≡ untouched code.now.cells }
     ensures of { IsStateOf code.now shared.new }
-    ensures told { IfOk result (λ t. RunAnswers code.now (script_of script.entry) plays.now steps shared.new (option_map told_of t)) }
+    ensures told { IfOk result (λ t. RunAnswers code.now (script_of script.entry) (spread plays.now) steps shared.new (option_map told_of t)) }
+    // For want of memory only where each play names an actor.
+    ensures named { OnErr result (all_named (actors_of code.now) (spread plays.now) ≡ true) }
 {
-    match run_schedule(alloc, code, plays, steps, true, shared) {
+    match run_repeated(alloc, code, plays, steps, true, shared) {
         Ok(report) => {
             let cells = code.code().cells();
             let told = of_report(alloc, script, cells, &report, shared)?;
@@ -148,7 +152,7 @@ fn run_compiled(
     script: Script<'_>,
     program: &Program,
     code: &Verified,
-    plays: &[Play],
+    plays: &[Repeated],
     steps: u64,
     cells: bool,
     events: bool,
@@ -159,7 +163,7 @@ fn run_compiled(
     requires few_cells { length code.now.cells ≤ 1000 }
     requires of { IsStateOf code.now shared.old }
     requires unused { shared_of shared.old ≡ untouched code.now.cells }
-    ensures { IfOk result (λ t. ScriptTells (script_of script.entry) (told_of t) (Run plays.now steps cells events)) }
+    ensures { IfOk result (λ t. ScriptTells (script_of script.entry) (told_of t) (Run (spread plays.now) steps cells events)) }
 {
     match run_code(alloc, script, code, plays, steps, shared)? {
         Some(mut told) => {

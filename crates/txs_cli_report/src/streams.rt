@@ -6,6 +6,7 @@ ghost use Rattle.std.specs.Io.KnownBytes.{Appends};
 ghost use Rattle.txs_cli_report.specs.Told.{IsBegun, front};
 
 use std::alloc::Global;
+use std::io;
 use std::io::{ErrorKind, Read, Write};
 use thiserror::Error;
 use txs_disasm::write_all;
@@ -25,28 +26,62 @@ pub enum ReadFault {
     Memory,
 }
 
+/// How many times a reader is called at most.
+const MOST_CALLS: u32 = 100_000_000;
+
+/// A reader that is called 100,000,000 times at most, also where each call is interrupted, and fails from then on.
+#[derive(Drop)]
+pub struct Patient<R> {
+    inner: R,
+    calls: u32,
+}
+
+impl<R> Patient<R> {
+    /// A reader that hasn't been called yet.
+    pub fn new(inner: R) -> Patient<R>
+        ensures inner { result.inner ≡ inner }
+    {
+        Patient {
+            inner,
+            calls: MOST_CALLS,
+        }
+    }
+}
+
+impl<R: Read> Read for Patient<R> {
+    ghost remaining = { λ p. R.remaining p.inner };
+
+    fn read(&mut self, buf: &mut [u8]) -> io::Result<usize> {
+        if self.calls == 0 {
+            return Err(io::Error::from(ErrorKind::TimedOut));
+        }
+        self.calls -= 1;
+        self.inner.read(buf)
+    }
+}
+
 /// The bytes of a stream up to its end, and no more than one past those that a script may have: all that the
 /// reader gives, in order, where it tells what it will give.
 ///
 /// # Errors
-/// `Failed` where a call of the reader fails, but for one that was interrupted; `Memory` where the bytes don't
-/// fit into memory.
+/// `Failed` where a call of the reader fails, but for one that was interrupted, or where 100,000,000 calls don't
+/// suffice; `Memory` where the bytes don't fit into memory.
 pub fn read_bytes<R: Read>(alloc: Global, reader: &mut R) -> Result<Vec<u8>, ReadFault>
     ensures { IfOk result (λ bytes. IfSome (R.remaining reader.old) (λ input. bytes.items ≡ front input)) }
 {
     let mut bytes = Vec::new(alloc);
-    let mut front = reader.take(MAX_BYTES);
-    match front.read_to_end(&mut bytes) {
+    let front = reader.take(MAX_BYTES);
+    match Patient::new(front).read_to_end(&mut bytes) {
         Ok(_) => Ok(bytes),
         Err(e) if e.kind() == ErrorKind::OutOfMemory => Err(ReadFault::Memory),
         Err(_) => Err(ReadFault::Failed),
     }
 }
 
-/// A stream that couldn't be written.
+/// A stream that couldn't be written. Only a write that failed makes one.
 #[derive(Clone, Copy, Debug, Error)]
 #[error("write failed")]
-pub struct WriteFault;
+pub struct WriteFault(());
 
 /// Writes all bytes, in order and nothing else, and flushes the writer.
 ///
@@ -58,10 +93,10 @@ pub fn write_bytes<W: Write>(writer: &mut W, bytes: &[u8]) -> Result<(), WriteFa
     ensures begun { OnErr result (IsBegun (W.contents writer.old) (W.contents writer.new) bytes.now) }
 {
     if write_all(writer, bytes).is_err() {
-        return Err(WriteFault);
+        return Err(WriteFault(()));
     }
     match writer.flush() {
         Ok(()) => Ok(()),
-        Err(_) => Err(WriteFault),
+        Err(_) => Err(WriteFault(())),
     }
 }

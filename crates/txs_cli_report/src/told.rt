@@ -15,7 +15,7 @@ use txs_cli_advice::{
 };
 use txs_cli_plays::WrongPlay;
 use txs_compile::CompileError;
-use txs_machine::{Entries, Play, Ran};
+use txs_machine::{Entries, Ran, Repeated};
 use txs_value_base::{Fault, Span};
 use txs_world_protocol::Outcome;
 
@@ -67,7 +67,7 @@ pub enum Use<'a> {
     /// Its threads and agents run by these plays and then in rounds, each for so many steps at most, with its
     /// cells and the events of the run told or not.
     Run {
-        plays: &'a [Play],
+        plays: &'a [Repeated],
         steps: u64,
         cells: bool,
         events: bool,

@@ -8,6 +8,7 @@ pub use txs_code_encode::{bytes_of, encode, same_code};
 pub use txs_code_load::error::LoadError;
 pub use txs_code_load::law::form_is_taken;
 pub use txs_code_load::load::{load, load_verified};
+pub use txs_code_load::settled::{is_settled, refusals_stay};
 pub use txs_code_meaning::{Arithmetic, Body, Code, Comparison, Fused, Instr, OpenForm, Verified};
 pub use txs_value_base::Callee;
 pub use txs_value_cell::{CellDefinition, LookForm, PutForm};

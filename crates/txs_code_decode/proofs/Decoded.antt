@@ -1,16 +1,15 @@
 -- What decoding answers, of what reading all bytes gives.
-use Rattle.std.proofs.Common.{◌≡◌, ℕ, ◌-◌, ◌<◌, List, length, get_or, Result, Ok, Err, refl, sym, ap, subst, ◌∙◌, arith}
+use Rattle.std.proofs.Common.{◌≡◌, ℕ, ◌++◌, List, length, Result, Ok, Err, IfErr, refl, sym, ap, subst, ◌∙◌}
 use Rattle.txs_code_meaning.specs.PlainCode.{PlainCode}
 use Rattle.txs_code_decode.specs.declared.error.CodeError.{CodeError}
 use Rattle.txs_code_decode.specs.declared.error.CodeErrorKind.TheVariants.{Memory}
-use Rattle.txs_code_decode.specs.declared.error.Refusal.{Refusal}
 use Rattle.txs_code_decode.specs.declared.error.Stop.{Stop}
 use Rattle.txs_code_decode.specs.declared.error.Stop.TheVariants as stops
-use Rattle.txs_code_decode.specs.CodeForm.{Answers, HasForm, at_place, code_format, decoded, error_of, form}
-use Rattle.txs_code_decode.specs.Errors.{out_of_memory}
-use Rattle.txs_code_decode.specs.Format.{Fails, Gives, whole}
+use Rattle.txs_code_decode.specs.CodeForm.{Answers, HasForm, HasMagic, IsMemory, magic, at_place, code_format, decoded, error_of, form}
+use Rattle.txs_code_decode.specs.Format.{Fails, number_at, whole}
+use Rattle.std.specs.Int.{w32, to_be_bytes}
 use Rattle.txs_code_decode.proofs.CodeExact.{code_exact}
-use Rattle.txs_code_decode.proofs.Exact.{IsBytes, whole_again, whole_takes}
+use Rattle.txs_code_decode.proofs.Exact.{IsBytes, number_exact, whole_again, whole_takes, wide32}
 use Rattle.txs_code_decode.proofs.FormLemmas.{code_form}
 
 -- code that was read has the bytes as its form
@@ -36,3 +35,18 @@ first_code bytes code e = ap (at_place (length bytes)) e
 pub first_error : (bytes : List ℕ) (stop : Stop) → Fails stop (whole code_format bytes) → Answers (Err (error_of (length bytes) stop)) (decoded bytes)
 first_error bytes stops.Memory h = λ other. absurd (other refl)
 first_error bytes (stops.Refused r) h = λ other. ap (at_place (length bytes)) h
+
+-- a stop that is answered as want of memory is such a one
+pub memory_so : (n : ℕ) (stop : Stop) → (error_of n stop).kind ≡ Memory → IsMemory stop
+memory_so n stops.Memory e = tt
+memory_so n (stops.Refused r) e = e
+
+-- the bytes behind which memory may run out
+pub magic_read : (bytes rest : List ℕ) (n : ℕ) → IsBytes bytes → number_at w32 bytes ≡ Ok (n, rest) → n ≡ magic → HasMagic bytes
+magic_read bytes rest n fits e is =
+    let t = (number_exact w32 wide32).takes bytes (n, rest) fits e in
+    (rest, t.parts ∙ ap (λ (k : ℕ). to_be_bytes w32 k ++ rest) is)
+
+pub behind_magic : {A : Type 0} (r : Result A Stop) (bytes : List ℕ) → HasMagic bytes → IfErr r (λ stop. IsMemory stop → HasMagic bytes)
+behind_magic (Ok x) bytes h = tt
+behind_magic (Err stop) bytes h = λ m. h

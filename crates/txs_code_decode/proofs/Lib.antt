@@ -3,6 +3,7 @@ pub mod CodeExact
 pub mod Decoded
 pub mod Exact
 pub mod FormLemmas
+pub mod Further
 pub mod Lists
 pub mod Many
 pub mod TextLemmas

@@ -11,7 +11,7 @@ use Rattle.txs_value_data.specs.declared.value.Value.{Value}
 use Rattle.txs_code_meaning.specs.declared.instr.Instr.{Instr}
 use Rattle.txs_code_meaning.specs.PlainCode.{CodeBody, PlainCode}
 use Rattle.txs_code_decode.specs.declared.error.CodeError.{CodeError}
-use Rattle.txs_code_decode.specs.declared.error.CodeErrorKind.TheVariants.{BadMagic, BadOperand}
+use Rattle.txs_code_decode.specs.declared.error.CodeErrorKind.TheVariants.{BadMagic, BadOperand, Memory as NoMemory}
 use Rattle.txs_code_decode.specs.declared.error.Refusal.{Refusal}
 use Rattle.txs_code_decode.specs.declared.error.Stop.{Stop}
 use Rattle.txs_code_decode.specs.declared.error.Stop.TheVariants as stops
@@ -172,6 +172,15 @@ at_place n (Err r) = Err (refusal_of n r)
 -- the code that the bytes are the form of, or the first refusal from left to right, with its place
 abbrev pub decoded : List ℕ → Result PlainCode CodeError
 decoded bytes = at_place (length bytes) (whole code_format bytes)
+
+-- the bytes begin as those of code do
+abbrev pub HasMagic : List ℕ → Type 0
+HasMagic bytes = (rest : List ℕ) × (bytes ≡ codes "TXS1" ++ rest)
+
+-- a stop is answered as want of memory
+abbrev pub IsMemory : Stop → Type 0
+IsMemory stops.Memory = Unit {0}
+IsMemory (stops.Refused r) = r.kind ≡ NoMemory
 
 -- the answer is this, unless it is want of memory
 abbrev pub Answers : Result PlainCode CodeError → Result PlainCode CodeError → Type 0

@@ -1,10 +1,11 @@
 //! Code, read.
 
-ghost use Rattle.std.specs.Prelude.{◌≡◌, IfOk, Ok};
+ghost use Rattle.std.specs.Prelude.{◌≡◌, IfErr, IfOk, Ok};
 ghost use Rattle.txs_code_meaning.specs.PlainCode.{PlainCode};
+ghost use Rattle.txs_code_decode.specs.declared.error.CodeErrorKind.TheVariants.{Memory};
 ghost use Rattle.txs_code_decode.specs.CellForm.{kinds_of};
 ghost use Rattle.txs_code_decode.specs.Format.{Gives, whole};
-ghost use Rattle.txs_code_decode.specs.CodeForm.{Answers, HasForm, decoded, error_of, form, magic_format, cells_format, constants_format, code_format};
+ghost use Rattle.txs_code_decode.specs.CodeForm.{Answers, HasForm, HasMagic, IsMemory, decoded, error_of, form, magic_format, cells_format, constants_format, code_format};
 
 use crate::bodies::program_at;
 use crate::cells::some_cells_at;
@@ -58,7 +59,8 @@ fn constants_at<'a>(
 /// Code, and the bytes behind it.
 #[tactic(auto, unfolding(crate::specs::CodeForm::code_format, crate::specs::CodeForm::magic_format))]
 fn code_at(alloc: Global, bytes: &[u8]) -> Result<(Code, &[u8]), Stop>
-    ensures { Gives (λ x. (x.0, x.1.now)) result (code_format.read bytes.now) }
+    ensures value { Gives (λ x. (x.0, x.1.now)) result (code_format.read bytes.now) }
+    ensures magic { IfErr result (λ stop. IsMemory stop → HasMagic bytes.now) }
 {
     let (magic, rest) = u32_at(bytes)?;
     if magic != MAGIC {
@@ -78,7 +80,8 @@ fn code_at(alloc: Global, bytes: &[u8]) -> Result<(Code, &[u8]), Stop>
 
 /// The code that all of the bytes are the form of.
 fn all_of(alloc: Global, bytes: &[u8]) -> Result<Code, Stop>
-    ensures { Gives (λ code. code) result (whole code_format bytes.now) }
+    ensures value { Gives (λ code. code) result (whole code_format bytes.now) }
+    ensures magic { IfErr result (λ stop. IsMemory stop → HasMagic bytes.now) }
 {
     let (code, rest) = code_at(alloc, bytes)?;
     if !rest.is_empty() {
@@ -112,6 +115,8 @@ pub fn decode(alloc: Global, bytes: &[u8]) -> Result<Code, CodeError>
     ensures code { IfOk result (λ code. HasForm code × (bytes.now ≡ form code)) }
     // Code in its form is read, unless memory runs out, and no other code has it.
     ensures only { (code : PlainCode) → HasForm code → bytes.now ≡ form code → Answers result (Ok code) }
+    // No memory is wanted for bytes that don't begin as code's.
+    ensures magic { IfErr result (λ e. e.kind ≡ Memory → HasMagic bytes.now) }
     // Which refusal it is.
     ensures first { Answers result (decoded bytes.now) }
 {

@@ -1,12 +1,13 @@
 //! The fields that code is made of.
 
-ghost use Rattle.std.specs.Prelude.{◌≡◌, ℕ, ◌≤◌, length, IfOk, IsTrue, ◌↔◌, [], nat_lt, ◌==◌};
+ghost use Rattle.std.specs.Prelude.{◌≡◌, ℕ, ◌≤◌, length, IfErr, IfOk, IsTrue, ◌↔◌, [], nat_lt, ◌==◌};
 ghost use Rattle.std.specs.Int.{w16, w32, w64};
 ghost use Rattle.std.specs.List.{list_all};
 ghost use Rattle.std.specs.Str.{is_utf8};
 ghost use Rattle.txs_value_data.specs.Names.{IsName, is_symbol_byte};
 ghost use Rattle.txs_value_data.specs.View.{plain_of};
 ghost use Rattle.txs_code_decode.specs.declared.tag.Tag.TheVariants as tag;
+ghost use Rattle.txs_code_decode.specs.CodeForm.{IsMemory};
 ghost use Rattle.txs_code_decode.specs.Format.{Gives, byte_at, bytes_at, never, number_at};
 ghost use Rattle.txs_code_decode.specs.Names.{begins_foreign, begins_number, begins_with_digit, is_literal_word, name_test};
 ghost use Rattle.txs_code_decode.specs.ValueForm.{name_over, text_format, value_body};
@@ -41,7 +42,8 @@ pub(crate) fn u16_at(bytes: &[u8]) -> Result<(u16, &[u8]), Stop>
 /// A field of four bytes.
 #[tactic(auto, unfolding(crate::specs::Format::number_at))]
 pub(crate) fn u32_at(bytes: &[u8]) -> Result<(u32, &[u8]), Stop>
-    ensures { Gives (λ x. (x.0, x.1.now)) result (number_at w32 bytes.now) }
+    ensures value { Gives (λ x. (x.0, x.1.now)) result (number_at w32 bytes.now) }
+    ensures no_memory { IfErr result (λ stop. IsMemory stop → ⊥) }
 {
     match bytes.split_first_chunk::<4>() {
         Some((number, rest)) => Ok((u32::from_be_bytes(*number), rest)),

@@ -1,3 +1,4 @@
 pub mod Formed
 pub mod Kept
 pub mod Refusals
+pub mod NoForm

@@ -1,5 +1,5 @@
 -- Code that bytes are the form of, and why bytes aren't taken as code.
-use Rattle.std.specs.Prelude.{◌≡◌, ℕ, List, Err}
+use Rattle.std.specs.Prelude.{◌≡◌, ℕ, ◌++◌, Bool, true, false, List, Result, Ok, Err}
 use Rattle.txs_code_decode.specs.CodeForm.{HasForm, decoded, form}
 use Rattle.txs_code_decode.specs.declared.error.CodeError.{CodeError}
 use Rattle.txs_code_decode.specs.declared.error.CodeErrorKind.{CodeErrorKind}
@@ -55,3 +55,28 @@ abbrev pub IsRefusal : List ℕ → LoadError → Type 0
 IsRefusal bytes (load.Bytes e) = decoded bytes ≡ Err e
 IsRefusal bytes (load.Code e) = IsFormOfWrong bytes (load.Code e)
 IsRefusal bytes load.Memory = Unit {0}
+
+-- ---- bytes behind which more may stand
+
+-- what stands behind bytes changes nothing of such a refusal
+abbrev pub stays_refused : CodeErrorKind → Bool
+stays_refused bytes_kind.BadMagic = true
+stays_refused bytes_kind.Truncated = false
+stays_refused bytes_kind.BadOpcode = true
+stays_refused bytes_kind.BadOperand = true
+stays_refused bytes_kind.Trailing = true
+stays_refused bytes_kind.TooLarge = true
+stays_refused bytes_kind.Memory = true
+
+-- what bytes are read as is such a refusal
+abbrev pub settles : Result PlainCode CodeError → Bool
+settles (Ok code) = false
+settles (Err e) = stays_refused e.kind
+
+-- no form begins with these bytes: they are refused so, whatever stands behind them
+abbrev pub is_settled : List ℕ → Bool
+is_settled bytes = settles (decoded bytes)
+
+-- Bytes that are settled are refused so with any bytes behind them.
+abbrev pub RefusalsStay : Type 0
+RefusalsStay = (bytes more : List ℕ) → is_settled bytes ≡ true → decoded (bytes ++ more) ≡ decoded bytes

@@ -5,3 +5,4 @@
 pub mod error;
 pub mod law;
 pub mod load;
+pub mod settled;

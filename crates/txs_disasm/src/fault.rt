@@ -1,5 +1,8 @@
 //! Why a listing isn't written whole.
 
+ghost use Rattle.std.specs.Prelude.{◌≡◌};
+ghost use Rattle.txs_disasm.specs.declared.fault.WriteFault.TheVariants as fault;
+
 use std::alloc::AllocError;
 use thiserror::Error;
 
@@ -15,6 +18,8 @@ pub enum WriteFault {
 }
 
 impl From<AllocError> for WriteFault {
+    ghost from_gives = { λ _ e. e ≡ fault.Memory };
+
     fn from(_: AllocError) -> WriteFault {
         WriteFault::Memory
     }

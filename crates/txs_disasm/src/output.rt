@@ -100,6 +100,7 @@ impl Page {
         ensures whole { OnOk result (Appends (W.contents writer.old) (W.contents writer.new) self.old.bytes.items) }
         ensures empty { OnOk result (self.new.bytes.items ≡ []) }
         ensures cut { OnErr result (IsCut (W.contents writer.old) (W.contents writer.new) self.old.bytes.items) }
+        ensures fault { IfErr result (λ e. e ≡ fault.Write) }
     {
         write_whole(writer, self.bytes.as_slice(), &mut self.patience)?;
         self.bytes.clear();
@@ -117,6 +118,9 @@ impl Page {
         ensures sent { OnOk result (Sent (W.contents writer.old) (W.contents writer.new) self.old.bytes.items self.new.bytes.items) }
         ensures cut { OnErr result (OnOk put (IsCut (W.contents writer.old) (W.contents writer.new) self.old.bytes.items)) }
         ensures kept { OnErr put (W.contents writer.new ≡ W.contents writer.old) }
+        // A line that there was memory for lacks nothing but a writer.
+        ensures fault { OnOk put (IfErr result (λ e. e ≡ fault.Write)) }
+        ensures memory { OnErr put (IfErr result (λ e. e ≡ fault.Memory)) }
     {
         put?;
         if self.bytes.len() < LONG_PAGE {

@@ -20,4 +20,5 @@ pub mod Turning
 pub mod PlayedAt
 pub mod Laws
 pub mod Reporting
+pub mod Repeats
 pub mod Serial

@@ -46,7 +46,8 @@ pub record IsThreadsPlay (code : PlainCode) (k limit : ℕ) (s : PlainShared) (x
   pub goes : GoesAs code k s x.actor x.trace.items t y.actor y.trace.items
   pub played : IsPlayed x.actor y.actor
 
--- an agent's actor after a play of it: one that hasn't ended has made as many steps at least, and more where it had something to do
+-- an agent's actor after a play of it: one that hasn't ended has made as many steps at least, and more where it had something to do; one that had made all
+-- that it may has ended
 pub record IsAgentsPlay (code : PlainCode) (k limit : ℕ) (s : PlainShared) (x : AgentPlayer) (t : PlainShared) (y : AgentPlayer) : Type 0 where
   pub of : IsStateOf code t
   pub attending : IsAttending code x.agent k limit t.taken y
@@ -56,6 +57,7 @@ pub record IsAgentsPlay (code : PlainCode) (k limit : ℕ) (s : PlainShared) (x 
   pub goes : GoesAs code k s x.player.actor x.player.trace.items t y.player.actor y.player.trace.items
   pub later : y.player.actor.outcome ≡ None → (x.player.actor.outcome ≡ None) × (x.player.actor.steps ≤ y.player.actor.steps)
   pub progress : y.player.actor.outcome ≡ None → HasWork code s x.agent → x.player.actor.steps < y.player.actor.steps
+  pub left : y.player.actor.outcome ≡ None → x.player.actor.steps < limit
 
 -- all actors after a play of the k-th
 pub record IsPlayAt (code : PlainCode) (limit k : ℕ) (s : PlainShared) (all : Players) (t : PlainShared) (next : Players) : Type 0 where

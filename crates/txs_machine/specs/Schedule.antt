@@ -1,5 +1,5 @@
 -- Runs of all threads of a code over what they share, by turns that a schedule names: what a report says of all threads.
-use Rattle.std.specs.Prelude.{◌≡◌, ◌≤◌, ◌+◌, ℕ, suc, Bool, true, false, ◌&&◌, ◌==◌, nat_lt, List, [], ◌∷◌, length, map, Some, None, if◌then◌else◌}
+use Rattle.std.specs.Prelude.{◌≡◌, ◌≤◌, ◌+◌, ℕ, suc, Bool, true, false, ◌&&◌, ◌==◌, nat_lt, List, [], ◌∷◌, ◌++◌, length, map, replicate, Some, None, if◌then◌else◌}
 use Rattle.txs_world_protocol.specs.declared.event.Event.{Event}
 use Rattle.txs_value_base.specs.Places.{nth}
 use Rattle.txs_tree_meaning.specs.Tree.{PlainProgram}
@@ -11,6 +11,7 @@ use Rattle.txs_theorem_runs.specs.Shared.{Shared}
 use Rattle.txs_machine.specs.RunTheorem.{HasDone, Explains}
 use Rattle.txs_machine.specs.declared.schedule.Play.{Play}
 use Rattle.txs_machine.specs.declared.schedule.Play.TheVariants as play
+use Rattle.txs_machine.specs.declared.schedule.Repeated.{Repeated}
 use Rattle.txs_world_protocol.specs.declared.report.Ran.{Ran}
 use Rattle.txs_machine.specs.declared.schedule.ScheduleError.{ScheduleError}
 use Rattle.txs_machine.specs.declared.schedule.ScheduleError.TheVariants.{NoActor, Memory}
@@ -31,6 +32,11 @@ plays_of k (y ∷ ys) = if player y == k then suc (plays_of k ys) else plays_of 
 abbrev pub all_named : ℕ → List Play → Bool
 all_named n [] = true
 all_named n (y ∷ ys) = nat_lt (player y) n && all_named n ys
+
+-- the plays of a schedule that says of each how many times it is made in a row
+abbrev pub spread : List Repeated → List Play
+spread [] = []
+spread (r ∷ rs) = replicate r.times r.play ++ spread rs
 
 -- ---- what the actors did
 

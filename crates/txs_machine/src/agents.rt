@@ -84,9 +84,13 @@ pub(crate) fn is_due(agent: &AgentPlayer, shared: &SharedState, max_steps: u64) 
     requires { has_agent (cells_of shared.now.cells) agent.now.agent ≡ true }
     ensures unended { IsTrue result → agent.now.player.actor.outcome ≡ None }
     ensures no { result ≡ false → agent.now.player.actor.outcome ≡ None → next_action (cells_of shared.now.cells) (numbered_book shared.now 0) agent.now.agent ≡ None }
+    ensures left { result ≡ false → agent.now.player.actor.outcome ≡ None → agent.now.player.actor.steps < max_steps }
 {
     let actor = &agent.player.actor;
-    if actor.outcome().is_none() && actor.steps() >= max_steps {
+    if actor.outcome().is_some() {
+        return false;
+    }
+    if actor.steps() >= max_steps {
         return true;
     }
     is_working(agent, shared)

@@ -1,8 +1,9 @@
 //! Runs of all threads and agents over what they share, by turns that a schedule names.
 
-ghost use Rattle.std.specs.Prelude.{◌≡◌, ◌<◌, ◌≤◌, ◌+◌, ℕ, [], length, true, false, IfOk, IfErr, IfSome, IsTrue, OnOk, Some, None};
+ghost use Rattle.std.specs.Prelude.{◌≡◌, ◌<◌, ◌≤◌, ◌+◌, ◌++◌, ℕ, List, [], length, replicate, true, false, IfOk, IfErr, IfSome, IsTrue, OnOk, Some, None};
 ghost use Rattle.txs_machine_actor.specs.PlainActor.{MayRun};
 ghost use Rattle.txs_value_cell.specs.Agents.{with_agent};
+ghost use Rattle.txs_machine.specs.declared.schedule.Play.{Play as AnyPlay};
 ghost use Rattle.txs_machine.specs.declared.schedule.ScheduleError.TheVariants.{Memory};
 ghost use Rattle.txs_machine.specs.ErrorName.{schedule_error_number};
 ghost use Rattle.txs_machine.specs.RunOver.{IsStateOf, books_of};
@@ -10,7 +11,7 @@ ghost use Rattle.txs_machine.specs.Agents.{actors_of, AgentsAreDone, AreExplaine
 ghost use Rattle.txs_machine.specs.Running.{ArePlaying, AreIdle, IsAttending, IsLive, attendants, left_all};
 ghost use Rattle.txs_machine.specs.Playing.{IsBetween, AreLater, HaveSteps, AllEnded, IsUnended, IsReported, AreReported};
 ghost use Rattle.txs_machine.specs.Plays.{IsThreadsPlay, IsAgentsPlay, IsPlayAt, AreReady, SaysOf};
-ghost use Rattle.txs_machine.specs.Schedule.{player, all_named, AreDone, ArePlayed, HaveEnded, IsExplainedBy, HasNoReport};
+ghost use Rattle.txs_machine.specs.Schedule.{player, all_named, spread, AreDone, ArePlayed, HaveEnded, IsExplainedBy, HasNoReport};
 ghost use Rattle.txs_theorem_runs.specs.Shared.{untouched};
 ghost use Rattle.txs_world_shared.specs.SharedState.{shared_of};
 ghost use Rattle.txs_value_cell.specs.declared.action.Action.{Action as AnAction};
@@ -36,6 +37,13 @@ pub enum Play {
     Turn(u16),
     /// It makes turns up to and with its next ask, which is served and answered, or up to its end.
     Ask(u16),
+}
+
+/// A play that is made so many times in a row.
+#[derive(Clone, Copy)]
+pub struct Repeated {
+    pub play: Play,
+    pub times: u32,
 }
 
 /// The entries of a report: what all threads did, by their numbers, and what the actors of agents did, in the order of their cells. The
@@ -133,6 +141,42 @@ fn are_named(plays: &[Play], actors: u16) -> bool
         }
     }
     true
+}
+
+/// Whether a play that is made so many times names one of so many actors, where it is made at all.
+fn is_named(run: &Repeated, actors: u16) -> bool
+    ensures { result ≡ all_named actors (replicate run.now.times run.now.play) }
+{
+    if run.times == 0 {
+        return true;
+    }
+    run.play.player() < actors
+}
+
+/// Whether each of these plays names one of so many actors.
+fn are_all_named(plays: &[Repeated], actors: u16) -> bool
+    ensures { result ≡ all_named actors (spread plays.now) }
+{
+    for run in plays {
+        if !is_named(run, actors) {
+            return false;
+        }
+    }
+    true
+}
+
+/// These plays, each made once.
+fn each_once(alloc: Global, plays: &[Play]) -> Result<Vec<Repeated>, AllocError>
+    ensures { IfOk result (λ once. spread once.items ≡ plays.now) }
+{
+    let mut once = Vec::new(alloc);
+    for play in plays {
+        once.push(Repeated {
+            play: *play,
+            times: 1,
+        })?;
+    }
+    Ok(once)
 }
 
 /// Adds the actors of all threads and behind them of the agents, in the order of the cells, which may make so many steps, where there was none and nothing was
@@ -260,32 +304,49 @@ fn is_unended(player: &Player) -> bool
     player.actor.outcome().is_none()
 }
 
-/// These plays, one after the other.
-fn play_all(
+/// A play, so many times in a row.
+fn play_times(
     players: &mut Players,
     code: &Verified,
     shared: &mut SharedState,
-    plays: &[Play],
+    run: Repeated,
     max_steps: u64,
 )
-    requires named { all_named (length players.old.threads.items + length players.old.agents.items) plays.now ≡ true }
+    requires named { 0 < run.times → player run.play < length players.old.threads.items + length players.old.agents.items }
     requires of { IsStateOf code.now shared.old }
     requires playing { ArePlaying code.now max_steps shared.old players.old }
     ensures of { IsStateOf code.now shared.new }
     ensures playing { ArePlaying code.now max_steps shared.new players.new }
     ensures many { length players.new.threads.items ≡ length players.old.threads.items }
     ensures agents { length players.new.agents.items ≡ length players.old.agents.items }
-    ensures steps { HaveSteps plays.now 0 players.new.threads.items }
+    ensures steps { (before : List AnyPlay) → HaveSteps before 0 players.old.threads.items → HaveSteps (before ++ replicate run.times run.play) 0 players.new.threads.items }
 {
-    for play in plays {
-        play_at(
-            players,
-            code,
-            shared,
-            play.player(),
-            play.most_turns(),
-            max_steps,
-        );
+    let number = run.play.player();
+    let budget = run.play.most_turns();
+    for made in 0..run.times {
+        play_at(players, code, shared, number, budget, max_steps);
+    }
+}
+
+/// These plays, one after the other.
+fn play_all(
+    players: &mut Players,
+    code: &Verified,
+    shared: &mut SharedState,
+    plays: &[Repeated],
+    max_steps: u64,
+)
+    requires named { all_named (length players.old.threads.items + length players.old.agents.items) (spread plays.now) ≡ true }
+    requires of { IsStateOf code.now shared.old }
+    requires playing { ArePlaying code.now max_steps shared.old players.old }
+    ensures of { IsStateOf code.now shared.new }
+    ensures playing { ArePlaying code.now max_steps shared.new players.new }
+    ensures many { length players.new.threads.items ≡ length players.old.threads.items }
+    ensures agents { length players.new.agents.items ≡ length players.old.agents.items }
+    ensures steps { HaveSteps (spread plays.now) 0 players.new.threads.items }
+{
+    for run in plays {
+        play_times(players, code, shared, *run, max_steps);
     }
 }
 
@@ -481,7 +542,7 @@ fn count_actors(code: &Verified, threads: u16) -> u16
 fn run_all(
     alloc: Global,
     code: &Verified,
-    plays: &[Play],
+    plays: &[Repeated],
     actors: u16,
     max_steps: u64,
     rounds: bool,
@@ -491,9 +552,9 @@ fn run_all(
     requires unused { shared_of shared.old ≡ untouched code.now.cells }
     requires few { length code.now.threads + length code.now.cells ≤ 65535 }
     requires many { actors ≡ actors_of code.now }
-    requires named { all_named actors plays.now ≡ true }
+    requires named { all_named actors (spread plays.now) ≡ true }
     ensures of { IsStateOf code.now shared.new }
-    ensures says { IfOk result (λ report. SaysOf code.now max_steps plays.now rounds shared.new report) }
+    ensures says { IfOk result (λ report. SaysOf code.now max_steps (spread plays.now) rounds shared.new report) }
 {
     let (_functions, _threads) = code.rooms();
     let mut players = Players {
@@ -507,13 +568,47 @@ fn run_all(
     report_all(alloc, players.threads.as_slice(), players.agents.as_slice())
 }
 
-/// Runs all threads and agents of the code over a state in which nothing was done yet: the plays of a schedule in their order, and with `rounds` behind them one ask of
+/// Runs all threads and agents of the code over a state in which nothing was done yet: the plays of a schedule in their order, each as many times as it says, and with `rounds` behind them one ask of
 /// each actor that hasn't ended, again and again, until all threads have and each agent whose actor hasn't has failed or has nothing to do. A play of an actor
 /// that has ended does nothing. None makes more than `max_steps` steps. Threads have the first numbers, and agents those behind, in the order of their cells.
 ///
 /// # Errors
 /// `NoActor` where a play names no actor, and nothing was run; `Memory` where there was no memory for the actors or for the report: what
 /// was done until then stays in the shared state, and nothing more is said of it.
+pub fn run_repeated(
+    alloc: Global,
+    code: &Verified,
+    plays: &[Repeated],
+    max_steps: u64,
+    rounds: bool,
+    shared: &mut SharedState,
+) -> Result<Entries, ScheduleError>
+    requires of { IsStateOf code.now shared.old }
+    requires unused { shared_of shared.old ≡ untouched code.now.cells }
+    requires few { length code.now.threads + length code.now.cells ≤ 65535 }
+    ensures of { IsStateOf code.now shared.new }
+    ensures named { IfOk result (λ report. all_named (actors_of code.now) (spread plays.now) ≡ true) }
+    ensures done { IfOk result (λ report. AreDone code.now max_steps (books_of shared.new) report.threads.items) }
+    ensures played { IfOk result (λ report. ArePlayed (spread plays.now) report.threads.items) }
+    ensures ended { IfOk result (λ report. rounds ≡ true → HaveEnded report.threads.items) }
+    ensures explained { IfOk result (λ report. IsExplainedBy code.now (shared_of shared.new) report.threads.items) }
+    ensures refused { IfErr result (λ e. HasNoReport code.now (spread plays.now) shared.old shared.new e) }
+    ensures agents { IfOk result (λ report. AgentsAreDone code.now max_steps (books_of shared.new) report.agents.items) }
+    ensures drained { IfOk result (λ report. rounds ≡ true → AreDrained code.now (shared_of shared.new) report.agents.items) }
+    ensures all_explained { IfOk result (λ report. AreExplainedBy code.now (shared_of shared.new) report.threads.items report.agents.items) }
+{
+    let actors = count_actors(code, shared.threads());
+    if !are_all_named(plays, actors) {
+        return Err(ScheduleError::NoActor);
+    }
+    let report = run_all(alloc, code, plays, actors, max_steps, rounds, shared)?;
+    Ok(report)
+}
+
+/// The same by a list of plays, each of which is made once.
+///
+/// # Errors
+/// As `run_repeated`.
 pub fn run_schedule(
     alloc: Global,
     code: &Verified,
@@ -540,6 +635,7 @@ pub fn run_schedule(
     if !are_named(plays, actors) {
         return Err(ScheduleError::NoActor);
     }
-    let report = run_all(alloc, code, plays, actors, max_steps, rounds, shared)?;
+    let once = each_once(alloc, plays)?;
+    let report = run_all(alloc, code, &once, actors, max_steps, rounds, shared)?;
     Ok(report)
 }

@@ -18,13 +18,14 @@ abbrev pub transaction_of : Option Standing → Origin → Transaction → Trans
 transaction_of None from other = other
 transaction_of (Some s) from other = Running s.left s.inner from
 
--- what an unanswered ask is for: a transaction's beginning, here; something small; or another, which is kept whole
+-- what an unanswered ask is for: a transaction's beginning, or a swap's, here; something small; or another, which is kept whole
 abbrev pub pending_of : Wanted → Origin → Option Pending → Option Pending
 pending_of wanted.Other from other = other
 pending_of (wanted.Begin left) from other = Some (pending.Begin left from)
 pending_of (wanted.Read c) from other = Some (pending.Read c)
 pending_of (wanted.Open c n) from other = Some (pending.Open c n None)
 pending_of wanted.Commit from other = Some pending.Commit
+pending_of (wanted.Swap c n) from other = Some (pending.Swap c n from)
 
 -- a transaction runs that isn't at its end
 abbrev pub RunsOn : Transaction → Type 0
@@ -37,6 +38,7 @@ IsWanted (wanted.Begin left) p = (from : Origin) × (p ≡ Some (pending.Begin l
 IsWanted (wanted.Read c) p = p ≡ Some (pending.Read c)
 IsWanted (wanted.Open c n) p = p ≡ Some (pending.Open c n None)
 IsWanted wanted.Commit p = p ≡ Some pending.Commit
+IsWanted (wanted.Swap c n) p = (from : Origin) × (p ≡ Some (pending.Swap c n from))
 
 -- a transaction begins, which may run again so many times, or joins the one that runs
 abbrev pub IsBegun : Option ℕ → Transaction → Transaction → Type 0
@@ -61,10 +63,21 @@ abbrev pub HasBegun : Option Pending → Transaction → Type 0
 HasBegun (Some (pending.Begin left from)) tx = tx ≡ Running left 0 from
 HasBegun _ tx = ⊥
 
--- the same, with what is kept whole
+-- what is asked for is the value of a swap's atom
+abbrev pub IsOpening : Option Pending → Type 0
+IsOpening (Some (pending.Swap c n from)) = Unit {0}
+IsOpening _ = ⊥
+
+-- what is asked for is the value of a swap's atom, which goes below so many arguments, and the swap is in hand, opened at this index
+abbrev pub HasOpened : Option Pending → ℕ → ℕ → Transaction → Type 0
+HasOpened (Some (pending.Swap c n from)) p m tx = (m ≡ n) × (tx ≡ Swapping c p from)
+HasOpened _ p m tx = ⊥
+
+-- what is told of an unanswered ask, with what is kept whole
 abbrev pub IsTold : Wanted → Option Pending → Option Pending → Type 0
 IsTold wanted.Other other p = p ≡ other
 IsTold (wanted.Begin left) other p = IsWanted (wanted.Begin left) p
 IsTold (wanted.Read c) other p = IsWanted (wanted.Read c) p
 IsTold (wanted.Open c n) other p = IsWanted (wanted.Open c n) p
 IsTold wanted.Commit other p = IsWanted wanted.Commit p
+IsTold (wanted.Swap c n) other p = IsWanted (wanted.Swap c n) p

@@ -1,8 +1,8 @@
-//! What an actor keeps of its transaction and of its unanswered ask. What each transaction goes through is small, or is
-//! overwritten in its place: no stack is moved, and none is made anew. All else is kept whole.
+//! What an actor keeps of its transaction and of its unanswered ask. What each transaction and the open of each swap go through is
+//! small, or is overwritten in its place: no stack is made anew. All else is kept whole.
 
 ghost use Rattle.std.specs.Prelude.{◌≡◌, ◌<◌, ◌^◌, None, Some, IfSome, IsTrue, OnOk, false, option_copied};
-ghost use Rattle.txs_machine_transaction.specs.Kept.{HasBegun, IsBegun, IsEnding, IsTold, IsWanted, RunsOn};
+ghost use Rattle.txs_machine_transaction.specs.Kept.{HasBegun, HasOpened, IsBegun, IsEnding, IsTold, IsWanted, RunsOn};
 ghost use Rattle.txs_machine_transaction.specs.Transaction.{IsUnapplied, depth_in};
 ghost use Rattle.txs_machine_transaction.specs.declared.state.Pending.TheVariants as pending;
 ghost use Rattle.txs_machine_transaction.specs.declared.state.Transaction.TheVariants as tx;
@@ -70,9 +70,11 @@ pub enum Wanted {
     Open(CellId, u16),
     /// A transaction ends.
     Commit,
+    /// An atom's value goes between the atom and so many arguments, and a swap is in hand then.
+    Swap(CellId, u16),
 }
 
-/// What an actor's unanswered ask is for, if there is one. Where a transaction would begin stands in a place of its own.
+/// What an actor's unanswered ask is for, if there is one. Where a transaction or a swap would begin stands in a place of its own.
 #[derive(Drop)]
 pub struct KeptPending {
     alloc: Global,
@@ -199,6 +201,32 @@ impl KeptTransaction {
         }
     }
 
+    /// A swap is in hand, whose atom was opened at this index of its book. Lists for where another begins are handed back.
+    pub fn swap(&mut self, cell: CellId, at: u32, from: &mut Origin)
+        ensures { self.new ≡ tx.Swapping cell at from.old }
+    {
+        let spare = mem::replace(&mut self.from, no_origin(self.alloc));
+        let began = mem::replace(from, spare);
+        self.running = None;
+        let swapping = Transaction::Swapping {
+            cell,
+            at,
+            from: began,
+        };
+        drop(mem::replace(&mut self.other, swapping));
+    }
+
+    /// There is none. The lists of a swap that was in hand are kept for another.
+    pub fn leave_swap(&mut self)
+        ensures { self.new ≡ tx.Outside }
+    {
+        self.running = None;
+        match mem::replace(&mut self.other, Transaction::Outside) {
+            Transaction::Swapping { from, .. } => drop(mem::replace(&mut self.from, from)),
+            other => drop(other),
+        }
+    }
+
     /// It runs from here, with no inner ones.
     #[inline(always)]
     pub fn run(&mut self, left: u16, from: &mut Origin)
@@ -297,6 +325,9 @@ impl KeptPending {
             Wanted::Read(cell) => Pending::Read(cell),
             Wanted::Open(cell, n) => Pending::Open(cell, n, None),
             Wanted::Commit => Pending::Commit,
+            Wanted::Swap(cell, n) => {
+                Pending::Swap(cell, n, mem::replace(&mut self.from, no_origin(self.alloc)))
+            }
         };
         self.clear();
         Some(small)
@@ -355,6 +386,36 @@ impl KeptPending {
         self.from.stack.become_copy(stack)?;
         self.wanted = Wanted::Begin(left);
         Ok(())
+    }
+
+    /// The value of a swap's atom is asked for, which goes below so many arguments. The swap begins here, with a copy of the stack.
+    pub fn swap(
+        &mut self,
+        cell: CellId,
+        n: u16,
+        span: Span,
+        stack: &Stack,
+    ) -> Result<(), AllocError>
+        ensures { OnOk result (self.new ≡ Some (pending.Swap cell n (record { span = span; stack = stack.now }))) }
+    {
+        self.from.span = span;
+        self.from.stack.become_copy(stack)?;
+        self.wanted = Wanted::Swap(cell, n);
+        Ok(())
+    }
+
+    /// The swap that is asked for is in hand from now on, opened at this index, and nothing is asked for: how many arguments
+    /// the value goes below. Nothing is done else.
+    pub fn open_swap(&mut self, at: u32, tx: &mut KeptTransaction) -> Option<u16>
+        ensures opened { IfSome result (λ n. HasOpened self.old at n tx.new × (self.new ≡ None)) }
+        ensures kept { result ≡ None → (self.new ≡ self.old) × (tx.new ≡ tx.old) }
+    {
+        let Wanted::Swap(cell, n) = self.wanted else {
+            return None;
+        };
+        tx.swap(cell, at, &mut self.from);
+        self.clear();
+        Some(n)
     }
 
     /// What begins is the transaction from now on, and nothing is asked for: whether that was so. Nothing is done else.

@@ -1,6 +1,7 @@
 // The byte form of `(future (println 7))`, as it is documented, and what is refused of it where.
 use std::alloc::Global;
 use txs_code_encode::{CodeErrorKind, Opcode, decode};
+use txs_code_load::settled::is_settled;
 use txs_code_meaning::Instr;
 
 pub const FORM: &[u8] = b"TXS1\
@@ -50,6 +51,21 @@ fn refuses_what_is_cut_or_other(rt: HostRuntime) {
             "{name}"
         );
     }
+}
+
+// Whether no form begins with the bytes.
+fn settles(alloc: Global, bytes: &[u8]) -> bool {
+    match is_settled(alloc, bytes) {
+        Ok(settled) => settled,
+        Err(_) => false,
+    }
+}
+
+#[test]
+fn tells_where_no_form_begins(rt: HostRuntime) {
+    let alloc = rt.alloc();
+    assert!(rt; settles(alloc, b"TXS2") && settles(alloc, b"TXS1\x03\xe9"));
+    assert!(rt; !settles(alloc, b"TXS1") && !settles(alloc, FORM));
 }
 
 // Code with one constant, which is vectors in 32 levels around nil.

@@ -85,7 +85,8 @@ fn agrees(alloc: Global, code: &Verified, callees: &[bool], text: &[u8]) -> bool
     if let Err(back) = all.push(played) {
         drop(back);
     }
-    match gather(alloc, code, STEPS, shared, all) {
+    let (store, atoms) = shared.into_parts();
+    match gather(alloc, code, STEPS, store, atoms, all) {
         Ok(gathered) => done && is_reported(&gathered, text),
         Err(_) => false,
     }

@@ -9,7 +9,7 @@ use std::sync::Wait;
 use std::thread::Threads;
 use txs_code::Verified;
 use txs_compile::compile;
-use txs_machine::{Entries, Outcome, Play, SharedState, run_schedule};
+use txs_machine::{Entries, Outcome, Play, Repeated, SharedState, run_repeated, run_schedule};
 use txs_threads::{OpenGate, run_threads};
 
 // A transaction that adds one and sends, a read, and the agent that is sent to.
@@ -66,10 +66,27 @@ fn is_scheduled(alloc: Global, code: &Verified) -> bool
     }
 }
 
+// The same, where each play has the number of times that it is made.
+fn is_repeated(alloc: Global, code: &Verified) -> bool
+    requires few { length code.now.threads + length code.now.cells ≤ 65535 }
+{
+    let Ok(mut shared) = open_state(alloc, code) else {
+        return false;
+    };
+    let plays = [Repeated {
+        play: Play::Turn(0),
+        times: 2,
+    }];
+    match run_repeated(alloc, code, &plays, 1_000, true, &mut shared) {
+        Ok(report) => is_reported(&report, shared.events().len()),
+        Err(_) => false,
+    }
+}
+
 #[test]
 fn runs_by_turns(rt: HostRuntime) {
     let is = match code_of(rt.alloc(), SCRIPT) {
-        Ok(code) => is_scheduled(rt.alloc(), &code),
+        Ok(code) => is_scheduled(rt.alloc(), &code) && is_repeated(rt.alloc(), &code),
         Err(_) => false,
     };
     assert!(rt; is);

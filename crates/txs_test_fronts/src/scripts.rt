@@ -6,10 +6,10 @@ use txs_frame::TxFrame;
 use txs_reader::read_script;
 use txs_resolve::resolve;
 use txs_tree::{
-    Callee, Needs, NodeKind, Program, RefView, ThreadMeaning, TxMeaning, eval_pure, eval_thread,
-    eval_tx,
+    Callee, History, Needs, NodeKind, Program, RefView, ThreadMeaning, TxMeaning, eval_pure,
+    eval_thread, eval_tx,
 };
-use txs_value::{Listed, Outcome, Value};
+use txs_value::{Outcome, Value};
 
 /// The program of a script that has so many forms; none where one of its layers refuses it.
 pub fn program_of(alloc: Global, script: &str, forms: usize) -> Option<Program> {
@@ -108,11 +108,14 @@ fn transacts(alloc: Global, program: &Program) -> bool {
     let NodeKind::Dosync(body) = &thread.body.kind else {
         return false;
     };
-    let mut values = Vec::new(alloc);
-    let _pushed = values.push((0u32, Value::Int(5)));
-    let cells = [Listed::from_vec(values)];
+    let mut five = History::new(alloc);
+    if five.latest() > 0 || five.add(0, Value::Int(5)).is_err() {
+        return false;
+    }
+    let cells = [five];
     let world = RefView {
         cells: &cells,
+        swaps: None,
         place: 0,
     };
     match eval_tx(alloc, program, body, &[], world, 10) {

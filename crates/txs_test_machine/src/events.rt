@@ -4,7 +4,9 @@ use crate::trees::all_give;
 use std::alloc::Global;
 use std::str::SplitWhitespace;
 use txs_compile::compile;
-use txs_tree_eval::{Needs, RefView, Seen, ThreadMeaning, TxMeaning, eval_thread, eval_tx};
+use txs_tree_eval::{
+    History, Needs, RefView, Seen, ThreadMeaning, TxMeaning, eval_thread, eval_tx,
+};
 use txs_tree_meaning::{NodeKind, Program};
 use txs_value_data::{CellId, CellKind, Listed, Value, write_text};
 use txs_world_protocol::{EventKind, Outcome};
@@ -30,20 +32,25 @@ fn next_place(words: &mut SplitWhitespace<'_>) -> u32 {
     u32::try_from(number_of(words.next().unwrap_or(""))).unwrap_or(u32::MAX)
 }
 
+/// The values of a cell, one for each place.
+fn history(alloc: Global, values: &str) -> History {
+    let mut history = History::new(alloc);
+    let mut place = 0u32;
+    for word in values.split_whitespace() {
+        let value = Value::Int(number_of(word));
+        if place < history.latest() || history.add(place, value).is_err() {
+            break;
+        }
+        place = place.wrapping_add(1);
+    }
+    history
+}
+
 /// The values of cells, one for each place, with `;` between one cell and the next.
-fn histories(alloc: Global, values: &str) -> Vec<Listed<(u32, Value)>> {
+fn histories(alloc: Global, values: &str) -> Vec<History> {
     let mut cells = Vec::new(alloc);
     for one in values.split(';') {
-        let mut placed = Vec::new(alloc);
-        let mut place = 0u32;
-        for word in one.split_whitespace() {
-            let value = Value::Int(number_of(word));
-            if placed.push((place, value)).is_err() {
-                break;
-            }
-            place = place.wrapping_add(1);
-        }
-        if cells.push(Listed::from_vec(placed)).is_err() {
+        if cells.push(history(alloc, one)).is_err() {
             break;
         }
     }
@@ -122,12 +129,21 @@ fn kinds_of(alloc: Global, cell: CellId, events: &str) -> Vec<EventKind> {
     kinds
 }
 
+/// The values of these cells at a place.
+fn view_of(cells: &[History], place: u32) -> RefView<'_> {
+    RefView {
+        cells,
+        swaps: None,
+        place,
+    }
+}
+
 /// The events of such a cell, with the cells' values. An atom's swaps and reads stand in its own book, the first behind the store's.
 fn all_seen<'a>(
     alloc: Global,
     cell: CellKind,
     kinds: &'a [EventKind],
-    cells: &'a [Listed<(u32, Value)>],
+    cells: &'a [History],
     events: &str,
 ) -> Vec<Seen<'a>> {
     let mut all = Vec::new(alloc);
@@ -147,9 +163,9 @@ fn all_seen<'a>(
         let seen = Seen {
             book: usize::from(own),
             kind,
-            start: RefView { cells, place: at },
-            view: RefView { cells, place: view },
-            here: RefView { cells, place },
+            start: view_of(cells, at),
+            view: view_of(cells, view),
+            here: view_of(cells, place),
         };
         if all.push(seen).is_err() {
             break;
@@ -525,10 +541,7 @@ fn transacts(alloc: Global, program: &Program, values: &str) -> bool {
         return false;
     };
     let cells = histories(alloc, values);
-    let world = RefView {
-        cells: cells.as_slice(),
-        place: 0,
-    };
+    let world = view_of(cells.as_slice(), 0);
     match eval_tx(alloc, program, body, &[], world, 100) {
         Ok(meaning) => is_done_so(alloc, &meaning),
         Err(_) => false,

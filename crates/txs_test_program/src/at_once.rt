@@ -6,8 +6,8 @@ use std::sync::atomic::{AtomicU64, Ordering};
 use std::thread::Threads;
 use txs_threads::{AskKind, Gate, Moment};
 
-/// How often a gate looks before it gives up: a fifth of a second of a processor, in which each of four threads is run also where there are two processors.
-const LOOKS: u32 = 200_000_000;
+/// How often a gate looks before it gives up: a second of a processor, in which each of four threads is run also under load on two processors.
+const LOOKS: u32 = 1_000_000_000;
 
 /// A reader that reads twice, and a writer.
 const READER: &str =
@@ -18,13 +18,20 @@ const FOUR: &str = "(def c (ref 0))
 (future (dosync (commute c inc))) (future (dosync (commute c inc)))
 (future (dosync (commute c inc))) (future (dosync (commute c inc)))";
 
-/// Holds actors at their first begins: all of them until four have come, or actor 0 alone until actor 1 has committed. One type for both, since each gate
-/// is a run of its own to prove.
+/// Two threads that add one to an atom.
+const SWAPS: &str = "(def a (atom 0)) (future (swap! a inc)) (future (swap! a inc))";
+
+/// Holds actors: all of them at their first begins, until four have come, or actor 0 alone behind such a request, until actor 1 has passed another. One type for
+/// both, since each gate is a run of its own to prove.
 #[derive(Drop)]
 struct Meeting {
     of_four: bool,
+    held: AskKind,
+    passed: AskKind,
     come: AtomicU64,
     gave_up: AtomicU64,
+    answered: AtomicU64,
+    local: AtomicU64,
 }
 
 impl Meeting {
@@ -41,43 +48,77 @@ impl Meeting {
 
 impl Gate for Meeting {
     fn pass(&self, actor: u16, moment: Moment) {
+        match moment {
+            Moment::Local => self.local.fetch_add(1, Ordering::SeqCst),
+            Moment::Answered(_) => self.answered.fetch_add(1, Ordering::SeqCst),
+        };
         if self.of_four && moment == Moment::Answered(AskKind::Begin) {
             self.come.fetch_add(1, Ordering::SeqCst);
             self.wait_for(4);
         }
-        if !self.of_four && actor == 1 && moment == Moment::Answered(AskKind::Commit) {
+        if !self.of_four && actor == 1 && moment == Moment::Answered(self.passed) {
             self.come.fetch_add(1, Ordering::SeqCst);
         }
-        if !self.of_four && actor == 0 && moment == Moment::Answered(AskKind::Begin) {
+        if !self.of_four && actor == 0 && moment == Moment::Answered(self.held) {
             self.wait_for(1);
         }
     }
 }
 
-/// Whether a script's run by so many workers leaves this text, where a gate gives up, or doesn't.
+/// Whether the gate was passed behind each request, of which there are at least so many, and before the turns that lead to each and to each end.
+fn is_told(answered: u64, local: u64, asks: u64) -> bool {
+    answered >= asks && local > answered
+}
+
+/// Whether a script's run by so many workers leaves this text, where a gate gives up, or doesn't, and is passed behind so many requests at least.
 fn meets<R: Threads + Wait + Sync>(
     rt: &R,
     alloc: Global,
     script: &str,
     workers: usize,
     text: &str,
-    of_four: bool,
+    moments: (AskKind, AskKind),
     gives_up: bool,
+    asks: u64,
 ) -> bool {
     let gate = Meeting {
-        of_four,
+        of_four: workers == 4,
+        held: moments.0,
+        passed: moments.1,
         come: AtomicU64::new(0),
         gave_up: AtomicU64::new(0),
+        answered: AtomicU64::new(0),
+        local: AtomicU64::new(0),
     };
     let left = leaves(rt, alloc, script, workers, 1_000, &gate, text);
     left && gives_up == (gate.gave_up.load(Ordering::SeqCst) == 1)
+        && is_told(
+            gate.answered.load(Ordering::SeqCst),
+            gate.local.load(Ordering::SeqCst),
+            asks,
+        )
 }
 
-/// A gate that two workers pass leaves its mark where one worker runs all: that keeps the reader to its end.
+/// A gate that two workers pass leaves its mark where one worker runs all: that keeps the reader to its end. An actor that is held between the opening of a swap and
+/// its end holds no lock: the other ends its own swap meanwhile, and the first is made again.
 #[test]
 fn two_and_four_at_once(rt: HostRuntime) {
     let alloc = rt.alloc();
-    assert!(rt; meets(&rt, alloc, READER, 2, "7\ndone done 7 ", false, false));
-    assert!(rt; meets(&rt, alloc, FOUR, 4, "done done done done 4 ", true, false));
-    assert!(rt; meets(&rt, alloc, READER, 1, "0\ndone done 7 ", false, true));
+    let commit = (AskKind::Begin, AskKind::Commit);
+    let swap = (AskKind::OpenAt, AskKind::CloseAt);
+    assert!(rt; meets(&rt, alloc, READER, 2, "7\ndone done 7 ", commit, false, 8));
+    assert!(rt;
+        meets(
+            &rt,
+            alloc,
+            FOUR,
+            4,
+            "done done done done 4 ",
+            commit,
+            false,
+            12
+        )
+    );
+    assert!(rt; meets(&rt, alloc, READER, 1, "0\ndone done 7 ", commit, true, 8));
+    assert!(rt; meets(&rt, alloc, SWAPS, 2, "done done 2 ", swap, false, 4));
 }

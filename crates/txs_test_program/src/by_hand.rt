@@ -295,7 +295,8 @@ fn is_told(alloc: Global, by: &Verified, parts: Parts<'_>, change: &Change) -> b
         _ => STEPS,
     };
     let Parts { shared, both, .. } = parts;
-    match gather(alloc, by, steps, shared, both) {
+    let (store, atoms) = shared.into_parts();
+    match gather(alloc, by, steps, store, atoms, both) {
         Ok(gathered) => {
             let told = is_gathered(alloc, &gathered, change);
             drop(gathered);

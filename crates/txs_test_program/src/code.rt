@@ -2,6 +2,9 @@
 // (`code.rows`).
 use crate::program::{says, write};
 use std::alloc::Global;
+use std::io::{self, Read};
+use txs_cli::play_words;
+use txs_cli_args::Words;
 
 /// The bytes of the code of `(future (println 7))`: the magic, no cells, one constant, no functions, and a thread of three instructions.
 const SEVEN: [u8; 62] = [
@@ -90,4 +93,46 @@ fn is_refused(rt: HostRuntime) {
     assert!(rt; line.is_empty(), "{line}");
     let count = first_taken(rt.alloc());
     assert!(rt; count == 62, "{count}");
+}
+
+/// What stands behind the first bytes of a stream, again and again.
+const ZEROS: &[u8] = b"\0\0\0\0\0\0\0\0";
+
+/// Gives these bytes and then zeros, without an end, and counts them.
+#[derive(Drop)]
+struct Endless<'a> {
+    text: &'a [u8],
+    given: usize,
+}
+
+impl<'a> Read for Endless<'a> {
+    fn read(&mut self, buf: &mut [u8]) -> io::Result<usize> {
+        if self.text.is_empty() {
+            self.text = ZEROS;
+        }
+        let most = self.text.len().min(buf.len());
+        let (now, later) = self.text.split_at(most);
+        buf[..most].copy_from_slice(now);
+        self.text = later;
+        self.given = self.given.saturating_add(most);
+        Ok(most)
+    }
+}
+
+/// Whether such a stream is refused by this line, and no more than so many bytes of it are read.
+fn is_read(alloc: Global, text: &[u8], line: &str, given: usize) -> bool {
+    let mut reader = Endless { text, given: 0 };
+    let mut output = Vec::new(alloc);
+    let mut errors = Vec::new(alloc);
+    let words = Words::ListCode { file: None };
+    let status = play_words(alloc, &words, &mut reader, &mut output, &mut errors);
+    drop(words);
+    status == 1 && errors.as_slice() == line.as_bytes() && reader.given == given
+}
+
+#[test]
+fn is_read_no_further(rt: HostRuntime) {
+    let alloc = rt.alloc();
+    assert!(rt; is_read(alloc, b"", "refused 31 BadMagic at 0\n", 4));
+    assert!(rt; is_read(alloc, &SEVEN, "refused 35 Trailing at 62\n", 65_540));
 }

@@ -8,6 +8,8 @@ mod at_once;
 #[cfg(test)]
 mod by_hand;
 #[cfg(test)]
+mod changed;
+#[cfg(test)]
 mod code;
 #[cfg(test)]
 mod every_schedule;

@@ -2,6 +2,7 @@
 // it and whenever they were parked.
 use crate::seen::{NO_RUN, leaves, ran};
 use std::alloc::Global;
+use std::env;
 use std::sync::Wait;
 use std::thread::Threads;
 use txs_threads::{Gathered, OpenGate};
@@ -98,6 +99,27 @@ fn keeps_sums_by_three(rt: HostRuntime) {
 #[test]
 fn keeps_sums_by_four(rt: HostRuntime) {
     assert!(rt; always_leaves(&rt, rt.alloc(), MOVERS, 4, "done done 17 3 "));
+}
+
+/// Three threads that move what two refs hold, tell an agent of it, and count by an atom.
+const MIXED: &str = "(def from (ref 100)) (def to (ref 0)) (def n (atom 0)) (def sum (agent 0))
+(defn move [k] (dosync (alter from - k) (alter to + k) (send sum + k)))
+(future (move 1) (swap! n inc)) (future (swap! n + 10) (move 2)) (future (move 4) (swap! n + 100))";
+
+/// How often its 250 runs are made: once, or as often as the variable ROUNDS of the environment says. `tests/loaded.py` sets it, and looks at the memory.
+fn rounds(rt: &HostRuntime) -> u32 {
+    match env::var(rt, "ROUNDS") {
+        Ok(text) => text.as_str().parse().unwrap_or(1),
+        Err(_) => 1,
+    }
+}
+
+#[test]
+fn keeps_refs_atoms_and_agents_together(rt: HostRuntime) {
+    let left = "done done done idle 93 7 111 7 ";
+    for _ in 0..rounds(&rt) {
+        assert!(rt; always_leaves(&rt, rt.alloc(), MIXED, 3, left));
+    }
 }
 
 /// A thread that sends two actions, and the agent whose second one is sent while it runs the first, or after it was parked.

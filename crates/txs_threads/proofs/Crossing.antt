@@ -25,7 +25,7 @@ use Rattle.txs_code_meaning.specs.contracts.verified.Verified.TheInside as verif
 use Rattle.txs_code_meaning.proofs.fusing.Fused.TheSendSync as fused_sent
 use Rattle.txs_threads_gather.specs.contracts.played.Played as played_is
 use Rattle.txs_threads_gather.specs.contracts.played.Played.TheInside as played_in
-use Rattle.txs_threads.specs.contracts.desk.Server as server_is
+use Rattle.txs_threads.specs.contracts.atoms.Atoms as atoms_is
 use Rattle.txs_threads.specs.contracts.desk.Desk as desk_is
 use Rattle.txs_threads.proofs.desk.Actors.TheSendSync as actors_sent
 use Rattle.std.specs.contracts.sync.Mutex as mutex_is
@@ -257,14 +257,18 @@ module _ (a : NamedLft) where
   pub played_send : IsSend (played_is.the_row a)
   played_send = view_send (played_in.the_row a) _ _ _ _ (recorded_send (played_in.the_field a).row _ _ (played_in.the_type a).to_one (struct_send (S.shape (played_in.the_type a)) (search (global.the_field_send, crosses, sendable) depth 60 fits 20000, (shr_send _ _ verified_is.the_row verified_sync, (shr_slice_send _ _ Builtin.bool (plain_sync _ _ _ _ _), (actor_send, (plain_send _ _ _ _ _, (search (ask_send, option.the_field_send, crosses, sendable) depth 60 fits 20000, (kept_entries_send, (search (ask_send, option.the_field_send, crosses, sendable) depth 60 fits 20000, (plain_send _ _ _ _ _, tt)))))))))))
 
-pub server_field_send : IsSend (server_is.the_field).row
-server_field_send = struct_send (S.shape server_is.the_type) (shared_state_send, tt)
+-- an atom under its lock, and all of them
+atom_locked : IsSync (mutex_is.the_row atom_book_is.the_row)
+atom_locked = mutex.the_sync atom_book_is.the_row atom_book_send
+
+pub atoms_sync : IsSync atoms_is.the_row
+atoms_sync = recorded_sync (atoms_is.the_field).row _ _ (atoms_is.the_type).to_one (struct_sync (S.shape atoms_is.the_type) (plain_sync _ _ _ _ _, (search (plain_sync, vec.the_sync, crosses, sendable) depth 60 fits 20000, (search (atom_locked, vec.the_sync, crosses, sendable) depth 60 fits 20000, tt))))
 
 module _ (P : RattleType) (p : IsSend P) where
   pub desk_send : IsSend (desk_is.the_row P)
-  desk_send = recorded_send (desk_is.the_field P).row _ _ (desk_is.the_type P).to_one (struct_send (S.shape (desk_is.the_type P)) (server_field_send, (actors_sent.the_field_send P p, tt)))
+  desk_send = recorded_send (desk_is.the_field P).row _ _ (desk_is.the_type P).to_one (struct_send (S.shape (desk_is.the_type P)) (store_send, (actors_sent.the_field_send P p, tt)))
 
--- what a worker holds: the runtime, what lies under the lock, both ends of the channel, and the gate, each lent
+-- what a worker holds: the runtime, what lies under the store's lock, the atoms, both ends of the channel, and the gate, each lent
 module _ (R P G : RattleType) (r : IsSync (param 0 R)) (p : IsSend (param 1 P)) (g : IsSync (param 2 G)) where
   desk_shared : IsSync (mutex_is.the_row (desk_is.the_row (param 1 P)))
   desk_shared = mutex.the_sync (desk_is.the_row (param 1 P)) (desk_send (param 1 P) p)
@@ -278,12 +282,13 @@ module _ (R P G : RattleType) (r : IsSync (param 0 R)) (p : IsSend (param 1 P)) 
   receiver_shared : IsSync (receiver_is.the_row (option_is.the_row (param 1 P)) global_is.the_row allocator.ghosts)
   receiver_shared = search (receiver.the_sync, message_sent, global.the_send, global.the_sync, heap.the_frees, crosses, sendable) depth 60 fits 20000
 
-  abbrev pub worker_fields : NamedLft → NamedLft → NamedLft → NamedLft → NamedLft → List RattleType
-  worker_fields a b c d e =
+  abbrev pub worker_fields : NamedLft → NamedLft → NamedLft → NamedLft → NamedLft → NamedLft → List RattleType
+  worker_fields a b l c d e =
       (shr_ref_field a (param 0 R) tt).row ∷ (shr_ref_field b (mutex_is.the_row (desk_is.the_row (param 1 P))) tt).row
+      ∷ (shr_ref_field l atoms_is.the_row tt).row
       ∷ (shr_ref_field c (sender_is.the_row (option_is.the_row (param 1 P)) global_is.the_row allocator.ghosts) tt).row
       ∷ (shr_ref_field d (receiver_is.the_row (option_is.the_row (param 1 P)) global_is.the_row allocator.ghosts) tt).row ∷ (shr_ref_field e (param 2 G) tt).row ∷ []
 
-  pub worker_send : (n : Sym) (a b c d e : NamedLft) → IsSend (TupleAt n (worker_fields a b c d e))
-  worker_send n a b c d e =
-      recorded_send (field_at n (worker_fields a b c d e)).row _ _ (type_at n (worker_fields a b c d e)).to_one (struct_send (S.shape (type_at n (worker_fields a b c d e))) (shr_send _ _ _ r, (shr_send _ _ _ desk_shared, (shr_send _ _ _ sender_shared, (shr_send _ _ _ receiver_shared, (shr_send _ _ _ g, tt))))))
+  pub worker_send : (n : Sym) (a b l c d e : NamedLft) → IsSend (TupleAt n (worker_fields a b l c d e))
+  worker_send n a b l c d e =
+      recorded_send (field_at n (worker_fields a b l c d e)).row _ _ (type_at n (worker_fields a b l c d e)).to_one (struct_send (S.shape (type_at n (worker_fields a b l c d e))) (shr_send _ _ _ r, (shr_send _ _ _ desk_shared, (shr_send _ _ _ atoms_sync, (shr_send _ _ _ sender_shared, (shr_send _ _ _ receiver_shared, (shr_send _ _ _ g, tt)))))))

@@ -1,5 +1,5 @@
 -- Every thread of a report has ended.
-use Rattle.std.proofs.Common.{◌≡◌, ◌∙◌, ℕ, zero, suc, List, [], ◌∷◌, Option, Some, None, sym, ap, subst}
+use Rattle.std.proofs.Common.{◌∙◌, zero, suc, List, [], ◌∷◌, Option, Some, None, sym, ap, subst}
 use Rattle.txs_machine.specs.Schedule.{HaveEnded}
 use Rattle.txs_world_protocol.specs.declared.report.Ran.{Ran}
 use Rattle.txs_threads.specs.Run.{AllEnded}

@@ -1,21 +1,16 @@
-//! What lies under the one lock.
+//! What lies under the lock of the store.
 
 ghost use Rattle.std.proofs.Common.{get_or};
 ghost use Rattle.std.specs.Prelude.{◌≡◌, ◌<◌, ◌≤◌, ◌+◌, ◌-◌, ◌++◌, ◌∷◌, [], false, length, vec_capacity, IfSome, OnOk, None};
-ghost use Rattle.txs_world_shared.specs.SharedState.{is_lawful, answer_to, Answers};
+ghost use Rattle.txs_value_data.specs.Limits.{most_events};
+ghost use Rattle.txs_world.specs.Store.{is_lawful, serve, store_after, Answers};
 
 use crate::player::Player;
 use std::alloc::{AllocError, Global};
 use std::mem;
 use txs_value_data::CellId;
+use txs_world::Store;
 use txs_world_protocol::{Ask, Event, EventKind, Reply};
-use txs_world_shared::SharedState;
-
-/// What all actors share.
-#[derive(Drop)]
-pub struct Server {
-    pub shared: SharedState,
-}
 
 /// An answer, and how many events its book had before.
 #[derive(Drop)]
@@ -24,38 +19,45 @@ pub struct Served {
     pub at: u32,
 }
 
-impl Server {
-    /// Serves an ask, if the actor may ask it: one event of its book, or one answer without an event. Else, and only then, it is refused, and all is left
-    /// as it is.
-    pub fn serve(&mut self, actor: u16, ask: Ask) -> Option<Served>
-        ensures served { IfSome result (λ v. Answers self.old.shared ask (answer_to self.old.shared actor ask) v.reply self.new.shared) }
-        ensures lawful { (result ≡ None → is_lawful self.old.shared actor ask ≡ false) × (is_lawful self.old.shared actor ask ≡ false → result ≡ None) }
-        ensures refused { result ≡ None → self.new.shared ≡ self.old.shared }
-    {
-        if !self.shared.lawful(actor, &ask) {
-            drop(ask);
-            return None;
-        }
-        let events = self.shared.numbered_events(self.shared.book_for(&ask));
-        let at = u32::try_from(events.len()).unwrap_or(u32::MAX);
-        let reply = self.shared.serve(actor, ask);
-        Some(Served { reply, at })
-    }
+/// How many events a book has, as an index in it.
+#[tactic(auto, unfolding(txs_value_data::specs::Limits::most_events))]
+pub(crate) fn count(events: &[Event]) -> u32
+    requires { length events.now ≤ most_events }
+    ensures { result ≡ length events.now }
+{
+    events.len() as u32
+}
 
-    /// Whether an action waits for the agent of this actor, if it is an agent's.
-    #[tactic(auto, using(crate::proofs::Mail::taker_is_agent))]
-    fn has_mail(&self, actor: u16, agent: Option<CellId>) -> bool {
-        let Some(agent) = agent else {
-            return false;
-        };
-        let take = Ask::Take { agent };
-        let lawful = self.shared.lawful(actor, &take);
-        drop(take);
-        if !lawful {
-            return false;
-        }
-        self.shared.failure(agent).is_none() && self.shared.waiting(agent) > 0
+/// Serves an ask from the store, if the actor may ask it there: one event of its book, or one answer without an event. Else, and only then, it is refused, and all
+/// is left as it is.
+fn serve_store(store: &mut Store, actor: u16, ask: Ask) -> Option<Served>
+    ensures served { IfSome result (λ v. Answers store.old (serve store.old.cells actor ask store.old.book) (store_after store.old ask (serve store.old.cells actor ask store.old.book)) v.reply store.new) }
+    ensures lawful { (result ≡ None → is_lawful store.old actor ask ≡ false) × (is_lawful store.old actor ask ≡ false → result ≡ None) }
+    ensures index { IfSome result (λ v. v.at ≡ length store.old.book) }
+    ensures refused { result ≡ None → store.new ≡ store.old }
+{
+    if !store.lawful(actor, &ask) {
+        drop(ask);
+        return None;
     }
+    let at = count(store.events());
+    let reply = store.serve(actor, ask);
+    Some(Served { reply, at })
+}
+
+/// Whether an action waits for the agent of this actor, if it is an agent's.
+#[tactic(auto, using(crate::proofs::Mail::taker_is_agent))]
+fn has_mail(store: &Store, actor: u16, agent: Option<CellId>) -> bool {
+    let Some(agent) = agent else {
+        return false;
+    };
+    let take = Ask::Take { agent };
+    let lawful = store.lawful(actor, &take);
+    drop(take);
+    if !lawful {
+        return false;
+    }
+    store.failure(agent).is_none() && store.waiting(agent) > 0
 }
 
 /// The actors that no worker has in hand.
@@ -160,10 +162,10 @@ pub struct Step {
     pub woke: bool,
 }
 
-/// What lies under the lock: the state that asks are served from, and the actors that no worker has in hand.
+/// What lies under the lock: the store, and the actors that no worker has in hand.
 #[derive(Drop)]
 pub struct Desk<P> {
-    pub server: Server,
+    pub store: Store,
     pub actors: Actors<P>,
 }
 
@@ -187,12 +189,12 @@ fn wake_by<P: Player>(actors: &mut Actors<P>, events: &[Event], at: usize) -> bo
 
 impl<P: Player> Desk<P> {
     /// What lies under the lock before there are actors.
-    pub fn new(alloc: Global, shared: SharedState) -> Desk<P>
-        ensures shared { result.server.shared ≡ shared }
+    pub fn new(alloc: Global, store: Store) -> Desk<P>
+        ensures store { result.store ≡ store }
         ensures none { (result.actors.ready.items ≡ []) × (result.actors.parked.items ≡ []) × (result.actors.down.items ≡ []) × (result.actors.live ≡ 0) }
     {
         Desk {
-            server: Server { shared },
+            store,
             actors: Actors {
                 ready: Vec::new(alloc),
                 parked: Vec::new(alloc),
@@ -202,41 +204,43 @@ impl<P: Player> Desk<P> {
         }
     }
 
-    /// Serves an ask, if the actor may ask it, and wakes the agents to which it sent actions, in one step. An ask that it may not ask is refused, and no other.
+    /// Serves an ask from the store, if the actor may ask it there, and wakes the agents to which it sent actions, in one step. An ask that it may not ask is
+    /// refused, and no other.
     pub fn serve(&mut self, actor: u16, ask: Ask) -> Step
-        ensures served { IfSome result.served (λ v. Answers self.old.server.shared ask (answer_to self.old.server.shared actor ask) v.reply self.new.server.shared) }
-        ensures lawful { (result.served ≡ None → is_lawful self.old.server.shared actor ask ≡ false) × (is_lawful self.old.server.shared actor ask ≡ false → result.served ≡ None) }
-        ensures refused { result.served ≡ None → self.new.server.shared ≡ self.old.server.shared }
+        ensures served { IfSome result.served (λ v. Answers self.old.store (serve self.old.store.cells actor ask self.old.store.book) (store_after self.old.store ask (serve self.old.store.cells actor ask self.old.store.book)) v.reply self.new.store) }
+        ensures lawful { (result.served ≡ None → is_lawful self.old.store actor ask ≡ false) × (is_lawful self.old.store actor ask ≡ false → result.served ≡ None) }
+        ensures index { IfSome result.served (λ v. v.at ≡ length self.old.store.book) }
+        ensures refused { result.served ≡ None → self.new.store ≡ self.old.store }
     {
-        let before = self.server.shared.events().len();
-        let served = self.server.serve(actor, ask);
-        let woke = wake_by(&mut self.actors, self.server.shared.events(), before);
+        let before = self.store.events().len();
+        let served = serve_store(&mut self.store, actor, ask);
+        let woke = wake_by(&mut self.actors, self.store.events(), before);
         Step { served, woke }
     }
 
-    /// The next actor that is ready. What is shared stays as it is.
+    /// The next actor that is ready. The store stays as it is.
     pub fn next(&mut self) -> Option<P>
-        ensures { self.new.server ≡ self.old.server }
+        ensures { self.new.store ≡ self.old.store }
     {
         self.actors.ready.pop()
     }
 
-    /// An actor is put down: whether it was the last that was live. What is shared stays as it is.
+    /// An actor is put down: whether it was the last that was live. The store stays as it is.
     pub fn put(&mut self, played: P) -> bool
-        ensures { self.new.server ≡ self.old.server }
+        ensures { self.new.store ≡ self.old.store }
     {
         self.actors.rest(None, played)
     }
 
-    /// The actor of this agent, which found nothing to do, is parked, and one of none is put down: whether it was the last that was live. What is shared stays
+    /// The actor of this agent, which found nothing to do, is parked, and one of none is put down: whether it was the last that was live. The store stays
     /// as it is.
     ///
     /// # Errors
     /// The actor, where something waits for its agent by now.
     pub fn rest(&mut self, agent: Option<CellId>, played: P) -> Result<bool, P>
-        ensures { self.new.server ≡ self.old.server }
+        ensures { self.new.store ≡ self.old.store }
     {
-        if self.server.has_mail(played.place(), agent) {
+        if has_mail(&self.store, played.place(), agent) {
             return Err(played);
         }
         Ok(self.actors.rest(agent, played))

@@ -1,13 +1,15 @@
 //! What the workers leave: everything after the joins, without a handle.
 
-ghost use Rattle.std.specs.Prelude.{◌≡◌, ◌⊎◌, length, true, IsTrue, IfOk, IfErr};
+ghost use Rattle.std.specs.Prelude.{◌≡◌, ◌↔◌, ◌⊎◌, length, true, false, None, IsTrue, IfOk, IfErr, IfSome};
 ghost use Rattle.txs_machine.specs.Agents.{agents_of};
 ghost use Rattle.txs_machine.specs.declared.run_error.RunError.TheVariants.{JournalMismatch, Memory};
 ghost use Rattle.txs_threads.specs.Run.{AllEnded, AreAgents, IsDrained, AllDrained, IsLeft};
 ghost use Rattle.txs_world_book.specs.Book.{has_agent};
 ghost use Rattle.txs_world_book.specs.Served.{cells_of};
+ghost use Rattle.txs_world_shared.specs.SharedState.{is_lawful, answer_to, Answers};
 
-use crate::desk::{Actors, Desk, Server};
+use crate::atoms::Atoms;
+use crate::desk::{Actors, Desk, Served};
 use crate::player::{Next, Player};
 use std::alloc::Global;
 use txs_code_meaning::Verified;
@@ -15,17 +17,35 @@ use txs_machine::{Ran, RunError};
 use txs_machine_actor::Turn;
 use txs_threads_gather::{Gathered, Played, gather};
 use txs_value_data::CellId;
+use txs_world::Store;
+use txs_world_protocol::Ask;
 use txs_world_shared::SharedState;
 
+/// Serves an ask from the state, if the actor may ask it: one event of its book, or one answer without an event. Else, and only then, it is refused, and all is left
+/// as it is.
+fn serve_state(shared: &mut SharedState, actor: u16, ask: Ask) -> Option<Served>
+    ensures served { IfSome result (λ v. Answers shared.old ask (answer_to shared.old actor ask) v.reply shared.new) }
+    ensures lawful { (result ≡ None → is_lawful shared.old actor ask ≡ false) × (is_lawful shared.old actor ask ≡ false → result ≡ None) }
+    ensures refused { result ≡ None → shared.new ≡ shared.old }
+{
+    if !shared.lawful(actor, &ask) {
+        drop(ask);
+        return None;
+    }
+    let at = u32::try_from(shared.numbered_events(shared.book_for(&ask)).len()).unwrap_or(u32::MAX);
+    let reply = shared.serve(actor, ask);
+    Some(Served { reply, at })
+}
+
 /// Rounds of one ask of each actor that hasn't ended, until none goes on: each is turned up to its next ask, which is served and answered, or to its end.
-fn play_rounds<P: Player>(server: &mut Server, actors: &mut [P]) {
+fn play_rounds<P: Player>(shared: &mut SharedState, actors: &mut [P]) {
     for _ in 0..u64::MAX {
         let mut more = false;
         for one in actors.iter_mut() {
             match one.run(u64::MAX) {
                 Some(Turn::Went) => more = true,
                 Some(Turn::Asks(ask)) => {
-                    let served = server.serve(one.place(), ask);
+                    let served = serve_state(shared, one.place(), ask);
                     more |= matches!(one.hear(served), Next::GoesOn | Next::Redoes | Next::Again);
                 }
                 Some(Turn::Ended(_)) | None => {}
@@ -38,7 +58,7 @@ fn play_rounds<P: Player>(server: &mut Server, actors: &mut [P]) {
 }
 
 /// All actors, in the order of their numbers, when what the workers left unended was played in rounds.
-fn play_out<P: Player>(server: &mut Server, mut actors: Actors<P>) -> Vec<P> {
+fn play_out<P: Player>(shared: &mut SharedState, mut actors: Actors<P>) -> Vec<P> {
     actors.wake_all();
     let Actors {
         mut ready,
@@ -50,13 +70,13 @@ fn play_out<P: Player>(server: &mut Server, mut actors: Actors<P>) -> Vec<P> {
     let _ = ready.append(&mut down);
     drop(down);
     ready.sort_unstable_by_key(P::place);
-    play_rounds(server, ready.as_mut_slice());
+    play_rounds(shared, ready.as_mut_slice());
     ready
 }
 
 /// Whether each of these entries is of an actor that has ended.
 fn have_ended(threads: &[Ran]) -> bool
-    ensures { IsTrue result → AllEnded threads.now }
+    ensures { IsTrue result ↔ AllEnded threads.now }
 {
     for thread in threads {
         if thread.outcome.is_none() {
@@ -69,7 +89,7 @@ fn have_ended(threads: &[Ran]) -> bool
 /// Whether an agent's actor has ended, or the agent has failed, or nothing waits for it.
 fn is_drained(shared: &SharedState, agent: CellId, ran: &Ran) -> bool
     requires { has_agent (cells_of shared.now.cells) agent ≡ true }
-    ensures { IsTrue result → IsDrained shared.now agent ran.now }
+    ensures { IsTrue result ↔ IsDrained shared.now agent ran.now }
 {
     if ran.outcome.is_some() {
         return true;
@@ -84,7 +104,7 @@ fn is_drained(shared: &SharedState, agent: CellId, ran: &Ran) -> bool
 fn are_drained(shared: &SharedState, agents: &[CellId], rans: &[Ran]) -> bool
     requires agents { AreAgents shared.now agents.now }
     requires one_each { length rans.now ≡ length agents.now }
-    ensures { IsTrue result → AllDrained shared.now agents.now rans.now }
+    ensures { IsTrue result ↔ AllDrained shared.now agents.now rans.now }
 {
     for i in 0..agents.len() {
         if !is_drained(shared, agents[i], &rans[i]) {
@@ -100,6 +120,7 @@ fn is_whole(gathered: &Gathered, agents: &[CellId]) -> bool
     requires one_each { length gathered.now.report.agents.items ≡ length agents.now }
     ensures ended { IsTrue result → AllEnded gathered.now.report.threads.items }
     ensures drained { IsTrue result → AllDrained gathered.now.shared agents.now gathered.now.report.agents.items }
+    ensures whole { AllEnded gathered.now.report.threads.items → AllDrained gathered.now.shared agents.now gathered.now.report.agents.items → IsTrue result }
 {
     if !have_ended(gathered.report.threads.as_slice()) {
         return false;
@@ -107,22 +128,53 @@ fn is_whole(gathered: &Gathered, agents: &[CellId]) -> bool
     are_drained(&gathered.shared, agents, gathered.report.agents.as_slice())
 }
 
-/// Plays in rounds what the workers left unended, and compares the actors, in the order of their numbers, with what they share; each may make so many steps.
+/// The state that the workers left: each lock is taken once more, and what lay under it moved out.
+fn state_left(
+    alloc: Global,
+    code: &Verified,
+    store: Store,
+    atoms: Atoms,
+) -> Result<SharedState, RunError>
+    ensures refusals { IfErr result (λ e. (e ≡ JournalMismatch) ⊎ (e ≡ Memory)) }
+{
+    let books = match atoms.into_books(alloc) {
+        Ok(books) => books,
+        Err(_) => {
+            drop(store);
+            return Err(RunError::Memory);
+        }
+    };
+    match SharedState::join(alloc, code.code().cells(), store, books) {
+        Ok(Some(shared)) => Ok(shared),
+        Ok(None) => Err(RunError::JournalMismatch),
+        Err(_) => Err(RunError::Memory),
+    }
+}
+
+/// Plays in rounds what the workers left unended, and compares the actors, in the order of their numbers, with what they shared; each may make so many steps.
 pub(crate) fn gather_left(
     alloc: Global,
     code: &Verified,
     agents: &[CellId],
     max_steps: u64,
     desk: Desk<Played<'_>>,
+    atoms: Atoms,
 ) -> Result<Gathered, RunError>
     requires agents { agents.now ≡ agents_of code.now }
     ensures left { IfOk result (λ g. IsLeft code.now max_steps g.shared g.report.threads.items g.report.agents.items) }
     ensures refusals { IfErr result (λ e. (e ≡ JournalMismatch) ⊎ (e ≡ Memory)) }
 {
-    let Desk { mut server, actors } = desk;
-    let all = play_out(&mut server, actors);
-    let Server { shared } = server;
-    let gathered = gather(alloc, code, max_steps, shared, all)?;
+    let Desk { store, actors } = desk;
+    let mut shared = match state_left(alloc, code, store, atoms) {
+        Ok(shared) => shared,
+        Err(refused) => {
+            drop(actors);
+            return Err(refused);
+        }
+    };
+    let all = play_out(&mut shared, actors);
+    let (store, books) = shared.into_parts();
+    let gathered = gather(alloc, code, max_steps, store, books, all)?;
     if is_whole(&gathered, agents) {
         return Ok(gathered);
     }

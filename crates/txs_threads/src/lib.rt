@@ -1,8 +1,9 @@
-//! Actors that several worker threads run over one shared state. Promises that each program that the code follows explains a report,
-//! whatever the workers did.
+//! Actors that several worker threads run over one shared state: the store under a lock, and each atom under a lock of its own. Promises that each program that
+//! the code follows explains a report, whatever the workers did.
 #![tactic(auto)]
 
 mod actors;
+mod atoms;
 mod desk;
 pub mod gate;
 mod left;

@@ -12,7 +12,8 @@ ghost use Rattle.txs_world_shared.specs.SharedState.{shared_of};
 ghost use Rattle.txs_threads.specs.Run.{IsLeft};
 
 use crate::actors::{agents_in, open_all};
-use crate::desk::{Desk, Step};
+use crate::atoms::Atoms;
+use crate::desk::{Desk, Served, Step};
 use crate::gate::{AskKind, Gate, Moment, kind_of};
 use crate::left::gather_left;
 use crate::player::{Next, Player};
@@ -29,6 +30,7 @@ use txs_threads_gather::{Gathered, Played, sent_functions};
 use txs_value_data::CellId;
 use txs_world_protocol::Ask;
 use txs_world_shared::SharedState;
+use txs_world_shared::atoms::atom_named;
 
 /// After so many asks an actor is handed on, so that others have their turns: then, or at the end of its transaction, swap or action.
 const ASKS: u32 = 64;
@@ -41,7 +43,7 @@ fn is_within(kind: AskKind) -> bool {
     )
 }
 
-/// How often a worker that finds the lock held looks again before it sleeps.
+/// How often a worker that finds the store's lock held looks again before it sleeps.
 const LOOKS: u32 = 200;
 
 /// How it stands with an actor that was run for a while.
@@ -53,16 +55,8 @@ enum Standing {
     Rests(Option<CellId>),
 }
 
-/// What lies under the lock, to serve an ask. Most asks are short, so a worker that finds the lock held looks again for a while before
-/// it sleeps. One that swaps an atom sleeps at once: the more of them are about, the more swaps meet an atom that has changed, and are made again.
-fn lock_for<'a, R: Wait, P: Player>(
-    rt: &R,
-    desk: &'a Mutex<Desk<P>>,
-    ask: &Ask,
-) -> MutexGuard<'a, Desk<P>> {
-    if let Ask::OpenAt { .. } | Ask::CloseAt { .. } | Ask::Broke { .. } = ask {
-        return desk.lock(rt);
-    }
+/// What lies under the store's lock, to serve an ask. Most asks are short, so a worker that finds the lock held looks again for a while before it sleeps.
+fn lock_for<'a, R: Wait, P: Player>(rt: &R, desk: &'a Mutex<Desk<P>>) -> MutexGuard<'a, Desk<P>> {
     for _ in 0..LOOKS {
         if let Some(guard) = desk.try_lock() {
             return guard;
@@ -136,10 +130,30 @@ fn after_answer(
     }
 }
 
+/// Serves an ask under the lock of the book that it is for: an atom's, or the store's. Hands on the agents that it woke.
+fn serve_under<R: Wait, P: Player>(
+    rt: &R,
+    desk: &Mutex<Desk<P>>,
+    atoms: &Atoms,
+    to: &Sender<Option<P>>,
+    actor: u16,
+    ask: Ask,
+) -> Option<Served> {
+    if let Some(cell) = atom_named(&ask) {
+        return atoms.serve(rt, actor, cell, ask);
+    }
+    let Step { served, woke } = lock_for(rt, desk).serve(actor, ask);
+    if woke {
+        hand_on_ready(rt, desk, to);
+    }
+    served
+}
+
 /// Serves an actor's ask, hands on the agents that it woke, and hands the actor the answer.
 fn serve_ask<R: Wait, P: Player, G: Gate>(
     rt: &R,
     desk: &Mutex<Desk<P>>,
+    atoms: &Atoms,
     to: &Sender<Option<P>>,
     gate: &G,
     played: &mut P,
@@ -149,10 +163,7 @@ fn serve_ask<R: Wait, P: Player, G: Gate>(
     let actor = played.place();
     let kind = kind_of(&ask);
     let agent = taker(&ask);
-    let Step { served, woke } = lock_for(rt, desk, &ask).serve(actor, ask);
-    if woke {
-        hand_on_ready(rt, desk, to);
-    }
+    let served = serve_under(rt, desk, atoms, to, actor, ask);
     let next = played.hear(served);
     if !matches!(next, Next::Broken) {
         gate.pass(actor, Moment::Answered(kind));
@@ -165,6 +176,7 @@ fn serve_ask<R: Wait, P: Player, G: Gate>(
 fn play<R: Wait, P: Player, G: Gate>(
     rt: &R,
     desk: &Mutex<Desk<P>>,
+    atoms: &Atoms,
     to: &Sender<Option<P>>,
     gate: &G,
     played: &mut P,
@@ -175,7 +187,7 @@ fn play<R: Wait, P: Player, G: Gate>(
         gate.pass(played.place(), Moment::Local);
         let standing = match played.run(budget) {
             Some(Turn::Went) => None,
-            Some(Turn::Asks(ask)) => serve_ask(rt, desk, to, gate, played, ask, &mut left),
+            Some(Turn::Asks(ask)) => serve_ask(rt, desk, atoms, to, gate, played, ask, &mut left),
             Some(Turn::Ended(_)) | None => Some(Standing::Rests(None)),
         };
         if let Some(standing) = standing {
@@ -190,6 +202,7 @@ fn play<R: Wait, P: Player, G: Gate>(
 fn work<R: Wait, P: Player, G: Gate>(
     rt: &R,
     desk: &Mutex<Desk<P>>,
+    atoms: &Atoms,
     to: &Sender<Option<P>>,
     from: &Receiver<Option<P>>,
     gate: &G,
@@ -198,7 +211,7 @@ fn work<R: Wait, P: Player, G: Gate>(
         let Ok(Some(mut played)) = from.recv(rt) else {
             break;
         };
-        let last = match play(rt, desk, to, gate, &mut played) {
+        let last = match play(rt, desk, atoms, to, gate, &mut played) {
             Standing::GoesOn => hand_on(rt, desk, to, played),
             Standing::Rests(agent) => {
                 let rests = desk.lock(rt).rest(agent, played);
@@ -232,6 +245,7 @@ fn run_desk<R: Threads + Wait + Sync, P: Player + Send, G: Gate>(
     rt: &R,
     alloc: Global,
     desk: &Mutex<Desk<P>>,
+    atoms: &Atoms,
     room: usize,
     gate: &G,
     workers: usize,
@@ -251,7 +265,7 @@ fn run_desk<R: Threads + Wait + Sync, P: Player + Send, G: Gate>(
         {
             let mut started = true;
             for _ in 0..workers {
-                let worker = scope.spawn(move || work(rt, desk, to, from, gate));
+                let worker = scope.spawn(move || work(rt, desk, atoms, to, from, gate));
                 started = worker.is_ok();
                 drop(worker);
                 if !started {
@@ -293,19 +307,29 @@ fn run_actors<R: Threads + Wait + Sync, G: Gate>(
     let room = threads + agents.len() + workers + 1;
     let threads = threads as u16;
     let shared = SharedState::open(alloc, code.code().cells(), threads)?;
-    let mut desk = Desk::new(alloc, shared);
+    let (store, books) = shared.into_parts();
+    let cells = code.code().cells().len();
+    let atoms = match Atoms::open(alloc, cells, threads, books) {
+        Ok(atoms) => atoms,
+        Err(_) => {
+            drop(store);
+            return Err(RunError::Memory);
+        }
+    };
+    let mut desk = Desk::new(alloc, store);
     let actors = &mut desk.actors;
     let opened = open_all(actors, alloc, code, callees, agents, threads, max_steps);
     let desk = Mutex::new(desk);
     let ran = match opened {
-        Ok(()) => run_desk(rt, alloc, &desk, room, gate, workers),
+        Ok(()) => run_desk(rt, alloc, &desk, &atoms, room, gate, workers),
         Err(_) => Err(RunError::Memory),
     };
     let desk = desk.into_inner();
     match ran {
-        Ok(()) => gather_left(alloc, code, agents, max_steps, desk),
+        Ok(()) => gather_left(alloc, code, agents, max_steps, desk, atoms),
         Err(refused) => {
             drop(desk);
+            drop(atoms);
             Err(refused)
         }
     }
@@ -356,6 +380,7 @@ pub fn run_threads<R: Threads + Wait + Sync, G: Gate>(
 ) -> Result<Gathered, RunError>
     requires few { length code.now.threads + length code.now.cells ≤ 65535 }
     ensures workers { IfOk result (λ g. (0 < workers) × (workers ≤ 64)) }
+    ensures none { IfErr result (λ e. ((workers ≡ 0) ⊎ (64 < workers)) → e ≡ NoThread) }
     ensures of { IfOk result (λ g. IsStateOf code.now g.shared) }
     ensures one_each { IfOk result (λ g. length g.report.threads.items ≡ length code.now.threads) }
     ensures agents_each { IfOk result (λ g. length g.report.agents.items ≡ length (agents_of code.now)) }

@@ -1,5 +1,5 @@
 -- What is known of actors and of the entries of a report.
-use Rattle.std.proofs.Common.{◌≡◌, ◌+◌, ◌<◌, ◌≤◌, ℕ, zero, suc, true, List, [], ◌∷◌, ◌++◌, length, map, take, drop, get_or, Option, Some, None, refl, sym, ap, subst, ◌∙◌, arith}
+use Rattle.std.proofs.Common.{◌≡◌, ◌+◌, ◌<◌, ◌≤◌, ℕ, zero, suc, List, [], ◌∷◌, ◌++◌, length, map, take, drop, get_or, Option, Some, None, refl, sym, ap, subst, ◌∙◌, arith}
 use Rattle.txs_world_protocol.specs.Ask.{Exchange}
 use Rattle.txs_world_protocol.specs.declared.ask.Ask.{Ask}
 use Rattle.txs_world_protocol.specs.declared.event.Event.{Event}
@@ -9,38 +9,24 @@ use Rattle.txs_world_protocol.specs.declared.event.Outcome.TheVariants.{JournalF
 use Rattle.txs_value_base.specs.Places.{nth}
 use Rattle.txs_tree_meaning.specs.Tree.{PlainThread, PlainProgram}
 use Rattle.txs_code_meaning.specs.ActorState.{ActorState}
-use Rattle.txs_code_meaning.specs.Machine.{ThreadCode, Configuration, Turned, Unfinished}
-use Rattle.txs_code_meaning.specs.Opening.{opening}
-use Rattle.txs_code_meaning.specs.PlainCode.{CodeBody, PlainCode, thread_code, function_codes, library_of}
+use Rattle.txs_code_meaning.specs.Machine.{ThreadCode, Configuration, Turned}
+use Rattle.txs_code_meaning.specs.PlainCode.{PlainCode, thread_code}
 use Rattle.txs_theorem_threads.specs.Follows.{Follows}
 use Rattle.txs_theorem_threads.specs.FollowsAgent.{GoesOn}
 use Rattle.txs_theorem_threads.specs.FollowsAll.{source_of, FollowsAll}
-use Rattle.txs_machine_actor.specs.PlainActor.{PlainActor, own_body, code_of}
-use Rattle.txs_value_cell.specs.Agents.{agents_from}
-use Rattle.txs_world_book.specs.Book.{has_agent}
-use Rattle.txs_world_book.specs.Book as world
-use Rattle.txs_world.specs.Laws.{DoneIsUndisturbed, RefusedIsUndisturbed}
-use Rattle.txs_world_book.specs.Served.{cells_of}
-use Rattle.txs_theorem_runs.specs.Explains.{BooksStand, outcome_at}
-use Rattle.txs_theorem_runs.specs.Invariant.{SharedStands}
-use Rattle.txs_theorem_runs.specs.Told.{Entry, exchange_of, AllHold, TraceHolds, trace_of, seen_of}
-use Rattle.txs_theorem_runs.proofs.Refused.{all_refused}
-use Rattle.txs_theorem_runs.proofs.Whole.{all_undisturbed}
-use Rattle.txs_world_shared.specs.SharedState.{PlainShared, shared_of}
-use Rattle.txs_theorem_runs.specs.Goes.{GoesTo}
-use Rattle.txs_threads_replay.specs.declared.kept.Kept.{Kept}
-use Rattle.txs_machine.specs.Agents.{agents_of, AgentHasDone, AreExplainedBy}
-use Rattle.txs_machine.specs.RunOver.{RunOver, IsLimited, AskedOn, AtFullBook, books_of, places_of}
-use Rattle.txs_machine.specs.RunTheorem.{HasDone, ExplainsThread, NeverEnds, ExplainsAgent}
-use Rattle.txs_machine.specs.Schedule.{IsExplainedBy}
+use Rattle.txs_machine_actor.specs.PlainActor.{PlainActor, code_of}
+use Rattle.txs_theorem_runs.specs.Explains.{outcome_at}
+use Rattle.txs_theorem_runs.specs.Told.{Entry, TraceHolds}
+use Rattle.txs_world_shared.specs.SharedState.{PlainShared}
+use Rattle.txs_machine.specs.Agents.{agents_of}
+use Rattle.txs_machine.specs.RunOver.{AtFullBook, books_of}
+use Rattle.txs_machine.specs.RunTheorem.{HasDone, ExplainsThread, NeverEnds}
 use Rattle.txs_machine.specs.declared.run_error.RunError.TheVariants as run_error
 use Rattle.txs_world_protocol.specs.declared.report.Ran.{Ran}
-use Rattle.txs_machine.proofs.Explaining.{Known, part_explained, part_printed, code_at, length_map, MeansSo, LeastSo, entry_explained, books_stand}
-use Rattle.txs_machine.proofs.Together.{agent_at, agent_acts}
-use Rattle.txs_threads_replay.specs.Adds.{kept_trace}
+use Rattle.txs_machine.proofs.Explaining.{Known, part_explained, part_printed, code_at, MeansSo, LeastSo, entry_explained}
 use Rattle.txs_threads_replay.specs.ByPlace.{HoldsByPlace, AreBelow}
 use Rattle.txs_threads_gather.specs.ByPlace.{AllHoldByPlace, AgreesByPlace}
-use Rattle.txs_threads_gather.specs.Gather.{HasFullBook, IsPlayer, AreWhole, ArePlayed, ArePlayers, IsMadeFor, IsReportOf, AreReportsOf, AllHaveDone, AllHaveAttended}
+use Rattle.txs_threads_gather.specs.Gather.{HasFullBook, IsPlayer, AreWhole, ArePlayers, IsMadeFor, IsReportOf, AreReportsOf}
 use Rattle.txs_threads_gather.specs.Goes.{IsThere}
 use Rattle.txs_threads_gather.specs.Played.{PlainPlayed, WasStoppedAt, HasPlayed}
 use Rattle.txs_threads_gather.proofs.Tracing.{drop_read}

@@ -3,6 +3,10 @@ use Rattle.std.specs.Prelude.{◌≡◌, ℕ, suc, List, [], ◌∷◌, length, 
 use Rattle.txs_code_meaning.specs.PlainCode.{PlainCode, thread_code}
 use Rattle.txs_theorem_runs.specs.Invariant.{SharedStands}
 use Rattle.txs_theorem_runs.specs.Report.{CodesStaged}
+use Rattle.txs_world.specs.Store.{PlainStore}
+use Rattle.txs_world_book.specs.Atom.{PlainAtom}
+use Rattle.txs_world_shared.specs.Apart.{ArePartsOf}
+use Rattle.txs_world_shared.specs.Kept.{state_of}
 use Rattle.txs_world_shared.specs.SharedState.{PlainShared, shared_of}
 use Rattle.txs_threads_replay.specs.ByPlace.{HoldsByPlace, AreBelow}
 use Rattle.txs_machine.specs.Agents.{actors_of, AreExplainedBy}
@@ -26,6 +30,11 @@ pub record AgreesByPlace (code : PlainCode) (limit : ℕ) (s : PlainShared) (ps 
   pub each : ArePlayers code limit s 0 ps
   pub below : (n : ℕ) → AreBelow (length ps) (books_of s n)
   pub holds : AllHoldByPlace s 0 ps
+
+-- Parts agree: the store and the atoms, each with its book, are those of a state of the code's cells, and the actors agree with it by place.
+pub record PartsAgree (code : PlainCode) (limit : ℕ) (store : PlainStore) (atoms : List PlainAtom) (ps : List PlainPlayed) : Type 0 where
+  pub parts : ArePartsOf code.cells store atoms
+  pub agree : AgreesByPlace code limit (state_of code.cells store atoms) ps
 
 -- what a report of such actors says
 pub record SaysWell (code : PlainCode) (limit : ℕ) (s : PlainShared) (threads agents : List Ran) : Type 0 where

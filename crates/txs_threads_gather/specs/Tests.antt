@@ -1,5 +1,5 @@
 -- What there is to test of the parts of a run.
-use Rattle.std.specs.Prelude.{◌≡◌, ◌<◌, ◌↔◌, ℕ, false, List, [], length}
+use Rattle.std.specs.Prelude.{◌<◌, ◌↔◌, ℕ, false, List, [], length}
 use Rattle.std.proofs.Common.{get_or}
 use Rattle.txs_code_meaning.specs.PlainCode.{PlainCode}
 use Rattle.txs_world_shared.specs.SharedState.{PlainShared}

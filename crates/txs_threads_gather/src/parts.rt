@@ -8,9 +8,10 @@ ghost use Rattle.txs_machine.specs.Schedule.{IsExplainedBy};
 ghost use Rattle.txs_threads_replay.specs.Adds.{kept_trace};
 ghost use Rattle.txs_threads_replay.specs.ByPlace.{AreBelow};
 ghost use Rattle.txs_threads_replay.specs.Storing.{kept_in};
-ghost use Rattle.txs_threads_gather.specs.ByPlace.{AllHoldByPlace, AgreesByPlace};
+ghost use Rattle.txs_threads_gather.specs.ByPlace.{AllHoldByPlace, AgreesByPlace, PartsAgree};
 ghost use Rattle.txs_threads_gather.specs.Gather.{StoppedSo, IsPlayer, AreWhole, ArePlayed, ArePlayers, IsMadeFor, IsNotedBehind, IsReportOf, AreReportsOf, AllHaveDone, AllHaveAttended};
 ghost use Rattle.txs_machine.specs.declared.run_error.RunError.TheVariants.{JournalMismatch, Memory};
+ghost use Rattle.txs_world_shared.specs.Kept.{state_of};
 ghost use Rattle.txs_world_shared.specs.SharedState.{shared_of};
 
 use crate::law::by_place_explains;
@@ -23,6 +24,8 @@ use txs_theorem_runs::law::typed_threads_are_staged;
 use txs_threads_replay::{Index, KeptEntries, Stored, all_below};
 use txs_value_cell::CellDefinition;
 use txs_value_data::CellKind;
+use txs_world::Store;
+use txs_world_book::AtomBook;
 use txs_world_protocol::Outcome;
 use txs_world_shared::SharedState;
 
@@ -233,6 +236,7 @@ fn check_actors(
     ensures played { OnOk result (ArePlayed played.now) }
     ensures few { OnOk result (length played.now ≤ 65536) }
     ensures differs { IfErr result (λ e. e ≡ JournalMismatch → IsMadeFor code.now shared.now (length played.now) → ArePlayers code.now max_steps shared.now 0 played.now → ⊥) }
+    ensures lost { IfErr result (λ e. e ≡ Memory → AreWhole played.now → ⊥) }
     ensures refusals { IfErr result (λ e. (e ≡ JournalMismatch) ⊎ (e ≡ Memory)) }
 {
     if !are_whole(played) {
@@ -309,14 +313,11 @@ fn compare(
     Ok(report)
 }
 
-/// The comparison of the actors of a run with what they share, which waits for nobody. They agree where there is one for each thread and behind these one for
-/// each agent, each was made with this code and for `max_steps` steps, each event of the books is of one of them, and what each kept agrees with the books by
-/// place: what is answered at each place is what it was answered, and the events that its asks added are its own in each book, in order. Then the report is that
-/// of these actors: each is where its code comes to on what it kept within its steps, and each program that the code follows explains the report.
+/// The report of the actors of a run over a state, if they agree with it.
 ///
 /// # Errors
 /// `JournalMismatch` where they don't agree; `Memory` where there was no memory, also of an actor that lost what it should have kept.
-pub fn gather(
+fn gather_state(
     alloc: Global,
     code: &Verified,
     max_steps: u64,
@@ -342,4 +343,49 @@ pub fn gather(
     let _stands = shared.events();
     let report = compare(alloc, code, max_steps, &shared, played.as_slice())?;
     Ok(Gathered { shared, report })
+}
+
+/// The comparison of the actors of a run with what they shared, the store and the atoms, each with its book. It waits for nobody. They agree where the store is
+/// of the code's cells and there is one atom for each atom of the code, as it opened; there is one actor for each thread and behind these one for each agent,
+/// each made with this code and for `max_steps` steps; each event of the books is of one of them, an atom's of a thread; and what each kept agrees with the books
+/// by place: what is answered at each place is what it was answered, and the events that its asks added are its own in each book, in order. Then the report is
+/// that of these actors: each is where its code comes to on what it kept within its steps, and each program that the code follows explains the report.
+///
+/// # Errors
+/// `JournalMismatch` where they don't agree; `Memory` where there was no memory, also of an actor that lost what it should have kept.
+pub fn gather(
+    alloc: Global,
+    code: &Verified,
+    max_steps: u64,
+    store: Store,
+    atoms: Vec<AtomBook>,
+    played: Vec<Played<'_>>,
+) -> Result<Gathered, RunError>
+    ensures shared { IfOk result (λ g. g.shared ≡ state_of code.now.cells store atoms.items) }
+    ensures agrees { OnOk result (PartsAgree code.now max_steps store atoms.items played.entry.items) }
+    ensures threads { IfOk result (λ g. AreReportsOf g.shared (take (length code.now.threads) played.entry.items) g.report.threads.items) }
+    ensures agents { IfOk result (λ g. AreReportsOf g.shared (drop (length code.now.threads) played.entry.items) g.report.agents.items) }
+    ensures one_each { IfOk result (λ g. length g.report.threads.items ≡ length code.now.threads) }
+    ensures agents_each { IfOk result (λ g. length g.report.agents.items ≡ length (agents_of code.now)) }
+    ensures done { IfOk result (λ g. AllHaveDone code.now max_steps g.shared g.report.threads.items) }
+    ensures attended { IfOk result (λ g. AllHaveAttended code.now max_steps g.shared g.report.agents.items) }
+    ensures explained { IfOk result (λ g. IsExplainedBy code.now (shared_of g.shared) g.report.threads.items) }
+    ensures all_explained { IfOk result (λ g. AreExplainedBy code.now (shared_of g.shared) g.report.threads.items g.report.agents.items) }
+    ensures differs { IfErr result (λ e. e ≡ JournalMismatch → PartsAgree code.now max_steps store atoms.items played.entry.items → ⊥) }
+    ensures refusals { IfErr result (λ e. (e ≡ JournalMismatch) ⊎ (e ≡ Memory)) }
+{
+    let joined = match SharedState::join(alloc, code.code().cells(), store, atoms) {
+        Ok(joined) => joined,
+        Err(_) => {
+            drop(played);
+            return Err(RunError::Memory);
+        }
+    };
+    match joined {
+        Some(shared) => gather_state(alloc, code, max_steps, shared, played),
+        None => {
+            drop(played);
+            Err(RunError::JournalMismatch)
+        }
+    }
 }

@@ -4,7 +4,8 @@
 
 pub use txs_tree_build::copy_program;
 pub use txs_tree_eval::{
-    EvalStop, Needs, RefView, Seen, ThreadMeaning, TxMeaning, eval_pure, eval_thread, eval_tx,
+    EvalStop, History, Needs, RefView, Seen, ThreadMeaning, TxMeaning, eval_pure, eval_thread,
+    eval_tx,
 };
 pub use txs_tree_meaning::{Function, Node, NodeKind, Program, Raw, Thread};
 pub use txs_value_base::Callee;

@@ -12,4 +12,4 @@ pub use meaning::{Needs, ThreadMeaning, eval_thread};
 pub use pure_call::{EvalStop, eval_pure, more_turns_change_no_answer};
 pub use transaction::{TxMeaning, eval_tx};
 pub use txs_tree_eval_node::Seen;
-pub use txs_tree_eval_transaction::RefView;
+pub use txs_tree_eval_transaction::{History, RefView};

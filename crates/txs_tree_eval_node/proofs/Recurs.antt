@@ -442,7 +442,7 @@ module _ (top : Option (List Known)) where
 -- a transaction runs on some world, or none
 abbrev shape : Option World → Option PlainView
 shape None = None
-shape (Some R) = Some (record { cells = []; place = 0 })
+shape (Some R) = Some (record { cells = []; swaps = None; place = 0 })
 
 -- the forms on cells there
 abbrev forms_at : (o : Option World) → Surroundings → ℕ → Effects (Part (shape o))

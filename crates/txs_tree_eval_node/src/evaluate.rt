@@ -466,6 +466,7 @@ pub fn apply_callee<'a>(
             context.is_sound();
             let inner = context.on(RefView {
                 cells: &[],
+                swaps: None,
                 place: 0,
             });
             let mut state = State::new(alloc, &[]);

@@ -1,2 +1,3 @@
+pub mod Pasts
 pub mod Views
 pub mod Worked

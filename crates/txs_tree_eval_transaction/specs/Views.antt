@@ -1,42 +1,56 @@
 -- The values of cells at a place of a book.
-use Rattle.std.specs.Prelude.{ℕ, nat_lt, List, [], ◌∷◌, Option, Some, None, if◌then◌else◌}
+use Rattle.std.specs.Prelude.{ℕ, List, Option, Some, None, option_copied}
+use Rattle.txs_tree_eval_transaction.specs.Pasts.{entry_at}
 use Rattle.txs_tree_eval_transaction.specs.declared.view.RefView.{RefView}
 use Rattle.txs_value_cell.specs.Cells.{World}
 use Rattle.txs_value_base.specs.Places.{nth}
 use Rattle.txs_value_data.specs.declared.value.Value.{Value}
 use Rattle.txs_value_data.specs.declared.value.Value.TheVariants.{Nil}
 
--- for each cell its values, each with the place from which on the cell has it, and the place that is looked at
+-- For each cell its values, each with the index from which on the cell has it, and the index that is looked at. In a view of an
+-- atom's book there are also the values that the atom was swapped to, which stand for every cell.
 pub record PlainView : Type 0 where
   pub cells : List (List (ℕ × Value))
+  pub swaps : Option (List (ℕ × Value))
   pub place : ℕ
 
 -- a view as plain data
 abbrev pub plain_view : RefView → PlainView
-plain_view r = record { cells = r.cells.now; place = r.place }
+plain_view r = record { cells = r.cells.now; swaps = option_copied r.swaps; place = r.place }
 
 -- the same of one that may not be there
 abbrev pub plain_world : Option RefView → Option PlainView
 plain_world None = None
 plain_world (Some r) = Some (plain_view r)
 
--- the last value whose place isn't above this one, else the one that was found before
-abbrev pub held_from : Option Value → List (ℕ × Value) → ℕ → Option Value
-held_from found [] p = found
-held_from found (w ∷ ws) p = held_from (if nat_lt p w.0 then found else Some w.1) ws p
+-- a value without its index
+abbrev pub value_in : Option (ℕ × Value) → Option Value
+value_in None = None
+value_in (Some w) = Some w.1
 
--- the last of these values whose place isn't above this one
+-- the last of these values whose index isn't above this one
 abbrev pub held : List (ℕ × Value) → ℕ → Option Value
-held ws p = held_from None ws p
+held ws p = value_in (entry_at ws p)
 
 -- a cell's values, if it has a list of them
 abbrev pub held_in : Option (List (ℕ × Value)) → ℕ → Option Value
 held_in None p = None
 held_in (Some ws) p = held ws p
 
+-- a value that is there, else another
+abbrev pub or_else : Option Value → Option Value → Option Value
+or_else None o = o
+or_else (Some v) o = Some v
+
+-- The value at an index of a cell with these values. In an atom's book it is that of the last swap, and before any swap the one
+-- that the cell opened with.
+abbrev pub held_on : Option (List (ℕ × Value)) → Option (List (ℕ × Value)) → ℕ → Option Value
+held_on None own p = held_in own p
+held_on (Some swaps) own p = or_else (held swaps p) (held_in own 0)
+
 -- the value of the cell with this number, if it has one
 abbrev pub value_of : PlainView → ℕ → Option Value
-value_of r k = held_in (nth r.cells k) r.place
+value_of r k = held_on r.swaps (nth r.cells k) r.place
 
 -- a value that may not be there is nil
 abbrev pub or_nil : Option Value → Value

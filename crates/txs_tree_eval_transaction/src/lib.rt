@@ -2,6 +2,7 @@
 //! evaluation. Worlds as they are told, why an evaluation gives no value, and whether what an event names is what is meant.
 #![tactic(auto)]
 
+pub mod past;
 pub mod same;
 pub mod stop;
 pub mod values;
@@ -9,6 +10,7 @@ pub mod view;
 pub mod work;
 pub mod writes;
 
+pub use past::History;
 pub use same::{same_action, same_cell, same_commit, same_value};
 pub use stop::ThreadStop;
 pub use values::{collect, operate, print_line};

@@ -1,17 +1,41 @@
 //! The values of cells at a place of a book.
 
 ghost use Rattle.std.specs.Prelude.{◌≡◌, IfOk, option_copied};
-ghost use Rattle.txs_tree_eval_transaction.specs.Views.{held, plain_view, value_of, world_of};
+ghost use Rattle.txs_value_base.specs.Places.{nth};
+ghost use Rattle.txs_tree_eval_transaction.specs.Views.{held, held_in, plain_view, value_of, world_of};
 
+use crate::past::History;
 use std::alloc::AllocError;
-use txs_value_data::{Listed, Value, copy_value};
+use txs_value_data::{Value, copy_value};
 
-/// A value for each cell number, at a place of a book. For each cell it borrows a list of the cell's values, each with the
-/// place from which on the cell has it, by ascending place. A cell that has no value there is nil.
+/// A value for each cell number, at a place of a book. For each cell it borrows the values that the cell has had there. A cell that
+/// has no value there is nil. In a view of an atom's book the atom's swaps are lent too, and give the value of every cell; before
+/// the first swap each cell has the value that it opened with.
 #[derive(Clone, Copy)]
 pub struct RefView<'a> {
-    pub cells: &'a [Listed<(u32, Value)>],
+    pub cells: &'a [History],
+    pub swaps: Option<&'a History>,
     pub place: u32,
+}
+
+/// The value that a cell has at this index.
+fn held(history: &History, place: u32) -> Option<&Value>
+    ensures { option_copied result ≡ held history.now place }
+{
+    match history.at(place) {
+        Some(item) => Some(&item.1),
+        None => None,
+    }
+}
+
+/// The value that the cell with this number has at this index, if it is among these.
+fn held_in(cells: &[History], number: u16, place: u32) -> Option<&Value>
+    ensures { option_copied result ≡ held_in (nth cells.now number) place }
+{
+    match cells.get(usize::from(number)) {
+        Some(history) => held(history, place),
+        None => None,
+    }
 }
 
 impl<'a> RefView<'a> {
@@ -20,9 +44,12 @@ impl<'a> RefView<'a> {
         ensures { option_copied result ≡ value_of (plain_view self.now) number }
     {
         let cells = self.cells;
-        match cells.get(usize::from(number)) {
-            Some(values) => held(values.as_slice(), self.place),
-            None => None,
+        let Some(swaps) = self.swaps else {
+            return held_in(cells, number, self.place);
+        };
+        match held(swaps, self.place) {
+            Some(value) => Some(value),
+            None => held_in(cells, number, 0),
         }
     }
 
@@ -35,17 +62,4 @@ impl<'a> RefView<'a> {
             None => Ok(Value::Nil),
         }
     }
-}
-
-/// The last of these values whose place isn't above this one.
-fn held(values: &[(u32, Value)], place: u32) -> Option<&Value>
-    ensures { option_copied result ≡ held values.now place }
-{
-    let mut found = None;
-    for item in values {
-        if item.0 <= place {
-            found = Some(&item.1);
-        }
-    }
-    found
 }

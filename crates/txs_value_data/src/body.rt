@@ -1,5 +1,5 @@
 //! What a vector's owners share: rows, where it has any, and a short list behind them.
-ghost use Rattle.std.specs.Prelude.{◌≡◌, ◌<◌, ◌≤◌, ◌+◌, ◌-◌, ◌++◌, ◌∷◌, [], length, take, drop, IfOk, OnOk, Some};
+ghost use Rattle.std.specs.Prelude.{◌≡◌, ◌<◌, ◌≤◌, ◌+◌, ◌-◌, ◌*◌, ◌++◌, ◌∷◌, [], length, take, drop, IfOk, OnOk, Some};
 ghost use Rattle.std.specs.List.{slice_get};
 ghost use Rattle.txs_value_data.specs.Limits.{most_items};
 ghost use Rattle.txs_value_data.specs.Rows.{stored};
@@ -111,6 +111,20 @@ impl Body {
             return root.shared.get(place);
         }
         &self.tail[place - before]
+    }
+
+    /// The values of a row of 32 places: fewer in the last row.
+    pub(crate) fn row(&self, number: usize) -> &[Value]
+        requires { number * 32 < length self.now }
+        ensures { plains_of result.now ≡ take 32 (drop (number * 32) self.now) }
+    {
+        let Some(root) = &self.root else {
+            return self.tail.as_slice();
+        };
+        if number < root.shared.full() {
+            return root.shared.row(number);
+        }
+        self.tail.as_slice()
     }
 
     /// Puts a value in the place of another.

@@ -1,8 +1,8 @@
 //! Leaves in a row, by themselves and as a branch that several vectors may share.
-ghost use Rattle.std.specs.Prelude.{◌≡◌, ◌<◌, ◌+◌, ◌++◌, ◌∷◌, length, take, drop, OnOk, OnErr, Some};
+ghost use Rattle.std.specs.Prelude.{◌≡◌, ◌<◌, ◌+◌, ◌*◌, ◌++◌, ◌∷◌, length, take, drop, OnOk, OnErr, Some};
 ghost use Rattle.std.specs.List.{slice_get};
 ghost use Rattle.txs_value_data.specs.Rows.{joined, AreRows};
-ghost use Rattle.txs_value_data.specs.View.{plain_of};
+ghost use Rattle.txs_value_data.specs.View.{plain_of, plains_of};
 
 use crate::copy::{Share, copy_row};
 use crate::value::{Branch, Leaf, Value};
@@ -17,6 +17,16 @@ pub(crate) fn value_in(leaves: &[Leaf], place: usize) -> &Value
 {
     let leaf = &leaves[place / 32];
     leaf.get(place % 32)
+}
+
+/// The values of one of full leaves.
+pub(crate) fn row_in(leaves: &[Leaf], number: usize) -> &[Value]
+    requires rows { AreRows 32 32 leaves.now }
+    requires there { number * 32 < length (joined leaves.now) }
+    ensures { plains_of result.now ≡ take 32 (drop (number * 32) (joined leaves.now)) }
+{
+    let leaf = &leaves[number];
+    leaf.shared.as_slice()
 }
 
 /// Puts a value in the place of another in full leaves.

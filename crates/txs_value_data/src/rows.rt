@@ -1,10 +1,10 @@
 //! What a long vector's owners share: full branches, and full leaves behind them.
-ghost use Rattle.std.specs.Prelude.{◌≡◌, ◌<◌, ◌≤◌, ◌+◌, ◌++◌, ◌∷◌, length, take, drop, IfOk, OnOk, Some};
+ghost use Rattle.std.specs.Prelude.{◌≡◌, ◌<◌, ◌≤◌, ◌+◌, ◌*◌, ◌++◌, ◌∷◌, length, take, drop, IfOk, OnOk, Some};
 ghost use Rattle.std.specs.List.{slice_get};
 ghost use Rattle.txs_value_data.specs.Limits.{most_items};
-ghost use Rattle.txs_value_data.specs.View.{plain_of};
+ghost use Rattle.txs_value_data.specs.View.{plain_of, plains_of};
 
-use crate::branch::{put_in, value_in};
+use crate::branch::{put_in, row_in, value_in};
 use crate::copy::{copy_row, taken};
 use crate::value::{Branch, Leaf, Rows, Value};
 use std::alloc::{AllocError, Global};
@@ -43,6 +43,26 @@ impl Rows {
             return branch.get(place % 1024);
         }
         value_in(self.leaves.as_slice(), place - before)
+    }
+
+    /// How many leaves there are.
+    pub(crate) fn full(&self) -> usize
+        ensures { result * 32 ≡ length self.now }
+    {
+        self.branches.len() * 32 + self.leaves.len()
+    }
+
+    /// The values of a leaf.
+    pub(crate) fn row(&self, number: usize) -> &[Value]
+        requires { number * 32 < length self.now }
+        ensures { plains_of result.now ≡ take 32 (drop (number * 32) self.now) }
+    {
+        let before = self.branches.len() * 32;
+        if number < before {
+            let branch = &self.branches[number / 32];
+            return row_in(branch.shared.as_slice(), number % 32);
+        }
+        row_in(self.leaves.as_slice(), number - before)
     }
 
     /// Puts a value in the place of another.

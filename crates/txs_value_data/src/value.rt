@@ -247,7 +247,7 @@ pub(crate) struct Body {
 }
 
 /// The items of a vector: at most 65,535, none of them of depth 32. Beside the body stands a number
-/// that no item is deeper than.
+/// that no item is deeper than, which is 0 of numbers alone.
 #[cycle(value)]
 pub struct Items {
     pub(crate) shared: Arc<(Body, u8)>,
@@ -365,8 +365,9 @@ impl Model for Body {
 }
 
 impl Model for Items {
-    ghost use Rattle.std.specs.Prelude.{List, ◌≤◌};
+    ghost use Rattle.std.specs.Prelude.{List, ◌≡◌, ◌≤◌};
     ghost use Rattle.std.specs.Coded.{coded_list};
+    ghost use Rattle.txs_value_data.specs.Numbers.{AreNumbers};
     ghost use Rattle.txs_value_data.specs.PlainValue.{PlainValue, coded_plain_value, items_size, row_depth, plain_row};
 
     ghost Value = { List PlainValue };
@@ -378,7 +379,8 @@ impl Model for Items {
     ghost use Rattle.txs_value_data.specs.Limits.{IsVector};
 
     ghost invariant = { λ a. IsVector a.shared.value.0
-        × (row_depth (plain_row a.shared.value.0) ≤ a.shared.value.1) };
+        × (row_depth (plain_row a.shared.value.0) ≤ a.shared.value.1)
+        × (a.shared.value.1 ≡ 0 → AreNumbers a.shared.value.0) };
 
     ghost size = { items_size };
 

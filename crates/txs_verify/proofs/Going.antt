@@ -1,5 +1,5 @@
 -- What looking at a place keeps, and what a refusal there says.
-use Rattle.std.proofs.Common.{arith, inl, inr, ◌≡◌, ◌⊎◌, ◌∙◌, ℕ, zero, suc, ◌+◌, ◌<◌, ◌≤◌, List, [], ◌∷◌, ◌++◌, length, set, Bool, true, false, nat_eq, nat_lt, if◌then◌else◌, Option, Some, None, Result, Ok, Err, refl, sym, ap, subst, length-append}
+use Rattle.std.proofs.Common.{arith, inl, inr, ◌≡◌, ◌⊎◌, ◌∙◌, ℕ, zero, suc, ◌+◌, ◌-◌, ◌<◌, ◌≤◌, List, [], ◌∷◌, ◌++◌, length, set, Bool, true, false, nat_eq, nat_lt, if◌then◌else◌, Option, Some, None, Result, Ok, Err, refl, sym, ap, subst, length-append}
 use Rattle.std.proofs.lemmas.Bool.{eqb-true, eqb-false, ltb-true, ltb-false}
 use Rattle.std.proofs.lemmas.List.{length-set}
 use Rattle.txs_value_base.specs.Places.{nth}
@@ -11,7 +11,7 @@ use Rattle.txs_verify.specs.declared.walk.Mark.{Mark}
 use Rattle.txs_verify.specs.Going.{JumpsWithin, AllJumpWithin, no_marks, unmarked, AreReached, IsGoing, Goes}
 use Rattle.txs_verify.specs.Marks.{Marks, mark_at, mark_behind, IsDone, IsClosed}
 use Rattle.txs_verify.specs.Paths.{wants, depth_behind, MayEnd, txs_behind, LeadsTo, ComesIn}
-use Rattle.txs_verify.specs.Refused.{Comes, BreaksOff}
+use Rattle.txs_verify.specs.Refused.{Comes, GoesPast, of_none, behind, BreaksOff}
 use Rattle.txs_verify.specs.declared.error.Stop.{Stop}
 use Rattle.txs_verify.specs.declared.error.Stop.TheVariants.{Refused, Memory}
 use Rattle.txs_verify.specs.Walk.{Walk, Gives, WhereRefused, IsIn, refusal, reached, ◌>>=◌, reached_each, next_places, ends_nothing, passed, looked}
@@ -320,6 +320,34 @@ stands_below [] p i e = absurd (none_is i e)
 stands_below (x ∷ is) zero i e = omega arith
 stands_below (x ∷ is) (suc p) i e = omega (arith, stands_below is p i e)
 
+none_past : (is : List Instr) (q : ℕ) → nth is q ≡ None → length is ≤ q
+none_past [] q e = omega arith
+none_past (i ∷ is) zero e = absurd (none_is i (sym e))
+none_past (i ∷ is) (suc q) e = omega (arith, none_past is q e)
+
+empty_is : (is : List Instr) → nth is 0 ≡ None → is ≡ []
+empty_is [] e = refl
+empty_is (i ∷ is) e = absurd (none_is i (sym e))
+
+-- past the end leads the instruction before alone, since no jump does
+leads_past : (is : List Instr) (p : ℕ) (i : Instr) (q : ℕ) → JumpsWithin (length is) i → length is ≤ q → LeadsTo p i q → q ≡ p + 1
+leads_past is p (Jump to) q within past e = absurd (omega (arith, within, past, e))
+leads_past is p (JumpFalse to) q within past (inl e) = absurd (omega (arith, within, past, e))
+leads_past is p (JumpFalse to) q within past (inr e) = e
+leads_past is p Return q within past h = absurd h
+leads_past is p Halt q within past h = absurd h
+leads_past is p _ q within past e = e
+
+past_in : (ps : List ℕ) (is : List Instr) → AllJumpWithin is → (n p d t : ℕ) → ComesIn ps is n p d t → nth is p ≡ None → GoesPast ps is (p - 1)
+unfolding ComesIn
+past_in ps is jumps zero p d t comes none = of_none (empty_is is (subst (λ q. nth is q ≡ None) comes.0 none)) (omega (arith, comes.0))
+past_in ps is jumps (suc n) p d t comes none =
+    let q = comes.0 in
+    let step = comes.4 in
+    let next : p ≡ q + 1 = leads_past is q step.instr p (jumps q step.instr step.stands) (none_past is p none) step.leads in
+    let at : q ≡ p - 1 = omega (arith, next) in
+    subst (λ x. GoesPast ps is x) at (behind comes.1 comes.2 p d t (n, comes.3) step none)
+
 -- ---- a place is looked at
 
 module _ (ps : List ℕ) (is : List Instr) (jumps : AllJumpWithin is) (p : ℕ) (m : Mark) (s : Walk) (going : IsGoing ps is s.0 s.1 (λ x. x ≡ p)) (here : mark_at s.0 p ≡ Some m) where
@@ -391,7 +419,9 @@ module _ (ps : List ℕ) (is : List Instr) (jumps : AllJumpWithin is) (p : ℕ) 
   tested_refused i stands r true y low nothing e = subst (λ z. BreaksOff ps is z.kind z.at) (err_is (refusal StackLow p) r e) (m.depth, m.txs, i, record { comes = going.reached p m here; stands = stands }, ltb-true m.depth (wants ps i) low)
 
   passed_refused : (r : Refusal) (o : Option Instr) → nth is p ≡ o → passed ps p m o s ≡ Err r → BreaksOff ps is r.kind r.at
-  passed_refused r None is_o e = subst (λ z. BreaksOff ps is z.kind z.at) (err_is (refusal FallsOff p) r e) (m.depth, m.txs, going.reached p m here, is_o)
+  passed_refused r None is_o e =
+      let comes = going.reached p m here in
+      subst (λ z. BreaksOff ps is z.kind z.at) (err_is (refusal FallsOff (p - 1)) r e) (past_in ps is jumps comes.0 p m.depth m.txs comes.1 is_o)
   passed_refused r (Some i) is_o e = tested_refused i is_o r (nat_lt m.depth (wants ps i)) (ends_nothing i m.txs) refl refl e
 
 nothing_here : (ps : List ℕ) (is : List Instr) (p : ℕ) (s : Walk) → IsGoing ps is s.0 s.1 (λ x. x ≡ p) → mark_at s.0 p ≡ None → Goes ps is s.0 s.1

@@ -1,5 +1,5 @@
 -- What a path comes to in a well-typed body, so that no such body is refused.
-use Rattle.std.proofs.Common.{arith, ◌≡◌, ◌≤◌, ℕ, List, Option, Some, None, refl, sym, ap, subst, ◌∙◌}
+use Rattle.std.proofs.Common.{arith, ◌≡◌, ◌≤◌, ℕ, suc, List, Option, Some, None, refl, sym, ap, subst, ◌∙◌}
 use Rattle.txs_value_base.specs.Places.{nth}
 use Rattle.txs_value_data.specs.declared.value.Value.{Value}
 use Rattle.txs_code_meaning.specs.PlainCode.{CodeBody}
@@ -7,8 +7,8 @@ use Rattle.txs_code_meaning.specs.WellTyped.{Functions, Owner, Stage, plain, ope
 use Rattle.txs_code_meaning.specs.declared.instr.OpenForm.{OpenForm}
 use Rattle.txs_code_meaning.specs.declared.instr.Instr.{Instr}
 use Rattle.txs_code_meaning.specs.declared.instr.Instr.TheVariants.{Const, Local, Store, Pop, Jump, JumpFalse, Core, Call, Return, Vector, Print, Look, Put, TxBegin, TxEnd, Open, Close, Send, Halt}
-use Rattle.txs_verify.specs.Paths.{wants, EndsWell, IsAllowed, MayEnd, opens, before, before_that, stage_behind, stage_for}
-use Rattle.txs_verify.specs.Refused.{Comes, IsMet, IsLow, HasTwoDepths, HasTwoNestings, EndsNothing, GoesPast, EndsBadly, IsMisplaced}
+use Rattle.txs_verify.specs.Paths.{wants, EndsWell, IsAllowed, MayEnd, Steps, ComesIn, opens, before, before_that, stage_behind, stage_for}
+use Rattle.txs_verify.specs.Refused.{Comes, IsMet, IsLow, HasTwoDepths, HasTwoNestings, EndsNothing, GoesPast, of_none, behind, EndsBadly, IsMisplaced}
 use Rattle.txs_verify.proofs.Agree.{enough_of, has_depth}
 use Rattle.txs_verify.proofs.Staged.{JumpsPlainly, has_stage}
 use Rattle.txs_verify.proofs.Whole.{jumps}
@@ -251,11 +251,23 @@ module _ (fs : Functions) (owner : Owner) (callable : ℕ) (ks : List Value) (b 
       let r = here p bad.0 bad.1 bad.2 bad.3 in
       bad.4 (subst (λ i. IsAllowed fs owner (stage_for b.instrs p bad.1) i) r.1 r.0.allowed)
 
-  pub never_past : (p : ℕ) → GoesPast fs.parameters b.instrs p → ⊥
-  never_past p past =
-      let r = right_at fs owner callable ks b room typed p past.0 past.1 past.2 in
-      let bad : Some r.instr ≡ None = sym r.stands ∙ past.3 in
+  starts : Comes fs.parameters b.instrs 0 0 0
+  unfolding ComesIn
+  starts = (0, (refl, refl, refl))
+
+  then_on : (p d t q e u : ℕ) → Comes fs.parameters b.instrs p d t → Steps fs.parameters b.instrs p d t q e u → Comes fs.parameters b.instrs q e u
+  unfolding ComesIn
+  then_on p d t q e u comes step = (suc comes.0, (p, d, t, comes.1, step))
+
+  never_without : (p d t : ℕ) → Comes fs.parameters b.instrs p d t → nth b.instrs p ≡ None → ⊥
+  never_without p d t comes none =
+      let r = right_at fs owner callable ks b room typed p d t comes in
+      let bad : Some r.instr ≡ None = sym r.stands ∙ none in
       absurd cc
+
+  pub never_past : (p : ℕ) → GoesPast fs.parameters b.instrs p → ⊥
+  never_past p (of_none empty first) = never_without 0 0 0 starts (ap (λ is. nth is 0) empty)
+  never_past p (behind d t q e u comes leads past) = never_without q e u (then_on p d t q e u comes leads) past
 
   pub never_two_depths : (p : ℕ) → HasTwoDepths fs.parameters b.instrs p → ⊥
   never_two_depths p two =

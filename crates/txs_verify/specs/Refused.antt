@@ -1,11 +1,11 @@
 -- Why a body whose instructions are each lawful is refused: what a path of it comes to.
-use Rattle.std.specs.Prelude.{◌≡◌, ◌⊎◌, ℕ, ◌<◌, List, Some, None}
+use Rattle.std.specs.Prelude.{◌≡◌, ◌⊎◌, ℕ, ◌<◌, List, [], Some, None}
 use Rattle.txs_value_base.specs.Places.{nth}
 use Rattle.txs_code_meaning.specs.WellTyped.{Functions, Owner}
 use Rattle.txs_code_meaning.specs.declared.instr.Instr.{Instr}
 use Rattle.txs_verify.specs.declared.error.VerifyErrorKind.{VerifyErrorKind}
 use Rattle.txs_verify.specs.declared.error.VerifyErrorKind.TheVariants.{JumpOut, StackLow, StackDiffers, LocalOut, ArityWrong, CallOrder, TxNesting, FallsOff, Memory}
-use Rattle.txs_verify.specs.Paths.{wants, MayEnd, EndsWell, IsAllowed, ComesIn, stage_for}
+use Rattle.txs_verify.specs.Paths.{wants, MayEnd, EndsWell, IsAllowed, Steps, ComesIn, stage_for}
 
 -- a path comes to a place with so many values and open transactions
 abbrev pub Comes : List ℕ → List Instr → ℕ → ℕ → ℕ → Type 0
@@ -32,9 +32,10 @@ HasTwoNestings ps is p = (d : ℕ) × (t : ℕ) × (e : ℕ) × (u : ℕ) × Com
 abbrev pub EndsNothing : List ℕ → List Instr → ℕ → Type 0
 EndsNothing ps is p = (d : ℕ) × (t : ℕ) × (i : Instr) × IsMet ps is p d t i × (MayEnd i t → ⊥)
 
--- a body that goes on past its end
-abbrev pub GoesPast : List ℕ → List Instr → ℕ → Type 0
-GoesPast ps is p = (d : ℕ) × (t : ℕ) × Comes ps is p d t × (nth is p ≡ None)
+-- A body goes on past its end: a path comes to the instruction that leads there; a body without instructions does so at 0.
+pub data GoesPast (ps : List ℕ) (is : List Instr) (p : ℕ) : Type 0 where
+  of_none : (empty : is ≡ []) (first : p ≡ 0) → GoesPast ps is p
+  behind : (d t q e u : ℕ) (comes : Comes ps is p d t) (leads : Steps ps is p d t q e u) (past : nth is q ≡ None) → GoesPast ps is p
 
 -- a return or halt that isn't one of a body of this kind, or not with one value alone, or in a transaction
 abbrev pub EndsBadly : List ℕ → List Instr → Owner → ℕ → Type 0

@@ -1,5 +1,5 @@
 -- What becomes of marks and of the places that wait, where a place is looked at.
-use Rattle.std.specs.Prelude.{◌≡◌, ◌⊎◌, ℕ, ◌+◌, List, [], ◌∷◌, ◌++◌, Bool, false, nat_eq, nat_lt, if◌then◌else◌, set, Option, Some, None, Result, Ok, Err}
+use Rattle.std.specs.Prelude.{◌≡◌, ◌⊎◌, ℕ, ◌+◌, ◌-◌, List, [], ◌∷◌, ◌++◌, Bool, false, nat_eq, nat_lt, if◌then◌else◌, set, Option, Some, None, Result, Ok, Err}
 use Rattle.txs_value_base.specs.Places.{nth}
 use Rattle.txs_code_meaning.specs.declared.instr.Instr.{Instr}
 use Rattle.txs_code_meaning.specs.declared.instr.Instr.TheVariants.{Jump, JumpFalse, Return, TxEnd, Halt}
@@ -58,9 +58,9 @@ abbrev pub ends_nothing : Instr → ℕ → Bool
 ends_nothing TxEnd t = nat_eq t 0
 ends_nothing _ t = false
 
--- An instruction at a place with a mark is refused, or the places that it leads to are reached.
+-- An instruction at a place with a mark is refused, or the places that it leads to are reached. Past the last instruction, that one is refused.
 abbrev pub passed : List ℕ → ℕ → Mark → Option Instr → Walk → Result Walk Refusal
-passed ps p m None s = Err (refusal FallsOff p)
+passed ps p m None s = Err (refusal FallsOff (p - 1))
 passed ps p m (Some i) s = if nat_lt m.depth (wants ps i) then Err (refusal StackLow p) else (if ends_nothing i m.txs then Err (refusal TxNesting p) else reached_each (next_places p i) (mark_behind ps i m) s)
 
 -- a place is looked at, where it has a mark

@@ -23,7 +23,8 @@ pub enum VerifyErrorKind {
     CallOrder,
     /// What may not stand inside a transaction or outside one, or two numbers of open transactions at one place.
     TxNesting,
-    /// Code that goes on past its end, or that ends as a body of its kind doesn't.
+    /// Code that goes on past its end, told at the instruction that does so, or at 0 of a body without instructions; or code that ends as a body of its
+    /// kind doesn't.
     FallsOff,
     /// There was no memory for the checks.
     Memory,

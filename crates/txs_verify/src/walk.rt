@@ -95,7 +95,7 @@ fn ends_nothing(instr: Instr, txs: usize) -> bool
     }
 }
 
-/// Goes on from a place with a mark.
+/// Goes on from a place with a mark. Behind the last instruction, that one goes on past the end; no jump leads there.
 fn pass(
     functions: &[Body],
     instrs: &[Instr],
@@ -113,7 +113,7 @@ fn pass(
     if at >= instrs.len() {
         return Err(Stop::Refused(Refusal {
             kind: VerifyErrorKind::FallsOff,
-            at,
+            at: at.saturating_sub(1),
         }));
     }
     let instr = instrs[at];

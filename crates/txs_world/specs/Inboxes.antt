@@ -1,7 +1,7 @@
 -- What a store keeps of its agents beside their states, without the room that there is.
 use Rattle.std.specs.Prelude.{◌≡◌, ◌≤◌, ℕ, suc, Bool, true, false, ◌&&◌, nat_lt, List, [], ◌∷◌, length, map, Option, Some, None, Result, Ok, Err, is_some}
 use Rattle.std.proofs.Common.{get_or, set}
-use Rattle.txs_mail.specs.Mailbox.{PlainMailbox, empty, put, take, finish}
+use Rattle.txs_mail.specs.Mailbox.{PlainMailbox, IsMailbox, empty, put, take, finish}
 use Rattle.txs_value_cell.specs.declared.action.Action.{Action}
 use Rattle.txs_value_base.specs.declared.fault.Fault.{Fault}
 use Rattle.txs_value_data.specs.declared.value.Value.{Value}
@@ -97,3 +97,8 @@ inbox_of goes taken m =
 -- of each agent whether its first action is taken
 abbrev pub taken_of : List PlainInbox → List Bool
 taken_of bs = map (λ b. b.mailbox.is_taken) bs
+
+-- of each inbox an action that is taken is there, and its agent hasn't failed
+abbrev pub AreMailboxes : List Inbox → Type 0
+AreMailboxes [] = Unit {0}
+AreMailboxes (b ∷ bs) = IsMailbox b.mailbox.plain × AreMailboxes bs

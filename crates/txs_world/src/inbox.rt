@@ -4,7 +4,7 @@ ghost use Rattle.std.specs.Prelude.{◌≡◌, ◌+◌, ◌<◌, ◌≤◌, ◌�
 ghost use Rattle.std.proofs.Common.{get_or};
 ghost use Rattle.txs_mail.specs.Mailbox.{next};
 ghost use Rattle.txs_world_book.specs.Book.{sent_to};
-ghost use Rattle.txs_world.specs.Inboxes.{plain_inbox, plain_inboxes, no_inbox, open_inboxes, mailed_all, taken_up, finished, all_sent_below, rooms, HaveRoom, promises, Promised};
+ghost use Rattle.txs_world.specs.Inboxes.{plain_inbox, plain_inboxes, no_inbox, open_inboxes, mailed_all, taken_up, finished, all_sent_below, rooms, HaveRoom, promises, Promised, AreMailboxes};
 
 use std::alloc::{AllocError, Global};
 use std::collections::VecDeque;
@@ -222,5 +222,14 @@ pub(crate) fn mail_all(inboxes: &mut Vec<Inbox>, actions: &mut VecDeque<Action>)
 {
     while let Some(action) = actions.pop_front() {
         put_at(inboxes, action);
+    }
+}
+
+/// Of each of these inboxes an action that is taken is there, and its agent hasn't failed.
+pub(crate) fn check_mail(inboxes: &[Inbox])
+    ensures { AreMailboxes inboxes.now }
+{
+    for inbox in inboxes {
+        let _ = inbox.mailbox.is_taken();
     }
 }

@@ -2,10 +2,11 @@
 
 ghost use Rattle.std.specs.Prelude.{◌≡◌, ◌↔◌, [], length, true, false, IsTrue, IfOk};
 ghost use Rattle.txs_world_book.specs.Book.{has_cell, has_agent, opening, newest, mail_after, Legal, Undisturbed};
+ghost use Rattle.txs_world.specs.Laws.{StoreStands};
 ghost use Rattle.txs_world.specs.Store.{PlainStore, store_with, none_taken};
 ghost use Rattle.txs_world_book.specs.Served.{cell_of, cells_of};
 
-use crate::inbox::{Inbox, open_inboxes};
+use crate::inbox::{Inbox, check_mail, open_inboxes};
 use crate::slot::{Slot, open_slots};
 use std::alloc::{AllocError, Global};
 use std::collections::VecDeque;
@@ -90,6 +91,13 @@ impl Store {
         ensures undisturbed { Undisturbed self.now.book }
     {
         self.journal.book.as_slice()
+    }
+
+    /// What holds of every store: its book is legal, its commits are undisturbed, and each action that is taken waits.
+    pub fn stands(&self)
+        ensures { StoreStands self.now }
+    {
+        check_mail(self.inboxes.as_slice());
     }
 
     /// The events alone.

@@ -1,3 +1,4 @@
+pub mod Apart
 pub mod Asking
 pub mod Opening
 pub mod Placing

@@ -106,7 +106,7 @@ unbooked_at [] i = refl
 unbooked_at (x ∷ xs) zero = refl
 unbooked_at (x ∷ xs) (suc i) = unbooked_at xs i
 
-unbooked_many : (xs : List PlainAtom) → length (map without_book xs) ≡ length xs
+pub unbooked_many : (xs : List PlainAtom) → length (map without_book xs) ≡ length xs
 unbooked_many [] = refl
 unbooked_many (x ∷ xs) = ap suc (unbooked_many xs)
 

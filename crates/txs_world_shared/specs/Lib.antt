@@ -1,3 +1,4 @@
+pub mod Apart
 pub mod Kept
 pub mod Laws
 pub mod Parts

@@ -1,11 +1,12 @@
 //! The atoms of cells, and what one of them answers.
 
-ghost use Rattle.std.specs.Prelude.{◌≡◌, ◌≤◌, ◌<◌, ◌++◌, ◌∷◌, [], suc, length, true, IfOk, OnOk, if◌then◌else◌};
+ghost use Rattle.std.specs.Prelude.{◌≡◌, ◌≤◌, ◌<◌, ◌++◌, ◌∷◌, [], suc, length, true, false, None, IfOk, IfSome, OnOk, if◌then◌else◌};
 ghost use Rattle.std.proofs.Common.{get_or};
 ghost use Rattle.txs_world_protocol.specs.declared.ask.Ask.TheVariants as ask;
 ghost use Rattle.txs_value_cell.specs.Forms.{same_kind};
 ghost use Rattle.txs_value_data.specs.declared.value.CellKind.TheVariants as kind;
 ghost use Rattle.txs_world_book.specs.Atom.{AtomAnswers, serve_atom, is_lawful_atom};
+ghost use Rattle.txs_world_shared.specs.Apart.{may_ask_atom};
 ghost use Rattle.txs_world_shared.specs.Kept.{opens_atom, new_atom, atoms_of, places_of, no_atom, atom_named, names_place, AnswersAt};
 
 use std::alloc::{AllocError, Global};
@@ -101,7 +102,7 @@ fn atoms_in(cell: &CellDefinition) -> usize
 }
 
 /// The atom whose book an ask is for, if it is for an atom's.
-pub(crate) fn atom_named(ask: &Ask) -> Option<CellId>
+pub fn atom_named(ask: &Ask) -> Option<CellId>
     ensures { result ≡ atom_named ask.now }
 {
     match ask {
@@ -145,6 +146,30 @@ fn serve_atom(atom: &mut AtomBook, actor: u16, ask: Ask) -> Reply
         Ask::Broke { at, .. } => atom.fail_at(actor, at),
         _ => unreachable!(),
     }
+}
+
+/// What an atom answers an actor, which is one of so many threads, and adds to its book; nothing, and nothing is added, where the actor may not ask it of this
+/// atom. An atom under a lock of its own is served so.
+pub fn serve_alone(atom: &mut AtomBook, threads: u16, actor: u16, ask: Ask) -> Option<Reply>
+    ensures served { IfSome result (λ r. AtomAnswers atom.old (serve_atom atom.old.cell atom.old.opening actor ask atom.old.book) r atom.new) }
+    ensures lawful { (result ≡ None → may_ask_atom threads actor ask atom.old ≡ false) × (may_ask_atom threads actor ask atom.old ≡ false → result ≡ None) }
+    ensures refused { result ≡ None → atom.new ≡ atom.old }
+{
+    if !may_ask_atom(atom, threads, actor, &ask) {
+        drop(ask);
+        return None;
+    }
+    Some(serve_atom(atom, actor, ask))
+}
+
+/// Whether the actor may ask this of this atom: it is one of so many threads, the ask names the atom, and the actor may name the place.
+fn may_ask_atom(atom: &AtomBook, threads: u16, actor: u16, ask: &Ask) -> bool
+    ensures { result ≡ may_ask_atom threads actor ask.now atom.now }
+{
+    let Some(cell) = atom_named(ask) else {
+        return false;
+    };
+    actor < threads && cell == atom.cell() && names_place(atom, actor, ask)
 }
 
 /// What the atom at a place answers, and adds to its book.

@@ -2,7 +2,8 @@
 //! that it is for, which alone grows, just as the laws of runs say, and that all books stay legal.
 #![tactic(auto)]
 
-mod atoms;
+pub mod atoms;
+mod joining;
 pub mod law;
 mod parts;
 mod serve;

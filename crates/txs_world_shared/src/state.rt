@@ -1,15 +1,18 @@
 //! The state that all actors share.
 
-ghost use Rattle.std.specs.Prelude.{◌≡◌, ◌≤◌, ◌<◌, ◌↔◌, ◌∷◌, ℕ, [], length, true, IfOk, IsTrue};
+ghost use Rattle.std.specs.Prelude.{◌≡◌, ◌≤◌, ◌<◌, ◌↔◌, ◌∷◌, ℕ, [], length, map, true, None, IfOk, IfSome, IsTrue};
 ghost use Rattle.txs_world_protocol.specs.SeenEvent.{home, atoms_below};
 ghost use Rattle.txs_theorem_runs.specs.Invariant.{SharedStands};
 ghost use Rattle.txs_theorem_runs.specs.Shared.{untouched, has_atom, atom_of, book_for};
-ghost use Rattle.txs_world_shared.specs.Kept.{atom_named};
+ghost use Rattle.txs_world_shared.specs.Apart.{AreLegal, ArePartsOf};
+ghost use Rattle.txs_world.specs.Laws.{StoreStands};
+ghost use Rattle.txs_world_shared.specs.Kept.{atom_named, atoms_of, without_book, state_of};
 ghost use Rattle.txs_world_shared.specs.SharedState.{PlainShared, shared_of, numbered_book, book_of, newest_of};
 ghost use Rattle.txs_world_book.specs.Book.{has_cell, has_agent, mail_after};
 ghost use Rattle.txs_world_book.specs.Served.{cells_of};
 
 use crate::atoms::{atom_named, copy_cells, open_atoms, open_places};
+use crate::joining::{all_by_threads, open_like};
 use crate::parts::move_books;
 use std::alloc::{AllocError, Global};
 use std::marker::Model;
@@ -150,6 +153,74 @@ impl SharedState {
         drop(places);
         move_books(atoms, &mut books);
         Ok((store.into_events(), books))
+    }
+
+    /// The parts: the store, and the atoms in the order of their cells, each with its book.
+    pub fn into_parts(self) -> (Store, Vec<AtomBook>)
+        ensures cells { result.0.cells ≡ cells_of self.cells }
+        ensures atoms { map without_book result.1.items ≡ atoms_of 0 self.cells }
+        ensures state { state_of self.cells result.0 result.1.items ≡ self }
+    {
+        let SharedState {
+            cells,
+            store,
+            atoms,
+            places,
+        } = self;
+        drop(cells);
+        drop(places);
+        (store, atoms)
+    }
+
+    /// The state of these cells with this store and these atoms; nothing, where they are no parts of one.
+    ///
+    /// # Errors
+    /// `AllocError` where there was no memory for the cells, or for the atoms' indexes.
+    pub fn join(
+        alloc: Global,
+        cells: &[CellDefinition],
+        store: Store,
+        atoms: Vec<AtomBook>,
+    ) -> Result<Option<SharedState>, AllocError>
+        ensures state { IfOk result (λ o. IfSome o (λ s. s ≡ state_of cells.now store atoms.items)) }
+        ensures parts { IfOk result (λ o. IfSome o (λ s. ArePartsOf cells.now store atoms.items)) }
+        ensures apart { IfOk result (λ o. o ≡ None → ArePartsOf cells.now store atoms.items → ⊥) }
+    {
+        let fresh = SharedState::open(alloc, cells, store.threads())?;
+        let made = store.made_for(cells)
+            && open_like(fresh.atoms.as_slice(), atoms.as_slice())
+            && all_by_threads(store.threads(), atoms.as_slice());
+        if !made {
+            drop(store);
+            drop(atoms);
+            drop(fresh);
+            return Ok(None);
+        }
+        store.stands();
+        Ok(Some(fresh.with_parts(store, atoms)))
+    }
+
+    /// The state with this store and these atoms in the place of its own.
+    fn with_parts(self, store: Store, atoms: Vec<AtomBook>) -> SharedState
+        requires parts { ArePartsOf self.cells store atoms.items }
+        requires legal { AreLegal atoms.items }
+        requires stands { StoreStands store }
+        ensures { result ≡ state_of self.cells store atoms.items }
+    {
+        let SharedState {
+            cells,
+            store: unused,
+            atoms: empty,
+            places,
+        } = self;
+        drop(unused);
+        drop(empty);
+        SharedState {
+            cells,
+            store,
+            atoms,
+            places,
+        }
     }
 
     /// The number of the book that an ask is for.

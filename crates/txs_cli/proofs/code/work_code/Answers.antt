@@ -6,6 +6,9 @@ use Rattle.txs_cli.proofs.Ran.{of_bytes}
 use Rattle.txs_cli.proofs.code.work_code.Goals as goal
 use Rattle.txs_cli.specs.CodeWorkersTold.{WorkedCodeTells}
 use Rattle.txs_cli.specs.RunTold.{RunTold}
+use Rattle.txs_cli.specs.Runner.{HasFailed}
+use Rattle.txs_code_meaning.specs.PlainCode.{PlainCode}
+use Rattle.txs_machine.specs.declared.run_error.RunError.{RunError}
 
 -- code that has a form has no more threads and cells than the limits allow
 pub run_told-requires-clause-few_threads : goal.run_told-requires-clause-few_threads
@@ -20,12 +23,14 @@ returns-in-Ok g c =
     let code = c.in-Ok.code in
     let script = script_of c.no_script.result in
     let working = c.args.working in
-    ok_maps c.run_told.result (λ t. RunTold code script working.steps working.cells working.events (told_of t)) (λ t. WorkedCodeTells bytes working.steps working.cells working.events (told_of t))
-    (λ t told. of_bytes bytes code script working.steps working.cells working.events (told_of t) c.in-Ok.ensures.form c.no_script.ensures told) c.run_told.ensures
+    let failed : PlainCode → RunError → Type 0 = λ d. HasFailed (goal.X-post g c.args.runner.now) d working.workers working.steps in
+    ok_maps c.run_told.result (λ t. RunTold (failed code) code script working.steps working.cells working.events (told_of t)) (λ t. WorkedCodeTells failed bytes working.steps working.cells working.events (told_of t))
+    (λ t told. of_bytes failed bytes code script working.steps working.cells working.events (told_of t) c.in-Ok.ensures.form c.no_script.ensures told) c.run_told.ensures
 
 -- the bytes aren't taken
 pub returns-in-Err : goal.returns-in-Err
 returns-in-Err g c =
     let working = c.args.working in
     let e = c.refused.ensures in
-    refused_answered c.refused.result c.args.bytes.now working.steps working.cells working.events c.in-Err.error c.in-Err.ensures.refused e.told e.output e.errors e.status
+    let failed : PlainCode → RunError → Type 0 = λ d. HasFailed (goal.X-post g c.args.runner.now) d working.workers working.steps in
+    refused_answered c.refused.result failed c.args.bytes.now working.steps working.cells working.events c.in-Err.error c.in-Err.ensures.refused e.told e.output e.errors e.status

@@ -5,6 +5,9 @@ use Rattle.txs_cli_report.specs.Told.{IsCompiled, ScriptTells, Wanted}
 use Rattle.txs_cli.proofs.Ran.{of_script}
 use Rattle.txs_cli.proofs.script.work_script.Goals as goal
 use Rattle.txs_cli.specs.RunTold.{RunTold}
+use Rattle.txs_cli.specs.Runner.{HasFailed}
+use Rattle.txs_code_meaning.specs.PlainCode.{PlainCode}
+use Rattle.txs_machine.specs.declared.run_error.RunError.{RunError}
 use Rattle.txs_cli.specs.WorkersTold.{WorkedTells, of_refused}
 use Rattle.txs_tree_meaning.specs.View.{program_of}
 
@@ -23,12 +26,14 @@ returns-in-Ok g c =
     let script = script_of c.args.script in
     let working = c.args.working in
     let compiled : IsCompiled script.text p code = record { program = of.program; generated = of.generated; follows = of.code; agents = of.agents; sends = of.sends; same = of.cells } in
-    ok_maps c.run_told.result (λ t. RunTold code script working.steps working.cells working.events (told_of t)) (λ t. WorkedTells script working.steps working.cells working.events (told_of t))
-    (λ t told. of_script script p code working.steps working.cells working.events (told_of t) compiled told) c.run_told.ensures
+    let failed : PlainCode → RunError → Type 0 = λ d. HasFailed (goal.X-post g c.args.runner.now) d working.workers working.steps in
+    ok_maps c.run_told.result (λ t. RunTold (failed code) code script working.steps working.cells working.events (told_of t)) (λ t. WorkedTells failed script working.steps working.cells working.events (told_of t))
+    (λ t told. of_script failed script p code working.steps working.cells working.events (told_of t) compiled told) c.run_told.ensures
 
 -- the script is refused
 pub returns-in-Err : goal.returns-in-Err
 returns-in-Err g c =
     let script = script_of c.args.script in
     let working = c.args.working in
-    ok_maps c.refused.result (λ t. (wanted : Wanted) → ScriptTells script (told_of t) wanted) (λ t. WorkedTells script working.steps working.cells working.events (told_of t)) (λ t told. of_refused told) c.refused.ensures
+    let failed : PlainCode → RunError → Type 0 = λ d. HasFailed (goal.X-post g c.args.runner.now) d working.workers working.steps in
+    ok_maps c.refused.result (λ t. (wanted : Wanted) → ScriptTells script (told_of t) wanted) (λ t. WorkedTells failed script working.steps working.cells working.events (told_of t)) (λ t told. of_refused told) c.refused.ensures

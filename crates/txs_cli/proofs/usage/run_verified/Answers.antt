@@ -4,7 +4,7 @@ use Rattle.txs_code_meaning.specs.PlainCode.{PlainCode}
 use Rattle.txs_code_load.proofs.Formed.{few_cells, few_threads}
 use Rattle.txs_code_load.specs.Load.{IsFormOf}
 use Rattle.txs_machine.specs.Agents.{actors_of}
-use Rattle.txs_machine.specs.Schedule.{all_named}
+use Rattle.txs_machine.specs.Schedule.{all_named, spread}
 use Rattle.txs_world_shared.specs.SharedState.{numbered_book}
 use Rattle.txs_cli_report.specs.Lent.{told_of}
 use Rattle.txs_cli_report.specs.Lines.{Script}
@@ -40,7 +40,7 @@ tell_book-requires-clause-made c = c.run_code.ensures.of.cells ∙ ap (λ (d : P
 pub returns : goal.returns
 returns c =
     let code = c.args.code.now in
-    let plays = c.args.plays.now in
+    let plays = spread c.args.plays.now in
     let unnamed : all_named (actors_of code) plays ≡ false =
     subst₂ (λ (s : Script) (o : Option owned.Told). RunAnswers code s plays c.args.steps c.run_code.new.shared (option_map told_of o)) c.no_script.ensures c.in-None.is c.in_ok-told.ensures.told
     in
@@ -52,7 +52,7 @@ returns c =
 pub returns-in-Some : goal.returns-in-Some
 returns-in-Some c =
     let code = c.args.code.now in
-    let plays = c.args.plays.now in
+    let plays = spread c.args.plays.now in
     let s = c.run_code.new.shared in
     let told = c.in-Some.told in
     let ran : (all_named (actors_of code) plays ≡ true) × RunTells code no_script c.args.steps s (told_of told) =

@@ -6,6 +6,9 @@ use Rattle.txs_cli_report.specs.Told.{Told, Written, front}
 use Rattle.txs_cli.proofs.Answered.{stream_written, unread_told}
 use Rattle.txs_cli.proofs.workers_play.play_workers.Goals as goal
 use Rattle.txs_cli.specs.WorkersTold.{StreamWorkedTells, WorkedTells, of_memory, of_script, of_unread}
+use Rattle.txs_cli.specs.Runner.{HasFailed}
+use Rattle.txs_code_meaning.specs.PlainCode.{PlainCode}
+use Rattle.txs_machine.specs.declared.run_error.RunError.{RunError}
 
 pub returns-in-Ok : goal.returns-in-Ok
 returns-in-Ok g c =
@@ -13,12 +16,13 @@ returns-in-Ok g c =
     let working = c.args.working in
     let told = c.work_script-told.result in
     let script : List ℕ → Script = λ text. record { text = text; file = text_in c.args.file } in
-    let tells : List ℕ → Told → Type 0 = λ input t. StreamWorkedTells (script (front input)) working.steps working.cells working.events t in
+    let failed : PlainCode → RunError → Type 0 = λ d. HasFailed (goal.X-post g c.args.runner.now) d working.workers working.steps in
+    let tells : List ℕ → Told → Type 0 = λ input t. StreamWorkedTells failed (script (front input)) working.steps working.cells working.events t in
     let writes : Told → Type 0 = λ t. Written (g.W.Write.contents c.args.writer.now) (g.W.Write.contents c.write_answer.new.writer) (g.F.Write.contents c.args.faults.now) (g.F.Write.contents c.write_answer.new.faults) t c.write_answer.result in
     let of_told : IfOk told (λ t. IfSome known (λ input. tells input (told_of t))) =
-    ok_maps told (λ t. WorkedTells (script c.as_slice-text.result.now) working.steps working.cells working.events (told_of t)) (λ t. IfSome known (λ input. tells input (told_of t)))
+    ok_maps told (λ t. WorkedTells failed (script c.as_slice-text.result.now) working.steps working.cells working.events (told_of t)) (λ t. IfSome known (λ input. tells input (told_of t)))
     (λ t worked. some_maps known (λ input. c.in-Ok.bytes.items ≡ front input) (λ input. tells input (told_of t))
-    (λ input is. of_script (subst (λ text. WorkedTells (script text) working.steps working.cells working.events (told_of t)) (c.as_slice-text.ensures.value ∙ is) worked)) c.in-Ok.ensures)
+    (λ input is. of_script (subst (λ text. WorkedTells failed (script text) working.steps working.cells working.events (told_of t)) (c.as_slice-text.ensures.value ∙ is) worked)) c.in-Ok.ensures)
     c.work_script-told.ensures
     in
     stream_written told known tells writes (λ input t m. of_memory m.0 m.1 m.2) of_told c.write_answer.ensures
@@ -28,6 +32,7 @@ returns-in-Err g c =
     let known = g.R.Read.remaining c.args.reader.now in
     let working = c.args.working in
     let told = c.unread.result in
-    let tells : List ℕ → Told → Type 0 = λ input t. StreamWorkedTells (record { text = front input; file = text_in c.args.file }) working.steps working.cells working.events t in
+    let failed : PlainCode → RunError → Type 0 = λ d. HasFailed (goal.X-post g c.args.runner.now) d working.workers working.steps in
+    let tells : List ℕ → Told → Type 0 = λ input t. StreamWorkedTells failed (record { text = front input; file = text_in c.args.file }) working.steps working.cells working.events t in
     let writes : Told → Type 0 = λ t. Written (g.W.Write.contents c.args.writer.now) (g.W.Write.contents c.write_answer-in-Err.new.writer) (g.F.Write.contents c.args.faults.now) (g.F.Write.contents c.write_answer-in-Err.new.faults) t c.write_answer-in-Err.result in
     stream_written told known tells writes (λ input t m. of_memory m.0 m.1 m.2) (unread_told told known tells (λ input t o e s. of_unread o e s) c.unread.ensures) c.write_answer-in-Err.ensures

@@ -1,15 +1,19 @@
-use Rattle.std.proofs.Common.{◌≡◌, ◌≤◌, ◌-◌, length}
+use Rattle.std.proofs.Common.{◌≡◌, ◌≤◌, ◌+◌, ◌-◌, length}
 use denote.Shadow.{shadow}
 use denote.Text.{Utf8}
+use Rattle.txs_machine.specs.Schedule.{spread}
 use Rattle.txs_cli_plays.specs.Plays.{items_in, followed, plays_of}
+use Rattle.txs_cli_plays.proofs.Reading.{HasBegun}
 use Rattle.txs_cli_plays.proofs.plays.read_plays.Given as goal
 
--- the plays so far, and those that the rest says, are those of the whole text
+-- the plays so far, and those that the rest says, are those of the whole text; each of them has a byte of its own behind it
 abbrev pub invariant-loop-item : goal.invariant-loop-item
 invariant-loop-item l =
     record {
-      whole : followed l.plays.items (plays_of (length l.text - length l.rest) (items_in l.rest)) ≡ plays_of 0 (items_in l.text);
+      whole : followed (spread l.plays.items) (plays_of (length l.text - length l.rest) (items_in l.rest)) ≡ plays_of 0 (items_in l.text);
       within : length l.rest ≤ length l.text;
+      kept : length l.plays.items + length l.rest ≤ length l.text;
+      begun : HasBegun l.text l.rest;
       utf8 : shadow (Utf8 l.rest);
     }
 

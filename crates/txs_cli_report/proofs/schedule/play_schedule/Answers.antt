@@ -1,4 +1,5 @@
 use Rattle.std.proofs.Common.{◌≡◌, ℕ, List, [], codes, refl, Result, Ok, sym, ap, ◌∙◌}
+use Rattle.txs_machine.specs.Schedule.{spread}
 use Rattle.txs_machine.specs.declared.schedule.Play.{Play}
 use Rattle.txs_cli_plays.specs.Plays.{plays_in}
 use Rattle.txs_cli_plays.specs.declared.plays.WrongPlay.{WrongPlay}
@@ -12,9 +13,9 @@ pub returns-in-Ok-clause-told : goal.returns-in-Ok-clause-told
 returns-in-Ok-clause-told g c =
     let known = g.R.Read.remaining c.args.reader.now in
     let script : List ℕ → Script = λ input. record { text = front input; file = text_in c.args.file } in
-    let plays = c.as_slice.result.now in
+    let plays = spread c.as_slice.result.now in
     let said : List Play → Result (List Play) WrongPlay = λ ps. Ok ps in
-    let read : plays_in c.args.turns.now ≡ said plays = c.in-Ok.ensures.plays ∙ ap said (sym c.as_slice.ensures.value) in
+    let read : plays_in c.args.turns.now ≡ said plays = c.in-Ok.ensures.plays ∙ ap (λ rs. said (spread rs)) (sym c.as_slice.ensures.value) in
     let writes : Told → Type 0 = λ t. Written (g.W.Write.contents c.args.writer.now) (g.W.Write.contents c.play_script.new.writer) (g.F.Write.contents c.args.faults.now) (g.F.Write.contents c.play_script.new.faults) t c.play_script.result in
     some_maps known (λ input. (t : Told) × Tells (script input) (Run plays c.args.steps c.args.cells c.args.events) t × writes t)
     (λ input. (t : Told) × ScheduleTells (script input) c.args.turns.now c.args.steps c.args.cells c.args.events t × writes t)

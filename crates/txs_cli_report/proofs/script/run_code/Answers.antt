@@ -6,6 +6,7 @@ use Rattle.txs_cli_report.specs.AgentLines.{named_from}
 use Rattle.txs_cli_report.specs.Lent.{script_of}
 use Rattle.txs_cli_report.specs.Told.{EndsTold, run_status}
 use Rattle.txs_cli_report.proofs.OfAgents.{all_named_from}
+use Rattle.txs_disasm.proofs.SentLemmas.{on_err}
 use Rattle.txs_cli_report.proofs.script.run_code.Goals as goal
 
 pub of_report-requires-clause-few_cells : goal.of_report-requires-clause-few_cells
@@ -16,7 +17,7 @@ of_report-requires-clause-few_cells c =
 pub of_report-requires-clause-made : goal.of_report-requires-clause-made
 of_report-requires-clause-made c =
     let is : c.cells-cells.result.now ≡ c.args.code.now.cells = c.cells-cells.ensures ∙ ap (λ (d : PlainCode). d.cells) c.code.ensures.value in
-    c.run_schedule.ensures.of.cells ∙ sym is
+    c.run_repeated.ensures.of.cells ∙ sym is
 
 pub of_report-requires-clause-one_each : goal.of_report-requires-clause-one_each
 of_report-requires-clause-one_each c =
@@ -27,7 +28,7 @@ pub returns-in_ok-told-in-Ok-clause-told : goal.returns-in_ok-told-in-Ok-clause-
 returns-in_ok-told-in-Ok-clause-told c =
     let is : c.cells-cells.result.now ≡ c.args.code.now.cells = c.cells-cells.ensures ∙ ap (λ (d : PlainCode). d.cells) c.code.ensures.value in
     let script = script_of c.args.script in
-    let s = c.run_schedule.new.shared in
+    let s = c.run_repeated.new.shared in
     let rans : List Ran = c.in-Ok.report.threads.items in
     let agents : List Ran = c.in-Ok.report.agents.items in
     let r = c.in-Ok.ensures in
@@ -47,3 +48,6 @@ returns-in_ok-told-in-Ok-clause-told c =
         status = t.status ∙ ap (λ (ds : List CellDefinition). run_status ds s rans agents) is;
       },
     )
+
+pub returns-in_err-told-in-Ok-clause-named : goal.returns-in_err-told-in-Ok-clause-named
+returns-in_err-told-in-Ok-clause-named c = on_err _ c.in-Ok.ensures.named

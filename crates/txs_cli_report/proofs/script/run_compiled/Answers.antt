@@ -2,7 +2,7 @@ use Rattle.std.proofs.Common.{◌≡◌, ◌≤◌, ◌++◌, ◌∙◌, List, l
 use Rattle.std.specs.Option.{option_map}
 use Rattle.txs_value_cell.specs.declared.cell.CellDefinition.{CellDefinition}
 use Rattle.txs_machine.specs.Agents.{actors_of}
-use Rattle.txs_machine.specs.Schedule.{all_named}
+use Rattle.txs_machine.specs.Schedule.{all_named, spread}
 use Rattle.txs_world_shared.specs.SharedState.{numbered_book}
 use Rattle.txs_cli_report.specs.Lent.{script_of, told_of}
 use Rattle.txs_cli_report.specs.Told.{Run, RunAnswers, RunTells, ScriptTells, cells_told, events_told, of_run, of_no_actor}
@@ -16,7 +16,7 @@ pub returns-in-None : goal.returns-in-None
 returns-in-None c =
     let script = script_of c.args.script in
     let code = c.args.code.now in
-    let plays = c.args.plays.now in
+    let plays = spread c.args.plays.now in
     let unnamed : all_named (actors_of code) plays ≡ false =
     subst (λ (o : Option owned.Told). RunAnswers code script plays c.args.steps c.run_code.new.shared (option_map told_of o)) c.in-None.is c.in_ok-told.ensures.told
     in
@@ -29,7 +29,7 @@ returns-in_ok-tell_book-in-Some c =
     let script = script_of c.args.script in
     let code = c.args.code.now in
     let p = program_of c.args.program.now in
-    let plays = c.args.plays.now in
+    let plays = spread c.args.plays.now in
     let s = c.run_code.new.shared in
     let told = c.in-Some.told in
     let of = c.requires.compiled in

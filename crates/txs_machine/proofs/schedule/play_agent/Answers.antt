@@ -1,4 +1,4 @@
-use Rattle.std.proofs.Common.{◌≡◌, None, refl, rules}
+use Rattle.std.proofs.Common.{◌≡◌, ◌<◌, None, refl, rules}
 use Rattle.txs_machine_actor.proofs.Following.{actors_run}
 use Rattle.txs_world_book.specs.Served.{cells_of}
 use Rattle.txs_world.specs.Store.{next_action}
@@ -12,7 +12,8 @@ returns-then-not-is_due c =
     let x = c.args.agent.now in
     let s = c.args.shared.now in
     let none : x.player.actor.outcome ≡ None → next_action (cells_of s.cells) (numbered_book s 0) x.agent ≡ None = c.is_due.ensures.no (search rules) in
-    agent_rests c.args.code.now c.args.k c.args.max_steps s x c.requires.of c.requires.attending c.requires.long none
+    let left : x.player.actor.outcome ≡ None → x.player.actor.steps < c.args.max_steps = c.is_due.ensures.left (search rules) in
+    agent_rests c.args.code.now c.args.k c.args.max_steps s x c.requires.of c.requires.attending c.requires.long none left
 
 pub go_on-requires-clause-may : goal.go_on-requires-clause-may
 go_on-requires-clause-may c =

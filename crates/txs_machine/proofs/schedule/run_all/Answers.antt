@@ -5,7 +5,7 @@ use Rattle.txs_world_shared.specs.SharedState.{shared_of}
 use Rattle.txs_machine.specs.Playing.{AreReported}
 use Rattle.txs_machine.specs.Plays.{ArePlayedOut}
 use Rattle.txs_machine.specs.Running.{attendants}
-use Rattle.txs_machine.specs.Schedule.{all_named}
+use Rattle.txs_machine.specs.Schedule.{all_named, spread}
 use Rattle.txs_machine.proofs.Playing.{steps_later}
 use Rattle.txs_machine.proofs.Reporting.{says_of}
 use Rattle.txs_machine.proofs.RunOver.{state_stands}
@@ -16,7 +16,7 @@ play_all-requires-clause-named c =
     let e = c.in_ok-open_players.ensures in
     let all = c.open_players.new.players in
     let many : c.args.actors ≡ length all.threads.items + length all.agents.items = omega (arith, c.requires.many, e.many, e.agents, c.threads.ensures, c.requires.of.threads) in
-    subst (λ n. all_named n c.args.plays.now ≡ true) many c.requires.named
+    subst (λ n. all_named n (spread c.args.plays.now) ≡ true) many c.requires.named
 
 pub play_all-requires-clause-playing : goal.play_all-requires-clause-playing
 play_all-requires-clause-playing c = c.in_ok-open_players.ensures.playing c.args.shared.now c.requires.unused
@@ -35,13 +35,13 @@ returns-clause-says c =
     let all = c.play_rounds.new.players in
     let e = c.play_rounds.ensures in
     let stands : SharedStands s.cells s.threads (shared_of s) = c.events-stands.ensures.stands in
-    let out : ArePlayedOut code limit c.args.plays.now c.args.rounds s all = record {
+    let out : ArePlayedOut code limit (spread c.args.plays.now) c.args.rounds s all = record {
       of = e.of;
       playing = e.playing;
-      steps = steps_later c.args.plays.now 0 c.play_all.new.players.threads.items all.threads.items e.later c.play_all.ensures.steps;
+      steps = steps_later (spread c.args.plays.now) 0 c.play_all.new.players.threads.items all.threads.items e.later c.play_all.ensures.steps;
       ended = e.ended;
       idle = e.idle;
     } in
-    says_of code limit c.args.plays.now c.args.rounds s all out (state_stands code s e.of stands) (typed_staged code c.rooms.result.0.now c.rooms.result.1.now c.rooms.ensures) c.report_all.result
+    says_of code limit (spread c.args.plays.now) c.args.rounds s all out (state_stands code s e.of stands) (typed_staged code c.rooms.result.0.now c.rooms.result.1.now c.rooms.ensures) c.report_all.result
     (subst (λ xs. IfOk c.report_all.result (λ r. AreReported xs r.threads.items)) c.as_slice.ensures.value c.report_all.ensures.threads)
     (subst (λ gs. IfOk c.report_all.result (λ r. AreReported (attendants gs) r.agents.items)) c.as_slice-2.ensures.value c.report_all.ensures.agents)

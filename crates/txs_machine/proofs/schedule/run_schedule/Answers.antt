@@ -1,10 +1,12 @@
+use Rattle.std.proofs.Common.{rules, subst}
+use Rattle.txs_machine.specs.Schedule.{ArePlayed}
 use Rattle.txs_machine.proofs.schedule.run_schedule.Goals as goal
 
 pub returns-clause-done : goal.returns-clause-done
 returns-clause-done c = c.in_ok-report.ensures.says.done
 
 pub returns-clause-played : goal.returns-clause-played
-returns-clause-played c = c.in_ok-report.ensures.says.played
+returns-clause-played c = subst (λ ys. ArePlayed ys c.in_ok-report.report.threads.items) (search rules) c.in_ok-report.ensures.says.played
 
 pub returns-clause-ended : goal.returns-clause-ended
 returns-clause-ended c = c.in_ok-report.ensures.says.ended

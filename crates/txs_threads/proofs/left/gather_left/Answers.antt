@@ -11,7 +11,7 @@ use Rattle.txs_threads.proofs.left.gather_left.Goals as goal
 pub is_whole-requires-clause-agents : goal.is_whole-requires-clause-agents
 is_whole-requires-clause-agents c =
     let g = c.in_ok-gathered in
-    let of = state_of c.args.code.now g.gathered.shared _ _ _ g.ensures.shared g.ensures.agrees in
+    let of = state_of c.args.code.now g.gathered.shared _ _ _ g.ensures.shared g.ensures.agrees.agree in
     are_agents c.args.code.now g.gathered.shared c.args.agents.now of c.requires.agents
 
 pub is_whole-requires-clause-one_each : goal.is_whole-requires-clause-one_each
@@ -25,7 +25,7 @@ returns-then-is_whole-clause-left c =
     let s = g.gathered.shared in
     let threads : List Ran = g.gathered.report.threads.items in
     let agents : List Ran = g.gathered.report.agents.items in
-    let of = state_of code s _ _ _ g.ensures.shared g.ensures.agrees in
+    let of = state_of code s _ _ _ g.ensures.shared g.ensures.agrees.agree in
     let ended : AllEnded threads = search rules in
     let drained : AllDrained s c.args.agents.now agents = search rules in
     let left : IsLeft code c.args.max_steps s threads agents = record {
@@ -34,8 +34,8 @@ returns-then-is_whole-clause-left c =
       agents_each = g.ensures.agents_each;
       ended = all_ended threads ended;
       drained = are_drained code s c.args.agents.now agents of c.requires.agents drained;
-      done = subst (λ (s : PlainShared). AllHaveDone code c.args.max_steps s threads) (sym g.ensures.shared) g.ensures.done;
-      attended = subst (λ (s : PlainShared). AllHaveAttended code c.args.max_steps s agents) (sym g.ensures.shared) g.ensures.attended;
+      done = g.ensures.done;
+      attended = g.ensures.attended;
       explained = g.ensures.explained;
       all_explained = g.ensures.all_explained;
     } in

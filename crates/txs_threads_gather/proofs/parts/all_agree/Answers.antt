@@ -1,4 +1,4 @@
-use Rattle.std.proofs.Common.{◌≡◌, ◌≤◌, ◌<◌, ◌∙◌, List, length, true, false, refl, rules, sym, subst, arith}
+use Rattle.std.proofs.Common.{◌≤◌, List, length, refl, rules, sym, subst, arith}
 use Rattle.std.proofs.lemmas.Bool.{false≢true}
 use Rattle.std.proofs.lemmas.List.{drop_all}
 use Rattle.txs_threads_replay.specs.ByPlace.{HoldsByPlace}

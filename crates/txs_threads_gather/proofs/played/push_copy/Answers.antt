@@ -1,4 +1,4 @@
-use Rattle.std.proofs.Common.{◌≡◌, ◌++◌, ◌∷◌, [], ap, ◌∙◌}
+use Rattle.std.proofs.Common.{◌++◌, ◌∷◌, [], ap, ◌∙◌}
 use Rattle.txs_threads_replay.specs.declared.kept.Kept.{Kept}
 use Rattle.txs_threads_gather.specs.Played.{kept_of}
 use Rattle.txs_threads_gather.proofs.played.push_copy.Goals as goal

@@ -359,7 +359,7 @@ pub apply_callee-call-given-requires : goal.apply_callee-call-given-requires
 apply_callee-call-given-requires t c =
     let x = c.args.context.now in
     let fits = subst (λ f. SoundCallee (callable x) f (length c.args.values.items)) c.in-Function.is c.requires in
-    let w : PlainView = record { cells = []; place = 0 } in
+    let w : PlainView = record { cells = []; swaps = None; place = 0 } in
     let here = pure_here (on_view x w) c.in-Function.number (length c.args.values.items) fits in
     let smaller : room c.on-inner.result < room x + 1 = omega (arith, room_on x c.on-inner.result w c.on-inner.ensures) in
     (search (rules, smaller), subst (λ y. SoundCall (callable y) (zone_in y) c.in-Function.number (length c.args.values.items)) (sym c.on-inner.ensures) here)

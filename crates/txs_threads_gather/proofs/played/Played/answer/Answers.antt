@@ -1,9 +1,9 @@
-use Rattle.std.proofs.Common.{◌≡◌, map, sym, ap, subst, ◌∙◌, true, false, refl, Option, Some, None}
+use Rattle.std.proofs.Common.{◌≡◌, map, sym, ap, subst, ◌∙◌, false, Option, Some, None}
 use Rattle.std.proofs.lemmas.Bool.{false≢true}
 use Rattle.txs_world_protocol.specs.declared.ask.Ask.{Ask}
 use Rattle.txs_machine_actor.specs.PlainActor.{HandsOut, MayAnswer, MayAnswerIf, answered, unanswered}
 use Rattle.txs_threads_replay.specs.Entries.{entry_of}
-use Rattle.txs_threads_gather.specs.Played.{PlainPlayed, HasPlayed, IsPlayed, IsTold, kept_after, stopped_after, kept_of}
+use Rattle.txs_threads_gather.specs.Played.{PlainPlayed, HasPlayed, IsPlayed, IsTold, stopped_after}
 use Rattle.txs_threads_gather.proofs.Playing.{answer_played, answer_limit}
 use Rattle.txs_threads_gather.proofs.Noting.{played_or_lost, is_whole, was_whole, asks_in, told_may, told_hands, told_so, lost_so}
 use Rattle.txs_threads_gather.proofs.played.Played.answer.Goals as goal

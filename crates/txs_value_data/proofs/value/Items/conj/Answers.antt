@@ -1,8 +1,10 @@
-use Rattle.std.proofs.Common.{◌≡◌, ℕ, List, ◌≤◌, ◌++◌, ◌∷◌, [], ◌⊎◌, inl, inr, ap, subst, ◌∙◌, rules}
+use Rattle.std.proofs.Common.{◌≡◌, ℕ, List, ◌≤◌, ◌++◌, ◌∷◌, [], ◌⊎◌, inl, inr, ap, sym, subst, ◌∙◌, rules}
 use Rattle.txs_value_data.specs.Limits.{IsVector}
+use Rattle.txs_value_data.specs.Numbers.{AreNumbers}
 use Rattle.txs_value_data.specs.PlainValue.{PlainValue, row_depth, plain_row}
 use Rattle.txs_value_data.specs.View.{plain_of}
 use Rattle.txs_value_data.proofs.ItemsLemmas.{IsVector-more, no_deeper-more}
+use Rattle.txs_value_data.proofs.NumbersLemmas.{numbers-more}
 use Rattle.txs_value_data.proofs.value.Items.conj.Goals as goal
 
 -- a body that is written to, with the number beside it: the vector's own, or a copy
@@ -17,7 +19,11 @@ invariant_of-result c =
     let before : IsVector c.args.self = subst IsVector c.self.view_is c.self.invariant.0 in
     let whole : row_depth (plain_row c.args.self) ≤ c.self.inside.shared.value.1 = subst (λ ds. row_depth (plain_row ds) ≤ c.self.inside.shared.value.1) c.self.view_is c.self.invariant.1 in
     let bound : row_depth (plain_row c.args.self) ≤ c.in-Ok.kept.now.1 = rw kept.1 whole in
+    let numbers : c.in-Ok.kept.now.1 ≡ 0 → AreNumbers c.args.self = λ none. subst AreNumbers c.self.view_is (c.self.invariant.2 (sym kept.1 ∙ none)) in
     let is : c.push.new.self ≡ c.args.self ++ plain_of c.args.item ∷ [] = rw same at c.in_ok-push.ensures in
     let ended : (c.make_mut.follows.lender (c.push.new.self, c.max-kept.result)).value ≡ (c.push.new.self, c.max-kept.result) = search (rules, c.make_mut.follows.holds (c.push.new.self, c.max-kept.result)) in
-    rw ended
-    (IsVector-more c.args.self c.push.new.self (plain_of c.args.item) is before c.requires.room c.requires.shallow, no_deeper-more c.args.self c.push.new.self (plain_of c.args.item) c.in-Ok.kept.now.1 c.no_deeper-deep.result c.max-kept.result is bound c.no_deeper-deep.ensures (search rules))
+    rw ended (
+      IsVector-more c.args.self c.push.new.self (plain_of c.args.item) is before c.requires.room c.requires.shallow,
+      no_deeper-more c.args.self c.push.new.self (plain_of c.args.item) c.in-Ok.kept.now.1 c.no_deeper-deep.result c.max-kept.result is bound c.no_deeper-deep.ensures.bound (search rules),
+      numbers-more c.args.self c.push.new.self (plain_of c.args.item) c.in-Ok.kept.now.1 c.no_deeper-deep.result c.max-kept.result is numbers c.no_deeper-deep.ensures.number (search rules),
+    )

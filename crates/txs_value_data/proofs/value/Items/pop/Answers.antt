@@ -1,7 +1,9 @@
-use Rattle.std.proofs.Common.{◌≡◌, ℕ, List, ◌≤◌, ◌-◌, ◌⊎◌, inl, inr, length, take, ap, subst, ◌∙◌, rules}
+use Rattle.std.proofs.Common.{◌≡◌, ℕ, List, ◌≤◌, ◌-◌, ◌⊎◌, inl, inr, length, take, ap, sym, subst, ◌∙◌, rules}
 use Rattle.txs_value_data.specs.Limits.{IsVector}
+use Rattle.txs_value_data.specs.Numbers.{AreNumbers}
 use Rattle.txs_value_data.specs.PlainValue.{PlainValue, row_depth, plain_row}
 use Rattle.txs_value_data.proofs.ItemsLemmas.{IsVector-fewer, no_deeper-fewer}
+use Rattle.txs_value_data.proofs.NumbersLemmas.{numbers-fewer}
 use Rattle.txs_value_data.proofs.value.Items.pop.Goals as goal
 
 -- a body that is written to, with the number beside it: the vector's own, or a copy
@@ -16,7 +18,11 @@ invariant_of-result c =
     let before : IsVector c.args.self = subst IsVector c.self.view_is c.self.invariant.0 in
     let whole : row_depth (plain_row c.args.self) ≤ c.self.inside.shared.value.1 = subst (λ ds. row_depth (plain_row ds) ≤ c.self.inside.shared.value.1) c.self.view_is c.self.invariant.1 in
     let bound : row_depth (plain_row c.args.self) ≤ c.in_ok-kept.kept.now.1 = rw kept.1 whole in
+    let numbers : c.in_ok-kept.kept.now.1 ≡ 0 → AreNumbers c.args.self = λ none. subst AreNumbers c.self.view_is (c.self.invariant.2 (sym kept.1 ∙ none)) in
     let is : c.pop.new.self ≡ take (length c.args.self - 1) c.args.self = rw same at c.in_ok-pop.ensures in
     let ended : (c.make_mut.follows.lender (c.pop.new.self, c.in_ok-kept.kept.now.1)).value ≡ (c.pop.new.self, c.in_ok-kept.kept.now.1) = search (rules, c.make_mut.follows.holds (c.pop.new.self, c.in_ok-kept.kept.now.1)) in
-    rw ended
-    (IsVector-fewer c.args.self c.pop.new.self (length c.args.self - 1) is before, no_deeper-fewer c.args.self c.pop.new.self (length c.args.self - 1) c.in_ok-kept.kept.now.1 is bound)
+    rw ended (
+      IsVector-fewer c.args.self c.pop.new.self (length c.args.self - 1) is before,
+      no_deeper-fewer c.args.self c.pop.new.self (length c.args.self - 1) c.in_ok-kept.kept.now.1 is bound,
+      numbers-fewer c.args.self c.pop.new.self (length c.args.self - 1) c.in_ok-kept.kept.now.1 is numbers,
+    )

@@ -1,0 +1,9 @@
+pub mod Agreeing
+pub mod Beginning
+pub mod Differing
+pub mod Findings
+pub mod Listing
+pub mod Onward
+pub mod Ordered
+pub mod Piecing
+pub mod Serial

@@ -1,0 +1,9 @@
+use Rattle.std.proofs.Common.{refl}
+use Rattle.std.specs.Fmt.{digits}
+use Rattle.txs_value_apply.specs.Core.{core, takes}
+use Rattle.txs_value_data.specs.Limits.{most_events, reruns}
+use Rattle.txs_theorem_audit.proofs.entries_are_answered.Goals as goal
+
+pub returns : goal.returns
+unfolding digits core takes most_events reruns
+returns c = (refl, refl, refl, refl, refl, refl, refl)

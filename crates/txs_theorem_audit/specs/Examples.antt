@@ -1,0 +1,279 @@
+-- Reports of small programs, and what an audit answers of them.
+use Rattle.std.specs.Prelude.{◌≡◌, ℕ, true, false, List, [], ◌∷◌, Option, Some, None, Ok}
+use Rattle.txs_value_base.specs.declared.fault.Fault.{Fault}
+use Rattle.txs_value_base.specs.declared.fault.FaultKind.TheVariants.{NotANumber}
+use Rattle.txs_value_base.specs.declared.op.Op.{Op}
+use Rattle.txs_value_base.specs.declared.op.Op.TheVariants.{Add, Multiply, Inc, Dec, Equal, Less}
+use Rattle.txs_value_data.specs.declared.value.Value.TheVariants.{Int, Nil, Cell}
+use Rattle.txs_tree_meaning.specs.Tree.{Mark, Const, Local, If, Do, Loop, Recur, Core, Dosync, Look, Update, Println, Send as SendTo, none, more, PlainProgram, PlainThread}
+use Rattle.txs_world_protocol.specs.declared.event.Outcome.{Outcome}
+use Rattle.txs_world_protocol.specs.declared.event.Outcome.TheVariants.{Done, Failed}
+use Rattle.std.specs.Prelude.{pos}
+use Rattle.txs_world_protocol.specs.declared.event.Event.{Event}
+use Rattle.txs_world_protocol.specs.declared.event.EventKind.TheVariants.{Act, Commit, Retry, Swap}
+use Rattle.txs_value_cell.specs.declared.cell.ErrorMode.TheVariants.{Fail}
+use Rattle.txs_value_cell.specs.declared.form.UpdateForm.TheVariants.{Alter, Commute, Swap as SwapForm}
+use Rattle.txs_value_cell.specs.declared.form.LookForm.{LookForm}
+use Rattle.txs_value_cell.specs.declared.form.LookForm.TheVariants.{Deref, Ensure}
+use Rattle.txs_value_cell.specs.declared.cell.CellDefinition.{CellDefinition}
+use Rattle.txs_world_protocol.specs.Ask.{Writes}
+use Rattle.txs_theorem_runs.specs.Told.{Place}
+use Rattle.txs_value_base.specs.declared.op.Callee.TheVariants.{Core as CoreOp}
+use Rattle.txs_value_data.specs.declared.value.CellId.{CellId}
+use Rattle.txs_value_data.specs.declared.value.CellKind.{CellKind}
+use Rattle.txs_value_data.specs.declared.value.CellKind.TheVariants.{Agent, Atom, Ref}
+use Rattle.txs_value_cell.specs.declared.action.Action.{Action}
+use Rattle.txs_theorem_audit.specs.Audited.{PlainRan, PlainReport, Agrees, Differs, Undecided}
+use Rattle.txs_theorem_audit.specs.Verdict.{verdict}
+
+-- marks of no span
+abbrev here : Mark
+here = record { span = record { from = 0; to = 0 }; wanted = true }
+
+-- `(future (loop [i 0] (if (< i 3) (recur (inc i)) nil)))`
+abbrev pub counts_to_three : PlainProgram
+counts_to_three = record {
+  functions = [];
+  cells = [];
+  threads = record {
+    body = Loop (more (Const (Int (pos 0)) here) none) (If (Core Less (more (Local 0 here) (more (Const (Int (pos 3)) here) none)) here) (Recur (more (Core Inc (more (Local 0 here) none) here) none) here) (Const Nil here) here) here;
+    span = record { from = 0; to = 0 };
+  } ∷ [];
+}
+
+-- its report where it has done all
+abbrev pub counted : PlainReport
+counted = record { threads = record { outcome = Some Done; printed = []; trace = [] } ∷ []; agents = []; book = []; atom_books = []; cells = []; failed = [] }
+
+-- a report without entries
+abbrev pub nothing : PlainReport
+nothing = record { threads = []; agents = []; book = []; atom_books = []; cells = []; failed = [] }
+
+-- with too few turns it isn't known, with more it agrees, and a report without the thread differs
+abbrev pub CountsAreAnswered : Type 0
+CountsAreAnswered = (verdict counts_to_three counted 2 ≡ Undecided 0 0) × (verdict counts_to_three counted 100 ≡ Agrees true) × (verdict counts_to_three nothing 100 ≡ Differs 0 0)
+
+-- ---- one ref that two transactions count
+
+-- marks of no span, of a result that isn't wanted
+abbrev there : Mark
+there = record { span = record { from = 0; to = 0 }; wanted = false }
+
+-- the ref with the number 0
+abbrev a_ref : CellId
+a_ref = record { kind = Ref; number = 0 }
+
+-- `(future (dosync (alter r inc)))`
+abbrev counting : PlainThread
+counting = record { body = Dosync (Update Alter (Const (Cell a_ref) here) (CoreOp Inc) none there) there; span = record { from = 0; to = 0 } }
+
+-- `(def r (ref 0))` and two such threads
+abbrev pub counted_by_two : PlainProgram
+counted_by_two = record { functions = []; cells = record { kind = Ref; name = []; opening = Int (pos 0); error_mode = Fail; validator = None } ∷ []; threads = counting ∷ counting ∷ [] }
+
+-- a commit of this actor that began at an index and gave the ref this value
+abbrev wrote : ℕ → ℕ → ℕ → Event
+wrote a at v = record { actor = a; kind = Commit at at ((a_ref, Int (pos v)) ∷ []) [] }
+
+-- a thread that is done, with these entries of its trace
+abbrev ended : List Place → PlainRan
+ended ps = record { outcome = Some Done; printed = []; trace = ps }
+
+-- the report of both, with these events and this last value
+abbrev pub report_of_two : List Event → ℕ → PlainReport
+report_of_two es v = record {
+  threads = ended (record { book = 0; at = 0 } ∷ []) ∷ ended (record { book = 0; at = 1 } ∷ []) ∷ [];
+  agents = [];
+  book = es;
+  atom_books = [];
+  cells = Int (pos v) ∷ [];
+  failed = [];
+}
+
+-- What both counted is serial. A write that was changed, in book and cells, differs at its event; so does the second one, if it read
+-- before the first was written (the lost update); and a last value that no event gave differs behind all events.
+abbrev pub TwoAreAnswered : Type 0
+TwoAreAnswered =
+    (verdict counted_by_two (report_of_two (wrote 0 0 1 ∷ wrote 1 1 2 ∷ []) 2) 9 ≡ Agrees true)
+    × (verdict counted_by_two (report_of_two (wrote 0 0 1 ∷ wrote 1 1 3 ∷ []) 3) 9 ≡ Differs 1 0)
+    × (verdict counted_by_two (report_of_two (wrote 0 0 1 ∷ wrote 1 0 1 ∷ []) 1) 9 ≡ Differs 1 0)
+    × (verdict counted_by_two (report_of_two (wrote 0 0 1 ∷ wrote 1 1 2 ∷ []) 5) 9 ≡ Differs 0 1)
+
+-- ---- two refs of which each thread reads both and writes one
+
+-- the ref with this number
+abbrev ref_of : ℕ → CellId
+ref_of n = record { kind = Ref; number = n }
+
+-- a ref that opens with this number
+abbrev opens_with : ℕ → CellDefinition
+opens_with v = record { kind = Ref; name = []; opening = Int (pos v); error_mode = Fail; validator = None }
+
+-- `(future (dosync (when (= 2 (+ @a @b)) (alter r dec))))`, or with `ensure` in the place of `deref`, for r the ref with this number
+abbrev takes_one : LookForm → ℕ → PlainThread
+takes_one form n = record {
+  body = Dosync
+      (If (Core Equal (more (Const (Int (pos 2)) here) (more (Core Add (more (Look form (Const (Cell (ref_of 0)) here) here) (more (Look form (Const (Cell (ref_of 1)) here) here) none)) here) none)) here)
+      (Update Alter (Const (Cell (ref_of n)) here) (CoreOp Dec) none there) (Const Nil there) there) there;
+  span = record { from = 0; to = 0 };
+}
+
+-- `(def a (ref 1)) (def b (ref 1))` and two such threads, one for each ref
+abbrev pub skewed : LookForm → PlainProgram
+skewed form = record { functions = []; cells = opens_with 1 ∷ opens_with 1 ∷ []; threads = takes_one form 0 ∷ takes_one form 1 ∷ [] }
+
+-- an actor's commit with this read point and these writes
+abbrev commits : ℕ → ℕ → Writes → Event
+commits a at ws = record { actor = a; kind = Commit at at ws [] }
+
+-- an index of the store's book
+abbrev home_at : ℕ → Place
+home_at k = record { book = 0; at = k }
+
+-- both threads are done, with these traces, and the refs hold these numbers
+abbrev pub report_of_skew : List Event → List Place → List Place → ℕ → ℕ → PlainReport
+report_of_skew es ps qs v w = record {
+  threads = ended ps ∷ ended qs ∷ [];
+  agents = [];
+  book = es;
+  atom_books = [];
+  cells = Int (pos v) ∷ Int (pos w) ∷ [];
+  failed = [];
+}
+
+-- both took one from the sum that they saw
+abbrev both_took : PlainReport
+both_took = report_of_skew (commits 0 0 ((ref_of 0, Int (pos 0)) ∷ []) ∷ commits 1 0 ((ref_of 1, Int (pos 0)) ∷ []) ∷ []) (home_at 0 ∷ []) (home_at 1 ∷ []) 0 0
+
+-- the second had to run again, and then took none
+abbrev one_took : PlainReport
+one_took =
+    report_of_skew (commits 0 0 ((ref_of 0, Int (pos 0)) ∷ []) ∷ record { actor = 1; kind = Retry 0 (ref_of 0) false } ∷ commits 1 2 [] ∷ []) (home_at 0 ∷ []) (home_at 1 ∷ home_at 2 ∷ []) 0 1
+
+-- Write skew is explained and isn't serial. Where both refs are ensured it isn't explained; what comes then is serial.
+abbrev pub SkewIsAnswered : Type 0
+SkewIsAnswered = (verdict (skewed Deref) both_took 9 ≡ Agrees false) × (verdict (skewed Ensure) both_took 9 ≡ Differs 1 0) × (verdict (skewed Ensure) one_took 9 ≡ Agrees true)
+
+-- ---- a ref that is set and then commuted
+
+-- `(def r (ref 1)) (future (dosync (alter r + 10) (commute r * 2)))`
+abbrev pub altered : PlainProgram
+altered = record {
+  functions = [];
+  cells = opens_with 1 ∷ [];
+  threads = record {
+    body = Dosync
+        (Do (more (Update Alter (Const (Cell a_ref) here) (CoreOp Add) (more (Const (Int (pos 10)) here) none) there) (more (Update Commute (Const (Cell a_ref) here) (CoreOp Multiply) (more (Const (Int (pos 2)) here) none) there) none)) there) there;
+    span = record { from = 0; to = 0 };
+  } ∷ [];
+}
+
+-- its report, where the commit wrote this number
+abbrev pub report_of_altered : ℕ → PlainReport
+report_of_altered v = record {
+  threads = ended (home_at 0 ∷ []) ∷ [];
+  agents = [];
+  book = wrote 0 0 v ∷ [];
+  atom_books = [];
+  cells = Int (pos v) ∷ [];
+  failed = [];
+}
+
+-- The right report agrees. One with another number written, in book and cells, differs at its event.
+abbrev pub ChangedIsAnswered : Type 0
+ChangedIsAnswered = (verdict altered (report_of_altered 22) 9 ≡ Agrees true) × (verdict altered (report_of_altered 21) 9 ≡ Differs 0 0)
+
+-- ---- one thing changed
+
+-- the agent with this number
+abbrev agent_of : ℕ → CellId
+agent_of n = record { kind = Agent; number = n }
+
+-- a cell of this kind that opens with 0
+abbrev zero_cell : CellKind → CellDefinition
+zero_cell kind = record { kind = kind; name = []; opening = Int (pos 0); error_mode = Fail; validator = None }
+
+-- `(def r (ref 0)) (def a (atom 0)) (def g (agent 0)) (future (println 1) (dosync (send g inc) (alter r inc)) (swap! a inc))`
+abbrev pub of_each_kind : PlainProgram
+of_each_kind = record {
+  functions = [];
+  cells = zero_cell Ref ∷ zero_cell Atom ∷ zero_cell Agent ∷ [];
+  threads = record {
+    body = Do
+        (more (Println (more (Const (Int (pos 1)) here) none) there)
+        (more (Dosync (Do (more (SendTo (Const (Cell (agent_of 2)) here) (CoreOp Inc) none there) (more (Update Alter (Const (Cell (ref_of 0)) here) (CoreOp Inc) none there) none)) there) there)
+        (more (Update SwapForm (Const (Cell (record { kind = Atom; number = 1 })) here) (CoreOp Inc) none there) none))) there;
+    span = record { from = 0; to = 0 };
+  } ∷ [];
+}
+
+-- a send of this operation to the agent
+abbrev sends_op : Op → Action
+sends_op op = record { agent = agent_of 2; callee = CoreOp op; args = []; span = record { from = 0; to = 0 } }
+
+-- the commit of an actor with this read point, this write and this send
+abbrev commits_with : ℕ → ℕ → ℕ → Op → Event
+commits_with a at v op = record { actor = a; kind = Commit at at ((ref_of 0, Int (pos v)) ∷ []) (sends_op op ∷ []) }
+
+-- the agent's action with this number, which gave it this state
+abbrev acts_to : ℕ → ℕ → Event
+acts_to n v = record { actor = 1; kind = Act (agent_of 2) n (Ok (Int (pos v))) [] }
+
+-- the second event of the thread is that of the atom's book
+abbrev swap_at : Place
+swap_at = record { book = 1; at = 0 }
+
+-- the thread's entry
+abbrev thread_ran : Option Outcome → List ℕ → List Place → PlainRan
+thread_ran o out ps = record { outcome = o; printed = out; trace = ps }
+
+-- a report with this entry of the thread, this book, these values of ref and agent, and this fault of the agent
+abbrev report_of_kinds : PlainRan → List Event → ℕ → ℕ → Option Fault → PlainReport
+report_of_kinds ran es r g f = record {
+  threads = ran ∷ [];
+  agents = record { outcome = None; printed = []; trace = home_at 1 ∷ [] } ∷ [];
+  book = es;
+  atom_books = (record { actor = 0; kind = Swap (Int (pos 1)) } ∷ []) ∷ [];
+  cells = Int (pos r) ∷ Int (pos 1) ∷ Int (pos g) ∷ [];
+  failed = f ∷ [];
+}
+
+-- the thread's entry as it is right
+abbrev right_ran : PlainRan
+right_ran = thread_ran (Some Done) (49 ∷ 10 ∷ []) (home_at 0 ∷ swap_at ∷ [])
+
+-- the store's book as it is right
+abbrev right_book : List Event
+right_book = commits_with 0 0 1 Inc ∷ acts_to 1 1 ∷ []
+
+-- some fault
+abbrev a_fault : Fault
+a_fault = record { kind = NotANumber; span = record { from = 0; to = 0 } }
+
+-- A report with this entry of the thread and this book, and right values.
+abbrev pub with_these : PlainRan → List Event → PlainReport
+with_these ran es = report_of_kinds ran es 1 1 None
+
+-- The right report agrees. One with an event changed differs at it: the value written, its actor, its read point, what it sends; and the
+-- number of an action, or what it came to.
+abbrev pub EventsAreAnswered : Type 0
+EventsAreAnswered =
+    (verdict of_each_kind (with_these right_ran right_book) 9 ≡ Agrees true)
+    × (verdict of_each_kind (report_of_kinds right_ran (commits_with 0 0 2 Inc ∷ acts_to 1 1 ∷ []) 2 1 None) 9 ≡ Differs 0 0)
+    × (verdict of_each_kind (with_these right_ran (commits_with 1 0 1 Inc ∷ acts_to 1 1 ∷ [])) 9 ≡ Differs 0 0)
+    × (verdict of_each_kind (with_these right_ran (commits_with 0 1 1 Inc ∷ acts_to 1 1 ∷ [])) 9 ≡ Differs 0 0)
+    × (verdict of_each_kind (with_these right_ran (commits_with 0 0 1 Dec ∷ acts_to 1 1 ∷ [])) 9 ≡ Differs 0 0)
+    × (verdict of_each_kind (with_these right_ran (commits_with 0 0 1 Inc ∷ acts_to 2 1 ∷ [])) 9 ≡ Differs 1 0)
+    × (verdict of_each_kind (report_of_kinds right_ran (commits_with 0 0 1 Inc ∷ acts_to 1 2 ∷ []) 1 2 None) 9 ≡ Differs 1 0)
+
+-- One with the thread's entry changed differs too: a trace with an event more, with one less, in another order; another printed byte,
+-- another outcome. So does one with the value of a cell changed, or with an agent that failed.
+abbrev pub EntriesAreAnswered : Type 0
+EntriesAreAnswered =
+    (verdict of_each_kind (with_these (thread_ran (Some Done) (49 ∷ 10 ∷ []) (home_at 0 ∷ swap_at ∷ home_at 1 ∷ [])) right_book) 9 ≡ Differs 0 2)
+    × (verdict of_each_kind (with_these (thread_ran (Some Done) (49 ∷ 10 ∷ []) (home_at 0 ∷ [])) right_book) 9 ≡ Differs 0 1)
+    × (verdict of_each_kind (with_these (thread_ran (Some Done) (49 ∷ 10 ∷ []) (swap_at ∷ home_at 0 ∷ [])) right_book) 9 ≡ Differs 0 0)
+    × (verdict of_each_kind (with_these (thread_ran (Some Done) (50 ∷ 10 ∷ []) (home_at 0 ∷ swap_at ∷ [])) right_book) 9 ≡ Differs 0 2)
+    × (verdict of_each_kind (with_these (thread_ran (Some (Failed a_fault)) (49 ∷ 10 ∷ []) (home_at 0 ∷ swap_at ∷ [])) right_book) 9 ≡ Differs 0 2)
+    × (verdict of_each_kind (report_of_kinds right_ran right_book 5 1 None) 9 ≡ Differs 0 2)
+    × (verdict of_each_kind (report_of_kinds right_ran right_book 1 1 (Some a_fault)) 9 ≡ Differs 0 2)

@@ -1,0 +1,124 @@
+-- What it is that a program explains a report.
+use Rattle.std.specs.Prelude.{◌≡◌, ℕ, suc, true, false, List, [], ◌++◌, length, Option, Some, None}
+use Rattle.txs_value_base.specs.Places.{nth}
+use Rattle.txs_value_cell.specs.Agents.{agents_from}
+use Rattle.txs_value_cell.specs.Forms.{same_kind}
+use Rattle.txs_value_cell.specs.declared.cell.CellDefinition.{CellDefinition}
+use Rattle.txs_value_data.specs.declared.value.CellId.{CellId}
+use Rattle.txs_value_data.specs.declared.value.CellKind.TheVariants.{Atom}
+use Rattle.txs_value_data.specs.declared.value.Value.{Value}
+use Rattle.txs_world_protocol.specs.SeenEvent.{SeenEvent, home}
+use Rattle.txs_value_cell.specs.declared.action.Action.{Action}
+use Rattle.txs_world_protocol.specs.declared.event.Event.{Event}
+use Rattle.txs_world_protocol.specs.declared.event.EventKind.{EventKind}
+use Rattle.txs_world_protocol.specs.declared.event.EventKind.TheVariants.{Act}
+use Rattle.txs_world_protocol.specs.declared.event.Outcome.{Outcome}
+use Rattle.txs_world_protocol.specs.declared.event.Outcome.TheVariants.{Done, Failed, StepsSpent, JournalFull, Memory}
+use Rattle.txs_world_book.specs.Atom.{LegalAtom, atom_after}
+use Rattle.txs_world_book.specs.Book.{Each, Legal, newest, opening, mail_after}
+use Rattle.txs_world_book.specs.Served.{cells_of}
+use Rattle.txs_world.specs.Store.{next_action}
+use Rattle.txs_tree_meaning.specs.Known.{known}
+use Rattle.txs_tree_meaning.specs.Pure.{PureCallee}
+use Rattle.txs_tree_meaning.specs.Meaning.{Completion, Completes, Faults}
+use Rattle.txs_tree_meaning.specs.Thread.{ThreadState, thread_meaning}
+use Rattle.txs_tree_meaning.specs.Tree.{PlainProgram, PlainThread}
+use Rattle.txs_theorem_threads.specs.FollowsAll.{source_of}
+use Rattle.txs_theorem_threads.specs.Noted.{txs_of}
+use Rattle.txs_theorem_threads.specs.RepliesFit.{HasEatenAll}
+use Rattle.txs_theorem_runs.specs.Agents.{ActsMean}
+use Rattle.txs_theorem_runs.specs.Explains.{AreThreads}
+use Rattle.txs_theorem_runs.specs.Shared.{has_atom}
+use Rattle.txs_theorem_runs.specs.Told.{TraceHolds, seen_of}
+use Rattle.txs_theorem_runs.specs.Transactions.{SaidOf, undisturbed}
+use Rattle.txs_theorem_audit.specs.Audited.{PlainRan, PlainReport, books_of}
+use Rattle.txs_theorem_audit.specs.Verdict.{atoms_from, least_printed}
+
+-- there is one entry for each thread, agent, atom, cell and agent
+pub record Sized (p : PlainProgram) (r : PlainReport) : Type 0 where
+  pub threads : length r.threads ≡ length p.threads
+  pub agents : length r.agents ≡ length (agents_from 0 p.cells)
+  pub atoms : length r.atom_books ≡ length (atoms_from 0 p.cells)
+  pub cells : length r.cells ≡ length p.cells
+  pub failed : length r.failed ≡ length (agents_from 0 p.cells)
+
+-- ---- threads
+
+-- these begin with those
+abbrev pub Begins : List ℕ → List ℕ → Type 0
+Begins whole part = (rest : List ℕ) × (whole ≡ part ++ rest)
+
+-- an actor was stopped, or hasn't ended
+abbrev pub Stopped : Option Outcome → Type 0
+Stopped None = Unit {0}
+Stopped (Some Done) = ⊥
+Stopped (Some (Failed f)) = ⊥
+Stopped (Some StepsSpent) = Unit {0}
+Stopped (Some JournalFull) = Unit {0}
+Stopped (Some Memory) = Unit {0}
+
+-- A thread that ended so, and printed this, did what its meaning says: the meaning eats all its events, ends so and prints this; of a
+-- thread that was stopped it eats all events, and prints this and maybe more.
+abbrev pub EndsAs : Option Outcome → List ℕ → Completion ThreadState Value → Type 0
+EndsAs None out m = (rest : List ℕ) × HasEatenAll (out ++ rest) m
+EndsAs (Some Done) out m = (v : Value) × (t : ThreadState) × (m ≡ Completes v t) × (t.todo ≡ []) × (t.printed ≡ out)
+EndsAs (Some (Failed f)) out m = (t : ThreadState) × (m ≡ Faults f t) × (t.todo ≡ []) × (t.printed ≡ out)
+EndsAs (Some StepsSpent) out m = (rest : List ℕ) × HasEatenAll (out ++ rest) m
+EndsAs (Some JournalFull) out m = (rest : List ℕ) × HasEatenAll (out ++ rest) m
+EndsAs (Some Memory) out m = (rest : List ℕ) × HasEatenAll (out ++ rest) m
+
+-- the events that an entry's trace names, with their worlds
+abbrev pub events_of : PlainProgram → PlainReport → PlainRan → List SeenEvent
+events_of p r ran = seen_of p.cells (books_of r) ran.trace
+
+-- what a thread means on the events of its entry, where each loop makes at most n turns
+abbrev pub meaning_of : PlainProgram → PlainReport → PlainThread → PlainRan → ℕ → Completion ThreadState Value
+meaning_of p r t ran n = thread_meaning (source_of p t) n (events_of p r ran)
+
+-- The program explains a thread's entry, for some bound on loops: its meaning eats the entry's events and ended so; one that was stopped
+-- has printed no less than the meaning on all events but the last; and its transactions, one for each commit and each refusal, were
+-- undisturbed.
+pub record ThreadExplained (p : PlainProgram) (r : PlainReport) (t : PlainThread) (ran : PlainRan) : Type 0 where
+  pub turns : ℕ
+  pub ends : EndsAs ran.outcome ran.printed (meaning_of p r t ran turns)
+  pub least : Stopped ran.outcome → Begins ran.printed (least_printed (source_of p t) turns (events_of p r ran))
+  pub calm : SaidOf (undisturbed p.cells (books_of r)) (books_of r) ran.trace (txs_of (meaning_of p r t ran turns))
+
+-- ---- atoms and agents
+
+-- an atom's book is legal, what it says was done by threads, and it leaves the atom's value
+pub record AtomExplained (p : PlainProgram) (r : PlainReport) (c : CellId) : Type 0 where
+  pub legal : LegalAtom c (books_of r (home p.cells c))
+  pub by_threads : AreThreads (length p.threads) (books_of r (home p.cells c))
+  pub value : nth r.cells c.number ≡ Some (atom_after (opening (cells_of p.cells) c.number) (books_of r (home p.cells c)) (length (books_of r (home p.cells c))))
+
+-- an action that came to something was the first in its agent's mail, and its callee is pure and takes the state and the arguments
+abbrev pub ActPure : PlainProgram → List Event → EventKind → Type 0
+ActPure p done (Act g number new sends) = (x : Action) → next_action (cells_of p.cells) done g ≡ Some x → PureCallee (known p.functions) x.callee (suc (length x.args))
+ActPure p done _ = Unit {0}
+
+-- so it is of each action of a book
+abbrev pub ActsPure : PlainProgram → List Event → Type 0
+ActsPure p book = Each (λ done e. ActPure p done e.kind) [] book
+
+-- an agent's actor printed nothing and never ended
+pub record AgentExplained (ran : PlainRan) : Type 0 where
+  pub silent : ran.printed ≡ []
+  pub unended : Stopped ran.outcome
+
+-- ---- all
+
+-- A program explains a report: there is one entry for each; each trace names its actor's events, and no others; the books are legal; cells
+-- and failed agents are those after them; each action is of a pure callee, and came to what that means; and threads and agents did what
+-- they mean.
+pub record IsExplained (p : PlainProgram) (r : PlainReport) : Type 0 where
+  pub sized : Sized p r
+  pub traced : (a : ℕ) (ran : PlainRan) → nth (r.threads ++ r.agents) a ≡ Some ran → TraceHolds (books_of r) a ran.trace
+  pub legal : Legal (cells_of p.cells) (length p.threads) r.book
+  pub values : (k : ℕ) (d : CellDefinition) → nth p.cells k ≡ Some d → same_kind d.kind Atom ≡ false → nth r.cells k ≡ Some (newest (opening (cells_of p.cells)) r.book k)
+  pub failures : (i : ℕ) (g : CellId) → nth (agents_from 0 p.cells) i ≡ Some g → nth r.failed i ≡ Some (mail_after (cells_of p.cells) r.book g.number).fault
+  pub atoms : (c : CellId) → has_atom p.cells c ≡ true → AtomExplained p r c
+  pub threads : (a : ℕ) (t : PlainThread) (ran : PlainRan) → nth p.threads a ≡ Some t → nth r.threads a ≡ Some ran → ThreadExplained p r t ran
+  pub acts : ActsMean p.functions p.cells r.book
+  pub pure : ActsPure p r.book
+  pub agents : (i : ℕ) (ran : PlainRan) → nth r.agents i ≡ Some ran → AgentExplained ran

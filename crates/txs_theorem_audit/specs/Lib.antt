@@ -1,0 +1,6 @@
+pub mod Audited
+pub mod Examples
+pub mod Explained
+pub mod Laws
+pub mod Pieces
+pub mod Verdict

@@ -1,0 +1,406 @@
+-- What an audit answers of a report: the tests in their order, the first that fails or needs more turns.
+use Rattle.std.specs.Prelude.{ℕ, zero, suc, Bool, true, false, not, ◌&&◌, ◌||◌, ◌==◌, ◌-◌, nat_lt, List, [], ◌∷◌, ◌++◌, length, take, Option, Some, None, Result, Ok, Err, if◌then◌else◌}
+use Rattle.txs_value_base.specs.Places.{nth}
+use Rattle.txs_value_apply.specs.Core.{takes}
+use Rattle.txs_value_base.specs.declared.fault.Fault.{Fault}
+use Rattle.txs_value_base.specs.declared.op.Callee.{Callee}
+use Rattle.txs_value_base.specs.declared.op.Callee.TheVariants.{Core as CoreOp, Function}
+use Rattle.txs_value_cell.specs.Agents.{agents_from}
+use Rattle.txs_value_cell.specs.Forms.{same_kind}
+use Rattle.txs_value_cell.specs.declared.action.Action.{Action}
+use Rattle.txs_value_cell.specs.declared.cell.CellDefinition.{CellDefinition}
+use Rattle.txs_value_data.specs.Limits.{most_events}
+use Rattle.txs_value_data.specs.declared.value.CellId.{CellId}
+use Rattle.txs_value_data.specs.declared.value.CellKind.TheVariants.{Atom}
+use Rattle.txs_value_data.specs.declared.value.Value.{Value}
+use Rattle.txs_world_protocol.specs.Ask.{same_cell, same_value, same_fault, same_new}
+use Rattle.txs_world_protocol.specs.SeenEvent.{SeenEvent, home}
+use Rattle.txs_world_protocol.specs.declared.event.Event.{Event}
+use Rattle.txs_world_protocol.specs.declared.event.EventKind.{EventKind}
+use Rattle.txs_world_protocol.specs.declared.event.EventKind.TheVariants.{Read, Commit, Retry, Fail, Refused, Send, SendRefused, Act, Swap, Broke}
+use Rattle.txs_world_protocol.specs.declared.event.Outcome.{Outcome}
+use Rattle.txs_world_protocol.specs.declared.event.Outcome.TheVariants.{Done, Failed, StepsSpent, JournalFull, Memory}
+use Rattle.txs_world_book.specs.Atom.{atom_after}
+use Rattle.txs_world_book.specs.Book.{has_ref, has_agent, has_readable, are_refs, are_sends, cells_in, may_end, may_name, first_failed, is_failed, is_there, is_empty, mail_after, waits, makes, newest, opening, written}
+use Rattle.txs_world_book.specs.Served.{cells_of}
+use Rattle.txs_world_book.specs.declared.cell.StoreCell.{StoreCell}
+use Rattle.txs_world.specs.Store.{next_action}
+use Rattle.txs_tree_meaning.specs.Known.{Known, known}
+use Rattle.txs_tree_meaning.specs.Meaning.{Completion, Completes, Recurs, Faults, Retries, Waits, OutOfTurns, Invalid, apply}
+use Rattle.txs_tree_meaning.specs.Pure.{pure_calls}
+use Rattle.txs_tree_meaning.specs.Right.{is_wrong, eats_right, right_meaning}
+use Rattle.txs_tree_meaning.specs.Thread.{TxRun, ThreadState, thread_meaning}
+use Rattle.txs_tree_meaning.specs.Tree.{PlainProgram, PlainThread, ThreadSource}
+use Rattle.txs_theorem_threads.specs.FollowsAll.{source_of}
+use Rattle.txs_theorem_threads.specs.Noted.{txs_of}
+use Rattle.txs_theorem_runs.specs.Told.{Place, places_in, places_by, seen_of}
+use Rattle.txs_theorem_serial.specs.Serial.{is_covered}
+use Rattle.txs_theorem_audit.specs.Audited.{PlainRan, PlainReport, books_of, entry_of, Verdict, Finding, Fine, Off, Short, and_then, check, answer}
+
+-- ---- cells and indices
+
+-- the atoms among the cells from the n-th on, in their order
+abbrev pub atoms_from : ℕ → List CellDefinition → List CellId
+atoms_from n [] = []
+atoms_from n (d ∷ ds) = if same_kind d.kind Atom then record { kind = Atom; number = n } ∷ atoms_from (suc n) ds else atoms_from (suc n) ds
+
+-- which entry of a trace names the event at this index of this book; the trace's length where none does
+abbrev pub index_in : ℕ → ℕ → List Place → ℕ
+index_in book at [] = 0
+index_in book at (p ∷ ps) = if p.book == book && p.at == at then 0 else suc (index_in book at ps)
+
+-- the same in the trace of an entry, 0 where there is no entry
+abbrev pub index_if : ℕ → ℕ → Option PlainRan → ℕ
+index_if book at None = 0
+index_if book at (Some ran) = index_in book at ran.trace
+
+-- the length of the trace of an entry, 0 where there is no entry
+abbrev pub length_if : Option PlainRan → ℕ
+length_if None = 0
+length_if (Some ran) = length ran.trace
+
+-- ---- sizes
+
+-- whether there is one entry for each thread, agent, atom, cell and agent
+abbrev pub fits_sizes : PlainProgram → PlainReport → Bool
+fits_sizes p r =
+    length r.threads == length p.threads
+    && (length r.agents == length (agents_from 0 p.cells)
+    && (length r.atom_books == length (atoms_from 0 p.cells)
+    && (length r.cells == length p.cells && length r.failed == length (agents_from 0 p.cells))))
+
+-- ---- traces
+
+-- whether these numbers begin the others
+abbrev pub begins : List ℕ → List ℕ → Bool
+begins [] ys = true
+begins (x ∷ xs) [] = false
+begins (x ∷ xs) (y ∷ ys) = x == y && begins xs ys
+
+-- whether these are the same numbers
+abbrev pub same_numbers : List ℕ → List ℕ → Bool
+same_numbers [] [] = true
+same_numbers (x ∷ xs) (y ∷ ys) = x == y && same_numbers xs ys
+same_numbers _ _ = false
+
+-- how many entries of a trace name, book by book, the actor's events in order; all of them where none is wrong
+abbrev pub runs_right : (ℕ → List Event) → ℕ → List Place → List Place → ℕ
+runs_right books a done [] = length done
+runs_right books a done (p ∷ ps) =
+    if begins (places_in p.book (done ++ p ∷ [])) (places_by a 0 (books p.book)) then runs_right books a (done ++ p ∷ []) ps else length done
+
+-- whether a trace names all of the actor's events of the first n books
+abbrev pub names_all : (ℕ → List Event) → ℕ → List Place → ℕ → Bool
+names_all books a trace zero = true
+names_all books a trace (suc n) = same_numbers (places_in n trace) (places_by a 0 (books n)) && names_all books a trace n
+
+-- whether a trace names only events of the first n books
+abbrev pub in_books : ℕ → List Place → Bool
+in_books n [] = true
+in_books n (p ∷ ps) = nat_lt p.book n && in_books n ps
+
+-- a trace against the books
+abbrev pub trace_found : (ℕ → List Event) → ℕ → ℕ → List Place → Finding
+trace_found books count a trace = check (in_books count trace && names_all books a trace count) a (runs_right books a [] trace)
+
+-- the traces of actors, from this one on
+abbrev pub traces_found : (ℕ → List Event) → ℕ → ℕ → List PlainRan → Finding
+traces_found books count a [] = Fine
+traces_found books count a (ran ∷ rans) = and_then (trace_found books count a ran.trace) (traces_found books count (suc a) rans)
+
+-- ---- books
+
+-- whether an actor may have done this after these events of the store's book
+abbrev pub is_legal_kind : List StoreCell → List Event → ℕ → EventKind → Bool
+is_legal_kind cells done a (Read c) = has_readable cells c
+is_legal_kind cells done a (Commit at view ws sends) = are_refs cells 0 (cells_in ws) && (are_sends cells sends && (may_end done a at view && not (is_there (first_failed cells done sends))))
+is_legal_kind cells done a (Retry since c commute) = has_ref cells c && (may_name commute done a since && written c.number since done)
+is_legal_kind cells done a (Fail at view) = may_end done a at view
+is_legal_kind cells done a (Refused at view g) = has_agent cells g && (may_end done a at view && is_failed cells done g)
+is_legal_kind cells done a (Send x) = has_agent cells x.agent && not (is_failed cells done x.agent)
+is_legal_kind cells done a (SendRefused g) = has_agent cells g && is_failed cells done g
+is_legal_kind cells done a (Act g n new sends) =
+    has_agent cells g && (not (is_failed cells done g) && (waits (mail_after cells done g.number).actions && (n == suc (mail_after cells done g.number).acts && is_empty sends)))
+is_legal_kind cells done a (Swap new) = false
+is_legal_kind cells done a (Broke at) = false
+
+-- the same of an atom's book
+abbrev pub is_legal_swap : CellId → List Event → ℕ → EventKind → Bool
+is_legal_swap cell done a (Read c) = same_cell c cell
+is_legal_swap cell done a (Commit at view ws sends) = false
+is_legal_swap cell done a (Retry since c commute) = false
+is_legal_swap cell done a (Fail at view) = false
+is_legal_swap cell done a (Refused at view g) = false
+is_legal_swap cell done a (Send x) = false
+is_legal_swap cell done a (SendRefused g) = false
+is_legal_swap cell done a (Act g n new sends) = false
+is_legal_swap cell done a (Swap new) = true
+is_legal_swap cell done a (Broke at) = may_name true done a at
+
+-- the events of a book behind some, one after the other; the index says which entry of its actor's trace names an event
+abbrev pub book_found : (List Event → Event → Bool) → (ℕ → ℕ → ℕ) → List Event → List Event → Finding
+book_found test index done [] = Fine
+book_found test index done (e ∷ es) =
+    and_then (check (nat_lt (length done) most_events && test done e) e.actor (index e.actor (length done))) (book_found test index (done ++ e ∷ []) es)
+
+-- whether the values of the store's cells are these, from the n-th on
+abbrev pub has_values : List CellDefinition → PlainReport → ℕ → List CellDefinition → List Value → Bool
+has_values all r n [] vs = true
+has_values all r n (d ∷ ds) [] = false
+has_values all r n (d ∷ ds) (v ∷ vs) = (same_kind d.kind Atom || same_value (newest (opening (cells_of all)) r.book n) v) && has_values all r (suc n) ds vs
+
+-- whether two faults that there may be are the same
+abbrev pub same_failure : Option Fault → Option Fault → Bool
+same_failure None None = true
+same_failure (Some f) (Some g) = same_fault f g
+same_failure _ _ = false
+
+-- whether the agents have failed so
+abbrev pub has_failed : List StoreCell → List Event → List CellId → List (Option Fault) → Bool
+has_failed cells book [] fs = true
+has_failed cells book (g ∷ gs) [] = false
+has_failed cells book (g ∷ gs) (f ∷ fs) = same_failure (mail_after cells book g.number).fault f && has_failed cells book gs fs
+
+-- the store's book, and then what it leaves
+abbrev pub store_found : PlainProgram → PlainReport → Finding
+store_found p r =
+    and_then
+    (book_found (λ done e. makes (cells_of p.cells) (length p.threads) e.actor e.kind && is_legal_kind (cells_of p.cells) done e.actor e.kind) (λ a k. index_if 0 k (entry_of r a)) [] r.book)
+    (check (has_values p.cells r 0 p.cells r.cells && has_failed (cells_of p.cells) r.book (agents_from 0 p.cells) r.failed) 0 (length_if (entry_of r 0)))
+
+-- the value of a cell that is there is this one
+abbrev pub is_value : Value → Option Value → Bool
+is_value v None = false
+is_value v (Some w) = same_value v w
+
+-- the book of an atom, and then what it leaves
+abbrev pub atom_found : PlainProgram → PlainReport → CellId → Finding
+atom_found p r c =
+    and_then
+    (book_found (λ done e. nat_lt e.actor (length p.threads) && is_legal_swap c done e.actor e.kind) (λ a k. index_if (home p.cells c) k (entry_of r a)) [] (books_of r (home p.cells c)))
+    (check (is_value (atom_after (opening (cells_of p.cells) c.number) (books_of r (home p.cells c)) (length (books_of r (home p.cells c)))) (nth r.cells c.number)) 0 (length_if (entry_of r 0)))
+
+-- the books of these atoms
+abbrev pub atoms_found : PlainProgram → PlainReport → List CellId → Finding
+atoms_found p r [] = Fine
+atoms_found p r (c ∷ cs) = and_then (atom_found p r c) (atoms_found p r cs)
+
+-- ---- threads
+
+-- what a meaning prints
+abbrev pub printed_by : Completion ThreadState Value → List ℕ
+printed_by (Completes v t) = t.printed
+printed_by (Recurs vs t) = t.printed
+printed_by (Faults f t) = t.printed
+printed_by (Retries t) = t.printed
+printed_by (Waits t) = t.printed
+printed_by (OutOfTurns t) = t.printed
+printed_by Invalid = []
+
+-- whether none of these cells is written at index p or later
+abbrev pub is_untouched : List Event → ℕ → List CellId → Bool
+is_untouched done p [] = true
+is_untouched done p (c ∷ cs) = not (written c.number p done) && is_untouched done p cs
+
+-- whether the first held send whose agent has failed is to this one
+abbrev pub is_first_failed : Option CellId → CellId → Bool
+is_first_failed None g = false
+is_first_failed (Some h) g = same_cell h g
+
+-- whether the transaction of an event was undisturbed
+abbrev pub is_calm : List StoreCell → List Event → EventKind → TxRun → Bool
+is_calm cells done (Commit at view ws sends) x = is_untouched done at x.state.done.sets && is_untouched done at x.state.done.ensures
+is_calm cells done (Refused at view g) x = is_untouched done at x.state.done.sets && (is_untouched done at x.state.done.ensures && is_first_failed (first_failed cells done x.state.done.sends) g)
+is_calm cells done _ x = true
+
+-- whether an event has a transaction
+abbrev pub is_end : EventKind → Bool
+is_end (Read c) = false
+is_end (Commit at view ws sends) = true
+is_end (Retry since c commute) = false
+is_end (Fail at view) = false
+is_end (Refused at view g) = true
+is_end (Send x) = false
+is_end (SendRefused g) = false
+is_end (Act g n new sends) = false
+is_end (Swap new) = false
+is_end (Broke at) = false
+
+-- whether an event is a commit
+abbrev pub is_commit : EventKind → Bool
+is_commit (Read c) = false
+is_commit (Commit at view ws sends) = true
+is_commit (Retry since c commute) = false
+is_commit (Fail at view) = false
+is_commit (Refused at view g) = false
+is_commit (Send x) = false
+is_commit (SendRefused g) = false
+is_commit (Act g n new sends) = false
+is_commit (Swap new) = false
+is_commit (Broke at) = false
+
+-- a transaction that is there, and those behind it
+abbrev pub with_run : List TxRun → (TxRun → List TxRun → Finding) → Finding
+with_run [] go = Fine
+with_run (x ∷ xs) go = go x xs
+
+-- the transactions of a thread at the events of its trace, from the i-th on
+abbrev pub calm_at : List StoreCell → (ℕ → List Event) → ℕ → ℕ → Place → Option Event → (List TxRun → Finding) → List TxRun → Finding
+calm_at cells books a i p None rest xs = rest xs
+calm_at cells books a i p (Some e) rest xs =
+    if is_end e.kind then with_run xs (λ x ys. and_then (check (is_calm cells (take p.at (books p.book)) e.kind x) a i) (rest ys)) else rest xs
+
+-- the same of a whole trace
+abbrev pub calm_found : List StoreCell → (ℕ → List Event) → ℕ → ℕ → List Place → List TxRun → Finding
+calm_found cells books a i [] xs = Fine
+calm_found cells books a i (p ∷ ps) xs = calm_at cells books a i p (nth (books p.book) p.at) (λ ys. calm_found cells books a (suc i) ps ys) xs
+
+-- whether an actor was stopped, or hasn't ended
+abbrev pub is_stopped : Option Outcome → Bool
+is_stopped None = true
+is_stopped (Some Done) = false
+is_stopped (Some (Failed f)) = false
+is_stopped (Some StepsSpent) = true
+is_stopped (Some JournalFull) = true
+is_stopped (Some Memory) = true
+
+-- whether an actor has done all
+abbrev pub is_done : Option Outcome → Bool
+is_done (Some Done) = true
+is_done _ = false
+
+-- whether an actor has faulted so
+abbrev pub has_faulted : Fault → Option Outcome → Bool
+has_faulted f (Some (Failed g)) = same_fault f g
+has_faulted f _ = false
+
+-- all but the last of these
+abbrev pub but_last : List SeenEvent → List SeenEvent
+but_last [] = []
+but_last (e ∷ []) = []
+but_last (e ∷ d ∷ es) = e ∷ but_last (d ∷ es)
+
+-- what a thread's meaning prints on all events but the last; nothing where there is none
+abbrev pub least_printed : ThreadSource → ℕ → List SeenEvent → List ℕ
+least_printed p n [] = []
+least_printed p n (e ∷ es) = printed_by (thread_meaning p n (but_last (e ∷ es)))
+
+-- whether a stopped thread has printed so much and no more
+abbrev pub printed_part : ThreadSource → ℕ → List SeenEvent → List ℕ → List ℕ → Bool
+printed_part p n es out whole = begins out whole && begins (least_printed p n es) out
+
+-- the end of a thread whose meaning on its events is this
+abbrev pub end_found : ThreadSource → ℕ → ℕ → List SeenEvent → PlainRan → Completion ThreadState Value → Finding
+end_found p n a es ran (Completes v t) =
+    and_then (check (length t.todo == 0) a (length es - length t.todo))
+    (check (if is_done ran.outcome then same_numbers ran.printed t.printed else is_stopped ran.outcome && printed_part p n es ran.printed t.printed) a (length es))
+end_found p n a es ran (Recurs vs t) = Off a (eats_right p n [] es)
+end_found p n a es ran (Faults f t) =
+    and_then (check (length t.todo == 0) a (length es - length t.todo))
+    (check (if has_faulted f ran.outcome then same_numbers ran.printed t.printed else is_stopped ran.outcome && printed_part p n es ran.printed t.printed) a (length es))
+end_found p n a es ran (Retries t) = Off a (eats_right p n [] es)
+end_found p n a es ran (Waits t) =
+    and_then (check (length t.todo == 0) a (length es - length t.todo)) (check (is_stopped ran.outcome && printed_part p n es ran.printed t.printed) a (length es))
+end_found p n a es ran (OutOfTurns t) =
+    if length t.todo == 0 && (is_stopped ran.outcome && printed_part p n es ran.printed t.printed) then Fine else Short a (length es - length t.todo)
+end_found p n a es ran Invalid = Off a (eats_right p n [] es)
+
+-- the transactions that a thread's meaning on these events notes, up to an event that gives it no meaning
+abbrev pub noted_by : ThreadSource → ℕ → List SeenEvent → Completion ThreadState Value → List TxRun
+noted_by p n es m = if is_wrong m then txs_of (right_meaning p n es) else txs_of m
+
+-- a thread: its transactions, and then its end
+abbrev pub thread_found : PlainProgram → PlainReport → ℕ → ℕ → PlainThread → PlainRan → Finding
+thread_found p r n a t ran =
+    and_then (calm_found (cells_of p.cells) (books_of r) a 0 ran.trace (noted_by (source_of p t) n (seen_of p.cells (books_of r) ran.trace) (thread_meaning (source_of p t) n (seen_of p.cells (books_of r) ran.trace))))
+    (end_found (source_of p t) n a (seen_of p.cells (books_of r) ran.trace) ran (thread_meaning (source_of p t) n (seen_of p.cells (books_of r) ran.trace)))
+
+-- the threads, from this one on
+abbrev pub threads_found : PlainProgram → PlainReport → ℕ → ℕ → List PlainThread → List PlainRan → Finding
+threads_found p r n a [] rans = Fine
+threads_found p r n a (t ∷ ts) [] = Fine
+threads_found p r n a (t ∷ ts) (ran ∷ rans) = and_then (thread_found p r n a t ran) (threads_found p r n (suc a) ts rans)
+
+-- ---- agents
+
+-- what an action came to, beside what its callee means
+abbrev pub act_means : ℕ → ℕ → Result Value Fault → Completion (Unit {0}) Value → Finding
+act_means a i new (Completes v u) = check (same_new (Ok v) new) a i
+act_means a i new (Recurs vs u) = Off a i
+act_means a i new (Faults f u) = check (same_new (Err f) new) a i
+act_means a i new (Retries u) = Off a i
+act_means a i new (Waits u) = Off a i
+act_means a i new (OutOfTurns u) = Short a i
+act_means a i new Invalid = Off a i
+
+-- whether a function that is known is pure, and takes so many values
+abbrev pub is_pure_known : Option Known → ℕ → Bool
+is_pure_known None n = false
+is_pure_known (Some k) n = k.parameters == n && k.pure
+
+-- whether a callee is pure, and takes so many values
+abbrev pub is_pure_call : List Known → Callee → ℕ → Bool
+is_pure_call ks (CoreOp op) n = takes op n
+is_pure_call ks (Function f) n = is_pure_known (nth ks f) n
+
+-- the action that was the first in its agent's mail, on the agent's state; its callee has to be pure
+abbrev pub act_found : PlainProgram → ℕ → ℕ → ℕ → List Event → CellId → Result Value Fault → Option Action → Finding
+act_found p n a i done g new None = Off a i
+act_found p n a i done g new (Some x) =
+    if is_pure_call (known p.functions) x.callee (suc (length x.args))
+    then act_means a i new (apply (pure_calls n p.functions (length p.functions) false) x.span x.callee (newest (opening (cells_of p.cells)) done g.number ∷ x.args) tt)
+    else Off a i
+
+-- an event of an agent, after these
+abbrev pub act_kind : PlainProgram → ℕ → ℕ → ℕ → List Event → EventKind → Finding
+act_kind p n a i done (Act g k new sends) = act_found p n a i done g new (next_action (cells_of p.cells) done g)
+act_kind p n a i done _ = Fine
+
+-- the same, where there is one
+abbrev pub act_at : PlainProgram → ℕ → ℕ → ℕ → List Event → Option Event → Finding
+act_at p n a i done None = Fine
+act_at p n a i done (Some e) = act_kind p n a i done e.kind
+
+-- the actions of an agent, from the i-th of its trace on
+abbrev pub acts_found : PlainProgram → PlainReport → ℕ → ℕ → ℕ → List Place → Finding
+acts_found p r n a i [] = Fine
+acts_found p r n a i (q ∷ qs) = and_then (act_at p n a i (take q.at (books_of r q.book)) (nth (books_of r q.book) q.at)) (acts_found p r n a (suc i) qs)
+
+-- the agents, from this actor on: their actions, and that they printed nothing and never ended
+abbrev pub agents_found : PlainProgram → PlainReport → ℕ → ℕ → List PlainRan → Finding
+agents_found p r n a [] = Fine
+agents_found p r n a (ran ∷ rans) =
+    and_then (acts_found p r n a 0 ran.trace) (and_then (check (is_stopped ran.outcome && length ran.printed == 0) a (length ran.trace)) (agents_found p r n (suc a) rans))
+
+-- ---- all
+
+-- whether each commit of a trace is covered
+abbrev pub covered_if : Option Event → (List TxRun → Bool) → List TxRun → Bool
+covered_if None rest xs = rest xs
+covered_if (Some e) rest [] = rest []
+covered_if (Some e) rest (x ∷ xs) = if is_end e.kind then (not (is_commit e.kind) || is_covered x.state) && rest xs else rest (x ∷ xs)
+
+-- the same of a whole trace
+abbrev pub covered_all : (ℕ → List Event) → List Place → List TxRun → Bool
+covered_all books [] xs = true
+covered_all books (p ∷ ps) xs = covered_if (nth (books p.book) p.at) (λ ys. covered_all books ps ys) xs
+
+-- whether every commit of these threads is covered
+abbrev pub are_serial : PlainProgram → PlainReport → ℕ → List PlainThread → List PlainRan → Bool
+are_serial p r n [] rans = true
+are_serial p r n (t ∷ ts) [] = true
+are_serial p r n (t ∷ ts) (ran ∷ rans) =
+    covered_all (books_of r) ran.trace (txs_of (thread_meaning (source_of p t) n (seen_of p.cells (books_of r) ran.trace))) && are_serial p r n ts rans
+
+-- what the tests find, in their order
+abbrev pub found : PlainProgram → PlainReport → ℕ → Finding
+found p r n =
+    and_then (check (fits_sizes p r) 0 0)
+    (and_then (traces_found (books_of r) (suc (length r.atom_books)) 0 (r.threads ++ r.agents))
+    (and_then (store_found p r)
+    (and_then (atoms_found p r (atoms_from 0 p.cells))
+    (and_then (threads_found p r n 0 p.threads r.threads) (agents_found p r n (length p.threads) r.agents)))))
+
+-- the verdict, where each loop makes at most n turns
+abbrev pub verdict : PlainProgram → PlainReport → ℕ → Verdict
+verdict p r n = answer (found p r n) (are_serial p r n p.threads r.threads)

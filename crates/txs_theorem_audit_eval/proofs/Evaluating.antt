@@ -1,0 +1,271 @@
+-- What an audit finds of threads and actions, by what the evaluators answer.
+use Rattle.std.proofs.Common.{◌≡◌, ◌≤◌, ℕ, suc, ◌+◌, ◌-◌, ◌==◌, ◌&&◌, ◌||◌, Bool, true, false, List, [], ◌∷◌, length, length-append, map, take, Option, Some, None, Result, Ok, Err, refl, sym, ap, ◌∙◌, subst, arith, if◌then◌else◌}
+use Rattle.std.specs.Prelude.{not}
+use Rattle.std.proofs.lemmas.Bool.{eq-eqb, eqb-true}
+use Rattle.txs_value_base.specs.Places.{nth, fault_at}
+use Rattle.txs_value_base.specs.declared.fault.FaultKind.{FaultKind}
+use Rattle.txs_value_base.specs.declared.fault.Span.{Span}
+use Rattle.txs_value_base.specs.declared.op.Callee.{Callee}
+use Rattle.txs_value_base.specs.declared.op.Callee.TheVariants.{Core as CoreOp, Function}
+use Rattle.txs_value_base.specs.declared.op.Op.{Op}
+use Rattle.txs_value_apply.specs.Core.{core}
+use Rattle.txs_world_protocol.specs.Ask.{same_new}
+use Rattle.txs_value_base.specs.declared.fault.Fault.{Fault}
+use Rattle.txs_value_data.specs.declared.value.Value.{Value}
+use Rattle.txs_world_protocol.specs.SeenEvent.{SeenEvent}
+use Rattle.txs_world_protocol.specs.declared.event.Event.{Event}
+use Rattle.txs_world_protocol.specs.declared.event.EventKind.{EventKind}
+use Rattle.txs_world_protocol.specs.declared.event.EventKind.TheVariants.{Read, Commit, Retry, Fail, Refused, Send, SendRefused, Act, Swap, Broke}
+use Rattle.txs_world_protocol.specs.declared.event.Outcome.{Outcome}
+use Rattle.txs_world_protocol.specs.declared.event.Outcome.TheVariants.{Done, Failed, StepsSpent, JournalFull, Memory}
+use Rattle.txs_world_book.specs.declared.cell.StoreCell.{StoreCell}
+use Rattle.txs_tree_meaning.specs.Meaning.{Completion, Completes, Recurs, Faults, Retries, Waits, OutOfTurns, Invalid, result_of, apply}
+use Rattle.txs_tree_meaning.specs.Pure.{nowhere, pure_calls, pure_meaning}
+use Rattle.txs_tree_meaning.specs.Right.{is_wrong, eats_right, right_meaning}
+use Rattle.txs_tree_meaning.specs.Thread.{TxRun, ThreadState, thread_meaning}
+use Rattle.txs_tree_meaning.specs.Tree.{ThreadSource}
+use Rattle.txs_tree_eval.specs.Told.{told_tx, Account, TellsWrong, TellsOf, PureGives}
+use Rattle.txs_tree_eval.specs.declared.pure_call.EvalStop.{EvalStop}
+use Rattle.txs_tree_eval.specs.declared.pure_call.EvalStop.TheVariants.{Fault as AFault, Turns as FewTurns, Memory as NoMemory}
+use Rattle.txs_tree_eval.specs.declared.meaning.Needs.{Needs}
+use Rattle.txs_tree_eval.specs.declared.meaning.Needs.TheVariants as needs
+use Rattle.txs_tree_eval.specs.declared.meaning.ThreadMeaning.{ThreadMeaning}
+use Rattle.txs_theorem_threads.proofs.Meant.{Any}
+use Rattle.txs_theorem_threads.specs.Noted.{txs_of}
+use Rattle.txs_theorem_serial.specs.Serial.{is_covered}
+use Rattle.txs_theorem_audit.specs.Audited.{PlainRan, Finding, Fine, Off, Short, and_then, check}
+use Rattle.txs_theorem_audit.specs.Verdict.{begins, same_numbers, is_calm, is_end, is_commit, with_run, calm_at, calm_found, covered_if, covered_all, is_stopped, is_done, has_faulted, least_printed, printed_by, printed_part, noted_by, end_found, act_means}
+use Rattle.txs_theorem_audit.proofs.Onward.{Onward, From, thread_leads}
+use Rattle.txs_theorem_audit_eval.specs.Evaluated.{calm_by, with_first, calm_at_by, calm_found_by, covered_if_by, covered_all_by, same_end, end_by, least_by, act_by, ActBy, CalmBy, CoveredBy, NotedBy, EndBy, LeastBy}
+
+-- ---- transactions
+
+one_calm : (cells : List StoreCell) (done : List Event) (d : EventKind) (x : TxRun) → is_calm cells done d x ≡ calm_by cells done d (told_tx x)
+one_calm cells done (Read c) x = refl
+one_calm cells done (Commit at view ws sends) x = refl
+one_calm cells done (Retry since c commute) x = refl
+one_calm cells done (Fail at view) x = refl
+one_calm cells done (Refused at view g) x = refl
+one_calm cells done (Send a) x = refl
+one_calm cells done (SendRefused g) x = refl
+one_calm cells done (Act g n new sends) x = refl
+one_calm cells done (Swap new) x = refl
+one_calm cells done (Broke at) x = refl
+
+pub calm_found_told : CalmBy
+calm_found_told cells books a i [] xs = refl
+calm_found_told cells books a i (p ∷ ps) xs = go (nth (books p.book) p.at) xs (λ ys. calm_found_told cells books a (suc i) ps ys)
+  where
+    at_end : (d : EventKind) (b : Bool) (ys : List TxRun) → ((zs : List TxRun) → calm_found cells books a (suc i) ps zs ≡ calm_found_by cells books a (suc i) ps (map told_tx zs))
+        → (if b then with_run ys (λ x zs. and_then (check (is_calm cells (take p.at (books p.book)) d x) a i) (calm_found cells books a (suc i) ps zs)) else calm_found cells books a (suc i) ps ys)
+        ≡ (if b then with_first (map told_tx ys) (λ m ns. and_then (check (calm_by cells (take p.at (books p.book)) d m) a i) (calm_found_by cells books a (suc i) ps ns)) else calm_found_by cells books a (suc i) ps (map told_tx ys))
+    at_end d false ys rest = rest ys
+    at_end d true [] rest = refl
+    at_end d true (x ∷ ys) rest =
+        ap (λ b. and_then (check b a i) (calm_found cells books a (suc i) ps ys)) (one_calm cells (take p.at (books p.book)) d x) ∙ ap (λ f. and_then (check (calm_by cells (take p.at (books p.book)) d (told_tx x)) a i) f) (rest ys)
+
+    go : (o : Option Event) (ys : List TxRun) → ((zs : List TxRun) → calm_found cells books a (suc i) ps zs ≡ calm_found_by cells books a (suc i) ps (map told_tx zs))
+        → calm_at cells books a i p o (λ zs. calm_found cells books a (suc i) ps zs) ys ≡ calm_at_by cells books a i p o (λ ns. calm_found_by cells books a (suc i) ps ns) (map told_tx ys)
+    go None ys rest = rest ys
+    go (Some e) ys rest = at_end e.kind (is_end e.kind) ys rest
+
+pub covered_told : CoveredBy
+covered_told books [] xs = refl
+covered_told books (p ∷ ps) xs = go (nth (books p.book) p.at) xs (λ ys. covered_told books ps ys)
+  where
+    go : (o : Option Event) (ys : List TxRun) → ((zs : List TxRun) → covered_all books ps zs ≡ covered_all_by books ps (map told_tx zs)) → covered_if o (λ zs. covered_all books ps zs) ys ≡ covered_if_by o (λ ns. covered_all_by books ps ns) (map told_tx ys)
+    go None ys rest = rest ys
+    go (Some e) [] rest = rest []
+    go (Some e) (x ∷ ys) rest = at_end (is_end e.kind)
+      where
+        at_end : (b : Bool) → (if b then (not (is_commit e.kind) || is_covered x.state) && covered_all books ps ys else covered_all books ps (x ∷ ys)) ≡ (if b then (not (is_commit e.kind) || is_covered x.state) && covered_all_by books ps (map told_tx ys) else covered_all_by books ps (told_tx x ∷ map told_tx ys))
+        at_end true = ap (λ b. (not (is_commit e.kind) || is_covered x.state) && b) (rest ys)
+        at_end false = rest (x ∷ ys)
+
+-- ---- what is answered
+
+noted_of : (m : ThreadMeaning) (k right : ℕ) (b y : Completion ThreadState Value) → TellsOf m k right b y → (z : List TxRun) → (z ≡ (if is_wrong y then txs_of b else txs_of y)) → m.txs ≡ map told_tx z
+noted_of m k right b (Completes v t) h z e = h.txs ∙ ap (λ l. map told_tx l) (sym e)
+noted_of m k right b (Recurs vs t) h z e = absurd h
+noted_of m k right b (Faults f t) h z e = h.txs ∙ ap (λ l. map told_tx l) (sym e)
+noted_of m k right b (Retries t) h z e = absurd h
+noted_of m k right b (Waits t) h z e = h.txs ∙ ap (λ l. map told_tx l) (sym e)
+noted_of m k right b (OutOfTurns t) h z e = h.txs ∙ ap (λ l. map told_tx l) (sym e)
+noted_of m k right b Invalid h z e = wrong b h z e
+  where
+    wrong : (c : Completion ThreadState Value) → TellsWrong m right c → (w : List TxRun) → w ≡ txs_of c → m.txs ≡ map told_tx w
+    wrong (Completes v t) g w q = absurd g
+    wrong (Recurs vs t) g w q = absurd g
+    wrong (Faults f t) g w q = absurd g
+    wrong (Retries t) g w q = absurd g
+    wrong (Waits t) g w q = g.txs ∙ ap (λ l. map told_tx l) (sym q)
+    wrong (OutOfTurns t) g w q = absurd g
+    wrong Invalid g w q = absurd g
+
+pub noted_told : NotedBy
+noted_told s n es m h = noted_of m (length es) (eats_right s n [] es) (right_meaning s n es) (thread_meaning s n es) h (noted_by s n es (thread_meaning s n es)) refl
+
+-- all events are eaten where none is left
+none_left : (k left : ℕ) → left ≤ k → (left == 0) ≡ (k - left == k)
+none_left k left le = go (left == 0) refl (k - left == k) refl
+  where
+    go : (b : Bool) → (left == 0) ≡ b → (c : Bool) → (k - left == k) ≡ c → b ≡ c
+    go true e true f = refl
+    go true e false f =
+        let none : left ≡ 0 = eqb-true left 0 e in
+        let all : k - left ≡ k = omega (arith, none) in
+        sym (eq-eqb (k - left) k all) ∙ f
+    go false e true f =
+        let all : k - left ≡ k = eqb-true (k - left) k f in
+        let none : left ≡ 0 = omega (arith, le, all) in
+        sym e ∙ eq-eqb left 0 none
+    go false e false f = refl
+
+-- before any event
+abbrev begun : List SeenEvent → ThreadState
+begun es = record { todo = es; printed = []; held = None; txs = [] }
+
+few_left : (es : List SeenEvent) (t : ThreadState) → Onward (begun es) t → length t.todo ≤ length es
+few_left es t g = let e : length es ≡ length g.gone + length t.todo = ap length g.eats ∙ length-append g.gone t.todo in omega (arith, e)
+
+done_same : (o : Option Outcome) → is_done o ≡ same_end (Some Done) o
+done_same None = refl
+done_same (Some Done) = refl
+done_same (Some (Failed f)) = refl
+done_same (Some StepsSpent) = refl
+done_same (Some JournalFull) = refl
+done_same (Some Memory) = refl
+
+fault_same : (f : Fault) (o : Option Outcome) → has_faulted f o ≡ same_end (Some (Failed f)) o
+fault_same f None = refl
+fault_same f (Some Done) = refl
+fault_same f (Some (Failed g)) = refl
+fault_same f (Some StepsSpent) = refl
+fault_same f (Some JournalFull) = refl
+fault_same f (Some Memory) = refl
+
+module _ (s : ThreadSource) (n a : ℕ) (es : List SeenEvent) (ran : PlainRan) (m : ThreadMeaning) where
+  abbrev k : ℕ
+  k = length es
+
+  abbrev least : List ℕ
+  least = least_printed s n es
+
+  abbrev E : Needs → Option Outcome → List ℕ → ℕ → Finding
+  E needed ends whole eaten = end_by a k ran.outcome ran.printed least needed ends whole eaten
+
+  -- what is answered, in its parts
+  answered : (ate : ℕ) (t : ThreadState) (needed : Needs) (ends : Option Outcome) → Account m ate t needed ends → E needed ends t.printed ate ≡ E m.needs m.outcome m.printed m.eaten
+  answered ate t needed ends h =
+      sym
+      (ap (λ z. E z m.outcome m.printed m.eaten) h.needs ∙ ap (λ z. E needed z m.printed m.eaten) h.outcome ∙ ap (λ z. E needed ends z m.eaten) h.printed ∙ ap (λ z. E needed ends t.printed z) h.eaten)
+
+  end_on : (right : ℕ) (b y : Completion ThreadState Value) → right ≡ eats_right s n [] es → TellsOf m k right b y → From None Any (begun es) y → end_found s n a es ran y ≡ E m.needs m.outcome m.printed m.eaten
+  end_on right b (Completes v t) r h g =
+      let left = length t.todo in
+      let last : Bool → Finding = λ c. check (if c then same_numbers ran.printed t.printed else is_stopped ran.outcome && printed_part s n es ran.printed t.printed) a k in
+      ap (λ c. and_then (check c a (k - left)) (last (is_done ran.outcome))) (none_left k left (few_left es t g.1)) ∙ ap (λ c. and_then (check (k - left == k) a (k - left)) (last c)) (done_same ran.outcome)
+      ∙ answered (k - left) t needs.Nothing (Some Done) h
+  end_on right b (Recurs vs t) r h g = absurd h
+  end_on right b (Faults f t) r h g =
+      let left = length t.todo in
+      let last : Bool → Finding = λ c. check (if c then same_numbers ran.printed t.printed else is_stopped ran.outcome && printed_part s n es ran.printed t.printed) a k in
+      ap (λ c. and_then (check c a (k - left)) (last (has_faulted f ran.outcome))) (none_left k left (few_left es t g)) ∙ ap (λ c. and_then (check (k - left == k) a (k - left)) (last c)) (fault_same f ran.outcome)
+      ∙ answered (k - left) t needs.Nothing (Some (Failed f)) h
+  end_on right b (Retries t) r h g = absurd h
+  end_on right b (Waits t) r h g =
+      let left = length t.todo in
+      ap (λ c. and_then (check c a (k - left)) (check (is_stopped ran.outcome && printed_part s n es ran.printed t.printed) a k)) (none_left k left (few_left es t g)) ∙ answered (k - left) t needs.Event None h
+  end_on right b (OutOfTurns t) r h g =
+      let left = length t.todo in
+      ap (λ c. if c && (is_stopped ran.outcome && printed_part s n es ran.printed t.printed) then Fine else Short a (k - left)) (none_left k left (few_left es t g)) ∙ answered (k - left) t needs.Turns None h
+  end_on right b Invalid r h g = wrong b h
+    where
+      wrong : (c : Completion ThreadState Value) → TellsWrong m right c → Off a (eats_right s n [] es) ≡ E m.needs m.outcome m.printed m.eaten
+      wrong (Completes v t) x = absurd x
+      wrong (Recurs vs t) x = absurd x
+      wrong (Faults f t) x = absurd x
+      wrong (Retries t) x = absurd x
+      wrong (Waits t) x = ap (λ z. Off a z) (sym r) ∙ answered right t needs.Wrong None x
+      wrong (OutOfTurns t) x = absurd x
+      wrong Invalid x = absurd x
+
+pub end_told : EndBy
+end_told s n a es ran m sound h =
+    let le : n ≤ n = omega arith in
+    end_on s n a es ran m (eats_right s n [] es) (right_meaning s n es) (thread_meaning s n es) refl h (thread_leads s sound n n le es).0
+
+least_on : (m : ThreadMeaning) (k right : ℕ) (b y : Completion ThreadState Value) (out : List ℕ) → TellsOf m k right b y → begins (printed_by y) out ≡ least_by m.needs m.printed out
+least_on m k right b (Completes v t) out h = sym (ap (λ z. least_by z m.printed out) h.needs ∙ ap (λ z. begins z out) h.printed)
+least_on m k right b (Recurs vs t) out h = absurd h
+least_on m k right b (Faults f t) out h = sym (ap (λ z. least_by z m.printed out) h.needs ∙ ap (λ z. begins z out) h.printed)
+least_on m k right b (Retries t) out h = absurd h
+least_on m k right b (Waits t) out h = sym (ap (λ z. least_by z m.printed out) h.needs ∙ ap (λ z. begins z out) h.printed)
+least_on m k right b (OutOfTurns t) out h = sym (ap (λ z. least_by z m.printed out) h.needs ∙ ap (λ z. begins z out) h.printed)
+least_on m k right b Invalid out h = wrong b h
+  where
+    wrong : (c : Completion ThreadState Value) → TellsWrong m right c → true ≡ least_by m.needs m.printed out
+    wrong (Completes v t) x = absurd x
+    wrong (Recurs vs t) x = absurd x
+    wrong (Faults f t) x = absurd x
+    wrong (Retries t) x = absurd x
+    wrong (Waits t) x = sym (ap (λ z. least_by z m.printed out) x.needs)
+    wrong (OutOfTurns t) x = absurd x
+    wrong Invalid x = absurd x
+
+pub least_told : LeastBy
+least_told s n es m out h = least_on m (length es) (eats_right s n [] es) (right_meaning s n es) (thread_meaning s n es) out h
+
+-- ---- actions
+
+abbrev IsValue : Completion (Unit {0}) Value → Type 0
+IsValue (Completes v u) = Unit {0}
+IsValue (Recurs vs u) = ⊥
+IsValue (Faults f u) = ⊥
+IsValue (Retries u) = ⊥
+IsValue (Waits u) = ⊥
+IsValue (OutOfTurns u) = ⊥
+IsValue Invalid = ⊥
+
+abbrev IsFault : Completion (Unit {0}) Value → Type 0
+IsFault (Completes v u) = ⊥
+IsFault (Recurs vs u) = ⊥
+IsFault (Faults f u) = Unit {0}
+IsFault (Retries u) = ⊥
+IsFault (Waits u) = ⊥
+IsFault (OutOfTurns u) = ⊥
+IsFault Invalid = ⊥
+
+value_in : Value → Completion (Unit {0}) Value → Value
+value_in d (Completes v u) = v
+value_in d _ = d
+
+fault_of : Fault → Completion (Unit {0}) Value → Fault
+fault_of d (Faults f u) = f
+fault_of d _ = d
+
+-- an operation as callee
+op_told : (a i : ℕ) (new : Result Value Fault) (op : Op) (span : Span) (o : Result Value FaultKind) (r : Result Value EvalStop) → PureGives r (result_of o nowhere tt) → (r ≡ Err NoMemory → ⊥) → act_means a i new (result_of o span tt) ≡ act_by a i new (CoreOp op) span r
+unfolding value_in fault_of
+op_told a i new op span (Ok w) (Ok v) h m = ap (λ z. check (same_new (Ok z) new) a i) (ap (value_in w) h)
+op_told a i new op span (Ok w) (Err (AFault f)) h m = absurd (subst IsValue h tt)
+op_told a i new op span (Ok w) (Err FewTurns) h m = absurd (subst IsValue h tt)
+op_told a i new op span (Ok w) (Err NoMemory) h m = absurd (m refl)
+op_told a i new op span (Err k) (Ok v) h m = absurd (subst IsFault h tt)
+op_told a i new op span (Err k) (Err (AFault f)) h m = ap (λ (z : Fault). check (same_new (Err (fault_at z.kind span)) new) a i) (ap (fault_of (fault_at k nowhere)) h)
+op_told a i new op span (Err k) (Err FewTurns) h m = absurd (subst IsFault h tt)
+op_told a i new op span (Err k) (Err NoMemory) h m = absurd (m refl)
+
+-- a function as callee
+function_told : (a i j : ℕ) (new : Result Value Fault) (span : Span) (c : Completion (Unit {0}) Value) (r : Result Value EvalStop) → PureGives r c → (r ≡ Err NoMemory → ⊥) → act_means a i new c ≡ act_by a i new (Function j) span r
+function_told a i j new span c (Ok v) h m = ap (act_means a i new) h
+function_told a i j new span c (Err (AFault f)) h m = ap (act_means a i new) h
+function_told a i j new span c (Err FewTurns) h m = ap (act_means a i new) h
+function_told a i j new span c (Err NoMemory) h m = absurd (m refl)
+
+pub act_told : ActBy
+act_told functions n a i new x state r h m = go x.callee h
+  where
+    go : (c : Callee) → PureGives r (pure_meaning n functions c (state ∷ x.args)) → act_means a i new (apply (pure_calls n functions (length functions) false) x.span c (state ∷ x.args) tt) ≡ act_by a i new c x.span r
+    go (CoreOp op) g = op_told a i new op x.span (core op (state ∷ x.args)) r g m
+    go (Function j) g = function_told a i j new x.span (pure_calls n functions (length functions) false j (state ∷ x.args) tt) r g m

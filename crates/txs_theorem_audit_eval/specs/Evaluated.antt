@@ -1,0 +1,145 @@
+-- What an audit finds of threads and actions, by what the evaluators answer.
+use Rattle.std.specs.Prelude.{◌≡◌, ℕ, suc, Bool, true, false, not, ◌&&◌, ◌||◌, ◌==◌, List, [], ◌∷◌, length, map, take, Option, Some, None, Result, Ok, Err, if◌then◌else◌}
+use Rattle.txs_value_base.specs.Places.{nth, fault_at}
+use Rattle.txs_value_base.specs.declared.fault.Fault.{Fault}
+use Rattle.txs_value_base.specs.declared.fault.Span.{Span}
+use Rattle.txs_value_base.specs.declared.op.Callee.{Callee}
+use Rattle.txs_value_base.specs.declared.op.Callee.TheVariants.{Core as CoreOp, Function}
+use Rattle.txs_value_cell.specs.declared.action.Action.{Action}
+use Rattle.txs_value_data.specs.declared.value.Value.{Value}
+use Rattle.txs_world_protocol.specs.Ask.{same_fault, same_new}
+use Rattle.txs_world_protocol.specs.SeenEvent.{SeenEvent}
+use Rattle.txs_world_protocol.specs.declared.event.Event.{Event}
+use Rattle.txs_world_protocol.specs.declared.event.EventKind.{EventKind}
+use Rattle.txs_world_protocol.specs.declared.event.EventKind.TheVariants.{Commit, Refused}
+use Rattle.txs_world_protocol.specs.declared.event.Outcome.{Outcome}
+use Rattle.txs_world_protocol.specs.declared.event.Outcome.TheVariants.{Done, Failed}
+use Rattle.txs_world_book.specs.Book.{first_failed}
+use Rattle.txs_world_book.specs.declared.cell.StoreCell.{StoreCell}
+use Rattle.txs_tree_meaning.specs.Meaning.{apply}
+use Rattle.txs_tree_meaning.specs.Pure.{pure_calls, pure_meaning}
+use Rattle.txs_tree_meaning.specs.Sound.{SoundSource}
+use Rattle.txs_tree_meaning.specs.Thread.{TxRun, thread_meaning}
+use Rattle.txs_tree_meaning.specs.Transaction.{TxState}
+use Rattle.txs_tree_meaning.specs.Tree.{PlainFunction, ThreadSource}
+use Rattle.txs_tree_eval.specs.Told.{told_tx, Tells, PureGives}
+use Rattle.txs_tree_eval.specs.declared.pure_call.EvalStop.{EvalStop}
+use Rattle.txs_tree_eval.specs.declared.pure_call.EvalStop.TheVariants.{Fault as AFault, Turns as FewTurns, Memory as NoMemory}
+use Rattle.txs_tree_eval.specs.declared.meaning.Needs.{Needs}
+use Rattle.txs_tree_eval.specs.declared.meaning.Needs.TheVariants as needs
+use Rattle.txs_tree_eval.specs.declared.meaning.ThreadMeaning.{ThreadMeaning}
+use Rattle.txs_tree_eval.specs.declared.transaction.TxMeaning.{TxMeaning}
+use Rattle.txs_theorem_runs.specs.Told.{Place}
+use Rattle.txs_theorem_serial.specs.Serial.{is_covered}
+use Rattle.txs_theorem_audit.specs.Audited.{PlainRan, Finding, Fine, Off, Short, and_then, check}
+use Rattle.txs_theorem_audit.specs.Verdict.{begins, same_numbers, is_untouched, is_first_failed, is_end, is_commit, calm_found, covered_all, is_stopped, least_printed, printed_by, noted_by, end_found, act_means}
+
+-- ---- transactions
+
+-- what a transaction did, by what is answered of it
+abbrev pub state_of : TxMeaning → TxState
+state_of m = record { done = m.done; reads = m.reads; used = m.used }
+
+-- whether the transaction of an event was undisturbed
+abbrev pub calm_by : List StoreCell → List Event → EventKind → TxMeaning → Bool
+calm_by cells done (Commit at view ws sends) m = is_untouched done at m.done.sets && is_untouched done at m.done.ensures
+calm_by cells done (Refused at view g) m = is_untouched done at m.done.sets && (is_untouched done at m.done.ensures && is_first_failed (first_failed cells done m.done.sends) g)
+calm_by cells done _ m = true
+
+-- a transaction that is there, and those behind it
+abbrev pub with_first : List TxMeaning → (TxMeaning → List TxMeaning → Finding) → Finding
+with_first [] go = Fine
+with_first (m ∷ ms) go = go m ms
+
+-- the transactions of a thread at the events of its trace, from the i-th on
+abbrev pub calm_at_by : List StoreCell → (ℕ → List Event) → ℕ → ℕ → Place → Option Event → (List TxMeaning → Finding) → List TxMeaning → Finding
+calm_at_by cells books a i p None rest ms = rest ms
+calm_at_by cells books a i p (Some e) rest ms =
+    if is_end e.kind then with_first ms (λ m ns. and_then (check (calm_by cells (take p.at (books p.book)) e.kind m) a i) (rest ns)) else rest ms
+
+-- the same of a whole trace
+abbrev pub calm_found_by : List StoreCell → (ℕ → List Event) → ℕ → ℕ → List Place → List TxMeaning → Finding
+calm_found_by cells books a i [] ms = Fine
+calm_found_by cells books a i (p ∷ ps) ms = calm_at_by cells books a i p (nth (books p.book) p.at) (λ ns. calm_found_by cells books a (suc i) ps ns) ms
+
+-- whether each commit of a trace is covered
+abbrev pub covered_if_by : Option Event → (List TxMeaning → Bool) → List TxMeaning → Bool
+covered_if_by None rest ms = rest ms
+covered_if_by (Some e) rest [] = rest []
+covered_if_by (Some e) rest (m ∷ ms) = if is_end e.kind then (not (is_commit e.kind) || is_covered (state_of m)) && rest ms else rest (m ∷ ms)
+
+-- the same of a whole trace
+abbrev pub covered_all_by : (ℕ → List Event) → List Place → List TxMeaning → Bool
+covered_all_by books [] ms = true
+covered_all_by books (p ∷ ps) ms = covered_if_by (nth (books p.book) p.at) (λ ns. covered_all_by books ps ns) ms
+
+-- ---- ends
+
+-- whether a thread ended as its meaning does
+abbrev pub same_end : Option Outcome → Option Outcome → Bool
+same_end (Some Done) (Some Done) = true
+same_end (Some (Failed f)) (Some (Failed g)) = same_fault f g
+same_end _ _ = false
+
+-- whether a thread that was stopped has printed so much and no more
+abbrev pub part_by : Option Outcome → List ℕ → List ℕ → List ℕ → Bool
+part_by o out whole least = is_stopped o && (begins out whole && begins least out)
+
+-- the end of a thread that lacks this, ends so, has printed this and eaten so many of k events
+abbrev pub end_by : ℕ → ℕ → Option Outcome → List ℕ → List ℕ → Needs → Option Outcome → List ℕ → ℕ → Finding
+end_by a k o out least needs.Nothing ends whole eaten = and_then (check (eaten == k) a eaten) (check (if same_end ends o then same_numbers out whole else part_by o out whole least) a k)
+end_by a k o out least needs.Event ends whole eaten = and_then (check (eaten == k) a eaten) (check (if same_end ends o then same_numbers out whole else part_by o out whole least) a k)
+end_by a k o out least needs.Turns ends whole eaten = if eaten == k && part_by o out whole least then Fine else Short a eaten
+end_by a k o out least needs.Wrong ends whole eaten = Off a eaten
+
+-- whether these bytes begin with what a thread's meaning prints, where it has one
+abbrev pub least_by : Needs → List ℕ → List ℕ → Bool
+least_by needs.Nothing whole out = begins whole out
+least_by needs.Event whole out = begins whole out
+least_by needs.Turns whole out = begins whole out
+least_by needs.Wrong whole out = true
+
+-- ---- actions
+
+-- the fault of an operation as callee is that of the action's span
+abbrev pub fault_in : Callee → Span → Fault → Fault
+fault_in (CoreOp op) span f = fault_at f.kind span
+fault_in (Function i) span f = f
+
+-- what an action came to, beside what is answered of its callee; where there was no memory nothing is said
+abbrev pub act_by : ℕ → ℕ → Result Value Fault → Callee → Span → Result Value EvalStop → Finding
+act_by a i new c span (Ok v) = check (same_new (Ok v) new) a i
+act_by a i new c span (Err (AFault f)) = check (same_new (Err (fault_in c span f)) new) a i
+act_by a i new c span (Err FewTurns) = Short a i
+act_by a i new c span (Err NoMemory) = Fine
+
+-- ---- laws
+
+-- what is found of transactions is found by what is answered of them
+abbrev pub CalmBy : Type 0
+CalmBy = (cells : List StoreCell) (books : ℕ → List Event) (a i : ℕ) (ps : List Place) (xs : List TxRun) → calm_found cells books a i ps xs ≡ calm_found_by cells books a i ps (map told_tx xs)
+
+-- so is whether they are covered
+abbrev pub CoveredBy : Type 0
+CoveredBy = (books : ℕ → List Event) (ps : List Place) (xs : List TxRun) → covered_all books ps xs ≡ covered_all_by books ps (map told_tx xs)
+
+-- the transactions that are answered are those that an audit looks at
+abbrev pub NotedBy : Type 0
+NotedBy = (s : ThreadSource) (n : ℕ) (es : List SeenEvent) (m : ThreadMeaning) → Tells m s n es → m.txs ≡ map told_tx (noted_by s n es (thread_meaning s n es))
+
+-- the end that is found of a sound thread
+abbrev pub EndBy : Type 0
+EndBy =
+    (s : ThreadSource) (n a : ℕ) (es : List SeenEvent) (ran : PlainRan) (m : ThreadMeaning)
+    → SoundSource s → Tells m s n es → end_found s n a es ran (thread_meaning s n es) ≡ end_by a (length es) ran.outcome ran.printed (least_printed s n es) m.needs m.outcome m.printed m.eaten
+
+-- what was printed at least
+abbrev pub LeastBy : Type 0
+LeastBy = (s : ThreadSource) (n : ℕ) (es : List SeenEvent) (m : ThreadMeaning) (out : List ℕ) → Tells m s n es → begins (printed_by (thread_meaning s n es)) out ≡ least_by m.needs m.printed out
+
+-- what an action came to
+abbrev pub ActBy : Type 0
+ActBy =
+    (functions : List PlainFunction) (n a i : ℕ) (new : Result Value Fault) (x : Action) (state : Value) (r : Result Value EvalStop)
+    → PureGives r (pure_meaning n functions x.callee (state ∷ x.args)) → (r ≡ Err NoMemory → ⊥)
+    → act_means a i new (apply (pure_calls n functions (length functions) false) x.span x.callee (state ∷ x.args) tt) ≡ act_by a i new x.callee x.span r

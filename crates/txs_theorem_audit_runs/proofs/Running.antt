@@ -1,0 +1,340 @@
+-- The report of a run that a program explains is explained as an audit asks.
+use Rattle.std.proofs.Common.{◌≡◌, ◌≤◌, ℕ, zero, suc, ◌+◌, Bool, true, false, List, [], ◌∷◌, ◌++◌, length, map, take, get_or, Option, Some, None, refl, sym, ap, ◌∙◌, subst, arith, ⊎_elim, inl, inr, ◌⊎◌, if◌then◌else◌}
+use Rattle.std.proofs.lemmas.Bool.{false≢true, cases_lt}
+use Rattle.txs_value_base.specs.Places.{nth}
+use Rattle.txs_value_base.specs.declared.fault.Fault.{Fault}
+use Rattle.txs_value_base.specs.declared.op.Callee.{Callee}
+use Rattle.txs_value_base.specs.declared.op.Callee.TheVariants.{Core as CoreOp, Function}
+use Rattle.txs_world_protocol.specs.declared.event.EventKind.{EventKind}
+use Rattle.txs_world_protocol.specs.declared.event.EventKind.TheVariants.{Act}
+use Rattle.txs_value_cell.specs.Agents.{agents_from, with_agent}
+use Rattle.txs_value_cell.specs.Forms.{same_kind}
+use Rattle.txs_value_cell.specs.declared.cell.CellDefinition.{CellDefinition}
+use Rattle.txs_value_data.specs.declared.value.CellId.{CellId}
+use Rattle.txs_value_data.specs.declared.value.CellKind.{CellKind}
+use Rattle.txs_value_data.specs.declared.value.CellKind.TheVariants.{Ref, Atom, Agent}
+use Rattle.txs_value_data.specs.declared.value.Value.{Value}
+use Rattle.txs_world_protocol.specs.SeenEvent.{SeenEvent, atoms_below, home}
+use Rattle.txs_world_protocol.specs.declared.event.Event.{Event}
+use Rattle.txs_world_protocol.specs.declared.event.Outcome.{Outcome}
+use Rattle.txs_world_protocol.specs.declared.event.Outcome.TheVariants as outcome
+use Rattle.txs_world_protocol.specs.declared.event.Place as event
+use Rattle.txs_world_protocol.specs.declared.report.Ran.{Ran}
+use Rattle.txs_world_protocol.specs.declared.report.Report.{Report}
+use Rattle.txs_world_book.specs.Atom.{LegalAtom, atom_after}
+use Rattle.txs_world_book.specs.Book.{Legal, has_cell, is_of_kind, mail_after, newest, opening}
+use Rattle.txs_world_book.specs.Served.{cells_of}
+use Rattle.txs_tree_meaning.proofs.Callable.{both, nth-take}
+use Rattle.txs_tree_meaning.specs.Known.{known}
+use Rattle.txs_tree_meaning.specs.Pure.{PureCallee}
+use Rattle.txs_theorem_runs.proofs.Acting.{next_sound}
+use Rattle.txs_tree_meaning.specs.Meaning.{Completion, Completes, Recurs, Faults, Retries, Waits, OutOfTurns, Invalid}
+use Rattle.txs_tree_meaning.specs.Sound.{Sound, SoundCallee, SoundSource}
+use Rattle.txs_tree_meaning.specs.Thread.{ThreadState, thread_meaning}
+use Rattle.txs_tree_meaning.specs.Tree.{PlainProgram, PlainThread, ThreadSource}
+use Rattle.txs_theorem_threads.specs.FollowsAll.{source_of}
+use Rattle.txs_theorem_threads.specs.Noted.{txs_of}
+use Rattle.txs_theorem_threads.specs.RepliesFit.{halted, HasWaited}
+use Rattle.txs_theorem_runs.specs.Agents.{ActsMean, SendsSound, AllSound}
+use Rattle.txs_theorem_runs.specs.Explains.{AreThreads}
+use Rattle.txs_theorem_runs.specs.Shared.{has_atom, is_atom, world_of}
+use Rattle.txs_theorem_runs.specs.Told.{Place, TraceHolds, seen_of}
+use Rattle.txs_theorem_runs.specs.Transactions.{SaidOf, undisturbed}
+use Rattle.txs_world_shared.specs.Parts.{values_from, with_fault, faults_from}
+use Rattle.txs_world_shared.specs.SharedState.{PlainShared, shared_of}
+use Rattle.txs_machine.specs.RunOver.{places_of}
+use Rattle.txs_machine.specs.RunTheorem.{meant_by, ExplainsSo, HasPrintedLeast, NeverEnds, ExplainsAll}
+use Rattle.txs_theorem_audit.specs.Audited.{PlainRan, PlainReport, place_of, ran_as, report_as, book_or_none, books_of}
+use Rattle.txs_theorem_audit.specs.Explained.{Begins, Stopped, EndsAs, ThreadExplained, AtomExplained, ActPure, ActsPure, AgentExplained, IsExplained}
+use Rattle.txs_theorem_audit.specs.Verdict.{atoms_from, printed_by, but_last, least_printed}
+use Rattle.txs_theorem_audit.proofs.Agreeing.{sound_thread}
+use Rattle.txs_theorem_audit.proofs.Beginning.{cut}
+use Rattle.txs_theorem_audit.proofs.Differing.{HasEatenUp, ends_up, waits_front, settles, differs_is_not_explained}
+use Rattle.txs_theorem_audit.proofs.Findings.{not_there}
+use Rattle.txs_theorem_audit.proofs.Listing.{there_is, within, all_each, each_one}
+use Rattle.txs_theorem_audit_runs.specs.Runs.{IsReportOf, RunsAreExplained, RunsNeverDiffer}
+
+-- ---- lists
+
+many : {A B : Type 0} (f : A → B) (xs : List A) → length (map f xs) ≡ length xs
+many f [] = refl
+many f (x ∷ xs) = ap suc (many f xs)
+
+mapped : {A B : Type 0} (f : A → B) (xs : List A) (i : ℕ) (y : B) → nth (map f xs) i ≡ Some y → (x : A) × (nth xs i ≡ Some x) × (f x ≡ y)
+mapped f [] i y h = not_there h
+mapped f (x ∷ xs) zero y h = let same : f x ≡ y = cc in (x, refl, same)
+mapped f (x ∷ xs) (suc i) y h = mapped f xs i y h
+
+-- a member of the first list or of the second
+either : {A : Type 0} (xs ys : List A) (a : ℕ) (x : A) → nth (xs ++ ys) a ≡ Some x → (nth xs a ≡ Some x) ⊎ ((i : ℕ) × (a ≡ length xs + i) × (nth ys i ≡ Some x))
+either [] ys a x h = let z : a ≡ 0 + a = omega arith in inr (a, z, h)
+either (y ∷ xs) ys zero x h = inl h
+either (y ∷ xs) ys (suc a) x h = ⊎_elim (λ l. inl l) (λ r. (let e = r.1 in let z : suc a ≡ suc (length xs) + r.0 = omega (arith, e) in inr (r.0, z, r.2))) (either xs ys a x h)
+
+places_same : (ps : List event.Place) → places_of ps ≡ map place_of ps
+places_same [] = refl
+places_same (p ∷ ps) = ap (λ l. place_of p ∷ l) (places_same ps)
+
+-- ---- books by number
+
+book_same : (bs : List (List Event)) (n : ℕ) → get_or bs n [] ≡ book_or_none (nth bs n)
+book_same [] n = refl
+book_same (b ∷ bs) zero = refl
+book_same (b ∷ bs) (suc n) = book_same bs n
+
+numbered_same : (r : PlainReport) (n : ℕ) → get_or (r.book ∷ r.atom_books) n [] ≡ books_of r n
+numbered_same r zero = refl
+numbered_same r (suc n) = book_same r.atom_books n
+
+books_same : (r : PlainReport) → (λ n. get_or (r.book ∷ r.atom_books) n []) ≡ books_of r
+books_same r = λ i n. numbered_same r n i
+
+-- ---- values and faults by number
+
+nth_values : (value : CellId → Value) (n : ℕ) (ds : List CellDefinition) (k : ℕ) (d : CellDefinition) → nth ds k ≡ Some d → nth (values_from value n ds) k ≡ Some (value (record { kind = d.kind; number = n + k }))
+nth_values value n [] k d h = not_there h
+nth_values value n (c ∷ cs) zero d h =
+    let same : c ≡ d = cc in
+    let z : n ≡ n + 0 = omega arith in
+    ap (λ (x : CellDefinition). Some (value (record { kind = x.kind; number = n }))) same ∙ ap (λ j. Some (value (record { kind = d.kind; number = j }))) z
+nth_values value n (c ∷ cs) (suc k) d h =
+    let z : suc n + k ≡ n + suc k = omega arith in
+    nth_values value (suc n) cs k d h ∙ ap (λ j. Some (value (record { kind = d.kind; number = j }))) z
+
+many_values : (value : CellId → Value) (n : ℕ) (ds : List CellDefinition) → length (values_from value n ds) ≡ length ds
+many_values value n [] = refl
+many_values value n (d ∷ ds) = ap suc (many_values value (suc n) ds)
+
+nth_faults : (fault : ℕ → Option Fault) (n : ℕ) (ds : List CellDefinition) (i : ℕ) (g : CellId) → nth (agents_from n ds) i ≡ Some g → nth (faults_from fault n ds) i ≡ Some (fault g.number)
+nth_faults fault n [] i g h = not_there h
+nth_faults fault n (d ∷ ds) i g h = go d.kind i h (λ j k. nth_faults fault (suc n) ds j g k)
+  where
+    go : (k : CellKind) (i : ℕ) → nth (with_agent k n (agents_from (suc n) ds)) i ≡ Some g → ((j : ℕ) → nth (agents_from (suc n) ds) j ≡ Some g → nth (faults_from fault (suc n) ds) j ≡ Some (fault g.number)) → nth (with_fault fault k n (faults_from fault (suc n) ds)) i ≡ Some (fault g.number)
+    go Ref i h next = next i h
+    go Atom i h next = next i h
+    go Agent zero h next = let same : record { kind = Agent; number = n } ≡ g = cc in ap (λ (x : CellId). Some (fault x.number)) same
+    go Agent (suc i) h next = next i h
+
+many_faults : (fault : ℕ → Option Fault) (n : ℕ) (ds : List CellDefinition) → length (faults_from fault n ds) ≡ length (agents_from n ds)
+many_faults fault n [] = refl
+many_faults fault n (d ∷ ds) = go d.kind (many_faults fault (suc n) ds)
+  where
+    go : (k : CellKind) → length (faults_from fault (suc n) ds) ≡ length (agents_from (suc n) ds) → length (with_fault fault k n (faults_from fault (suc n) ds)) ≡ length (with_agent k n (agents_from (suc n) ds))
+    go Ref h = h
+    go Atom h = h
+    go Agent h = ap suc h
+
+-- the definition of a cell that is there
+cell_there : (ds : List CellDefinition) (k : CellKind) (j : ℕ) → is_of_kind k (nth (cells_of ds) j) ≡ true → (d : CellDefinition) × (nth ds j ≡ Some d) × (same_kind k d.kind ≡ true)
+cell_there [] k j h = absurd (false≢true h)
+cell_there (d ∷ ds) k zero h = (d, refl, h)
+cell_there (d ∷ ds) k (suc j) h = cell_there ds k j h
+
+atom_is : (k : CellKind) → same_kind k Atom ≡ true → k ≡ Atom
+atom_is Ref h = absurd (false≢true h)
+atom_is Atom h = refl
+atom_is Agent h = absurd (false≢true h)
+
+is_atom_too : (k : CellKind) → same_kind Atom k ≡ true → k ≡ Atom
+is_atom_too Ref h = absurd (false≢true h)
+is_atom_too Atom h = refl
+is_atom_too Agent h = absurd (false≢true h)
+
+-- ---- threads
+
+ends_so : (o : Option Outcome) (out : List ℕ) (m : Completion ThreadState Value) → ExplainsSo o out m → EndsAs o out m
+ends_so None out m h = h
+ends_so (Some outcome.Done) out m h = h
+ends_so (Some (outcome.Failed f)) out m h = h
+ends_so (Some outcome.StepsSpent) out m h = h
+ends_so (Some outcome.JournalFull) out m h = h
+ends_so (Some outcome.Memory) out m h = h
+
+never_ends : (o : Option Outcome) → NeverEnds o → Stopped o
+never_ends None h = tt
+never_ends (Some outcome.Done) h = absurd h
+never_ends (Some (outcome.Failed f)) h = absurd h
+never_ends (Some outcome.StepsSpent) h = tt
+never_ends (Some outcome.JournalFull) h = tt
+never_ends (Some outcome.Memory) h = tt
+
+last_left : (hs : List SeenEvent) (e : SeenEvent) → but_last (hs ++ e ∷ []) ≡ hs
+last_left [] e = refl
+last_left (d ∷ []) e = refl
+last_left (d ∷ c ∷ hs) e = ap (λ l. d ∷ l) (last_left (c ∷ hs) e)
+
+least_before : (s : ThreadSource) (n : ℕ) (hs : List SeenEvent) (e : SeenEvent) → least_printed s n (hs ++ e ∷ []) ≡ printed_by (thread_meaning s n hs)
+least_before s n [] e = refl
+least_before s n (d ∷ hs) e = ap (λ l. printed_by (thread_meaning s n l)) (last_left (d ∷ hs) e)
+
+-- a thread that has waited
+waited : (least : List ℕ) (m : Completion ThreadState Value) → HasWaited least (halted m) → (u : ThreadState) × (m ≡ Waits u) × (printed_by m ≡ least)
+waited least (Completes v u) h = absurd h
+waited least (Recurs vs u) h = absurd h
+waited least (Faults f u) h = absurd h
+waited least (Retries u) h = absurd h
+waited least (Waits u) h = (u, refl, h.1)
+waited least (OutOfTurns u) h = absurd h
+waited least Invalid h = absurd h
+
+module _ (s : ThreadSource) (sound : SoundSource s) (n : ℕ) (out : List ℕ) where
+  -- before the last event it has printed what this says, whatever the bound on loops
+  same_least : (hs : List SeenEvent) (e : SeenEvent) (m : ℕ) (least : List ℕ) → HasEatenUp (thread_meaning s n (hs ++ e ∷ [])) → HasWaited least (halted (thread_meaning s m hs)) → least_printed s n (hs ++ e ∷ []) ≡ least
+  same_least hs e m least up h =
+      let w = waited least (thread_meaning s m hs) h in
+      let u = waits_front e (thread_meaning s n hs) (thread_meaning s n (hs ++ e ∷ [])) (cut (e ∷ []) s n sound hs) up in
+      let same : printed_by (thread_meaning s n hs) ≡ printed_by (thread_meaning s m hs) =
+      ⊎_elim (λ lt. (let le : n ≤ m = omega (arith, lt) in ap printed_by (sym (settles s sound n m hs u.0 le u.1)))) (λ le. ap printed_by (settles s sound m n hs w.0 le w.1)) (cases_lt n m) in
+      least_before s n hs e ∙ same ∙ w.2
+
+  printed_least : (p : PlainProgram) (t : PlainThread) → s ≡ source_of p t → (es : List SeenEvent) → HasEatenUp (thread_meaning s n es) → HasPrintedLeast p t es out → Begins out (least_printed s n es)
+  printed_least p t is es up h =
+      ⊎_elim (λ e. subst (λ l. Begins out (least_printed s n l)) (sym e) (out, refl))
+      (λ x.
+      (let here : HasWaited x.4 (halted (thread_meaning s x.3 x.0)) = subst (λ (z : ThreadSource). HasWaited x.4 (halted (thread_meaning z x.3 x.0))) (sym is) x.5 in
+      let least = same_least x.0 x.1 x.3 x.4 (subst (λ l. HasEatenUp (thread_meaning s n l)) x.2 up) here in
+      subst (λ l. Begins out (least_printed s n l)) (sym x.2) (x.6, x.7 ∙ ap (λ l. l ++ x.6) (sym least)))) h
+
+-- ---- the report
+
+module _ (p : PlainProgram) (s : PlainShared) (r : Report) (sound : Sound p) (cells : s.cells ≡ p.cells) (of : IsReportOf s r) (x : ExplainsAll p (shared_of s) r.threads.items r.agents.items) where
+  abbrev rep : PlainReport
+  rep = report_as r
+
+  abbrev N : ℕ → List Event
+  N = (shared_of s).books
+
+  same_books : N ≡ books_of rep
+  same_books = let numbered : List (List Event) → ℕ → List Event = λ bs n. get_or bs n [] in ap numbered (sym of.books) ∙ books_same rep
+
+  -- ---- threads and agents
+
+  thread_is : (a : ℕ) (t : PlainThread) (ran : Ran) → nth p.threads a ≡ Some t → nth r.threads.items a ≡ Some ran → ThreadExplained p rep t (ran_as ran)
+  thread_is a t ran there here =
+      let e = x.by_threads.each a t ran there here in
+      let src = source_of p t in
+      let main = sound_thread p.functions p.threads a t sound.threads there in
+      let source_sound : SoundSource src = record { functions = sound.functions; main = main.0 } in
+      let n = e.turns in
+      let o = ran.outcome in
+      let out = ran.printed.items in
+      let tr = places_same ran.trace.items in
+      let on : (ℕ → List Event) → List Place → List SeenEvent = λ b ps. seen_of p.cells b ps in
+      let ends : EndsAs o out (thread_meaning src n (on (books_of rep) (map place_of ran.trace.items))) =
+      subst (λ b. EndsAs o out (thread_meaning src n (on b (map place_of ran.trace.items)))) same_books (subst (λ ps. EndsAs o out (thread_meaning src n (on N ps))) tr (ends_so o out (meant_by p t N ran.trace.items n) e.means)) in
+      let least : HasPrintedLeast p t (on (books_of rep) (map place_of ran.trace.items)) out = subst (λ b. HasPrintedLeast p t (on b (map place_of ran.trace.items)) out) same_books (subst (λ ps. HasPrintedLeast p t (on N ps) out) tr e.least) in
+      record {
+        turns = n;
+        ends = ends;
+        least = λ st. printed_least src source_sound n out p t refl (on (books_of rep) (map place_of ran.trace.items)) (ends_up o out (thread_meaning src n (on (books_of rep) (map place_of ran.trace.items))) ends) least;
+        calm = subst (λ b. SaidOf (undisturbed p.cells b) b (map place_of ran.trace.items) (txs_of (thread_meaning src n (on b (map place_of ran.trace.items))))) same_books
+            (subst (λ ps. SaidOf (undisturbed p.cells N) N ps (txs_of (thread_meaning src n (on N ps)))) tr e.calm);
+      }
+
+  trace_is : (a : ℕ) (ran : Ran) → TraceHolds N a (places_of ran.trace.items) → TraceHolds (books_of rep) a (map place_of ran.trace.items)
+  trace_is a ran h = subst (λ b. TraceHolds b a (map place_of ran.trace.items)) same_books (subst (λ ps. TraceHolds N a ps) (places_same ran.trace.items) h)
+
+  thread_traced : (a : ℕ) (ran : PlainRan) → nth rep.threads a ≡ Some ran → TraceHolds (books_of rep) a ran.trace
+  thread_traced a ran h =
+      let m = mapped ran_as r.threads.items a ran h in
+      let lt = within r.threads.items a m.0 m.1 in
+      let same = x.by_threads.one_each in
+      let t = there_is p.threads a (omega (arith, lt, same)) in
+      subst (λ (z : PlainRan). TraceHolds (books_of rep) a z.trace) m.2 (trace_is a m.0 (x.by_threads.each a t.0 m.0 t.1 m.1).traced)
+
+  agent_traced : (a i : ℕ) (ran : PlainRan) → a ≡ length rep.threads + i → nth rep.agents i ≡ Some ran → TraceHolds (books_of rep) a ran.trace
+  agent_traced a i ran e h =
+      let m = mapped ran_as r.agents.items i ran h in
+      let one = many ran_as r.threads.items in
+      let same = x.by_threads.one_each in
+      let z : length p.threads + i ≡ a = omega (arith, e, one, same) in
+      subst (λ b. TraceHolds (books_of rep) b ran.trace) z (subst (λ (y : PlainRan). TraceHolds (books_of rep) (length p.threads + i) y.trace) m.2 (trace_is (length p.threads + i) m.0 (x.each i m.0 m.1).traced))
+
+  -- ---- cells
+
+  abbrev value : CellId → Value
+  value c = world_of p.cells (home p.cells c) (N (home p.cells c)) (length (N (home p.cells c))) c.number
+
+  abbrev fault : ℕ → Option Fault
+  fault n = (mail_after (cells_of p.cells) (N 0) n).fault
+
+  values_same : rep.cells ≡ values_from value 0 p.cells
+  values_same = of.cells ∙ ap (λ ds. values_from (λ c. world_of ds (home ds c) (N (home ds c)) (length (N (home ds c))) c.number) 0 ds) cells
+
+  faults_same : rep.failed ≡ faults_from fault 0 p.cells
+  faults_same = of.failed ∙ ap (λ ds. faults_from (λ n. (mail_after (cells_of ds) (N 0) n).fault) 0 ds) cells
+
+  value_is : (k : ℕ) (d : CellDefinition) → nth p.cells k ≡ Some d → same_kind d.kind Atom ≡ false → nth rep.cells k ≡ Some (newest (opening (cells_of p.cells)) rep.book k)
+  value_is k d there kind =
+      let z : 0 + k ≡ k = omega arith in
+      let home_of : Bool → ℕ → ℕ = λ b j. if b then suc (atoms_below p.cells j) else 0 in
+      ap (λ l. nth l k) values_same ∙ nth_values value 0 p.cells k d there ∙ ap (λ j. Some (value (record { kind = d.kind; number = j }))) z
+      ∙ ap (λ b. Some (world_of p.cells (home_of b k) (N (home_of b k)) (length (N (home_of b k))) k)) kind
+      ∙ ap (λ (b : ℕ → List Event). Some (newest (opening (cells_of p.cells)) (b 0) k)) same_books
+
+  atom_value : (c : CellId) → has_atom p.cells c ≡ true → nth rep.cells c.number ≡ Some (atom_after (opening (cells_of p.cells) c.number) (books_of rep (home p.cells c)) (length (books_of rep (home p.cells c))))
+  atom_value c has =
+      let g = both (is_atom c) (has_cell (cells_of p.cells) c) has in
+      let kind = atom_is c.kind g.0 in
+      let d = cell_there p.cells Atom c.number (subst (λ k. is_of_kind k (nth (cells_of p.cells) c.number) ≡ true) kind g.1) in
+      let own : d.0.kind ≡ c.kind = is_atom_too d.0.kind d.2 ∙ sym kind in
+      let z : 0 + c.number ≡ c.number = omega arith in
+      let at : home p.cells c ≡ suc (atoms_below p.cells c.number) = ap (λ k. if same_kind k Atom then suc (atoms_below p.cells c.number) else 0) kind in
+      ap (λ l. nth l c.number) values_same ∙ nth_values value 0 p.cells c.number d.0 d.1 ∙ ap (λ j. Some (value (record { kind = d.0.kind; number = j }))) z ∙ ap (λ k. Some (value (record { kind = k; number = c.number }))) own
+      ∙ ap (λ h. Some (world_of p.cells h (N h) (length (N h)) c.number)) at
+      ∙ ap (λ h. Some (atom_after (opening (cells_of p.cells) c.number) (N h) (length (N h)))) (sym at)
+      ∙ ap (λ (b : ℕ → List Event). Some (atom_after (opening (cells_of p.cells) c.number) (b (home p.cells c)) (length (b (home p.cells c))))) same_books
+
+  atom_is_explained : (c : CellId) → has_atom p.cells c ≡ true → AtomExplained p rep c
+  atom_is_explained c has = record {
+    legal = subst (λ (b : ℕ → List Event). LegalAtom c (b (home p.cells c))) same_books (x.by_threads.books.atoms c has);
+    by_threads = subst (λ (b : ℕ → List Event). AreThreads (length p.threads) (b (home p.cells c))) same_books (x.by_threads.books.by_threads c has);
+    value = atom_value c has;
+  }
+
+  -- ---- actions
+
+  -- what is sent in a beginning of the book a program may send
+  sound_front : (k : ℕ) → AllSound p.functions (take k (N 0))
+  sound_front k = all_each (λ done e. SendsSound p.functions e.kind) [] (take k (N 0)) (λ j e there. each_one (λ done e1. SendsSound p.functions e1.kind) [] (N 0) x.sends j e (nth-take k (N 0) j e there).1)
+
+  pure_callee : (c : Callee) (n : ℕ) → SoundCallee (known p.functions) c n → PureCallee (known p.functions) c n
+  pure_callee (CoreOp op) n h = h.0
+  pure_callee (Function f) n h = h
+
+  act_pure : (k : ℕ) (d : EventKind) → ActPure p (take k (N 0)) d
+  act_pure k (Act g number new sends) = λ y e. pure_callee y.callee (suc (length y.args)) (next_sound p.functions (cells_of p.cells) (take k (N 0)) g y (sound_front k) e)
+  act_pure k _ = tt
+
+  acts_pure : ActsPure p (N 0)
+  acts_pure = all_each (λ done e. ActPure p done e.kind) [] (N 0) (λ k e there. act_pure k e.kind)
+
+  is_explained : IsExplained p rep
+  is_explained = record {
+    sized = record {
+      threads = many ran_as r.threads.items ∙ x.by_threads.one_each;
+      agents = many ran_as r.agents.items ∙ x.one_each;
+      atoms = of.atoms ∙ ap (λ ds. length (atoms_from 0 ds)) cells;
+      cells = ap length values_same ∙ many_values value 0 p.cells;
+      failed = ap length faults_same ∙ many_faults fault 0 p.cells;
+    };
+    traced = λ a ran h. ⊎_elim (λ l. thread_traced a ran l) (λ e. agent_traced a e.0 ran e.1 e.2) (either rep.threads rep.agents a ran h);
+    legal = subst (λ (b : ℕ → List Event). Legal (cells_of p.cells) (length p.threads) (b 0)) same_books x.by_threads.books.legal;
+    values = value_is;
+    failures = λ i g there. ap (λ l. nth l i) faults_same ∙ nth_faults fault 0 p.cells i g there ∙ ap (λ (b : ℕ → List Event). Some (mail_after (cells_of p.cells) (b 0) g.number).fault) same_books;
+    atoms = atom_is_explained;
+    threads = λ a t ran there h. (let m = mapped ran_as r.threads.items a ran h in subst (λ z. ThreadExplained p rep t z) m.2 (thread_is a t m.0 there m.1));
+    acts = subst (λ (b : ℕ → List Event). ActsMean p.functions p.cells (b 0)) same_books x.acts;
+    pure = subst (λ (b : ℕ → List Event). ActsPure p (b 0)) same_books acts_pure;
+    agents = λ i ran h.
+        (let m = mapped ran_as r.agents.items i ran h in
+        let e = x.each i m.0 m.1 in
+        let its : AgentExplained (ran_as m.0) = record { silent = e.silent; unended = never_ends m.0.outcome e.unended } in
+        subst (λ z. AgentExplained z) m.2 its);
+  }
+
+pub runs_are_explained : RunsAreExplained
+runs_are_explained p s r sound cells of x = is_explained p s r sound cells of x
+
+pub runs_never_differ : RunsNeverDiffer
+runs_never_differ p s r n a i sound cells of x h = differs_is_not_explained p (report_as r) n a i sound h (runs_are_explained p s r sound cells of x)

@@ -1,0 +1,117 @@
+-- Lists of numbers alone, as they are built, read and cut; and vectors that are compared row by row.
+use Rattle.std.proofs.Common.{◌≡◌, ℕ, zero, suc, ◌+◌, ◌*◌, max, ◌<◌, ◌≤◌, ◌++◌, ℤ, List, [], ◌∷◌, length, get_or, map, take, drop, refl, sym, ap, ◌∙◌, add-one, arith}
+use Rattle.std.proofs.lemmas.List.{length-take, length-drop, take_all, take_more_same, take_more, get_or_read, get_or-take}
+use Rattle.txs_value_data.specs.Numbers.{IsNumber, AreNumbers}
+use Rattle.txs_value_data.specs.PlainValue.{PlainValue, row_size}
+use Rattle.txs_value_data.specs.View.{plain_of, plains_of, value_of}
+use Rattle.txs_value_data.specs.declared.value.Value.{Value}
+use Rattle.txs_value_data.specs.declared.value.Value.TheVariants.{Nil, Truth, Int, Key, Text, Vector, Cell}
+use Rattle.txs_value_data.proofs.ItemsLemmas.{value_of-plain_of, length-plains_of}
+use Rattle.txs_value_data.proofs.WindowLemmas.{window_next, window_size}
+
+-- a value that is no number's variant is no number
+pub is_int : (v : Value) → IsNumber (plain_of v) → ((z : ℤ) → v ≡ Int z → ⊥) → ⊥
+is_int (Int z) h no_int = no_int z refl
+is_int Nil h no_int = h
+is_int (Truth b) h no_int = h
+is_int (Key bs) h no_int = h
+is_int (Text bs) h no_int = h
+is_int (Vector ds) h no_int = h
+is_int (Cell c) h no_int = h
+
+AreNumbers-append : (ds es : List PlainValue) → AreNumbers ds → AreNumbers es → AreNumbers (ds ++ es)
+AreNumbers-append [] es h k = k
+AreNumbers-append (d ∷ ds) es h k = (h.0, AreNumbers-append ds es h.1 k)
+
+pub AreNumbers-take : (ds : List PlainValue) (n : ℕ) → AreNumbers ds → AreNumbers (take n ds)
+AreNumbers-take [] zero h = tt
+AreNumbers-take [] (suc n) h = tt
+AreNumbers-take (d ∷ ds) zero h = tt
+AreNumbers-take (d ∷ ds) (suc n) h = (h.0, AreNumbers-take ds n h.1)
+
+AreNumbers-drop : (ds : List PlainValue) (n : ℕ) → AreNumbers ds → AreNumbers (drop n ds)
+AreNumbers-drop [] zero h = tt
+AreNumbers-drop [] (suc n) h = tt
+AreNumbers-drop (d ∷ ds) zero h = h
+AreNumbers-drop (d ∷ ds) (suc n) h = AreNumbers-drop ds n h.1
+
+pub number_at : (vs : List Value) (i : ℕ) (v : Value) → AreNumbers (plains_of vs) → i < length vs → v ≡ get_or vs i v → IsNumber (plain_of v)
+number_at [] i v h lt is = absurd (omega arith)
+number_at (w ∷ vs) zero v h lt is = rw is h.0
+number_at (w ∷ vs) (suc i) v h lt is = number_at vs i v h.1 (omega arith) is
+
+-- what is known of all items where a number is 0 that falls to none of theirs
+pub numbers-more : (ds us : List PlainValue) (d : PlainValue) (m n k : ℕ) → us ≡ ds ++ d ∷ [] → (m ≡ 0 → AreNumbers ds) → (n ≡ 0 → IsNumber d) → k ≡ max m n → k ≡ 0 → AreNumbers us
+numbers-more ds us d m n k is before one top none = rw is (AreNumbers-append ds (d ∷ []) (before (omega (arith, top, none))) (one (omega (arith, top, none)), tt))
+
+pub numbers-fewer : (ds us : List PlainValue) (n m : ℕ) → us ≡ take n ds → (m ≡ 0 → AreNumbers ds) → m ≡ 0 → AreNumbers us
+numbers-fewer ds us n m is before none = rw is (AreNumbers-take ds n (before none))
+
+pub numbers-changed : (ds us : List PlainValue) (d : PlainValue) (i m n k : ℕ) → us ≡ take i ds ++ d ∷ drop (i + 1) ds → (m ≡ 0 → AreNumbers ds) → (n ≡ 0 → IsNumber d) → k ≡ max m n → k ≡ 0 → AreNumbers us
+numbers-changed ds us d i m n k is before one top none =
+    let all = before (omega (arith, top, none)) in
+    rw is (AreNumbers-append (take i ds) (d ∷ drop (i + 1) ds) (AreNumbers-take ds i all) (one (omega (arith, top, none)), AreNumbers-drop ds (i + 1) all))
+
+pub numbers_so_far : (vs : List Value) (i : ℕ) (v : Value) → i < length vs → v ≡ get_or vs i v → IsNumber (plain_of v) → AreNumbers (plains_of (take i vs)) → AreNumbers (plains_of (take (i + 1) vs))
+numbers_so_far vs i v lt is one before =
+    rw (take_more vs i v lt, sym is) (put_last (take i vs) v one before)
+  where
+    put_last : (ws : List Value) (v : Value) → IsNumber (plain_of v) → AreNumbers (plains_of ws) → AreNumbers (plains_of (ws ++ v ∷ []))
+    put_last [] v one h = (one, tt)
+    put_last (w ∷ ws) v one h = (h.0, put_last ws v one h.1)
+
+-- two lists of values with the same plain values are equal
+plains_back : (us : List Value) → map value_of (plains_of us) ≡ us
+plains_back [] = refl
+plains_back (u ∷ us) = λ i. value_of-plain_of u i ∷ plains_back us i
+
+pub plains_of-one : (us vs : List Value) → plains_of us ≡ plains_of vs → us ≡ vs
+plains_of-one us vs e = sym (plains_back us) ∙ ap (λ ds. map value_of ds) e ∙ plains_back vs
+
+-- at each place two lists that are compared are equal
+module _ (us vs : List Value) (i : ℕ) (u v : Value) (in_us : i < length us) (in_vs : i < length vs) (is_u : u ≡ get_or us i u) (is_v : v ≡ get_or vs i v) where
+  other : v ≡ get_or vs i u
+  other = get_or_read vs i v in_vs is_v u
+
+  pub values_here : us ≡ vs → u ≡ v
+  values_here e = is_u ∙ ap (λ xs. get_or xs i u) e ∙ sym other
+
+  pub values_next : u ≡ v → take i us ≡ take i vs → take (i + 1) us ≡ take (i + 1) vs
+  values_next e before = take_more_same us vs i u in_us in_vs before (sym is_u ∙ e ∙ other)
+
+  pub values_last : take (i + 1) us ≡ take (i + 1) vs → u ≡ v
+  values_last e =
+      is_u ∙ sym (get_or-take (i + 1) us i u (omega arith)) ∙ ap (λ xs. get_or xs i u) e ∙ get_or-take (i + 1) vs i u (omega arith) ∙ sym other
+
+  pub values_before : take (i + 1) us ≡ take (i + 1) vs → take i us ≡ take i vs
+  values_before e = sym (take_twice us i) ∙ ap (λ xs. take i xs) e ∙ take_twice vs i
+    where
+      take_twice : {A : Type 0} (xs : List A) (n : ℕ) → take n (take (n + 1) xs) ≡ take n xs
+      take_twice {A = A} xs n = rw add-one (twice xs n)
+        where
+          twice : (ys : List A) (m : ℕ) → take m (take (suc m) ys) ≡ take m ys
+          twice [] zero = refl
+          twice [] (suc m) = refl
+          twice (y ∷ ys) zero = refl
+          twice (y ∷ ys) (suc m) = ap (λ zs. y ∷ zs) (twice ys m)
+
+pub values_end : {A : Type 0} (xs ys : List A) (n : ℕ) → length xs ≤ n → length ys ≤ n → take n xs ≡ take n ys → xs ≡ ys
+values_end xs ys n le le' e = sym (take_all n xs le) ∙ e ∙ take_all n ys le'
+
+-- rows of 32 places of two vectors of one length
+module _ (ds es : List PlainValue) (len : length ds ≡ length es) (n : ℕ) (us vs : List Value) (is_u : plains_of us ≡ take 32 (drop (n * 32) ds)) (is_v : plains_of vs ≡ take 32 (drop (n * 32) es)) where
+  pub row_length : length us ≡ length vs
+  row_length =
+      omega (arith, len, length-plains_of us, length-plains_of vs, ap length is_u, ap length is_v, length-take 32 (drop (n * 32) ds), length-take 32 (drop (n * 32) es), length-drop (n * 32) ds, length-drop (n * 32) es)
+
+  pub row_falls : row_size (plains_of us) ≤ row_size ds
+  row_falls = rw is_u (window_size ds (n * 32) 32)
+
+  pub rows_here : ds ≡ es → us ≡ vs
+  rows_here e = plains_of-one us vs (is_u ∙ ap (λ xs. take 32 (drop (n * 32) xs)) e ∙ sym is_v)
+
+  pub rows_next : us ≡ vs → take (n * 32) ds ≡ take (n * 32) es → take ((n + 1) * 32) ds ≡ take ((n + 1) * 32) es
+  rows_next e before = window_next ds es (n * 32) 32 ((n + 1) * 32) (omega arith) (sym is_u ∙ ap plains_of e ∙ is_v) before
+
+pub row_numbers : (ds : List PlainValue) (n : ℕ) (us : List Value) → plains_of us ≡ take 32 (drop (n * 32) ds) → AreNumbers ds → AreNumbers (plains_of us)
+row_numbers ds n us is h = rw is (AreNumbers-take (drop (n * 32) ds) 32 (AreNumbers-drop ds (n * 32) h))
