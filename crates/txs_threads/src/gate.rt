@@ -1,5 +1,8 @@
 //! What a worker passes between an actor's steps.
 
+ghost use Rattle.std.specs.Prelude.{◌≡◌};
+ghost use Rattle.txs_threads.specs.Kinds.{kind_of};
+
 use txs_world_protocol::Ask;
 
 /// Which ask was answered.
@@ -52,7 +55,9 @@ impl Gate for OpenGate {
 }
 
 /// Of which kind an ask is.
-pub(crate) fn kind_of(ask: &Ask) -> AskKind {
+pub(crate) fn kind_of(ask: &Ask) -> AskKind
+    ensures { result ≡ kind_of ask.now }
+{
     match ask {
         Ask::Begin => AskKind::Begin,
         Ask::Look { .. } => AskKind::Look,
