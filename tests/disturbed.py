@@ -38,10 +38,14 @@ CASES = [
     ("run --cells --workers 2", SHARED),
     ("run --cells --workers 4", SHARED),
     ("run --cells --workers 2", GROWING + "(future nil)"),
+    ("schedule --cells --audit", SHARED),
+    ("run --cells --audit --workers 2", SHARED),
 ]
 SHARED_CELLS = b"r 4\na 5\ng 13\n"
 REFUSED = ("", "out of memory\n", 4)
 NO_THREAD = ("", "run failed: NoThread\n", 4)
+AUDITED = re.compile(rb"^audit agrees(?: serial)?\n\Z", re.M)
+UNAUDITED = re.compile(rb"^(?:out of memory|run failed: NoThread)\n\Z", re.M)
 STOPPED = re.compile(r"(thread \d+|agent \S+) stopped: Memory")
 
 
@@ -79,6 +83,20 @@ def kind_of(ran, whole):
     return None
 
 
+def kind_of_audited(ran, whole):
+    """The same of a run that is audited: what became of the run; its audit agrees, or has no answer and says why."""
+    if not AUDITED.search(whole.out):
+        return kind_of(ran, whole)
+    whole = trial.Ran(AUDITED.sub(b"", whole.out), whole.err, whole.status, None)
+    if AUDITED.search(ran.out):
+        return kind_of(trial.Ran(AUDITED.sub(b"", ran.out), ran.err, ran.status, None), whole)
+    if ran.out and UNAUDITED.search(ran.err) and ran.status == 4:
+        rest = trial.Ran(ran.out, UNAUDITED.sub(b"", ran.err), ran.status, None)
+        is_well = (rest.out, rest.err) == (whole.out, whole.err) or kind_of(rest, whole) == "stopped"
+        return "unaudited" if is_well else None
+    return kind_of(ran, whole)
+
+
 def growths(t, count, is_long):
     """Each growth refused in turn: this one alone, and this one with all behind it."""
     kinds, growths = {}, 0
@@ -93,7 +111,7 @@ def growths(t, count, is_long):
 
         def tried(how):
             ran = t.run(words.split(), script.encode(), how)
-            return how, ran, kind_of(ran, whole)
+            return how, ran, kind_of_audited(ran, whole)
         for how, ran, kind in trial.each(tried, tries):
             count.take("%s of %s, where %s" % (words, script, how), kind, ran)
             kinds[kind] = kinds.get(kind, 0) + 1

@@ -75,7 +75,7 @@ MOVES = {1: [1, 2], 2: [3], 3: [4]}
 
 def is_lawful(ran):
     """Whether what a run of it has left obeys its laws."""
-    cells = re.fullmatch(r"100\nfrom 90\nto 10\nseen 4\nn 111\nlog \[(.*)\]\nsum 10\n((?:\d+ \d+ [a-z-]+\n)*)", ran.out.decode())
+    cells = re.fullmatch(r"100\nfrom 90\nto 10\nseen 4\nn 111\nlog \[(.*)\]\nsum 10\n((?:\d+ \d+ [a-z-]+\n)*)audit agrees\n", ran.out.decode())
     if not cells or ran.err or ran.status:
         return False
     lines = [tuple(it.split()) for it in re.findall(r"\[([^]]*)\]", cells[1])]
@@ -99,10 +99,10 @@ def is_lawful(ran):
 
 
 def runs(t, count, is_long):
-    """Short runs by workers: each ends, with what the script's laws want."""
+    """Short runs by workers: each ends, with what the script's laws want, and its audit agrees."""
     retried, many = 0, 10000 if is_long else 400
     workers = [2, 3, 4, 8]
-    for k, ran in enumerate(trial.each(lambda it: t.run(["run", "--cells", "--events", "--workers", str(workers[it % 4])], CONTENDED.encode()), range(many), 4)):
+    for k, ran in enumerate(trial.each(lambda it: t.run(["run", "--cells", "--events", "--audit", "--workers", str(workers[it % 4])], CONTENDED.encode()), range(many), 4)):
         count.take("run %d" % k, is_lawful(ran), ran)
         retried += b" retry\n" in ran.out
     print("runs: %d, of which %d had to run a transaction again" % (many, retried))

@@ -73,5 +73,24 @@ is "why, explained" "$(answer run none.clj --explain)" "$(printf '|read failed\n
 is "a script that is a folder" "$(answer run .)" '|read failed|2'
 is "output to a full device" "$("$program" run a.clj >/dev/full 2>errors; echo "$?|$(cat errors)")" '2|write failed'
 
+# ---- audits
+cells='(def a (ref 1)) (def b (ref 1))'
+printf '%s' "$cells (future (dosync (when (= 2 (+ @a @b)) (alter a dec)))) (future (dosync (when (= 2 (+ @a @b)) (alter b dec))))" >skew.clj
+printf '%s' "$cells (future (dosync (when (= 2 (+ (ensure a) (ensure b))) (alter a dec)))) (future (dosync (when (= 2 (+ (ensure a) (ensure b))) (alter b dec))))" >ensured.clj
+printf '%s' '(def a (atom 0)) (def g (agent 0)) (def r (ref 1)) (future (swap! a + 2) (dosync (alter r + @r) (send g + 5))) (future (println (quot 1 0)))' >each.clj
+skewed="$(printf 'a 0\nb 0\n0 0 commit\n1 1 commit\naudit agrees||0')"
+is "write skew is explained, and not serial" "$(answer schedule --cells --events --audit --turns 0,1 skew.clj)" "$skewed"
+is "nothing is explained where it agrees" "$(answer schedule --cells --events --audit --turns 0,1 --explain skew.clj)" "$skewed"
+is "what is ensured is serial" "$(answer schedule --cells --events --audit --turns 0,1 ensured.clj)" "$(printf 'a 0\nb 1\n0 0 commit\n1 1 retry\n2 1 commit\naudit agrees serial||0')"
+for workers in 1 2 5; do
+  is "an audit by $workers workers" "$(answer run --audit --workers "$workers" ensured.clj)" 'audit agrees serial||0'
+  is "cells of each kind, and a fault, by $workers workers" "$(answer run --audit --workers "$workers" each.clj)" 'audit agrees serial|thread 1 failed: DivideByZero at 128..138|3'
+done
+is "steps that don't suffice" "$(printf '(future (loop [] (recur)))' >spin.clj; answer run --audit --steps 1000 spin.clj)" 'audit agrees serial|thread 0 stopped: StepsSpent|4'
+is "more steps than an audit counts turns" "$(answer run --audit --steps 1000000000000 a.clj)" "$(printf '1\naudit agrees serial||0')"
+is "a script that is refused is not audited" "$(printf '(future [1 2)' >unopened.clj; answer run --audit unopened.clj)" '|refused 3 Unopened at 12..13|1'
+is "a play of no actor is not audited" "$(answer schedule --audit --turns 7 a.clj)" '|run failed: NoActor|2'
+is "code is not audited" "$("$program" run --audit --code new.bin 2>&1 | head -n 1; echo "${PIPESTATUS[0]}")" "$(printf "error: the argument '--audit' cannot be used with '--code'\n2")"
+
 echo "$passed passed, $failed failed"
 [ "$failed" -eq 0 ]

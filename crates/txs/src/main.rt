@@ -2,7 +2,10 @@
 //! `txs build [FILE] --out F`.
 #![tactic(auto)]
 
+ghost use Rattle.std.specs.Prelude.{◌≡◌};
 ghost use Rattle.std.specs.Thread.{IsSync};
+ghost use Rattle.txs_audit.specs.Answered.{as_verdict};
+ghost use Rattle.txs_cli_audit.specs.Audit.{IsRight, answer_as};
 ghost use Rattle.txs_cli.specs.Runner.{IsRunnable, RunsLawfully};
 
 use std::alloc::Global;
@@ -12,13 +15,17 @@ use std::process::ExitCode;
 use std::sync::Wait;
 use std::thread::Threads;
 use std::{env, fs, io};
-use txs_cli::play_with;
-use txs_cli_args::{Words, parse_words};
+use txs_audit::{AuditError, Verdict, audit};
+use txs_cli::{Answer, EventAt, NoAnswer, play_with};
+use txs_cli_args::parse_words;
 use txs_cli_report::told::{DONE, SPENT, UNUSABLE};
 use txs_cli_report::write_told;
+use txs_cli_request::{Input, Request};
 use txs_code_meaning::Verified;
 use txs_machine::{Entries, RunError};
 use txs_threads::{Gathered, OpenGate, run_threads};
+use txs_tree_meaning::Program;
+use txs_world_protocol::Report;
 use txs_world_shared::SharedState;
 
 /// The reader of a file that can't be opened.
@@ -40,71 +47,96 @@ fn args_of(rt: &HostRuntime) -> io::Result<Vec<String>> {
     Ok(args)
 }
 
-/// The file that the words name, if they name one.
-fn file_of(words: &Words) -> Option<&str> {
-    match words {
-        Words::Check { file, .. }
-        | Words::Listing { file, .. }
-        | Words::Build { file, .. }
-        | Words::Work { file, .. }
-        | Words::Run { file, .. }
-        | Words::ListCode { file }
-        | Words::WorkCode { file, .. }
-        | Words::RunCode { file, .. } => match file {
-            Some(name) => Some(name.as_str()),
-            None => None,
-        },
-        Words::Shown(_) | Words::Faulty(_) => None,
+/// What the command works on; nothing where there is but a text to print.
+fn input_of(request: &Request) -> Option<&Input> {
+    match request {
+        Request::Check { input }
+        | Request::List { input }
+        | Request::Build { input, .. }
+        | Request::Run { input, .. }
+        | Request::Schedule { input, .. } => Some(input),
+        Request::Shown(_) | Request::Faulty(_) => None,
     }
 }
 
-/// Whether the words ask for explanations.
-fn explains(words: &Words) -> bool {
-    match words {
-        Words::Check { explain, .. }
-        | Words::Listing { explain, .. }
-        | Words::Build { explain, .. }
-        | Words::Work { explain, .. }
-        | Words::Run { explain, .. } => *explain,
-        _ => false,
+/// The file that the request names, if it names one.
+fn file_of(request: &Request) -> Option<&str> {
+    match &input_of(request)?.file {
+        Some(name) => Some(name.as_str()),
+        None => None,
     }
 }
 
-/// Says why a file couldn't be opened or written, where the words ask for explanations. The standard error may fail too: then the line
+/// Whether the request asks for explanations.
+fn explains(request: &Request) -> bool {
+    match input_of(request) {
+        Some(input) => input.explain,
+        None => false,
+    }
+}
+
+/// Says why a file couldn't be opened or written, where the request asks for explanations. The standard error may fail too: then the line
 /// before it is all.
-fn explain_file(rt: &HostRuntime, words: &Words, name: &str, error: &io::Error) {
-    if explains(words) {
+fn explain_file(rt: &HostRuntime, request: &Request, name: &str, error: &io::Error) {
+    if explains(request) {
         let _ = eprintln!(rt; "{name}: {error}");
     }
 }
 
-/// Says that there is a file of the name under which the code would be written first, where the words ask for explanations.
-fn explain_part(rt: &HostRuntime, words: &Words, name: &str) {
-    if explains(words) {
+/// Says that there is a file of the name under which the code would be written first, where the request asks for explanations.
+fn explain_part(rt: &HostRuntime, request: &Request, name: &str) {
+    if explains(request) {
         let _ = eprintln!(rt;
             "{name}.part: the code is written there first, and this file is there"
         );
     }
 }
 
-/// Plays the words on their file or on standard input, over this writer.
+/// Does what the request asks for on its file or on standard input, over this writer.
 fn play_on<
     X: Fn(Global, &Verified, usize, u64) -> Result<(SharedState, Entries), RunError>,
+    A: Fn(Global, &Program, &Report, u32, usize) -> Result<Answer, NoAnswer>,
     W: Write,
->(rt: &HostRuntime, runner: &X, words: &Words, writer: &mut W) -> u8
+>(rt: &HostRuntime, runner: &X, auditor: &A, request: &Request, writer: &mut W) -> u8
     requires call { (a : _) (code : _) (n : _) (steps : _) → IsRunnable code.now → X.pre runner.now a code n steps }
     requires ran { (a : _) (code : _) (n : _) (steps : _) (r : _) → X.post runner.now a code n steps r → RunsLawfully code.now steps r }
+    requires audit { (a : _) (p : _) (r : _) (n : _) (w : _) → A.pre auditor.now a p r n w }
+    requires right { (a : _) (p : _) (r : _) (n : _) (w : _) (v : _) → A.post auditor.now a p r n w v → IsRight p.now r.now n v }
 {
     let alloc = rt.alloc();
     let mut faults = rt.stderr();
-    let Some(name) = file_of(words) else {
-        return play_with(alloc, runner, words, &mut rt.stdin(), writer, &mut faults);
+    let Some(name) = file_of(request) else {
+        return play_with(
+            alloc,
+            runner,
+            auditor,
+            request,
+            &mut rt.stdin(),
+            writer,
+            &mut faults,
+        );
     };
     match File::open(rt, name) {
-        Ok(mut file) => play_with(alloc, runner, words, &mut file, writer, &mut faults),
+        Ok(mut file) => play_with(
+            alloc,
+            runner,
+            auditor,
+            request,
+            &mut file,
+            writer,
+            &mut faults,
+        ),
         Err(error) => {
-            let status = play_with(alloc, runner, words, &mut Unreadable, writer, &mut faults);
-            explain_file(rt, words, name, &error);
+            let status = play_with(
+                alloc,
+                runner,
+                auditor,
+                request,
+                &mut Unreadable,
+                writer,
+                &mut faults,
+            );
+            explain_file(rt, request, name, &error);
             status
         }
     }
@@ -154,8 +186,8 @@ fn are_one(rt: &HostRuntime, one: &str, other: &str) -> bool {
 }
 
 /// Whether the code would go over the script that it is compiled from, also where that is a file that standard input is read from.
-fn covers_source(rt: &HostRuntime, words: &Words, out: &str) -> bool {
-    let name = file_of(words).unwrap_or("/dev/stdin");
+fn covers_source(rt: &HostRuntime, request: &Request, out: &str) -> bool {
+    let name = file_of(request).unwrap_or("/dev/stdin");
     !is_special(rt, out) && are_one(rt, name, out)
 }
 
@@ -164,17 +196,17 @@ fn complain(rt: &HostRuntime, line: &[u8], status: u8) -> u8 {
     write_told(&[], line, status, &mut io::writer(rt), &mut rt.stderr())
 }
 
-/// Plays words whose code goes to a file. That is written where all went well, and else left as it is.
-fn build_to<X: Fn(Global, &Verified, usize, u64) -> Result<(SharedState, Entries), RunError>>(
-    rt: &HostRuntime,
-    runner: &X,
-    words: &Words,
-    out: &str,
-) -> u8
+/// Does what a request asks for whose code goes to a file. That is written where all went well, and else left as it is.
+fn build_to<
+    X: Fn(Global, &Verified, usize, u64) -> Result<(SharedState, Entries), RunError>,
+    A: Fn(Global, &Program, &Report, u32, usize) -> Result<Answer, NoAnswer>,
+>(rt: &HostRuntime, runner: &X, auditor: &A, request: &Request, out: &str) -> u8
     requires call { (a : _) (code : _) (n : _) (steps : _) → IsRunnable code.now → X.pre runner.now a code n steps }
     requires ran { (a : _) (code : _) (n : _) (steps : _) (r : _) → X.post runner.now a code n steps r → RunsLawfully code.now steps r }
+    requires audit { (a : _) (p : _) (r : _) (n : _) (w : _) → A.pre auditor.now a p r n w }
+    requires right { (a : _) (p : _) (r : _) (n : _) (w : _) (v : _) → A.post auditor.now a p r n w v → IsRight p.now r.now n v }
 {
-    if covers_source(rt, words, out) {
+    if covers_source(rt, request, out) {
         return complain(
             rt,
             b"error: the file of --out is the script itself\n",
@@ -182,7 +214,7 @@ fn build_to<X: Fn(Global, &Verified, usize, u64) -> Result<(SharedState, Entries
         );
     }
     let mut code = Vec::new(rt.alloc());
-    let status = play_on(rt, runner, words, &mut code);
+    let status = play_on(rt, runner, auditor, request, &mut code);
     if status != DONE {
         return status;
     }
@@ -191,32 +223,70 @@ fn build_to<X: Fn(Global, &Verified, usize, u64) -> Result<(SharedState, Entries
         Err(error) => {
             let status = complain(rt, b"write failed\n", UNUSABLE);
             if error.kind() == ErrorKind::AlreadyExists {
-                explain_part(rt, words, out);
+                explain_part(rt, request, out);
             } else {
-                explain_file(rt, words, out, &error);
+                explain_file(rt, request, out, &error);
             }
             status
         }
     }
 }
 
-/// Plays the words.
-fn play_all<X: Fn(Global, &Verified, usize, u64) -> Result<(SharedState, Entries), RunError>>(
-    rt: &HostRuntime,
-    runner: &X,
-    words: &Words,
-) -> u8
+/// Does what the request asks for.
+fn play_all<
+    X: Fn(Global, &Verified, usize, u64) -> Result<(SharedState, Entries), RunError>,
+    A: Fn(Global, &Program, &Report, u32, usize) -> Result<Answer, NoAnswer>,
+>(rt: &HostRuntime, runner: &X, auditor: &A, request: &Request) -> u8
     requires call { (a : _) (code : _) (n : _) (steps : _) → IsRunnable code.now → X.pre runner.now a code n steps }
     requires ran { (a : _) (code : _) (n : _) (steps : _) (r : _) → X.post runner.now a code n steps r → RunsLawfully code.now steps r }
+    requires audit { (a : _) (p : _) (r : _) (n : _) (w : _) → A.pre auditor.now a p r n w }
+    requires right { (a : _) (p : _) (r : _) (n : _) (w : _) (v : _) → A.post auditor.now a p r n w v → IsRight p.now r.now n v }
 {
-    match words {
-        Words::Build { out, .. } => build_to(rt, runner, words, out.as_str()),
-        _ => play_on(rt, runner, words, &mut io::writer(rt)),
+    match request {
+        Request::Build { out, .. } => build_to(rt, runner, auditor, request, out.as_str()),
+        _ => play_on(rt, runner, auditor, request, &mut io::writer(rt)),
     }
 }
 
-/// Plays the words; where they ask for workers, these are started with this handle.
-fn play_by_workers<T: Threads + Wait + Sync>(rt: &HostRuntime, threads: &T, words: &Words) -> u8 {
+/// What an audit answered, as the program tells it.
+fn answer_of(verdict: Verdict) -> Answer
+    ensures { answer_as result ≡ as_verdict verdict }
+{
+    match verdict {
+        Verdict::Agrees { serial } => Answer::Agrees { serial },
+        Verdict::Differs { actor, event } => Answer::Differs(EventAt { actor, event }),
+        Verdict::Undecided { actor, event } => Answer::Undecided(EventAt { actor, event }),
+    }
+}
+
+/// Has a report audited by so many workers, which are started with this handle.
+fn audit_by<T: Threads + Wait + Sync>(
+    threads: &T,
+    alloc: Global,
+    program: &Program,
+    report: &Report,
+    turns: u32,
+    workers: usize,
+) -> Result<Answer, NoAnswer>
+    requires sync { IsSync T.row }
+    ensures { IsRight program.now report.now turns result }
+{
+    let Ok(workers) = u16::try_from(workers) else {
+        return Err(NoAnswer::NoThread);
+    };
+    match audit(threads, alloc, program, report, workers, turns) {
+        Ok(verdict) => Ok(answer_of(verdict)),
+        Err(AuditError::NoThread) => Err(NoAnswer::NoThread),
+        Err(AuditError::Memory) => Err(NoAnswer::Memory),
+    }
+}
+
+/// Does what the request asks for; where that is a run by workers or an audit, these are started with this handle.
+fn play_by_workers<T: Threads + Wait + Sync>(
+    rt: &HostRuntime,
+    threads: &T,
+    request: &Request,
+) -> u8 {
     play_all(
         rt,
         &|alloc: Global, code: &Verified, workers: usize, steps: u64| -> Result<
@@ -232,7 +302,14 @@ fn play_by_workers<T: Threads + Wait + Sync>(rt: &HostRuntime, threads: &T, word
             )?;
             Ok((shared, report))
         },
-        words,
+        &|alloc: Global, program: &Program, report: &Report, turns: u32, workers: usize| -> Result<
+            Answer,
+            NoAnswer,
+        >
+            requires sync { IsSync T.row }
+            ensures { IsRight program.now report.now turns result }
+        { audit_by(threads, alloc, program, report, turns, workers) },
+        request,
     )
 }
 
@@ -248,15 +325,15 @@ fn unread(rt: &HostRuntime, error: &io::Error) -> u8 {
     }
 }
 
-/// The words of the command line.
-fn words_of(rt: &HostRuntime) -> io::Result<Words> {
+/// What the command line asks for.
+fn request_of(rt: &HostRuntime) -> io::Result<Request> {
     let args = args_of(rt)?;
     Ok(parse_words(rt.alloc(), args.as_slice())?)
 }
 
 fn main(rt: HostRuntime) -> ExitCode {
-    let status = match words_of(&rt) {
-        Ok(words) => play_by_workers(&rt, &rt, &words),
+    let status = match request_of(&rt) {
+        Ok(request) => play_by_workers(&rt, &rt, &request),
         Err(error) => unread(&rt, &error),
     };
     ExitCode::from(status)

@@ -11,11 +11,10 @@ ghost use Rattle.txs_audit_piece.specs.Judged.{as_found, is_no_memory, judged, n
 use crate::ends::same_fault;
 use crate::finding::{Finding, check};
 use std::alloc::{AllocError, Global};
-use txs_check::is_pure_callee;
+use txs_check::FunctionTable;
 use txs_theorem_audit_eval::act_is_answered;
 use txs_tree_eval::{EvalStop, eval_pure};
 use txs_tree_eval_transaction::same_value;
-use txs_tree_meaning::Program;
 use txs_value_base::{Callee, Fault, Span};
 use txs_value_cell::Action;
 use txs_value_data::{Value, copy_value};
@@ -102,7 +101,7 @@ fn is_no_memory(given: &Result<Value, EvalStop>) -> bool
 /// `AllocError` where there was no memory for what the callee means.
 pub fn act_means(
     alloc: Global,
-    program: &Program,
+    functions: &FunctionTable<'_>,
     turns: u32,
     actor: u16,
     index: usize,
@@ -110,12 +109,13 @@ pub fn act_means(
     state: &Value,
     new: &Result<Value, Fault>,
 ) -> Result<Finding, AllocError>
-    ensures { IfOk result (λ f. as_found f ≡ judged (program_of program.now) turns actor index action.now state.now new.now) }
+    ensures { IfOk result (λ f. as_found f ≡ judged (program_of functions.now) turns actor index action.now state.now new.now) }
 {
     let values = with_state(alloc, state, action.args.as_slice())?;
-    if !is_pure_callee(alloc, program, action.callee, values.len())? {
+    if !functions.is_pure(action.callee, values.len()) {
         return Ok(Finding::Off(actor, index));
     }
+    let program = functions.program();
     let given = eval_pure(alloc, program, action.callee, values.as_slice(), turns);
     act_is_answered();
     if is_no_memory(&given) {

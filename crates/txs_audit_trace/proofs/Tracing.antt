@@ -3,7 +3,7 @@ use Rattle.std.proofs.Common.{◌≡◌, ◌≤◌, ◌<◌, ◌+◌, ℕ, zero,
 use Rattle.std.proofs.lemmas.Bool.{false≢true, ltb-true}
 use Rattle.std.proofs.lemmas.Bool.Decides.{nat_tests}
 use Rattle.std.proofs.lemmas.List.{get_or-set_same, get_or-set_other, length-set, drop_all, drop_more, take_all, take_more, length-take-le}
-use Rattle.txs_theorem_audit.specs.Audited.{Finding, Fine, Off, Short, PlainRan, PlainReport, and_then, books_of, check, place_of, ran_as, report_as}
+use Rattle.txs_theorem_audit.specs.Audited.{Finding, Fine, Off, Short, PlainRan, and_then, books_of, check, place_of, ran_as, report_as}
 use Rattle.txs_theorem_audit.specs.Verdict.{begins, same_numbers, runs_right, names_all, in_books, trace_found, traces_found}
 use Rattle.txs_theorem_runs.specs.Told.{Place, places_in, places_by}
 use Rattle.txs_value_base.specs.Places.{nth}
@@ -12,8 +12,8 @@ use Rattle.txs_world_protocol.specs.declared.event.Event.{Event}
 use Rattle.txs_world_protocol.specs.declared.event.Place as event
 use Rattle.txs_world_protocol.specs.declared.report.Ran.{Ran}
 use Rattle.txs_world_protocol.specs.declared.report.Report.{Report}
-use Rattle.txs_audit_trace.specs.Named.{AllBegun, Begun, Counted, HasActor, HasActors, Outside, OffIn, OffOf, all_named, is_this, off_at, off_in, plain_trace}
-use Rattle.txs_audit_trace.specs.Rows.{AreRows, AllRows}
+use Rattle.txs_audit_trace.specs.Named.{AllBegun, Begun, Counted, Outside, OffIn, OffOf, all_named, is_this, off_at, off_in, plain_trace}
+use Rattle.txs_audit_trace.specs.Rows.{AllRows}
 use Rattle.txs_audit_trace.proofs.Naming.{begins_less, begins_more, begins_same, books_out, both_ways, equal, is_equal, names_each, places_append, same_begins, turned}
 
 one_place : (p : Place) → places_in p.book (p ∷ []) ≡ p.at ∷ []

@@ -1,2 +1,3 @@
+pub mod Many
 pub mod Named
 pub mod Rows

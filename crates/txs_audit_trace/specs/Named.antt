@@ -1,5 +1,5 @@
 -- How far a trace names an actor's events.
-use Rattle.std.specs.Prelude.{◌≡◌, ◌≤◌, ◌<◌, ℕ, suc, Bool, true, false, ◌&&◌, ◌==◌, ◌+◌, List, [], ◌∷◌, length, map, Option, Some, None}
+use Rattle.std.specs.Prelude.{◌≡◌, ◌≤◌, ◌<◌, ℕ, Bool, true, false, ◌&&◌, ◌==◌, ◌+◌, List, [], ◌∷◌, length, map, Option, Some, None}
 use Rattle.std.proofs.Common.{get_or}
 use Rattle.txs_theorem_audit.specs.Audited.{Finding, Fine, Off, place_of, ran_as}
 use Rattle.txs_theorem_audit.specs.Verdict.{begins, in_books, runs_right, trace_found, traces_found}

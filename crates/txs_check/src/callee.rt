@@ -8,6 +8,7 @@ ghost use Rattle.txs_check.specs.Signatures.{is_pure_call, known_as};
 
 use crate::class::{Signature, signature_of, signatures_of};
 use std::alloc::{AllocError, Global};
+use std::marker::Model;
 use txs_tree_meaning::Program;
 use txs_value_apply::takes;
 use txs_value_base::Callee;
@@ -22,7 +23,72 @@ fn is_pure_function(signatures: &[Signature], number: u16, count: usize) -> bool
     }
 }
 
-/// Whether the callee is pure and takes so many values: what its meaning on values alone rests on.
+/// What is known of a program's functions, found once for many callees. Contracts see it as the program.
+#[derive(Drop)]
+pub struct FunctionTable<'a> {
+    program: &'a Program,
+    signatures: Vec<Signature>,
+}
+
+impl<'a> Model for FunctionTable<'a> {
+    ghost use Rattle.std.specs.Coded.{codes};
+    ghost use Rattle.txs_tree_meaning.specs.View.{Parts};
+    ghost use Rattle.txs_tree_meaning.specs.contracts.node.Node as node;
+    ghost use Rattle.txs_value_data.specs.contracts.value.Value as value;
+
+    ghost Value = { Parts };
+
+    ghost coded = { Prim.hlevel (codes, node.the_row.coded, value.the_row.coded) };
+
+    ghost view = { λ t. t.program.now };
+
+    ghost use Rattle.std.specs.Prelude.{◌≡◌};
+    ghost use Rattle.txs_tree_meaning.specs.Known.{known};
+    ghost use Rattle.txs_tree_meaning.specs.View.{functions_of};
+    ghost use Rattle.txs_check.specs.Signatures.{bare, known_as};
+
+    ghost invariant = { λ t. bare (known_as t.signatures.items) ≡ bare (known (functions_of t.program.now.functions)) };
+}
+
+/// The table of the program's functions.
+///
+/// # Errors
+/// `AllocError` where there was no memory for it.
+pub fn function_table<'a>(
+    alloc: Global,
+    program: &'a Program,
+) -> Result<FunctionTable<'a>, AllocError>
+    ensures { IfOk result (λ t. t ≡ program.now) }
+{
+    let signatures = signatures_of(alloc, program.functions())?;
+    Ok(FunctionTable {
+        program,
+        signatures,
+    })
+}
+
+impl<'a> FunctionTable<'a> {
+    /// The program.
+    pub fn program(&self) -> &'a Program
+        ensures { result.now ≡ self.now }
+    {
+        self.program
+    }
+
+    /// Whether the callee is pure and takes so many values: what its meaning on values alone rests on.
+    pub fn is_pure(&self, callee: Callee, count: usize) -> bool
+        ensures { (result ≡ true) ↔ PureCallee (known (functions_of self.now.functions)) callee count }
+    {
+        match callee {
+            Callee::Core(op) => takes(op, count),
+            Callee::Function(number) => {
+                is_pure_function(self.signatures.as_slice(), number, count)
+            }
+        }
+    }
+}
+
+/// Whether the callee is pure and takes so many values, for one callee alone.
 ///
 /// # Errors
 /// Where there was no memory for what is known of the functions.
@@ -34,11 +100,6 @@ pub fn is_pure_callee(
 ) -> Result<bool, AllocError>
     ensures { IfOk result (λ pure. (pure ≡ true) ↔ PureCallee (known (functions_of program.now.functions)) callee count) }
 {
-    match callee {
-        Callee::Core(op) => Ok(takes(op, count)),
-        Callee::Function(number) => {
-            let signatures = signatures_of(alloc, program.functions())?;
-            Ok(is_pure_function(signatures.as_slice(), number, count))
-        }
-    }
+    let functions = function_table(alloc, program)?;
+    Ok(functions.is_pure(callee, count))
 }

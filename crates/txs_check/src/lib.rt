@@ -14,7 +14,7 @@ pub mod program;
 pub mod size;
 mod walk;
 
-pub use callee::is_pure_callee;
+pub use callee::{FunctionTable, function_table, is_pure_callee};
 pub use error::{CheckError, CheckErrorKind};
 pub use program::check;
 pub use size::nodes_left;

@@ -1,70 +1,95 @@
--- What is told for words that ask for a run.
-use Rattle.std.proofs.Common.{◌≡◌, ℕ, Bool, List, [], Option, String, Global, sym, subst, subst₂}
+-- What is told for requests to run something.
+use Rattle.std.proofs.Common.{◌≡◌, ℕ, Bool, true, false, List, [], Option, String, Global, sym, subst}
 use Rattle.std.specs.Prelude.{string_bytes}
 use Rattle.std.specs.Option.{IfSome}
 use Rattle.txs_code_meaning.specs.PlainCode.{PlainCode}
 use Rattle.txs_machine.specs.declared.run_error.RunError.{RunError}
 use Rattle.txs_cli_report.specs.Lines.{Script}
 use Rattle.txs_cli_report.specs.Told.{Told, ScheduleTells, front}
-use Rattle.txs_cli_report.proofs.Fronts.{some_maps}
-use Rattle.txs_cli_args.specs.declared.words.Words.{Words}
-use Rattle.txs_cli_args.specs.declared.words.Words.TheVariants.{Work, Run, WorkCode, RunCode}
+use Rattle.txs_cli_request.specs.declared.request.Input.{Input}
+use Rattle.txs_cli_request.specs.declared.request.Request.{Request}
+use Rattle.txs_cli_request.specs.declared.request.Request.TheVariants.{Run, Schedule}
+use Rattle.txs_cli_request.specs.declared.request.RunOptions.{RunOptions}
 use Rattle.txs_cli.specs.CodeTold.{BytesScheduleTell}
 use Rattle.txs_cli.specs.CodeWorkersTold.{StreamWorkedCodeTells}
 use Rattle.txs_cli.specs.WorkersTold.{StreamWorkedTells}
-use Rattle.txs_cli.specs.Telling.{WordsTell, WorkedWordsTell, explained_as}
+use Rattle.txs_cli.specs.Telling.{explained_as, PlaysTell, RequestTells, TurnsOfInputTell, TurnsTell, WorkOfInputTells, WorkTells, WorkedRequestTells, audit_workers, wrong_use}
+use Rattle.txs_cli.specs.Audited.{audit_turns}
+use Rattle.txs_cli_audit.specs.declared.answer.NoAnswer.{NoAnswer}
+use Rattle.txs_cli_report.proofs.Fronts.{some_always}
+use Rattle.txs_tree_meaning.specs.View.{Parts}
+use Rattle.txs_world_protocol.specs.declared.report.Report.{Report}
 
 abbrev script_named : List ℕ → Option (List ℕ) → Script
 script_named text file = record { text = text; file = file }
 
--- what a schedule tells is what those words tell
-pub run_told : (known : Option (List ℕ)) (writes : Told → Type 0) (words : Words) (file : Option (String Global)) (turns : String Global) (steps : ℕ) (cells events explain : Bool) (name : Option (List ℕ)) (text : List ℕ)
-    → words ≡ Run file turns steps cells events explain → name ≡ explained_as explain file → text ≡ string_bytes turns
-    → IfSome known (λ input. (t : Told) × ScheduleTells (record { text = front input; file = name }) text steps cells events t × writes t)
-    → IfSome known (λ input. (t : Told) × WordsTell input words t × writes t)
-run_told known writes words file turns steps cells events explain name text is named said h =
-    subst (λ (w : Words). IfSome known (λ input. (t : Told) × WordsTell input w t × writes t)) (sym is)
-    (some_maps known (λ input. (t : Told) × ScheduleTells (script_named (front input) name) text steps cells events t × writes t)
-    (λ input. (t : Told) × WordsTell input (Run file turns steps cells events explain) t × writes t)
-    (λ input told. (told.0, subst₂ (λ (n : Option (List ℕ)) (l : List ℕ). ScheduleTells (script_named (front input) n) l steps cells events told.0) named said told.1, told.2)) h)
+-- what a schedule tells is what is told for the request for it
+pub schedule_told : (known : Option (List ℕ)) (writes : Told → Type 0) (request : Request) (input : Input) (plays : String Global) (options : RunOptions) (text : List ℕ)
+    → request ≡ Schedule input plays options → text ≡ string_bytes plays
+    → IfSome known (λ bytes. (t : Told) × TurnsTell options.audit bytes input text options t × writes t)
+    → IfSome known (λ bytes. (t : Told) × RequestTells bytes request t × writes t)
+schedule_told known writes request input plays options text is said h =
+    subst (λ (r : Request). IfSome known (λ bytes. (t : Told) × RequestTells bytes r t × writes t)) (sym is)
+    (subst (λ (l : List ℕ). IfSome known (λ bytes. (t : Told) × TurnsTell options.audit bytes input l options t × writes t)) said h)
 
--- what a schedule of code tells is what those words tell
-pub run_code_told : (known : Option (List ℕ)) (writes : Told → Type 0) (words : Words) (file : Option (String Global)) (turns : String Global) (steps : ℕ) (cells events : Bool) (text : List ℕ)
-    → words ≡ RunCode file turns steps cells events → text ≡ string_bytes turns
-    → IfSome known (λ input. (t : Told) × BytesScheduleTell input text steps cells events t × writes t)
-    → IfSome known (λ input. (t : Told) × WordsTell input words t × writes t)
-run_code_told known writes words file turns steps cells events text is said h =
-    subst (λ (w : Words). IfSome known (λ input. (t : Told) × WordsTell input w t × writes t)) (sym is)
-    (subst (λ (l : List ℕ). IfSome known (λ input. (t : Told) × BytesScheduleTell input l steps cells events t × writes t)) said h)
+-- what a schedule without plays tells is what is told for a request for workers, where there are none
+pub run_told : (known : Option (List ℕ)) (writes : Told → Type 0) (request : Request) (input : Input) (workers : ℕ) (options : RunOptions)
+    → request ≡ Run input workers options
+    → IfSome known (λ bytes. (t : Told) × TurnsTell options.audit bytes input [] options t × writes t)
+    → IfSome known (λ bytes. (t : Told) × RequestTells bytes request t × writes t)
+run_told known writes request input workers options is h = subst (λ (r : Request). IfSome known (λ bytes. (t : Told) × RequestTells bytes r t × writes t)) (sym is) h
 
--- what a schedule without plays tells is what words tell that ask for workers, where there are none
-pub work_told : (known : Option (List ℕ)) (writes : Told → Type 0) (words : Words) (file : Option (String Global)) (workers steps : ℕ) (cells events explain : Bool) (name : Option (List ℕ))
-    → words ≡ Work file workers steps cells events explain → name ≡ explained_as explain file
-    → IfSome known (λ input. (t : Told) × ScheduleTells (record { text = front input; file = name }) [] steps cells events t × writes t)
-    → IfSome known (λ input. (t : Told) × WordsTell input words t × writes t)
-work_told known writes words file workers steps cells events explain name is named h =
-    subst (λ (w : Words). IfSome known (λ input. (t : Told) × WordsTell input w t × writes t)) (sym is)
-    (subst (λ (n : Option (List ℕ)). IfSome known (λ input. (t : Told) × ScheduleTells (script_named (front input) n) [] steps cells events t × writes t)) named h)
+-- what is told of a run by workers is what is told for the request for it
+pub worked_told : (failed : PlainCode → ℕ → ℕ → RunError → Type 0) (unaudited : Parts → Report → ℕ → ℕ → NoAnswer → Type 0) (known : Option (List ℕ)) (writes : Told → Type 0) (request : Request) (input : Input) (workers : ℕ) (options : RunOptions)
+    → request ≡ Run input workers options
+    → IfSome known (λ bytes. (t : Told) × WorkTells (λ code. failed code workers options.steps) (λ p r e. unaudited p r (audit_turns options.steps) workers e) options.audit bytes input options t × writes t)
+    → IfSome known (λ bytes. (t : Told) × WorkedRequestTells failed unaudited bytes request t × writes t)
+worked_told failed unaudited known writes request input workers options is h = subst (λ (r : Request). IfSome known (λ bytes. (t : Told) × WorkedRequestTells failed unaudited bytes r t × writes t)) (sym is) h
 
--- the same of code
-pub work_code_told : (known : Option (List ℕ)) (writes : Told → Type 0) (words : Words) (file : Option (String Global)) (workers steps : ℕ) (cells events : Bool)
-    → words ≡ WorkCode file workers steps cells events
-    → IfSome known (λ input. (t : Told) × BytesScheduleTell input [] steps cells events t × writes t)
-    → IfSome known (λ input. (t : Told) × WordsTell input words t × writes t)
-work_code_told known writes words file workers steps cells events is h = subst (λ (w : Words). IfSome known (λ input. (t : Told) × WordsTell input w t × writes t)) (sym is) h
+-- what is told of a run by a schedule is what is told for the request for it, also with one who audits
+pub played_told : (failed : PlainCode → ℕ → ℕ → RunError → Type 0) (unaudited : Parts → Report → ℕ → ℕ → NoAnswer → Type 0) (known : Option (List ℕ)) (writes : Told → Type 0) (request : Request) (input : Input) (plays : String Global) (options : RunOptions) (text : List ℕ)
+    → request ≡ Schedule input plays options → text ≡ string_bytes plays
+    → IfSome known (λ bytes. (t : Told) × PlaysTell (λ p r e. unaudited p r (audit_turns options.steps) audit_workers e) options.audit bytes input text options t × writes t)
+    → IfSome known (λ bytes. (t : Told) × WorkedRequestTells failed unaudited bytes request t × writes t)
+played_told failed unaudited known writes request input plays options text is said h =
+    subst (λ (r : Request). IfSome known (λ bytes. (t : Told) × WorkedRequestTells failed unaudited bytes r t × writes t)) (sym is)
+    (subst (λ (l : List ℕ). IfSome known (λ bytes. (t : Told) × PlaysTell (λ p r e. unaudited p r (audit_turns options.steps) audit_workers e) options.audit bytes input l options t × writes t)) said h)
 
--- what is told of a script's run by workers is what those words tell
-pub worked_told : (failed : PlainCode → ℕ → ℕ → RunError → Type 0) (known : Option (List ℕ)) (writes : Told → Type 0) (words : Words) (file : Option (String Global)) (workers steps : ℕ) (cells events explain : Bool) (name : Option (List ℕ))
-    → words ≡ Work file workers steps cells events explain → name ≡ explained_as explain file
-    → IfSome known (λ input. (t : Told) × StreamWorkedTells (λ code. failed code workers steps) (record { text = front input; file = name }) steps cells events t × writes t)
-    → IfSome known (λ input. (t : Told) × WorkedWordsTell failed input words t × writes t)
-worked_told failed known writes words file workers steps cells events explain name is named h =
-    subst (λ (w : Words). IfSome known (λ input. (t : Told) × WorkedWordsTell failed input w t × writes t)) (sym is)
-    (subst (λ (n : Option (List ℕ)). IfSome known (λ input. (t : Told) × StreamWorkedTells (λ code. failed code workers steps) (script_named (front input) n) steps cells events t × writes t)) named h)
+-- ---- what is told where something is asked for, or isn't
 
--- the same of code
-pub worked_code_told : (failed : PlainCode → ℕ → ℕ → RunError → Type 0) (known : Option (List ℕ)) (writes : Told → Type 0) (words : Words) (file : Option (String Global)) (workers steps : ℕ) (cells events : Bool)
-    → words ≡ WorkCode file workers steps cells events
-    → IfSome known (λ input. (t : Told) × StreamWorkedCodeTells (λ code. failed code workers steps) input steps cells events t × writes t)
-    → IfSome known (λ input. (t : Told) × WorkedWordsTell failed input words t × writes t)
-worked_code_told failed known writes words file workers steps cells events is h = subst (λ (w : Words). IfSome known (λ input. (t : Told) × WorkedWordsTell failed input w t × writes t)) (sym is) h
+-- where it is asked for
+pub where_asked : (known : Option (List ℕ)) (tells : Bool → List ℕ → Told → Type 0) (writes : Told → Type 0) (b : Bool) → b ≡ true
+    → IfSome known (λ bytes. (t : Told) × tells true bytes t × writes t) → IfSome known (λ bytes. (t : Told) × tells b bytes t × writes t)
+where_asked known tells writes b is h = subst (λ (x : Bool). IfSome known (λ bytes. (t : Told) × tells x bytes t × writes t)) (sym is) h
+
+-- where it isn't
+pub where_unasked : (known : Option (List ℕ)) (tells : Bool → List ℕ → Told → Type 0) (writes : Told → Type 0) (b : Bool) → b ≡ false
+    → IfSome known (λ bytes. (t : Told) × tells false bytes t × writes t) → IfSome known (λ bytes. (t : Told) × tells b bytes t × writes t)
+where_unasked known tells writes b is h = subst (λ (x : Bool). IfSome known (λ bytes. (t : Told) × tells x bytes t × writes t)) (sym is) h
+
+-- arguments that can't be used are told of, whatever the input is
+pub wrongly_used : (known : Option (List ℕ)) (tells : List ℕ → Told → Type 0) (writes : Told → Type 0) → ((bytes : List ℕ) → tells bytes wrong_use) → writes wrong_use
+    → IfSome known (λ bytes. (t : Told) × tells bytes t × writes t)
+wrongly_used known tells writes so h = some_always known (λ bytes. (t : Told) × tells bytes t × writes t) (λ bytes. (wrong_use, so bytes, h))
+
+-- ---- what is told of an input, which is code or a script
+
+pub turns_of_code : (known : Option (List ℕ)) (writes : Told → Type 0) (code : Bool) (input : Input) (plays : List ℕ) (o : RunOptions) → code ≡ true
+    → IfSome known (λ bytes. (t : Told) × BytesScheduleTell bytes plays o.steps o.cells o.events t × writes t) → IfSome known (λ bytes. (t : Told) × TurnsOfInputTell code bytes input plays o t × writes t)
+turns_of_code known writes code input plays o is h = subst (λ (b : Bool). IfSome known (λ bytes. (t : Told) × TurnsOfInputTell b bytes input plays o t × writes t)) (sym is) h
+
+pub turns_of_script : (known : Option (List ℕ)) (writes : Told → Type 0) (code : Bool) (input : Input) (plays : List ℕ) (o : RunOptions) (name : Option (List ℕ)) → code ≡ false → name ≡ explained_as input.explain input.file
+    → IfSome known (λ bytes. (t : Told) × ScheduleTells (record { text = front bytes; file = name }) plays o.steps o.cells o.events t × writes t) → IfSome known (λ bytes. (t : Told) × TurnsOfInputTell code bytes input plays o t × writes t)
+turns_of_script known writes code input plays o name is named h =
+    subst (λ (b : Bool). IfSome known (λ bytes. (t : Told) × TurnsOfInputTell b bytes input plays o t × writes t)) (sym is)
+    (subst (λ (n : Option (List ℕ)). IfSome known (λ bytes. (t : Told) × ScheduleTells (script_named (front bytes) n) plays o.steps o.cells o.events t × writes t)) named h)
+
+pub work_of_code : (failed : PlainCode → RunError → Type 0) (known : Option (List ℕ)) (writes : Told → Type 0) (code : Bool) (input : Input) (o : RunOptions) → code ≡ true
+    → IfSome known (λ bytes. (t : Told) × StreamWorkedCodeTells failed bytes o.steps o.cells o.events t × writes t) → IfSome known (λ bytes. (t : Told) × WorkOfInputTells failed code bytes input o t × writes t)
+work_of_code failed known writes code input o is h = subst (λ (b : Bool). IfSome known (λ bytes. (t : Told) × WorkOfInputTells failed b bytes input o t × writes t)) (sym is) h
+
+pub work_of_script : (failed : PlainCode → RunError → Type 0) (known : Option (List ℕ)) (writes : Told → Type 0) (code : Bool) (input : Input) (o : RunOptions) (name : Option (List ℕ)) → code ≡ false → name ≡ explained_as input.explain input.file
+    → IfSome known (λ bytes. (t : Told) × StreamWorkedTells failed (record { text = front bytes; file = name }) o.steps o.cells o.events t × writes t) → IfSome known (λ bytes. (t : Told) × WorkOfInputTells failed code bytes input o t × writes t)
+work_of_script failed known writes code input o name is named h =
+    subst (λ (b : Bool). IfSome known (λ bytes. (t : Told) × WorkOfInputTells failed b bytes input o t × writes t)) (sym is)
+    (subst (λ (n : Option (List ℕ)). IfSome known (λ bytes. (t : Told) × StreamWorkedTells failed (script_named (front bytes) n) o.steps o.cells o.events t × writes t)) named h)

@@ -1,10 +1,15 @@
 -- Why a run has no report.
-use Rattle.std.proofs.Common.{◌≡◌, ◌≢◌, ℕ, Global, Result, Ok, Err, IfErr, refl, subst, sym}
+use Rattle.std.proofs.Common.{◌≡◌, ◌≢◌, ℕ, false, List, Global, Result, Ok, Err, IfErr, refl, subst, sym}
 use Rattle.std.specs.Borrow.{Bor}
 use Rattle.txs_code_meaning.specs.PlainCode.{PlainCode}
 use Rattle.txs_machine.specs.declared.run_error.RunError.{RunError}
 use Rattle.txs_machine.specs.declared.run_error.RunError.TheVariants.{JournalMismatch, NoThread, Memory}
+use Rattle.txs_machine.specs.Agents.{actors_of}
+use Rattle.txs_machine.specs.Schedule.{HasNoReport, all_named}
 use Rattle.txs_machine.specs.declared.schedule.Entries.{Entries}
+use Rattle.txs_machine.specs.declared.schedule.Play.{Play}
+use Rattle.txs_machine.specs.declared.schedule.ScheduleError.{ScheduleError}
+use Rattle.txs_machine.specs.declared.schedule.ScheduleError.TheVariants as schedule
 use Rattle.txs_world_shared.specs.SharedState.{PlainShared}
 use Rattle.txs_cli.specs.Runner.{FailsAs, HasFailed}
 
@@ -26,3 +31,8 @@ pub failed_so : (failed : RunError → Type 0) (e : RunError) → e ≢ Memory �
 failed_so failed JournalMismatch told h = h
 failed_so failed NoThread told h = h
 failed_so failed Memory told h = absurd (told refl)
+
+-- a schedule that wasn't run since a play names no actor
+pub unnamed_so : (code : PlainCode) (plays : List Play) (before after : PlainShared) (e : ScheduleError) → HasNoReport code plays before after e → e ≡ schedule.NoActor → all_named (actors_of code) plays ≡ false
+unnamed_so code plays before after schedule.NoActor h is = h.0
+unnamed_so code plays before after schedule.Memory h is = absurd cc

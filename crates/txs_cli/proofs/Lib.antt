@@ -1,4 +1,5 @@
 pub mod Answered
+pub mod Audits
 pub mod Failing
 pub mod FormStream
 pub mod Ran

@@ -3,10 +3,12 @@ use Rattle.std.proofs.Common.{◌≡◌, ◌++◌, ◌∙◌, ℕ, Bool, List, a
 use Rattle.txs_code_meaning.specs.PlainCode.{PlainCode}
 use Rattle.txs_code_load.specs.Load.{IsFormOf}
 use Rattle.txs_machine.specs.declared.run_error.RunError.{RunError}
+use Rattle.txs_machine.specs.declared.schedule.Play.{Play}
 use Rattle.txs_world_shared.specs.SharedState.{numbered_book}
 use Rattle.txs_cli_report.specs.Lines.{Script, all_printed}
-use Rattle.txs_cli_report.specs.Told.{Told, EndsTold, IsCompiled, cells_told, events_told}
-use Rattle.txs_cli.specs.CodeTold.{no_script}
+use Rattle.txs_cli_report.specs.Told.{Told, EndsTold, IsCompiled, RunTells, TurnsTell, cells_told, events_told, of_none, of_turns}
+use Rattle.txs_cli.specs.CodeTold as turns_told
+use Rattle.txs_cli.specs.CodeTold.{CodeTells, Ran, no_script}
 use Rattle.txs_cli.specs.CodeWorkersTold as code_told
 use Rattle.txs_cli.specs.CodeWorkersTold.{WorkedCodeTells}
 use Rattle.txs_cli.specs.RunTold.{RunTold, of_failure, of_report}
@@ -45,3 +47,10 @@ of_bytes failed bytes code script steps cells events t of none (of_report shared
       status = told.status;
     })
 of_bytes failed bytes code script steps cells events t of none (of_failure failure so told) = code_told.of_failure code of failure so told.told told.output told.errors told.status
+
+-- of bytes, whose code runs by turns, and of which no line is explained
+pub code_by_turns : (bytes : List ℕ) (code : PlainCode) (script : Script) (plays : List Play) (steps : ℕ) (cells events : Bool) (t : Told)
+    → IsFormOf bytes code → script ≡ no_script → TurnsTell code script plays steps cells events t → CodeTells bytes t (Ran plays steps cells events)
+code_by_turns bytes code script plays steps cells events t of none (of_turns s state named told) =
+    turns_told.of_run plays steps cells events told.ran code s of state named (subst (λ (x : Script). RunTells code x steps s told.ran) none told.told) told.output told.errors told.status
+code_by_turns bytes code script plays steps cells events t of none (of_none unnamed output errors status) = turns_told.of_no_actor plays steps cells events code of unnamed output errors status

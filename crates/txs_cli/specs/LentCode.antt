@@ -7,4 +7,4 @@ use Rattle.txs_cli.specs.declared.usage.CodeUse.TheVariants as lent
 -- as plain data
 abbrev pub code_wanted_of : CodeUse → CodeWanted
 code_wanted_of lent.Listing = Listed
-code_wanted_of (lent.Run plays steps cells events) = Ran (spread plays.now) steps cells events
+code_wanted_of (lent.Run plays options) = Ran (spread plays.now) options.steps options.cells options.events

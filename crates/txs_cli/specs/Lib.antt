@@ -1,3 +1,4 @@
+pub mod Audited
 pub mod CodeStream
 pub mod CodeTold
 pub mod CodeWorkersTold

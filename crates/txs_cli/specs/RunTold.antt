@@ -5,17 +5,10 @@ use Rattle.txs_machine.specs.ErrorName.{error_name}
 use Rattle.txs_machine.specs.declared.run_error.RunError.{RunError}
 use Rattle.txs_machine.specs.declared.run_error.RunError.TheVariants.{Memory}
 use Rattle.txs_machine.specs.declared.schedule.Entries.{Entries}
-use Rattle.txs_world_shared.specs.SharedState.{PlainShared, numbered_book}
-use Rattle.txs_cli_report.specs.Lines.{Script, all_printed}
-use Rattle.txs_cli_report.specs.Told.{Told, EndsTold, run_status, cells_told, events_told}
+use Rattle.txs_world_shared.specs.SharedState.{PlainShared}
+use Rattle.txs_cli_report.specs.Lines.{Script}
+use Rattle.txs_cli_report.specs.Told.{Told, ReportTells}
 use Rattle.txs_cli.specs.Runner.{IsWorked}
-
--- What a run that leaves what its actors share so, and that has this report, tells: what the threads printed, how each ended, which agents have failed and whose
--- actors were stopped, with the highest status; and behind it the cells and the events, where they are wanted.
-pub record ReportTells (code : PlainCode) (script : Script) (shared : PlainShared) (report : Entries) (cells events : Bool) (t : Told) : Type 0 where
-  pub output : t.output ≡ (all_printed report.threads.items ++ cells_told cells code.cells shared) ++ events_told events (numbered_book shared 0)
-  pub errors : EndsTold code.cells script shared report.threads.items report.agents.items t.errors
-  pub status : t.status ≡ run_status code.cells shared report.threads.items report.agents.items
 
 -- What is told of a run that has no report: why, which isn't want of memory.
 pub record FailureTells (failure : RunError) (t : Told) : Type 0 where

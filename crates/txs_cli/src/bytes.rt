@@ -8,9 +8,10 @@ ghost use Rattle.txs_cli_report.specs.Told.{Told as PlainTold, Written};
 use crate::code::work_code;
 use crate::form_stream::read_form;
 use crate::script::Working;
-use crate::workers_play::{unread, write_answer};
+use crate::workers_play::unread;
 use std::alloc::Global;
 use std::io::{Read, Write};
+use txs_cli_report::write_answer;
 use txs_code_meaning::Verified;
 use txs_machine::{Entries, RunError};
 use txs_world_shared::SharedState;
@@ -26,7 +27,7 @@ pub(crate) fn play_code_workers<
 >(alloc: Global, runner: &X, working: Working, reader: &mut R, writer: &mut W, faults: &mut F) -> u8
     requires call { (a : _) (code : _) (n : _) (steps : _) → IsRunnable code.now → X.pre runner.now a code n steps }
     requires ran { (a : _) (code : _) (n : _) (steps : _) (r : _) → X.post runner.now a code n steps r → RunsLawfully code.now steps r }
-    ensures { IfSome (R.remaining reader.old) (λ input. (t : PlainTold) × StreamWorkedCodeTells (λ code. HasFailed (X.post runner.now) code working.workers working.steps) input working.steps working.cells working.events t
+    ensures { IfSome (R.remaining reader.old) (λ input. (t : PlainTold) × StreamWorkedCodeTells (λ code. HasFailed (X.post runner.now) code working.workers working.options.steps) input working.options.steps working.options.cells working.options.events t
         × Written (W.contents writer.old) (W.contents writer.new) (F.contents faults.old) (F.contents faults.new) t result) }
 {
     match read_form(alloc, reader) {

@@ -22,7 +22,7 @@ pub(crate) fn work_code<
 >(alloc: Global, runner: &X, bytes: &[u8], working: Working) -> Result<Told, AllocError>
     requires call { (a : _) (code : _) (n : _) (steps : _) → IsRunnable code.now → X.pre runner.now a code n steps }
     requires ran { (a : _) (code : _) (n : _) (steps : _) (r : _) → X.post runner.now a code n steps r → RunsLawfully code.now steps r }
-    ensures { IfOk result (λ t. WorkedCodeTells (λ code. HasFailed (X.post runner.now) code working.workers working.steps) bytes.now working.steps working.cells working.events (told_of t)) }
+    ensures { IfOk result (λ t. WorkedCodeTells (λ code. HasFailed (X.post runner.now) code working.workers working.options.steps) bytes.now working.options.steps working.options.cells working.options.events (told_of t)) }
 {
     match load_verified(alloc, bytes) {
         Ok(code) => run_told(alloc, runner, no_script(), &code, working),

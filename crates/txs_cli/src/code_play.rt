@@ -7,9 +7,10 @@ ghost use Rattle.txs_cli_report.specs.Told.{Told as PlainTold, Written};
 
 use crate::form_stream::read_form;
 use crate::usage::{CodeUse, use_code};
-use crate::workers_play::{unread, write_answer};
+use crate::workers_play::unread;
 use std::alloc::Global;
 use std::io::{Read, Write};
+use txs_cli_report::write_answer;
 
 /// Does with the code whose byte form the reader has what is wanted, and writes what is told of it. Answers the status: 0 where all ended,
 /// 1 for bytes that are refused, 2 for a play that names no actor or a stream that couldn't be read or written, 3 for a thread or an agent that failed,

@@ -1,9 +1,11 @@
 //! The program over any streams: `play` takes the words of the command line and a script, and writes what
 //! a run, a check, a listing or a refusal tells, or the text of help or of a usage fault. `play_with` is handed in
-//! how workers run: this crate starts nothing and waits for nobody.
+//! how workers run, and how a report is audited: this crate starts nothing and waits for nobody.
 #![tactic(auto)]
 
 mod alone;
+mod audited;
+mod audited_stream;
 mod bytes;
 mod code;
 mod code_play;
@@ -18,5 +20,7 @@ pub mod workers;
 mod workers_play;
 
 pub use program::{play, play_words};
-pub use txs_cli_args::{Words, parse_words};
+pub use txs_cli_args::parse_words;
+pub use txs_cli_audit::{Answer, EventAt, NoAnswer};
+pub use txs_cli_request::{Input, Request, RunOptions};
 pub use workers::play_with;

@@ -14,30 +14,27 @@ use txs_cli_plays::{ListError, read_plays};
 use txs_cli_report::schedule::refuse_list;
 use txs_cli_report::told::SPENT;
 use txs_cli_report::write_told;
+use txs_cli_request::RunOptions;
 
 /// Runs the code whose byte form the reader has by a list of plays and then in rounds, and writes what is told of it, as `play_code` does.
 /// A list that isn't one is told of before anything is read, with status 2.
 pub(crate) fn schedule_code<R: Read, W: Write, F: Write>(
     alloc: Global,
     turns: &str,
-    steps: u64,
-    cells: bool,
-    events: bool,
+    options: RunOptions,
     reader: &mut R,
     writer: &mut W,
     faults: &mut F,
 ) -> u8
     ensures unread { IsErr (plays_in turns.now) → Keeps (R.remaining reader.old) (R.remaining reader.new) }
-    ensures told { IfSome (R.remaining reader.old) (λ input. (t : PlainTold) × BytesScheduleTell input turns.now steps cells events t
+    ensures told { IfSome (R.remaining reader.old) (λ input. (t : PlainTold) × BytesScheduleTell input turns.now options.steps options.cells options.events t
         × Written (W.contents writer.old) (W.contents writer.new) (F.contents faults.old) (F.contents faults.new) t result) }
 {
     match read_plays(alloc, turns) {
         Ok(plays) => {
             let wanted = CodeUse::Run {
                 plays: plays.as_slice(),
-                steps,
-                cells,
-                events,
+                options,
             };
             play_code(alloc, wanted, reader, writer, faults)
         }

@@ -9,18 +9,17 @@ use crate::run::run_told;
 use std::alloc::{AllocError, Global};
 use txs_cli_report::explain::Script;
 use txs_cli_report::told::{Told, refused};
+use txs_cli_request::RunOptions;
 use txs_code_meaning::Verified;
 use txs_compile::compile;
 use txs_machine::{Entries, RunError};
 use txs_world_shared::SharedState;
 
-/// How the program tells of a run by workers.
+/// A run by so many workers.
 #[derive(Clone, Copy)]
 pub(crate) struct Working {
     pub(crate) workers: usize,
-    pub(crate) steps: u64,
-    pub(crate) cells: bool,
-    pub(crate) events: bool,
+    pub(crate) options: RunOptions,
 }
 
 /// Runs the script's threads and agents by workers, and tells of its cells and events where they are wanted.
@@ -29,7 +28,7 @@ pub(crate) fn work_script<
 >(alloc: Global, runner: &X, script: Script<'_>, working: Working) -> Result<Told, AllocError>
     requires call { (a : _) (code : _) (n : _) (steps : _) → IsRunnable code.now → X.pre runner.now a code n steps }
     requires ran { (a : _) (code : _) (n : _) (steps : _) (r : _) → X.post runner.now a code n steps r → RunsLawfully code.now steps r }
-    ensures { IfOk result (λ t. WorkedTells (λ code. HasFailed (X.post runner.now) code working.workers working.steps) (script_of script.entry) working.steps working.cells working.events (told_of t)) }
+    ensures { IfOk result (λ t. WorkedTells (λ code. HasFailed (X.post runner.now) code working.workers working.options.steps) (script_of script.entry) working.options.steps working.options.cells working.options.events (told_of t)) }
 {
     match compile(alloc, script.text) {
         Ok(compiled) => run_told(alloc, runner, script, &compiled.1, working),

@@ -3,7 +3,7 @@
 ghost use Rattle.std.specs.Prelude.{◌≡◌, ◌++◌, [], codes, IfOk, IfSome};
 ghost use Rattle.txs_cli.specs.Runner.{HasFailed, IsRunnable, RunsLawfully};
 ghost use Rattle.txs_cli.specs.WorkersTold.{StreamWorkedTells};
-ghost use Rattle.txs_cli_report.specs.Lent.{answer_of, text_in};
+ghost use Rattle.txs_cli_report.specs.Lent.{text_in};
 ghost use Rattle.txs_cli_report.specs.Told.{Told as PlainTold, Written, front};
 
 use crate::script::{Working, work_script};
@@ -11,8 +11,8 @@ use std::alloc::{AllocError, Global};
 use std::io::{Read, Write};
 use txs_cli_report::explain::Script;
 use txs_cli_report::streams::{ReadFault, read_bytes};
-use txs_cli_report::told::{SPENT, Told, UNUSABLE, complaint};
-use txs_cli_report::write_told;
+use txs_cli_report::told::{Told, UNUSABLE, complaint};
+use txs_cli_report::write_answer;
 use txs_code_meaning::Verified;
 use txs_machine::{Entries, RunError};
 use txs_world_shared::SharedState;
@@ -24,26 +24,6 @@ pub(crate) fn unread(alloc: Global, fault: ReadFault) -> Result<Told, AllocError
     match fault {
         ReadFault::Failed => complaint(alloc, UNUSABLE, "read failed"),
         ReadFault::Memory => Err(AllocError),
-    }
-}
-
-/// Writes what is told, or that there was no memory for it. Answers the status.
-pub(crate) fn write_answer<W: Write, F: Write>(
-    told: Result<Told, AllocError>,
-    writer: &mut W,
-    faults: &mut F,
-) -> u8
-    ensures { Written (W.contents writer.old) (W.contents writer.new) (F.contents faults.old) (F.contents faults.new) (answer_of told) result }
-{
-    match told {
-        Ok(told) => write_told(
-            told.output.as_slice(),
-            told.errors.as_slice(),
-            told.status,
-            writer,
-            faults,
-        ),
-        Err(_) => write_told(&[], b"out of memory\n", SPENT, writer, faults),
     }
 }
 
@@ -66,7 +46,7 @@ pub(crate) fn play_workers<
 ) -> u8
     requires call { (a : _) (code : _) (n : _) (steps : _) → IsRunnable code.now → X.pre runner.now a code n steps }
     requires ran { (a : _) (code : _) (n : _) (steps : _) (r : _) → X.post runner.now a code n steps r → RunsLawfully code.now steps r }
-    ensures { IfSome (R.remaining reader.old) (λ input. (t : PlainTold) × StreamWorkedTells (λ code. HasFailed (X.post runner.now) code working.workers working.steps) (record { text = front input; file = text_in file.entry }) working.steps working.cells working.events t
+    ensures { IfSome (R.remaining reader.old) (λ input. (t : PlainTold) × StreamWorkedTells (λ code. HasFailed (X.post runner.now) code working.workers working.options.steps) (record { text = front input; file = text_in file.entry }) working.options.steps working.options.cells working.options.events t
         × Written (W.contents writer.old) (W.contents writer.new) (F.contents faults.old) (F.contents faults.new) t result) }
 {
     match read_bytes(alloc, reader) {

@@ -3,4 +3,4 @@
 
 pub mod words;
 
-pub use words::{Words, parse_words};
+pub use words::parse_words;

@@ -3,6 +3,7 @@
 use clap::error::ErrorKind;
 use clap::{Arg, ArgAction, ArgMatches, Command, Error, value_parser};
 use std::alloc::{AllocError, Global};
+use txs_cli_request::{Input, Request, RunOptions};
 
 /// How many steps an actor makes at most, where the words don't say it.
 const DEFAULT_STEPS: u64 = 100_000_000;
@@ -19,73 +20,7 @@ const STATUSES: &str = "Statuses, of which the highest that applies counts:
   1  the script or the code is refused
   2  the arguments can't be used, or a file or a stream can't be read or written
   3  a thread or an agent failed
-  4  steps, memory or the journal didn't suffice";
-
-/// What the words ask for.
-#[derive(Drop)]
-pub enum Words {
-    /// To check a script: its file, where it is named, and whether a refusal is explained.
-    Check {
-        file: Option<String>,
-        explain: bool,
-    },
-    /// To list the code that a script compiles to: its file, where it is named, and whether a refusal is explained.
-    Listing {
-        file: Option<String>,
-        explain: bool,
-    },
-    /// To write the code that a script compiles to, in its byte form: the script's file, where it is named, the file that is written,
-    /// and whether a refusal is explained.
-    Build {
-        file: Option<String>,
-        out: String,
-        explain: bool,
-    },
-    /// To run a script by workers: its file, where it is named, how many workers there are, how many steps an actor makes at most, whether
-    /// the cells and the events are printed, and whether refusals, faults and stops are explained.
-    Work {
-        file: Option<String>,
-        workers: u64,
-        steps: u64,
-        cells: bool,
-        events: bool,
-        explain: bool,
-    },
-    /// To run a script by a schedule: its file, where it is named, the list of plays that come before the rounds, and the rest as for
-    /// workers.
-    Run {
-        file: Option<String>,
-        turns: String,
-        steps: u64,
-        cells: bool,
-        events: bool,
-        explain: bool,
-    },
-    /// To list code: the file of its byte form, where it is named.
-    ListCode {
-        file: Option<String>,
-    },
-    /// To run code by workers: the file of its byte form, where it is named, and the rest as for a script.
-    WorkCode {
-        file: Option<String>,
-        workers: u64,
-        steps: u64,
-        cells: bool,
-        events: bool,
-    },
-    /// To run code by a schedule: the file of its byte form, where it is named, and the rest as for a script.
-    RunCode {
-        file: Option<String>,
-        turns: String,
-        steps: u64,
-        cells: bool,
-        events: bool,
-    },
-    /// A text for the standard output.
-    Shown(String),
-    /// A text for the standard error, for a usage fault.
-    Faulty(String),
-}
+  4  steps, memory or the journal didn't suffice, or an audit differs";
 
 /// How an option is written, and what it takes.
 enum Kind {
@@ -93,8 +28,8 @@ enum Kind {
     File,
     /// A flag: it is there or isn't.
     Flag,
-    /// A flag beside which nothing is explained.
-    Code,
+    /// A flag that excludes this other one.
+    Without(&'static str),
     /// A text.
     Text,
     /// The name of a file, which has to be there.
@@ -120,7 +55,7 @@ const EXPLAIN: Opt = (
 const CODE: Opt = (
     "code",
     "Takes the byte form of code, as `build` writes it; not with --explain",
-    Kind::Code,
+    Kind::Without("explain"),
 );
 
 /// The option of which file is written.
@@ -161,6 +96,13 @@ const CELLS: Opt = (
 /// The flag by which a command prints the events.
 const EVENTS: Opt = ("events", "Prints each event of the journal", Kind::Flag);
 
+/// The flag by which a run is checked against its script.
+const AUDIT: Opt = (
+    "audit",
+    "Checks the report of the run against the script, and prints what that gives; not with --code",
+    Kind::Without("code"),
+);
+
 /// A command: its name, what it does, and its options.
 type Row = (&'static str, &'static str, &'static [Opt]);
 
@@ -180,12 +122,12 @@ static COMMANDS: [Row; 5] = [
     (
         "run",
         "Runs a script",
-        &[WORKERS, STEPS, CELLS, EVENTS, CODE, EXPLAIN, FILE],
+        &[WORKERS, STEPS, CELLS, EVENTS, AUDIT, CODE, EXPLAIN, FILE],
     ),
     (
         "schedule",
         "Runs a script by a schedule",
-        &[TURNS, STEPS, CELLS, EVENTS, CODE, EXPLAIN, FILE],
+        &[TURNS, STEPS, CELLS, EVENTS, AUDIT, CODE, EXPLAIN, FILE],
     ),
 ];
 
@@ -198,7 +140,7 @@ fn option<'a>(alloc: Global, of: &Opt) -> Result<Arg<'a>, AllocError> {
     let arg = arg.long(of.0);
     match of.2 {
         Kind::Flag => Ok(arg.action(ArgAction::SetTrue)),
-        Kind::Code => arg.action(ArgAction::SetTrue).conflicts_with("explain"),
+        Kind::Without(other) => arg.action(ArgAction::SetTrue).conflicts_with(other),
         Kind::Out => Ok(arg.value_name("F").required(true)),
         Kind::Number(most) => Ok(arg.value_parser(value_parser!(u64).range(1..=most))),
         _ => Ok(arg),
@@ -240,89 +182,54 @@ fn command<'a>(alloc: Global) -> Result<Command<'a>, AllocError> {
         .bin_name("txs")
 }
 
-/// What a command's words ask for of code, with their file and the text of `--turns`.
-fn of_code(name: &str, words: &ArgMatches<'_>, file: Option<String>, turns: String) -> Words {
-    let steps = words.get_one::<u64>("steps").unwrap_or(DEFAULT_STEPS);
-    let cells = words.get_flag("cells");
-    let events = words.get_flag("events");
-    if name == "schedule" {
-        return Words::RunCode {
-            file,
-            turns,
-            steps,
-            cells,
-            events,
-        };
-    }
-    drop(turns);
-    if name == "dis" {
-        return Words::ListCode { file };
-    }
-    Words::WorkCode {
-        file,
-        workers: words.get_one::<u64>("workers").unwrap_or(DEFAULT_WORKERS),
-        steps,
-        cells,
-        events,
+/// What a run is told beside its input, by the words of its command.
+fn options_of(words: &ArgMatches<'_>) -> RunOptions {
+    RunOptions {
+        steps: words.get_one::<u64>("steps").unwrap_or(DEFAULT_STEPS),
+        cells: words.get_flag("cells"),
+        events: words.get_flag("events"),
+        audit: words.get_flag("audit"),
     }
 }
 
-/// What the words of a command that runs a script ask for, with their file and the text of `--turns`.
-fn of_run(name: &str, words: &ArgMatches<'_>, file: Option<String>, turns: String) -> Words {
-    let steps = words.get_one::<u64>("steps").unwrap_or(DEFAULT_STEPS);
-    let cells = words.get_flag("cells");
-    let events = words.get_flag("events");
-    let explain = words.get_flag("explain");
+/// What the words of a command that runs something ask for, with its input and the text of `--turns`.
+fn run_of(name: &str, words: &ArgMatches<'_>, input: Input, plays: String) -> Request {
+    let options = options_of(words);
     if name == "schedule" {
-        return Words::Run {
-            file,
-            turns,
-            steps,
-            cells,
-            events,
-            explain,
+        return Request::Schedule {
+            input,
+            plays,
+            options,
         };
     }
-    drop(turns);
-    Words::Work {
-        file,
+    drop(plays);
+    Request::Run {
+        input,
         workers: words.get_one::<u64>("workers").unwrap_or(DEFAULT_WORKERS),
-        steps,
-        cells,
-        events,
-        explain,
+        options,
     }
 }
 
-/// What a command's words ask for, with their file and the text of `--turns` or `--out`. An option that the command lacks reads as one that
-/// isn't there.
-fn words_of(name: &str, words: &ArgMatches<'_>, file: Option<String>, text: String) -> Words {
-    if words.get_flag("code") {
-        return of_code(name, words, file, text);
-    }
-    let explain = words.get_flag("explain");
+/// What a command's words ask for, with its input and the text of `--turns` or `--out`.
+fn request_of(name: &str, words: &ArgMatches<'_>, input: Input, text: String) -> Request {
     if name == "build" {
-        return Words::Build {
-            file,
-            out: text,
-            explain,
-        };
+        return Request::Build { input, out: text };
     }
     if name == "check" {
         drop(text);
-        return Words::Check { file, explain };
+        return Request::Check { input };
     }
     if name == "dis" {
         drop(text);
-        return Words::Listing { file, explain };
+        return Request::List { input };
     }
-    of_run(name, words, file, text)
+    run_of(name, words, input, text)
 }
 
-/// What the matched words ask for.
-fn asked(alloc: Global, matches: &ArgMatches<'_>) -> Result<Words, AllocError> {
+/// What the matched words ask for. An option that the command lacks reads as one that isn't there.
+fn asked(alloc: Global, matches: &ArgMatches<'_>) -> Result<Request, AllocError> {
     let Some((name, words)) = matches.subcommand() else {
-        return Ok(Words::Faulty(String::new(alloc)));
+        return Ok(Request::Faulty(String::new(alloc)));
     };
     let option = if name == "build" { "out" } else { "turns" };
     let text = String::from_str(alloc, words.get_str(option).unwrap_or(""))?;
@@ -330,24 +237,29 @@ fn asked(alloc: Global, matches: &ArgMatches<'_>) -> Result<Words, AllocError> {
         Some(name) => Some(String::from_str(alloc, name)?),
         None => None,
     };
-    Ok(words_of(name, words, file, text))
+    let input = Input {
+        file,
+        code: words.get_flag("code"),
+        explain: words.get_flag("explain"),
+    };
+    Ok(request_of(name, words, input, text))
 }
 
 /// The text of what isn't run: help, or a usage fault.
-fn told(alloc: Global, error: &Error) -> Result<Words, AllocError> {
+fn told(alloc: Global, error: &Error) -> Result<Request, AllocError> {
     if error.kind() == ErrorKind::OutOfMemory {
         return Err(AllocError);
     }
     let text = format!(in alloc; "{error}")?;
     Ok(if error.use_stderr() {
-        Words::Faulty(text)
+        Request::Faulty(text)
     } else {
-        Words::Shown(text)
+        Request::Shown(text)
     })
 }
 
 /// What the words after the program's name ask for.
-pub fn parse_words(alloc: Global, args: &[String]) -> Result<Words, AllocError> {
+pub fn parse_words(alloc: Global, args: &[String]) -> Result<Request, AllocError> {
     match command(alloc)?.try_get_matches_from(args) {
         Ok(matches) => asked(alloc, &matches),
         Err(error) => told(alloc, &error),

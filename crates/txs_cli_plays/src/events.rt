@@ -10,7 +10,7 @@ use std::alloc::AllocError;
 use txs_world_protocol::{Event, EventKind};
 
 /// The word for what an actor did.
-fn name_of(kind: &EventKind) -> &'static str
+pub fn name_of(kind: &EventKind) -> &'static str
     ensures { result.now ≡ event_name kind.now }
 {
     match kind {

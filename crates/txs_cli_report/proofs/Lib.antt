@@ -4,3 +4,4 @@ pub mod Fronts
 pub mod Lessons
 pub mod OfAgents
 pub mod Threads
+pub mod Turns

@@ -19,6 +19,7 @@ use Rattle.txs_machine.specs.Agents.{actors_of, AgentsAreDone, AreDrained, AreEx
 use Rattle.txs_machine.specs.RunOver.{IsStateOf, books_of}
 use Rattle.txs_machine.specs.RunTheorem.{ExplainsAll}
 use Rattle.txs_machine.specs.Schedule.{AreDone, HaveEnded, IsExplainedBy, all_named}
+use Rattle.txs_machine.specs.declared.schedule.Entries.{Entries}
 use Rattle.txs_machine.specs.declared.schedule.Play.{Play}
 use Rattle.txs_world_protocol.specs.declared.report.Ran.{Ran}
 use Rattle.txs_cli_report.specs.AgentLines.{AreAgentsTold, failure_of, named_from, status_of_agents}
@@ -76,11 +77,6 @@ pub record RunTells (code : PlainCode) (script : Script) (steps : ℕ) (s : Plai
   pub errors : EndsTold code.cells script s rans agents t.errors
   pub status : t.status ≡ run_status code.cells s rans agents
 
--- what a run by these plays comes to: a play names no actor, or what the run tells
-abbrev pub RunAnswers : PlainCode → Script → List Play → ℕ → PlainShared → Option Told → Type 0
-RunAnswers code script plays steps s None = all_named (actors_of code) plays ≡ false
-RunAnswers code script plays steps s (Some t) = (all_named (actors_of code) plays ≡ true) × RunTells code script steps s t
-
 -- the lines of the cells behind a run, where they are wanted: their values after all events of their books
 abbrev pub cells_told : Bool → List CellDefinition → PlainShared → List ℕ
 cells_told false cells s = []
@@ -90,6 +86,34 @@ cells_told true cells s = cell_lines (newest_of s) 0 cells
 abbrev pub events_told : Bool → List Event → List ℕ
 events_told false book = []
 events_told true book = event_lines 0 book
+
+-- What is told of such a run, and behind it of its cells and events, where they are wanted.
+pub record WholeRunTells (code : PlainCode) (script : Script) (steps : ℕ) (cells events : Bool) (s : PlainShared) (t : Told) : Type 0 where
+  pub ran : Told
+  pub told : RunTells code script steps s ran
+  pub output : t.output ≡ (ran.output ++ cells_told cells code.cells s) ++ events_told events (numbered_book s 0)
+  pub errors : t.errors ≡ ran.errors
+  pub status : t.status ≡ ran.status
+
+-- what a run by these plays comes to: a play names no actor, or what the run tells
+abbrev pub RunAnswers : PlainCode → Script → List Play → (steps : ℕ) → (cells events : Bool) → PlainShared → Option Told → Type 0
+RunAnswers code script plays steps cells events s None = all_named (actors_of code) plays ≡ false
+RunAnswers code script plays steps cells events s (Some t) = (all_named (actors_of code) plays ≡ true) × WholeRunTells code script steps cells events s t
+
+-- What is told of code that runs by these plays over a new state, be it a script's or not: what the run tells, or that a play names no actor, and nothing ran.
+pub data TurnsTell (code : PlainCode) (script : Script) (plays : List Play) (steps : ℕ) (cells events : Bool) (t : Told) : Type 0 where
+  of_turns :
+      (s : PlainShared) (of : IsStateOf code s) (named : all_named (actors_of code) plays ≡ true) (told : WholeRunTells code script steps cells events s t) → TurnsTell code script plays steps cells events t
+  of_none :
+      (unnamed : all_named (actors_of code) plays ≡ false)
+      (output : t.output ≡ []) (errors : t.errors ≡ codes "run failed: NoActor" ++ codes "\n") (status : t.status ≡ 2) → TurnsTell code script plays steps cells events t
+
+-- What a run that leaves what its actors share so, and that has this report, tells: what the threads printed, how each ended, which agents have failed and whose
+-- actors were stopped, with the highest status; and behind it the cells and the events, where they are wanted.
+pub record ReportTells (code : PlainCode) (script : Script) (shared : PlainShared) (report : Entries) (cells events : Bool) (t : Told) : Type 0 where
+  pub output : t.output ≡ (all_printed report.threads.items ++ cells_told cells code.cells shared) ++ events_told events (numbered_book shared 0)
+  pub errors : EndsTold code.cells script shared report.threads.items report.agents.items t.errors
+  pub status : t.status ≡ run_status code.cells shared report.threads.items report.agents.items
 
 -- What is told of code that is to be written: its byte form.
 pub record FormTold (code : PlainCode) (t : Told) : Type 0 where

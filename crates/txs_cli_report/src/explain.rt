@@ -28,11 +28,7 @@ pub(crate) fn write_both(out: &mut Vec<u8>, first: &[u8], second: &[u8]) -> Resu
 }
 
 /// Appends a number behind these bytes.
-pub(crate) fn write_number(
-    out: &mut Vec<u8>,
-    before: &[u8],
-    number: usize,
-) -> Result<(), AllocError>
+pub fn write_number(out: &mut Vec<u8>, before: &[u8], number: usize) -> Result<(), AllocError>
     ensures ok { OnOk result (out.new.items ≡ out.old.items ++ (before.now ++ decimal number)) }
     ensures kept { Extends out.old.items out.new.items }
 {

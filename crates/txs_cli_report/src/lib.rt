@@ -11,6 +11,6 @@ pub mod script;
 pub mod streams;
 pub mod told;
 
-pub use play::{play_script, write_told};
+pub use play::{play_script, write_answer, write_told};
 pub use schedule::play_schedule;
 pub use told::Use;

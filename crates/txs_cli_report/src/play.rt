@@ -78,7 +78,7 @@ pub fn write_told<W: Write, F: Write>(
 }
 
 /// Writes what is told, or that there was no memory for it. Answers the status.
-pub(crate) fn write_answer<W: Write, F: Write>(
+pub fn write_answer<W: Write, F: Write>(
     told: Result<Told, AllocError>,
     writer: &mut W,
     faults: &mut F,

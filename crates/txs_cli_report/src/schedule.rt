@@ -12,6 +12,7 @@ use crate::told::{SPENT, Use, wrong_list};
 use std::alloc::Global;
 use std::io::{Read, Write};
 use txs_cli_plays::{ListError, WrongPlay, read_plays};
+use txs_cli_request::RunOptions;
 
 /// The name under which a list of plays is explained, where lines are.
 fn list_name<'a>(file: Option<&str>) -> Option<&'a str>
@@ -49,25 +50,21 @@ pub fn refuse_list<W: Write, F: Write>(
 pub fn play_schedule<R: Read, W: Write, F: Write>(
     alloc: Global,
     turns: &str,
-    steps: u64,
-    cells: bool,
-    events: bool,
+    options: RunOptions,
     file: Option<&str>,
     reader: &mut R,
     writer: &mut W,
     faults: &mut F,
 ) -> u8
     ensures unread { IsErr (plays_in turns.now) → Keeps (R.remaining reader.old) (R.remaining reader.new) }
-    ensures told { IfSome (R.remaining reader.old) (λ input. (t : PlainTold) × ScheduleTells (record { text = front input; file = text_in file.entry }) turns.now steps cells events t
+    ensures told { IfSome (R.remaining reader.old) (λ input. (t : PlainTold) × ScheduleTells (record { text = front input; file = text_in file.entry }) turns.now options.steps options.cells options.events t
         × Written (W.contents writer.old) (W.contents writer.new) (F.contents faults.old) (F.contents faults.new) t result) }
 {
     match read_plays(alloc, turns) {
         Ok(plays) => {
             let wanted = Use::Run {
                 plays: plays.as_slice(),
-                steps,
-                cells,
-                events,
+                options,
             };
             play_script(alloc, wanted, file, reader, writer, faults)
         }

@@ -4,7 +4,7 @@ ghost use Rattle.std.specs.Option.{option_map};
 ghost use Rattle.std.specs.Prelude.{◌≡◌, ◌++◌, ◌≤◌, length, [], true, codes, IfOk, OnErr, OnOk};
 ghost use Rattle.txs_code_decode.specs.CodeForm.{HasForm};
 ghost use Rattle.txs_disasm.specs.Listing.{listing};
-ghost use Rattle.txs_machine.specs.Agents.{actors_of};
+ghost use Rattle.txs_machine.specs.Agents.{actors_of, agents_of};
 ghost use Rattle.txs_machine.specs.RunOver.{IsStateOf};
 ghost use Rattle.txs_machine.specs.Schedule.{all_named, spread};
 ghost use Rattle.txs_theorem_runs.specs.Shared.{untouched};
@@ -12,7 +12,7 @@ ghost use Rattle.txs_world_shared.specs.SharedState.{shared_of, numbered_book};
 ghost use Rattle.txs_cli_report.specs.AgentLines.{named_from};
 ghost use Rattle.txs_cli_report.specs.Lent.{script_of, told_of, wanted_of};
 ghost use Rattle.txs_cli_report.specs.Lines.{all_printed};
-ghost use Rattle.txs_cli_report.specs.Told.{EndsTold, IsCompiled, RunAnswers, ScriptTells, FormTold, Run, cells_told, events_told, run_status};
+ghost use Rattle.txs_cli_report.specs.Told.{EndsTold, IsCompiled, ReportTells, RunAnswers, ScriptTells, TurnsTell, FormTold, cells_told, events_told, run_status};
 ghost use Rattle.txs_tree_meaning.specs.View.{program_of};
 
 use crate::agents::add_agents;
@@ -21,8 +21,9 @@ use crate::explain::Script;
 use crate::told::{Told, UNUSABLE, Use, answer, complaint, of_threads, refused};
 use std::alloc::{AllocError, Global};
 use txs_cli_plays::write_events;
+use txs_cli_request::RunOptions;
 use txs_code_encode::encode;
-use txs_code_meaning::Verified;
+use txs_code_meaning::{Code, Verified};
 use txs_compile::compile;
 use txs_disasm::write_listing;
 use txs_machine::{Entries, Repeated, ScheduleError, run_repeated};
@@ -31,7 +32,7 @@ use txs_value_cell::CellDefinition;
 use txs_world_shared::SharedState;
 
 /// What is told of the threads and agents of a run that is over: the lines of threads, and behind them those of agents.
-pub fn of_report(
+fn of_report(
     alloc: Global,
     script: Script<'_>,
     cells: &[CellDefinition],
@@ -50,36 +51,6 @@ pub fn of_report(
     let agents = report.agents.as_slice();
     add_agents(&mut told, script, cells, agents, shared)?;
     Ok(told)
-}
-
-/// What is told of a run of all threads and agents of the code over the state, by these plays and then in rounds, until all threads have ended and no
-/// agent has something to do; or nothing, where a play names no actor.
-pub fn run_code(
-    alloc: Global,
-    script: Script<'_>,
-    code: &Verified,
-    plays: &[Repeated],
-    steps: u64,
-    shared: &mut SharedState,
-) -> Result<Option<Told>, AllocError>
-    requires few { length code.now.threads ≤ 64 }
-    requires few_cells { length code.now.cells ≤ 1000 }
-    requires of { IsStateOf code.now shared.old }
-    requires unused { shared_of shared.old ≡ untouched code.now.cells }
-    ensures of { IsStateOf code.now shared.new }
-    ensures told { IfOk result (λ t. RunAnswers code.now (script_of script.entry) (spread plays.now) steps shared.new (option_map told_of t)) }
-    // For want of memory only where each play names an actor.
-    ensures named { OnErr result (all_named (actors_of code.now) (spread plays.now) ≡ true) }
-{
-    match run_repeated(alloc, code, plays, steps, true, shared) {
-        Ok(report) => {
-            let cells = code.code().cells();
-            let told = of_report(alloc, script, cells, &report, shared)?;
-            Ok(Some(told))
-        }
-        Err(ScheduleError::NoActor) => Ok(None),
-        Err(ScheduleError::Memory) => Err(AllocError),
-    }
 }
 
 /// The state of the code's cells for its threads, with empty books.
@@ -123,54 +94,95 @@ fn tell_events(output: &mut Vec<u8>, wanted: bool, shared: &SharedState) -> Resu
 
 /// Appends what is told behind a run: the lines of the cells, of which the state is made, and of the events of the store's book, where
 /// they are wanted. After an error nothing is appended.
-pub fn tell_book(
+fn tell_book(
     told: &mut Told,
-    wants_cells: bool,
-    wants_events: bool,
+    options: RunOptions,
     cells: &[CellDefinition],
     shared: &SharedState,
 ) -> Result<(), AllocError>
     requires few { length cells.now ≤ 1000 }
     requires made { shared.now.cells ≡ cells.now }
-    ensures output { OnOk result (told.new.output.items ≡ (told.old.output.items ++ cells_told wants_cells cells.now shared.now) ++ events_told wants_events (numbered_book shared.now 0)) }
+    ensures output { OnOk result (told.new.output.items ≡ (told.old.output.items ++ cells_told options.cells cells.now shared.now) ++ events_told options.events (numbered_book shared.now 0)) }
     ensures unchanged { OnErr result (told.new.output.items ≡ told.old.output.items) }
     ensures errors { told.new.errors.items ≡ told.old.errors.items }
     ensures status { told.new.status ≡ told.old.status }
 {
     let length = told.output.len();
-    tell_cells(&mut told.output, wants_cells, cells, shared)?;
-    let done = tell_events(&mut told.output, wants_events, shared);
+    tell_cells(&mut told.output, options.cells, cells, shared)?;
+    let done = tell_events(&mut told.output, options.events, shared);
     if done.is_err() {
         told.output.truncate(length);
     }
     done
 }
 
-/// Runs the code of a script that compiles over its state, and tells of its cells and events where they are wanted.
-fn run_compiled(
+/// What is told of a run of the code that is over: what its report tells, and behind it its cells and the events of the store's book, where
+/// they are wanted.
+pub fn report_run(
     alloc: Global,
     script: Script<'_>,
-    program: &Program,
+    code: &Code,
+    report: &Entries,
+    shared: &SharedState,
+    options: RunOptions,
+) -> Result<Told, AllocError>
+    requires few_threads { length report.now.threads.items ≤ 64 }
+    requires few_cells { length code.now.cells ≤ 1000 }
+    requires made { shared.now.cells ≡ code.now.cells }
+    requires one_each { length report.now.agents.items ≡ length (agents_of code.now) }
+    ensures { IfOk result (λ t. ReportTells code.now (script_of script.entry) shared.now report.now options.cells options.events (told_of t)) }
+{
+    let cells = code.cells();
+    let mut told = of_report(alloc, script, cells, report, shared)?;
+    tell_book(&mut told, options, cells, shared)?;
+    Ok(told)
+}
+
+/// What is told of a run of all threads and agents of the code over the state, by these plays and then in rounds, until all threads have ended and no
+/// agent has something to do, with its cells and events, where they are wanted; or nothing, where a play names no actor.
+pub fn run_code(
+    alloc: Global,
+    script: Script<'_>,
     code: &Verified,
     plays: &[Repeated],
-    steps: u64,
-    cells: bool,
-    events: bool,
+    options: RunOptions,
     shared: &mut SharedState,
-) -> Result<Told, AllocError>
-    requires compiled { IsCompiled script.text.now (program_of program.now) code.now }
+) -> Result<Option<Told>, AllocError>
     requires few { length code.now.threads ≤ 64 }
     requires few_cells { length code.now.cells ≤ 1000 }
     requires of { IsStateOf code.now shared.old }
     requires unused { shared_of shared.old ≡ untouched code.now.cells }
-    ensures { IfOk result (λ t. ScriptTells (script_of script.entry) (told_of t) (Run (spread plays.now) steps cells events)) }
+    ensures of { IsStateOf code.now shared.new }
+    ensures told { IfOk result (λ t. RunAnswers code.now (script_of script.entry) (spread plays.now) options.steps options.cells options.events shared.new (option_map told_of t)) }
+    // For want of memory only where each play names an actor.
+    ensures named { OnErr result (all_named (actors_of code.now) (spread plays.now) ≡ true) }
 {
-    match run_code(alloc, script, code, plays, steps, shared)? {
-        Some(mut told) => {
-            program.is_sound();
-            tell_book(&mut told, cells, events, program.cells(), shared)?;
-            Ok(told)
+    match run_repeated(alloc, code, plays, options.steps, true, shared) {
+        Ok(report) => {
+            let told = report_run(alloc, script, code.code(), &report, shared, options)?;
+            Ok(Some(told))
         }
+        Err(ScheduleError::NoActor) => Ok(None),
+        Err(ScheduleError::Memory) => Err(AllocError),
+    }
+}
+
+/// Runs all threads and agents of the code by these plays and then in rounds, and tells of the run; or that a play names no actor. The code may be that
+/// of a script or not.
+pub fn run_by_turns(
+    alloc: Global,
+    script: Script<'_>,
+    code: &Verified,
+    plays: &[Repeated],
+    options: RunOptions,
+) -> Result<Told, AllocError>
+    requires few { length code.now.threads ≤ 64 }
+    requires few_cells { length code.now.cells ≤ 1000 }
+    ensures { IfOk result (λ t. TurnsTell code.now (script_of script.entry) (spread plays.now) options.steps options.cells options.events (told_of t)) }
+{
+    let mut shared = open_state(alloc, code)?;
+    match run_code(alloc, script, code, plays, options, &mut shared)? {
+        Some(told) => Ok(told),
         None => complaint(alloc, UNUSABLE, "run failed: NoActor"),
     }
 }
@@ -186,13 +198,13 @@ fn accepted(alloc: Global) -> Result<Told, AllocError>
 }
 
 /// The listing of the code, on the standard output.
-fn listing_of(alloc: Global, code: &Verified) -> Result<Told, AllocError>
+pub fn listing_of(alloc: Global, code: &Code) -> Result<Told, AllocError>
     ensures output { IfOk result (λ t. t.output.items ≡ listing code.now) }
     ensures errors { IfOk result (λ t. t.errors.items ≡ []) }
     ensures status { IfOk result (λ t. t.status ≡ 0) }
 {
     let mut output = Vec::new(alloc);
-    match write_listing(alloc, code.code(), &mut output) {
+    match write_listing(alloc, code, &mut output) {
         Ok(()) => Ok(answer(output, alloc)),
         Err(_) => Err(AllocError),
     }
@@ -211,39 +223,21 @@ fn form_of(alloc: Global, code: &Verified) -> Result<Told, AllocError>
 fn use_compiled(
     alloc: Global,
     script: Script<'_>,
-    program: &Program,
-    code: &Verified,
+    compiled: &(Program, Verified),
     wanted: Use<'_>,
 ) -> Result<Told, AllocError>
-    requires compiled { IsCompiled script.text.now (program_of program.now) code.now }
-    requires form { HasForm code.now }
-    requires few { length code.now.threads ≤ 64 }
-    requires few_cells { length code.now.cells ≤ 1000 }
+    requires compiled { IsCompiled script.text.now (program_of compiled.now.0) compiled.now.1 }
+    requires form { HasForm compiled.now.1 }
+    requires few { length compiled.now.1.threads ≤ 64 }
+    requires few_cells { length compiled.now.1.cells ≤ 1000 }
     ensures { IfOk result (λ t. ScriptTells (script_of script.entry) (told_of t) (wanted_of wanted.entry)) }
 {
+    let code = &compiled.1;
     match wanted {
         Use::Check => accepted(alloc),
-        Use::Listing => listing_of(alloc, code),
+        Use::Listing => listing_of(alloc, code.code()),
         Use::Build => form_of(alloc, code),
-        Use::Run {
-            plays,
-            steps,
-            cells,
-            events,
-        } => {
-            let mut shared = open_state(alloc, code)?;
-            run_compiled(
-                alloc,
-                script,
-                program,
-                code,
-                plays,
-                steps,
-                cells,
-                events,
-                &mut shared,
-            )
-        }
+        Use::Run { plays, options } => run_by_turns(alloc, script, code, plays, options),
     }
 }
 
@@ -252,7 +246,7 @@ pub fn use_script(alloc: Global, script: Script<'_>, wanted: Use<'_>) -> Result<
     ensures { IfOk result (λ t. ScriptTells (script_of script.entry) (told_of t) (wanted_of wanted.entry)) }
 {
     match compile(alloc, script.text) {
-        Ok(compiled) => use_compiled(alloc, script, &compiled.0, &compiled.1, wanted),
+        Ok(compiled) => use_compiled(alloc, script, &compiled, wanted),
         Err(error) => refused(alloc, script, &error),
     }
 }

@@ -14,6 +14,7 @@ use txs_cli_advice::{
     on_read, on_resolve,
 };
 use txs_cli_plays::WrongPlay;
+use txs_cli_request::RunOptions;
 use txs_compile::CompileError;
 use txs_machine::{Entries, Ran, Repeated};
 use txs_value_base::{Fault, Span};
@@ -64,13 +65,10 @@ pub enum Use<'a> {
     Listing,
     /// It is compiled, and its code is written in its byte form.
     Build,
-    /// Its threads and agents run by these plays and then in rounds, each for so many steps at most, with its
-    /// cells and the events of the run told or not.
+    /// Its threads and agents run by these plays and then in rounds, as the options say.
     Run {
         plays: &'a [Repeated],
-        steps: u64,
-        cells: bool,
-        events: bool,
+        options: RunOptions,
     },
 }
 

@@ -3,7 +3,7 @@
 ghost use Rattle.std.specs.Prelude.{◌≡◌, ◌||◌, ◌++◌, ◌∷◌, [], option_copied, is_some, IfOk, OnOk, OnErr};
 ghost use Rattle.txs_world_protocol.specs.Ask.{buffered};
 ghost use Rattle.txs_frame.specs.Frame.{Work, no_work, is_set, is_commuted, set_ref, ensure_ref, commute_ref, hold_send, commuted, commutes_of, by_ref, phase_work, set_writes, with_cell, SetAnswers};
-ghost use Rattle.txs_frame.specs.Kept.{Ascends, IsPlaceOf, cell_number, cells_by, writes_by, was_set, only_commuted};
+ghost use Rattle.txs_frame.specs.Kept.{Ascends, IsPlaceOf, cell_number, ref_cell, cells_by, writes_by, was_set, only_commuted};
 ghost use Rattle.txs_value_data.specs.declared.value.CellKind.TheVariants.{Ref as a_ref};
 ghost use Rattle.txs_frame.specs.declared.frame.SetError.TheVariants.{Memory as no_memory};
 
@@ -267,6 +267,20 @@ impl TxFrame {
         Ok(writes)
     }
 
+    /// The refs that were set, by ascending number.
+    pub fn sets(&self) -> Result<Vec<CellId>, AllocError>
+        ensures { IfOk result (λ refs. refs.items ≡ self.now.sets) }
+    {
+        let mut refs = Vec::new(self.alloc);
+        for own in &self.own {
+            match own.how {
+                How::Set | How::Both => refs.push(ref_cell(own.number))?,
+                How::Commuted => (),
+            }
+        }
+        Ok(refs)
+    }
+
     /// The refs that were ensured, by ascending number.
     pub fn ensured(&self) -> &[CellId]
         ensures { result.now ≡ self.now.ensures }
@@ -286,6 +300,16 @@ impl TxFrame {
         ensures { result.now ≡ self.now.sends }
     {
         self.sends.as_slice()
+    }
+}
+
+/// The ref with this number.
+fn ref_cell(number: u16) -> CellId
+    ensures { result ≡ ref_cell number }
+{
+    CellId {
+        kind: CellKind::Ref,
+        number,
     }
 }
 

@@ -1,14 +1,16 @@
 // The program over streams of bytes, with workers and without.
 ghost use Rattle.std.specs.Thread.{IsSync};
 ghost use Rattle.txs_cli.specs.Runner.{IsRunnable, RunsLawfully};
+ghost use Rattle.txs_cli_audit.specs.Audit.{IsRight};
 
 use std::alloc::{AllocError, Global};
 use std::sync::Wait;
 use std::thread::Threads;
-use txs_cli::{Words, parse_words, play, play_with};
+use txs_cli::{Answer, NoAnswer, Request, parse_words, play, play_with};
 use txs_code::Verified;
-use txs_machine::{Entries, RunError, SharedState};
+use txs_machine::{Entries, Report, RunError, SharedState};
 use txs_threads::{Gathered, OpenGate, run_threads};
+use txs_tree::Program;
 
 // The arguments between spaces.
 fn args_of(alloc: Global, line: &str) -> Result<Vec<String>, AllocError> {
@@ -52,7 +54,7 @@ fn plays_by_turns(rt: HostRuntime) {
 fn written<T: Threads + Wait + Sync>(
     threads: &T,
     alloc: Global,
-    words: &Words,
+    request: &Request,
     output: &mut Vec<u8>,
     errors: &mut Vec<u8>,
 ) -> u8 {
@@ -72,7 +74,13 @@ fn written<T: Threads + Wait + Sync>(
             )?;
             Ok((shared, report))
         },
-        words,
+        &|_alloc: Global, program: &Program, report: &Report, turns: u32, _workers: usize| -> Result<
+            Answer,
+            NoAnswer,
+        >
+            ensures { IsRight program.now report.now turns result }
+        { Err(NoAnswer::NoThread) },
+        request,
         &mut reader,
         output,
         errors,
@@ -84,13 +92,13 @@ fn plays_by<T: Threads + Wait + Sync>(threads: &T, alloc: Global, line: &str) ->
     let Ok(args) = args_of(alloc, line) else {
         return false;
     };
-    let Ok(words) = parse_words(alloc, args.as_slice()) else {
+    let Ok(request) = parse_words(alloc, args.as_slice()) else {
         return false;
     };
     let mut output = Vec::new(alloc);
     let mut errors = Vec::new(alloc);
-    let status = written(threads, alloc, &words, &mut output, &mut errors);
-    drop(words);
+    let status = written(threads, alloc, &request, &mut output, &mut errors);
+    drop(request);
     status == 0 && output.as_slice() == PRINTED && errors.is_empty()
 }
 

@@ -4,7 +4,7 @@ use crate::program::{says, write};
 use std::alloc::Global;
 use std::io::{self, Read};
 use txs_cli::play_words;
-use txs_cli_args::Words;
+use txs_cli_request::{Input, Request};
 
 /// The bytes of the code of `(future (println 7))`: the magic, no cells, one constant, no functions, and a thread of three instructions.
 const SEVEN: [u8; 62] = [
@@ -124,9 +124,14 @@ fn is_read(alloc: Global, text: &[u8], line: &str, given: usize) -> bool {
     let mut reader = Endless { text, given: 0 };
     let mut output = Vec::new(alloc);
     let mut errors = Vec::new(alloc);
-    let words = Words::ListCode { file: None };
-    let status = play_words(alloc, &words, &mut reader, &mut output, &mut errors);
-    drop(words);
+    let input = Input {
+        file: None,
+        code: true,
+        explain: false,
+    };
+    let request = Request::List { input };
+    let status = play_words(alloc, &request, &mut reader, &mut output, &mut errors);
+    drop(request);
     status == 1 && errors.as_slice() == line.as_bytes() && reader.given == given
 }
 

@@ -6,6 +6,8 @@
 #[cfg(test)]
 mod at_once;
 #[cfg(test)]
+mod audited;
+#[cfg(test)]
 mod by_hand;
 #[cfg(test)]
 mod changed;

@@ -5,7 +5,7 @@ use std::alloc::Global;
 use std::io;
 use std::io::{ErrorKind, Read, Write};
 use txs_cli::play_words;
-use txs_cli_args::Words;
+use txs_cli_request::{Input, Request, RunOptions};
 
 // Gives at most three bytes a call, and fails at the call of this number, counted from 0.
 #[derive(Drop)]
@@ -83,16 +83,22 @@ fn tells(
         calls: 0,
         bad: written.1,
     };
-    let words = Words::Run {
-        file: None,
-        turns: String::new(alloc),
-        steps: 100_000_000,
-        cells: false,
-        events: false,
-        explain: false,
+    let request = Request::Schedule {
+        input: Input {
+            file: None,
+            code: false,
+            explain: false,
+        },
+        plays: String::new(alloc),
+        options: RunOptions {
+            steps: 100_000_000,
+            cells: false,
+            events: false,
+            audit: false,
+        },
     };
-    let status = play_words(alloc, &words, &mut reader, &mut output, &mut errors);
-    drop(words);
+    let status = play_words(alloc, &request, &mut reader, &mut output, &mut errors);
+    drop(request);
     status == told.2
         && output.got.as_slice() == told.0.as_bytes()
         && errors.got.as_slice() == told.1.as_bytes()

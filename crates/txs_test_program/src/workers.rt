@@ -1,22 +1,25 @@
-// The program, where workers run what it is told to run: as `main` does it, with `run_threads` handed in.
+// The program, where workers run what it is told to run: as `main` does it, with `run_threads` handed in. Nobody audits.
 ghost use Rattle.std.specs.Thread.{IsSync};
 ghost use Rattle.txs_cli.specs.Runner.{IsRunnable, RunsLawfully};
+ghost use Rattle.txs_cli_audit.specs.Audit.{IsRight};
 
 use std::alloc::Global;
 use std::sync::Wait;
 use std::thread::Threads;
-use txs_cli::play_with;
-use txs_cli_args::Words;
+use txs_cli::{Answer, NoAnswer, play_with};
+use txs_cli_request::{Input, Request, RunOptions};
 use txs_code_meaning::Verified;
 use txs_machine::{Entries, RunError};
 use txs_threads::{Gathered, OpenGate, run_threads};
+use txs_tree_meaning::Program;
+use txs_world_protocol::Report;
 use txs_world_shared::SharedState;
 
 /// Writes what the program does for these words and this input, and to the standard error: its status.
 fn written<T: Threads + Wait + Sync>(
     threads: &T,
     alloc: Global,
-    words: &Words,
+    request: &Request,
     input: &[u8],
     output: &mut Vec<u8>,
     errors: &mut Vec<u8>,
@@ -37,7 +40,13 @@ fn written<T: Threads + Wait + Sync>(
             )?;
             Ok((shared, report))
         },
-        words,
+        &|_alloc: Global, program: &Program, report: &Report, turns: u32, _workers: usize| -> Result<
+            Answer,
+            NoAnswer,
+        >
+            ensures { IsRight program.now report.now turns result }
+        { Err(NoAnswer::NoThread) },
+        request,
         &mut reader,
         output,
         errors,
@@ -54,7 +63,7 @@ const SCRIPT: &[u8] = b"(def r (ref 0)) (def g (agent 0))
 fn writes<T: Threads + Wait + Sync>(
     threads: &T,
     alloc: Global,
-    words: Words,
+    request: Request,
     input: &[u8],
     status: u8,
     text: &[u8],
@@ -62,20 +71,45 @@ fn writes<T: Threads + Wait + Sync>(
 ) -> bool {
     let mut output = Vec::new(alloc);
     let mut errors = Vec::new(alloc);
-    let ended = written(threads, alloc, &words, input, &mut output, &mut errors);
-    drop(words);
+    let ended = written(threads, alloc, &request, input, &mut output, &mut errors);
+    drop(request);
     ended == status && output.as_slice() == text && errors.as_slice() == fault
 }
 
-/// The words of a run of a script by so many workers, with the cells behind it.
-fn work(workers: u64) -> Words {
-    Words::Work {
+/// The standard input: a script, or code in its byte form.
+fn input_of(code: bool) -> Input {
+    Input {
         file: None,
-        workers,
-        steps: 100_000_000,
-        cells: true,
-        events: false,
+        code,
         explain: false,
+    }
+}
+
+/// The request for a run by so many workers, of a script or of code, with the cells behind it.
+fn work(workers: u64, code: bool) -> Request {
+    Request::Run {
+        input: input_of(code),
+        workers,
+        options: RunOptions {
+            steps: 100_000_000,
+            cells: true,
+            events: false,
+            audit: false,
+        },
+    }
+}
+
+/// The same request for a run of a script, with an audit. Here nobody audits.
+fn audit(workers: u64) -> Request {
+    Request::Run {
+        input: input_of(false),
+        workers,
+        options: RunOptions {
+            steps: 100_000_000,
+            cells: true,
+            events: false,
+            audit: true,
+        },
     }
 }
 
@@ -84,30 +118,28 @@ const LEFT: &[u8] = b":done\nr 5\ng 2\n";
 
 /// Whether two workers leave the same where they run the script's code in its byte form.
 fn code_leaves<T: Threads + Wait + Sync>(threads: &T, alloc: Global) -> bool {
-    let words = Words::Build {
-        file: None,
+    let build = Request::Build {
+        input: input_of(false),
         out: String::new(alloc),
-        explain: false,
     };
     let mut code = Vec::new(alloc);
     let mut errors = Vec::new(alloc);
-    let status = written(threads, alloc, &words, SCRIPT, &mut code, &mut errors);
-    drop(words);
-    let words = Words::WorkCode {
-        file: None,
-        workers: 2,
-        steps: 100_000_000,
-        cells: true,
-        events: false,
-    };
-    status == 0 && writes(threads, alloc, words, code.as_slice(), 0, LEFT, b"")
+    let status = written(threads, alloc, &build, SCRIPT, &mut code, &mut errors);
+    drop(build);
+    status == 0 && writes(threads, alloc, work(2, true), code.as_slice(), 0, LEFT, b"")
 }
 
 #[test]
 fn workers_run_a_script_and_its_code(rt: HostRuntime) {
     let alloc = rt.alloc();
     let none = b"run failed: NoThread\n".as_slice();
-    assert!(rt; writes(&rt, alloc, work(2), SCRIPT, 0, LEFT, b""));
-    assert!(rt; writes(&rt, alloc, work(0), SCRIPT, 4, b"", none));
+    assert!(rt; writes(&rt, alloc, work(2, false), SCRIPT, 0, LEFT, b""));
+    assert!(rt; writes(&rt, alloc, work(0, false), SCRIPT, 4, b"", none));
     assert!(rt; code_leaves(&rt, alloc));
+}
+
+#[test]
+fn what_has_no_answer_leaves_the_run(rt: HostRuntime) {
+    let none = b"run failed: NoThread\n".as_slice();
+    assert!(rt; writes(&rt, rt.alloc(), audit(2), SCRIPT, 4, LEFT, none));
 }

@@ -1,17 +1,22 @@
 -- What several workers did.
-use Rattle.std.specs.Prelude.{◌≡◌, ℕ, true, List, [], ◌∷◌, length, Some, None}
+use Rattle.std.specs.Prelude.{◌≡◌, ◌⊎◌, ℕ, true, List, [], ◌∷◌, length, Some, None}
+use Rattle.std.proofs.Common.{take, drop}
 use Rattle.txs_code_meaning.specs.PlainCode.{PlainCode}
 use Rattle.txs_machine.specs.Agents.{agents_of, AreDrained, AreExplainedBy}
 use Rattle.txs_machine.specs.RunOver.{IsStateOf}
 use Rattle.txs_machine.specs.Schedule.{HaveEnded, IsExplainedBy}
 use Rattle.txs_world_protocol.specs.declared.report.Ran.{Ran}
-use Rattle.txs_threads_gather.specs.Gather.{AllHaveDone, AllHaveAttended}
+use Rattle.txs_threads_gather.specs.ByPlace.{PartsAgree}
+use Rattle.txs_threads_gather.specs.Gather.{AllHaveDone, AllHaveAttended, AreReportsOf}
+use Rattle.txs_threads_gather.specs.Played.{PlainPlayed}
+use Rattle.txs_world_shared.specs.Kept.{state_of}
 use Rattle.txs_world_shared.specs.SharedState.{PlainShared, numbered_book, shared_of}
 use Rattle.txs_value_base.specs.Places.{nth}
 use Rattle.txs_value_data.specs.declared.value.CellId.{CellId}
+use Rattle.txs_world_book.specs.Atom.{PlainAtom}
 use Rattle.txs_world_book.specs.Book.{has_agent}
 use Rattle.txs_world_book.specs.Served.{cells_of}
-use Rattle.txs_world.specs.Store.{next_action}
+use Rattle.txs_world.specs.Store.{PlainStore, next_action}
 
 -- every thread has ended
 abbrev pub AllEnded : List Ran → Type 0
@@ -43,3 +48,15 @@ pub record IsLeft (code : PlainCode) (limit : ℕ) (s : PlainShared) (threads ag
   pub attended : AllHaveAttended code limit s agents
   pub explained : IsExplainedBy code (shared_of s) threads
   pub all_explained : AreExplainedBy code (shared_of s) threads agents
+
+-- Something is left of these actors over a state: by their entries a thread hasn't ended, or something waits for an agent that continues.
+pub record IsUnfinished (code : PlainCode) (s : PlainShared) (ps : List PlainPlayed) : Type 0 where
+  pub threads : List Ran
+  pub agents : List Ran
+  pub of_threads : AreReportsOf s (take (length code.threads) ps) threads
+  pub of_agents : AreReportsOf s (drop (length code.threads) ps) agents
+  pub left : AllEnded threads → AllDrained s (agents_of code) agents → ⊥
+
+-- why actors and what they shared are a mismatch: they don't agree, or something is left
+abbrev pub IsMismatch : PlainCode → ℕ → PlainStore → List PlainAtom → List PlainPlayed → Type 0
+IsMismatch code limit store atoms ps = (PartsAgree code limit store atoms ps → ⊥) ⊎ IsUnfinished code (state_of code.cells store atoms) ps

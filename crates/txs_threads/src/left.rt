@@ -3,7 +3,7 @@
 ghost use Rattle.std.specs.Prelude.{◌≡◌, ◌↔◌, ◌⊎◌, length, true, false, None, IsTrue, IfOk, IfErr, IfSome};
 ghost use Rattle.txs_machine.specs.Agents.{agents_of};
 ghost use Rattle.txs_machine.specs.declared.run_error.RunError.TheVariants.{JournalMismatch, Memory};
-ghost use Rattle.txs_threads.specs.Run.{AllEnded, AreAgents, IsDrained, AllDrained, IsLeft};
+ghost use Rattle.txs_threads.specs.Run.{AllEnded, AreAgents, IsDrained, AllDrained, IsLeft, IsMismatch};
 ghost use Rattle.txs_world_book.specs.Book.{has_agent};
 ghost use Rattle.txs_world_book.specs.Served.{cells_of};
 ghost use Rattle.txs_world_shared.specs.SharedState.{is_lawful, answer_to, Answers};
@@ -18,6 +18,7 @@ use txs_machine_actor::Turn;
 use txs_threads_gather::{Gathered, Played, gather};
 use txs_value_data::CellId;
 use txs_world::Store;
+use txs_world_book::AtomBook;
 use txs_world_protocol::Ask;
 use txs_world_shared::SharedState;
 
@@ -37,7 +38,7 @@ fn serve_state(shared: &mut SharedState, actor: u16, ask: Ask) -> Option<Served>
     Some(Served { reply, at })
 }
 
-/// Rounds of one ask of each actor that hasn't ended, until none goes on: each is turned up to its next ask, which is served and answered, or to its end.
+/// Rounds of one ask of each actor that hasn't ended, until none continues: each is turned up to its next ask, which is served and answered, or to its end.
 fn play_rounds<P: Player>(shared: &mut SharedState, actors: &mut [P]) {
     for _ in 0..u64::MAX {
         let mut more = false;
@@ -57,7 +58,7 @@ fn play_rounds<P: Player>(shared: &mut SharedState, actors: &mut [P]) {
     }
 }
 
-/// All actors, in the order of their numbers, when what the workers left unended was played in rounds.
+/// All actors, in the order of their numbers, when what the workers left unended was run in rounds.
 fn play_out<P: Player>(shared: &mut SharedState, mut actors: Actors<P>) -> Vec<P> {
     actors.wake_all();
     let Actors {
@@ -114,7 +115,7 @@ fn are_drained(shared: &SharedState, agents: &[CellId], rans: &[Ran]) -> bool
     true
 }
 
-/// Whether each thread of a report has ended, and nothing waits for an agent of it that goes on.
+/// Whether each thread of a report has ended, and nothing waits for an agent of it that continues.
 fn is_whole(gathered: &Gathered, agents: &[CellId]) -> bool
     requires agents { AreAgents gathered.now.shared agents.now }
     requires one_each { length gathered.now.report.agents.items ≡ length agents.now }
@@ -151,7 +152,31 @@ fn state_left(
     }
 }
 
-/// Plays in rounds what the workers left unended, and compares the actors, in the order of their numbers, with what they shared; each may make so many steps.
+/// Compares actors, in the order of their numbers, with what they shared; each may make so many steps. A mismatch has a reason: either `gather` finds one, or
+/// a thread hasn't ended or something waits for an agent that continues.
+fn gather_parts(
+    alloc: Global,
+    code: &Verified,
+    agents: &[CellId],
+    max_steps: u64,
+    store: Store,
+    atoms: Vec<AtomBook>,
+    played: Vec<Played<'_>>,
+) -> Result<Gathered, RunError>
+    requires agents { agents.now ≡ agents_of code.now }
+    ensures left { IfOk result (λ g. IsLeft code.now max_steps g.shared g.report.threads.items g.report.agents.items) }
+    ensures mismatch { IfErr result (λ e. e ≡ JournalMismatch → IsMismatch code.now max_steps store atoms.items played.entry.items) }
+    ensures refusals { IfErr result (λ e. (e ≡ JournalMismatch) ⊎ (e ≡ Memory)) }
+{
+    let gathered = gather(alloc, code, max_steps, store, atoms, played)?;
+    if is_whole(&gathered, agents) {
+        return Ok(gathered);
+    }
+    drop(gathered);
+    Err(RunError::JournalMismatch)
+}
+
+/// Runs in rounds what the workers left unended, and compares the actors with what they shared, as `gather_parts` does.
 pub(crate) fn gather_left(
     alloc: Global,
     code: &Verified,
@@ -174,10 +199,5 @@ pub(crate) fn gather_left(
     };
     let all = play_out(&mut shared, actors);
     let (store, books) = shared.into_parts();
-    let gathered = gather(alloc, code, max_steps, store, books, all)?;
-    if is_whole(&gathered, agents) {
-        return Ok(gathered);
-    }
-    drop(gathered);
-    Err(RunError::JournalMismatch)
+    gather_parts(alloc, code, agents, max_steps, store, books, all)
 }

@@ -1,4 +1,4 @@
-use Rattle.std.proofs.Common.{◌+◌, None, Some, subst, sym}
+use Rattle.std.proofs.Common.{◌+◌, subst}
 use Rattle.txs_audit_trace.specs.Named.{OffOf, plain_trace}
 use Rattle.txs_audit_trace.proofs.Tracing.{ran_fine, ran_off, rans_end}
 use Rattle.txs_audit_trace.proofs.traces.rans_off.Goals as goal

@@ -1,8 +1,8 @@
-use Rattle.std.proofs.Common.{◌≡◌, ◌+◌, ◌++◌, None, Some, arith, length, map, subst, suc, sym}
+use Rattle.std.proofs.Common.{◌≡◌, ◌+◌, ◌++◌, arith, length, map, subst, suc}
 use Rattle.txs_theorem_audit.specs.Audited.{books_of, ran_as, report_as}
 use Rattle.txs_theorem_audit.specs.Verdict.{traces_found}
 use Rattle.txs_audit_trace.specs.Named.{OffIn, off_in}
-use Rattle.txs_audit_trace.proofs.Naming.{has_actors, if_ok}
+use Rattle.txs_audit_trace.proofs.Naming.{if_ok}
 use Rattle.txs_audit_trace.proofs.Tracing.{whole_first, whole_second}
 use Rattle.txs_audit_trace.proofs.traces.traces_off.Goals as goal
 

@@ -23,14 +23,14 @@ returns-in-Ok g c =
     let code = c.in-Ok.code in
     let script = script_of c.no_script.result in
     let working = c.args.working in
-    let failed : PlainCode → RunError → Type 0 = λ d. HasFailed (goal.X-post g c.args.runner.now) d working.workers working.steps in
-    ok_maps c.run_told.result (λ t. RunTold (failed code) code script working.steps working.cells working.events (told_of t)) (λ t. WorkedCodeTells failed bytes working.steps working.cells working.events (told_of t))
-    (λ t told. of_bytes failed bytes code script working.steps working.cells working.events (told_of t) c.in-Ok.ensures.form c.no_script.ensures told) c.run_told.ensures
+    let failed : PlainCode → RunError → Type 0 = λ d. HasFailed (goal.X-post g c.args.runner.now) d working.workers working.options.steps in
+    ok_maps c.run_told.result (λ t. RunTold (failed code) code script working.options.steps working.options.cells working.options.events (told_of t)) (λ t. WorkedCodeTells failed bytes working.options.steps working.options.cells working.options.events (told_of t))
+    (λ t told. of_bytes failed bytes code script working.options.steps working.options.cells working.options.events (told_of t) c.in-Ok.ensures.form c.no_script.ensures told) c.run_told.ensures
 
 -- the bytes aren't taken
 pub returns-in-Err : goal.returns-in-Err
 returns-in-Err g c =
     let working = c.args.working in
     let e = c.refused.ensures in
-    let failed : PlainCode → RunError → Type 0 = λ d. HasFailed (goal.X-post g c.args.runner.now) d working.workers working.steps in
-    refused_answered c.refused.result failed c.args.bytes.now working.steps working.cells working.events c.in-Err.error c.in-Err.ensures.refused e.told e.output e.errors e.status
+    let failed : PlainCode → RunError → Type 0 = λ d. HasFailed (goal.X-post g c.args.runner.now) d working.workers working.options.steps in
+    refused_answered c.refused.result failed c.args.bytes.now working.options.steps working.options.cells working.options.events c.in-Err.error c.in-Err.ensures.refused e.told e.output e.errors e.status

@@ -15,8 +15,8 @@ returns-in-Ok-clause-told g c =
     let said : List Play → Result (List Play) WrongPlay = λ ps. Ok ps in
     let read : plays_in c.args.turns.now ≡ said plays = c.in-Ok.ensures.plays ∙ ap (λ rs. said (spread rs)) (sym c.as_slice.ensures.value) in
     let writes : Told → Type 0 = λ t. Written (g.W.Write.contents c.args.writer.now) (g.W.Write.contents c.play_code.new.writer) (g.F.Write.contents c.args.faults.now) (g.F.Write.contents c.play_code.new.faults) t c.play_code.result in
-    some_maps known (λ input. (t : Told) × BytesTell input (Ran plays c.args.steps c.args.cells c.args.events) t × writes t)
-    (λ input. (t : Told) × BytesScheduleTell input c.args.turns.now c.args.steps c.args.cells c.args.events t × writes t)
+    some_maps known (λ input. (t : Told) × BytesTell input (Ran plays c.args.options.steps c.args.options.cells c.args.options.events) t × writes t)
+    (λ input. (t : Told) × BytesScheduleTell input c.args.turns.now c.args.options.steps c.args.options.cells c.args.options.events t × writes t)
     (λ input h. (h.0, of_plays plays read h.1, h.2)) c.play_code.ensures
 
 -- the list is wrong, whatever the input is
@@ -25,7 +25,7 @@ returns-in-Err-Wrong-clause-told g c =
     let known = g.R.Read.remaining c.args.reader.now in
     let writes : Told → Type 0 = λ t. Written (g.W.Write.contents c.args.writer.now) (g.W.Write.contents c.refuse_list.new.writer) (g.F.Write.contents c.args.faults.now) (g.F.Write.contents c.refuse_list.new.faults) t c.refuse_list.result in
     let refused = c.refuse_list.ensures in
-    some_always known (λ input. (t : Told) × BytesScheduleTell input c.args.turns.now c.args.steps c.args.cells c.args.events t × writes t) (λ input. (refused.0, of_list refused.1, refused.2))
+    some_always known (λ input. (t : Told) × BytesScheduleTell input c.args.turns.now c.args.options.steps c.args.options.cells c.args.options.events t × writes t) (λ input. (refused.0, of_list refused.1, refused.2))
 
 -- there was no memory for the list
 pub returns-in-Err-Memory-clause-told : goal.returns-in-Err-Memory-clause-told
@@ -33,7 +33,7 @@ returns-in-Err-Memory-clause-told g c =
     let known = g.R.Read.remaining c.args.reader.now in
     let writes : Told → Type 0 = λ t. Written (g.W.Write.contents c.args.writer.now) (g.W.Write.contents c.write_told.new.writer) (g.F.Write.contents c.args.faults.now) (g.F.Write.contents c.write_told.new.faults) t c.write_told.result in
     let told : Told = record { output = []; errors = codes "out of memory\n"; status = 4 } in
-    some_always known (λ input. (t : Told) × BytesScheduleTell input c.args.turns.now c.args.steps c.args.cells c.args.events t × writes t)
+    some_always known (λ input. (t : Told) × BytesScheduleTell input c.args.turns.now c.args.options.steps c.args.options.cells c.args.options.events t × writes t)
     (λ input. (told, of_list (of_memory refl refl refl), c.write_told.ensures))
 
 -- where there is no list, the reader isn't touched

@@ -26,14 +26,14 @@ returns-in-Ok g c =
     let script = script_of c.args.script in
     let working = c.args.working in
     let compiled : IsCompiled script.text p code = record { program = of.program; generated = of.generated; follows = of.code; agents = of.agents; sends = of.sends; same = of.cells } in
-    let failed : PlainCode → RunError → Type 0 = λ d. HasFailed (goal.X-post g c.args.runner.now) d working.workers working.steps in
-    ok_maps c.run_told.result (λ t. RunTold (failed code) code script working.steps working.cells working.events (told_of t)) (λ t. WorkedTells failed script working.steps working.cells working.events (told_of t))
-    (λ t told. of_script failed script p code working.steps working.cells working.events (told_of t) compiled told) c.run_told.ensures
+    let failed : PlainCode → RunError → Type 0 = λ d. HasFailed (goal.X-post g c.args.runner.now) d working.workers working.options.steps in
+    ok_maps c.run_told.result (λ t. RunTold (failed code) code script working.options.steps working.options.cells working.options.events (told_of t)) (λ t. WorkedTells failed script working.options.steps working.options.cells working.options.events (told_of t))
+    (λ t told. of_script failed script p code working.options.steps working.options.cells working.options.events (told_of t) compiled told) c.run_told.ensures
 
 -- the script is refused
 pub returns-in-Err : goal.returns-in-Err
 returns-in-Err g c =
     let script = script_of c.args.script in
     let working = c.args.working in
-    let failed : PlainCode → RunError → Type 0 = λ d. HasFailed (goal.X-post g c.args.runner.now) d working.workers working.steps in
-    ok_maps c.refused.result (λ t. (wanted : Wanted) → ScriptTells script (told_of t) wanted) (λ t. WorkedTells failed script working.steps working.cells working.events (told_of t)) (λ t told. of_refused told) c.refused.ensures
+    let failed : PlainCode → RunError → Type 0 = λ d. HasFailed (goal.X-post g c.args.runner.now) d working.workers working.options.steps in
+    ok_maps c.refused.result (λ t. (wanted : Wanted) → ScriptTells script (told_of t) wanted) (λ t. WorkedTells failed script working.options.steps working.options.cells working.options.events (told_of t)) (λ t told. of_refused told) c.refused.ensures

@@ -9,8 +9,8 @@ returns-else-is_err-clause-output c =
     let old = c.args.told.now.output.items in
     let between = c.tell_cells.new.output.items in
     let new = c.tell_events-done.new.output.items in
-    let cells = cells_told c.args.wants_cells c.args.cells.now c.args.shared.now in
-    let events = events_told c.args.wants_events (numbered_book c.args.shared.now 0) in
+    let cells = cells_told c.args.options.cells c.args.cells.now c.args.shared.now in
+    let events = events_told c.args.options.events (numbered_book c.args.shared.now 0) in
     on_ok c.tell_events-done.result (new ≡ between ++ events) (new ≡ (old ++ cells) ++ events) (λ is. is ∙ ap (λ (l : List ℕ). l ++ events) c.in_ok-tell_cells.ensures.output) c.tell_events-done.ensures.output
 
 pub returns-then-is_err-clause-output : goal.returns-then-is_err-clause-output

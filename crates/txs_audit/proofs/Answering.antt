@@ -1,0 +1,81 @@
+-- The verdict, by the first test that finds something.
+use Rattle.std.proofs.Common.{◌≡◌, ◌≤◌, ◌<◌, ℕ, suc, ◌+◌, Bool, true, false, List, [], ◌∷◌, ◌++◌, length, refl, sym, ap, ◌∙◌, subst, arith}
+use Rattle.std.specs.Prelude.{map}
+use Rattle.std.proofs.lemmas.Bool.{false≢true}
+use Rattle.txs_tree_meaning.specs.Tree.{PlainProgram}
+use Rattle.txs_world_protocol.specs.declared.event.Event.{Event}
+use Rattle.txs_theorem_audit.specs.Audited as audited
+use Rattle.txs_theorem_audit.specs.Audited.{PlainRan, PlainReport, books_of, Finding, Fine, Off, Short, and_then, check, answer}
+use Rattle.txs_theorem_audit.specs.Pieces.{PiecesAreAll, pieces_of}
+use Rattle.txs_theorem_audit.specs.Verdict.{agents_found, are_serial, atoms_found, atoms_from, fits_sizes, store_found, threads_found, trace_found, traces_found, verdict}
+use Rattle.txs_audit_piece.specs.Judged.{is_fine}
+
+three : (f g h : Finding) → and_then (and_then f g) h ≡ and_then f (and_then g h)
+three Fine g h = refl
+three (Off a i) g h = refl
+three (Short a i) g h = refl
+
+stays : (f g : Finding) → is_fine f ≡ false → and_then f g ≡ f
+stays Fine g h = absurd (false≢true (sym h))
+stays (Off a i) g h = refl
+stays (Short a i) g h = refl
+
+answer_off : (f : Finding) (a b : Bool) → is_fine f ≡ false → answer f a ≡ answer f b
+answer_off Fine a b h = absurd (false≢true (sym h))
+answer_off (Off x i) a b h = refl
+answer_off (Short x i) a b h = refl
+
+module _ (p : PlainProgram) (r : PlainReport) (n : ℕ) where
+  abbrev traces : Finding
+  traces = traces_found (books_of r) (suc (length r.atom_books)) 0 (r.threads ++ r.agents)
+
+  abbrev atoms : Finding
+  atoms = atoms_found p r (atoms_from 0 p.cells)
+
+  abbrev pieces : Finding
+  pieces = and_then (threads_found p r n 0 p.threads r.threads) (agents_found p r n (length p.threads) r.agents)
+
+  abbrev serial : Bool
+  serial = are_serial p r n p.threads r.threads
+
+  -- the sizes are wrong
+  pub by_sizes : fits_sizes p r ≡ false → audited.Differs 0 0 ≡ verdict p r n
+  by_sizes h = sym (ap (λ b. answer (and_then (check b 0 0) (and_then traces (and_then (store_found p r) (and_then atoms pieces)))) serial) h)
+
+  -- a trace is wrong
+  pub by_traces : fits_sizes p r ≡ true → (a i : ℕ) → Off a i ≡ traces → audited.Differs a i ≡ verdict p r n
+  by_traces fits a i h =
+      ap (λ f. answer (and_then f (and_then (store_found p r) (and_then atoms pieces))) serial) h
+      ∙ sym (ap (λ b. answer (and_then (check b 0 0) (and_then traces (and_then (store_found p r) (and_then atoms pieces)))) serial) fits)
+
+  -- something is found in the books
+  pub by_books : fits_sizes p r ≡ true → Fine ≡ traces → (f : Finding) → f ≡ and_then (store_found p r) atoms → is_fine f ≡ false → (b : Bool) → answer f b ≡ verdict p r n
+  by_books fits fine f h off b =
+      answer_off f b serial off
+      ∙ ap (λ g. answer g serial) (sym (stays f pieces off) ∙ ap (λ g. and_then g pieces) h ∙ three (store_found p r) atoms pieces)
+      ∙ ap (λ g. answer (and_then g (and_then (store_found p r) (and_then atoms pieces))) serial) fine
+      ∙ sym (ap (λ b. answer (and_then (check b 0 0) (and_then traces (and_then (store_found p r) (and_then atoms pieces)))) serial) fits)
+
+-- ---- where a trace is off
+
+abbrev IsActor : ℕ → Finding → Type 0
+IsActor n Fine = Unit {0}
+IsActor n (Off a i) = a < n
+IsActor n (Short a i) = Unit {0}
+
+checked : (b : Bool) (a i n : ℕ) → a < n → IsActor n (check b a i)
+checked true a i n lt = tt
+checked false a i n lt = lt
+
+first_actor : (f g : Finding) (n : ℕ) → IsActor n f → IsActor n g → IsActor n (and_then f g)
+first_actor Fine g n x y = y
+first_actor (Off a i) g n x y = x
+first_actor (Short a i) g n x y = x
+
+-- an actor whose trace is off has an entry
+traces_within : (books : ℕ → List Event) (count a : ℕ) (rans : List PlainRan) (n : ℕ) → a + length rans ≤ n → IsActor n (traces_found books count a rans)
+traces_within books count a [] n le = tt
+traces_within books count a (x ∷ xs) n le = first_actor (trace_found books count a x.trace) (traces_found books count (suc a) xs) n (checked _ a _ n (omega (arith, le))) (traces_within books count (suc a) xs n (omega (arith, le)))
+
+pub off_within : (books : ℕ → List Event) (count : ℕ) (rans : List PlainRan) (a i : ℕ) → Off a i ≡ traces_found books count 0 rans → a < length rans
+off_within books count rans a i h = subst (IsActor (length rans)) (sym h) (traces_within books count 0 rans (length rans) (omega arith))

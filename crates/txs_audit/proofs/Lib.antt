@@ -1,0 +1,5 @@
+pub mod Answering
+pub mod Counting
+pub mod Crossing
+pub mod Parting
+pub mod Piecewise

@@ -1,0 +1,11 @@
+pub mod Acting
+pub mod Bookwise
+pub mod Judging
+pub mod Locating
+pub mod Looking
+pub mod Numbering
+pub mod Opened
+pub mod SeenWorlds
+pub mod Sized
+pub mod ThreadFound
+pub mod Unwritten

@@ -1,0 +1,194 @@
+-- What is found of a thread, by what its evaluator answers.
+use Rattle.std.proofs.Common.{◌≡◌, ℕ, suc, zero, ◌<◌, ◌==◌, ◌&&◌, nat_lt, Bool, true, false, List, [], ◌∷◌, length, get_or, map, Some, Result, Ok, Err, IfOk, IfSome, refl, sym, ap, ◌∙◌, subst, arith, if◌then◌else◌}
+use Rattle.std.proofs.lemmas.Bool.{eqb-true, ltb-true}
+use Rattle.txs_value_base.specs.Places.{nth}
+use Rattle.txs_value_data.specs.declared.value.Value.{Value}
+use Rattle.txs_world_protocol.specs.SeenEvent.{SeenEvent}
+use Rattle.txs_world_protocol.specs.declared.event.Event.{Event}
+use Rattle.txs_world_protocol.specs.declared.event.Place as event
+use Rattle.txs_world_protocol.specs.declared.report.Ran.{Ran}
+use Rattle.txs_world_protocol.specs.declared.report.Report.{Report}
+use Rattle.txs_world_book.specs.Served.{cells_of}
+use Rattle.txs_world_book.specs.declared.cell.StoreCell.{StoreCell}
+use Rattle.txs_tree_meaning.specs.Meaning.{Completion, Completes, Recurs, Faults, Retries, Waits, OutOfTurns, Invalid}
+use Rattle.txs_tree_meaning.specs.Right.{is_wrong, right_meaning}
+use Rattle.txs_tree_meaning.specs.Thread.{ThreadState, thread_meaning}
+use Rattle.txs_tree_meaning.specs.Tree.{PlainProgram, PlainThread, ThreadSource}
+use Rattle.txs_tree_meaning.specs.View.{Parts, program_of, threads_of}
+use Rattle.txs_tree_meaning.specs.declared.node.Thread.{Thread}
+use Rattle.txs_tree_eval.specs.Told.{Tells, thread_source}
+use Rattle.txs_tree_eval.specs.declared.meaning.ThreadMeaning.{ThreadMeaning}
+use Rattle.txs_tree_eval.specs.declared.transaction.TxMeaning.{TxMeaning}
+use Rattle.txs_theorem_runs.specs.Told.{seen_of}
+use Rattle.txs_theorem_threads.specs.FollowsAll.{source_of}
+use Rattle.txs_theorem_threads.specs.Noted.{txs_of}
+use Rattle.txs_theorem_audit.specs.Audited.{PlainRan, PlainReport, books_of, place_of, ran_as, report_as, Finding, Fine, Off, Short, and_then}
+use Rattle.txs_theorem_audit.specs.Pieces.{OfThread, piece_finding, piece_serial, thread_finding, thread_serial}
+use Rattle.txs_theorem_audit.specs.Verdict.{calm_found, covered_all, end_found, fits_sizes, noted_by, thread_found}
+use Rattle.txs_theorem_audit_eval.specs.Evaluated.{CalmBy, CoveredBy, NotedBy, calm_found_by, covered_all_by}
+use Rattle.txs_audit_piece.specs.Judged.{is_fine}
+use Rattle.txs_audit_piece.proofs.Sources.{source_told}
+
+-- ---- findings
+
+-- what is fine is Fine
+pub fine_is : (f : Finding) → is_fine f ≡ true → f ≡ Fine
+fine_is Fine e = refl
+fine_is (Off a i) e = absurd cc
+fine_is (Short a i) e = absurd cc
+
+pub no_fine : {A : Type 0} (f : Finding) → is_fine f ≡ false → f ≡ Fine → A
+no_fine Fine n e = absurd cc
+no_fine (Off a i) n e = absurd cc
+no_fine (Short a i) n e = absurd cc
+
+-- what isn't fine is found first
+pub first_found : (f g : Finding) → is_fine f ≡ false → and_then f g ≡ f
+first_found Fine g e = absurd cc
+first_found (Off a i) g e = refl
+first_found (Short a i) g e = refl
+
+-- a thread whose end is fine has a meaning
+end_means : (s : ThreadSource) (n a : ℕ) (es : List SeenEvent) (ran : PlainRan) (m : Completion ThreadState Value) → end_found s n a es ran m ≡ Fine → is_wrong m ≡ false
+end_means s n a es ran (Completes v t) e = refl
+end_means s n a es ran (Recurs vs t) e = absurd cc
+end_means s n a es ran (Faults f t) e = refl
+end_means s n a es ran (Retries t) e = absurd cc
+end_means s n a es ran (Waits t) e = refl
+end_means s n a es ran (OutOfTurns t) e = refl
+end_means s n a es ran Invalid e = absurd cc
+
+-- what is found of transactions by another spelling of the trace and of what is answered
+pub told_found : (cells : List StoreCell) (books : ℕ → List Event) (a : ℕ) (f : Finding) (ps qs : List event.Place) (ms ns : List TxMeaning) → ps ≡ qs → ms ≡ ns
+    → f ≡ calm_found_by cells books a 0 (map place_of ps) ms → f ≡ calm_found_by cells books a 0 (map place_of qs) ns
+told_found cells books a f ps qs ms ns p m is = is ∙ ap (λ l. calm_found_by cells books a 0 (map place_of l) ms) p ∙ ap (λ l. calm_found_by cells books a 0 (map place_of qs) l) m
+
+pub told_covered : (books : ℕ → List Event) (b : Bool) (ps qs : List event.Place) (ms ns : List TxMeaning) → ps ≡ qs → ms ≡ ns → b ≡ covered_all_by books (map place_of ps) ms → b ≡ covered_all_by books (map place_of qs) ns
+told_covered books b ps qs ms ns p m is = is ∙ ap (λ l. covered_all_by books (map place_of l) ms) p ∙ ap (λ l. covered_all_by books (map place_of qs) l) m
+
+-- ---- a thread and its entry
+
+module _ (p : PlainProgram) (r : PlainReport) (n a : ℕ) (t : PlainThread) (ran : PlainRan) where
+  abbrev source : ThreadSource
+  source = source_of p t
+
+  abbrev events : List SeenEvent
+  events = seen_of p.cells (books_of r) ran.trace
+
+  abbrev meaning : Completion ThreadState Value
+  meaning = thread_meaning source n events
+
+  -- the transactions that are found are those that are answered
+  calm_is : CalmBy → NotedBy → (m : ThreadMeaning) → Tells m source n events
+      → calm_found (cells_of p.cells) (books_of r) a 0 ran.trace (noted_by source n events meaning) ≡ calm_found_by (cells_of p.cells) (books_of r) a 0 ran.trace m.txs
+  calm_is calm noted m tells =
+      calm (cells_of p.cells) (books_of r) a 0 ran.trace (noted_by source n events meaning)
+      ∙ ap (λ ms. calm_found_by (cells_of p.cells) (books_of r) a 0 ran.trace ms) (sym (noted source n events m tells))
+
+  -- where they aren't fine, that is what is found of the thread
+  pub off_found : CalmBy → NotedBy → (m : ThreadMeaning) → Tells m source n events → (f : Finding) → f ≡ calm_found_by (cells_of p.cells) (books_of r) a 0 ran.trace m.txs → is_fine f ≡ false
+      → f ≡ thread_found p r n a t ran
+  off_found calm noted m tells f is not =
+      let all = is ∙ sym (calm_is calm noted m tells) in
+      all ∙ sym (first_found (calm_found (cells_of p.cells) (books_of r) a 0 ran.trace (noted_by source n events meaning)) (end_found source n a events ran meaning) (ap is_fine (sym all) ∙ not))
+
+  -- where they are, it is what is found of its end
+  pub end_found_last : CalmBy → NotedBy → (m : ThreadMeaning) → Tells m source n events → (f : Finding) → f ≡ calm_found_by (cells_of p.cells) (books_of r) a 0 ran.trace m.txs → is_fine f ≡ true
+      → (g : Finding) → g ≡ end_found source n a events ran meaning → g ≡ thread_found p r n a t ran
+  end_found_last calm noted m tells f is fine g ends =
+      ends ∙ ap (λ h. and_then h (end_found source n a events ran meaning)) (sym (fine_is f fine) ∙ is ∙ sym (calm_is calm noted m tells))
+
+  -- where that is fine, its commits are covered if those are that are answered
+  pub covered_found : CoveredBy → NotedBy → (m : ThreadMeaning) → Tells m source n events → (g : Finding) → g ≡ end_found source n a events ran meaning → g ≡ Fine
+      → covered_all_by (books_of r) ran.trace m.txs ≡ covered_all (books_of r) ran.trace (txs_of meaning)
+  covered_found covered noted m tells g ends fine =
+      ap (λ ms. covered_all_by (books_of r) ran.trace ms) (noted source n events m tells)
+      ∙ sym (covered (books_of r) ran.trace (noted_by source n events meaning))
+      ∙ ap (λ b. covered_all (books_of r) ran.trace (if b then txs_of (right_meaning source n events) else txs_of meaning)) (end_means source n a events ran meaning (sym ends ∙ fine))
+
+-- an end that is found by another spelling of the program and the events
+pub end_so : (p q : Parts) → p ≡ q → (es ds : List SeenEvent) → es ≡ ds → (n a : ℕ) (ran : PlainRan) (m : ThreadMeaning) (g : Finding)
+    → ((t : PlainThread) → nth (program_of p).threads a ≡ Some t → Tells m (source_of (program_of p) t) n es → g ≡ end_found (source_of (program_of p) t) n a es ran (thread_meaning (source_of (program_of p) t) n es))
+    → (t : PlainThread) → nth (program_of q).threads a ≡ Some t → Tells m (source_of (program_of q) t) n es → g ≡ end_found (source_of (program_of q) t) n a ds ran (thread_meaning (source_of (program_of q) t) n ds)
+end_so p q same es ds are n a ran m g ends t there tells =
+    subst (λ (x : Parts). (u : PlainThread) → nth (program_of x).threads a ≡ Some u → Tells m (source_of (program_of x) u) n es → g ≡ end_found (source_of (program_of x) u) n a es ran (thread_meaning (source_of (program_of x) u) n es)) same ends t there tells
+    ∙ ap (λ l. end_found (source_of (program_of q) t) n a l ran (thread_meaning (source_of (program_of q) t) n l)) are
+
+-- ---- a piece
+
+-- a property of what is answered, by another one
+pub so : {A E : Type 0} {P Q : A → Type 0} (r : Result A E) → IfOk r P → ((x : A) → P x → Q x) → IfOk r Q
+so (Ok x) h f = f x h
+so (Err e) h f = tt
+
+-- the entry with this number
+entry_at : (xs : List Ran) (i : ℕ) (x : Ran) → i < length xs → x ≡ get_or xs i x → nth (map ran_as xs) i ≡ Some (ran_as x)
+entry_at [] i x lt is = absurd (omega (arith, lt))
+entry_at (y ∷ xs) zero x lt is = ap (λ z. Some (ran_as z)) (sym is)
+entry_at (y ∷ xs) (suc i) x lt is = entry_at xs i x (omega (arith, lt)) is
+
+pub entry_there : (r : Report) (p : PlainReport) → report_as r ≡ p → (xs : List Ran) → xs ≡ r.threads.items → (i k : ℕ) → i ≡ k → (x : Ran) → true ≡ nat_lt i (length xs) → x ≡ get_or xs i x → nth p.threads k ≡ Some (ran_as x)
+entry_there r p is xs same i k number x lt here =
+    ap (λ (q : PlainReport). nth q.threads k) (sym is)
+    ∙ ap (λ l. nth (map ran_as l) k) (sym same)
+    ∙ ap (nth (map ran_as xs)) (sym number)
+    ∙ entry_at xs i x (ltb-true i (length xs) (sym lt)) here
+
+-- where there is one, there is a thread
+nth_many : {A : Type 0} (xs : List A) (k : ℕ) (x : A) → nth xs k ≡ Some x → k < length xs
+nth_many [] k x is = absurd cc
+nth_many (y ∷ xs) zero x is = omega arith
+nth_many (y ∷ xs) (suc k) x is = (let i = nth_many xs k x is in omega (arith, i))
+
+many_nth : {A : Type 0} (xs : List A) (k : ℕ) → k < length xs → (x : A) × (nth xs k ≡ Some x)
+many_nth [] k lt = absurd (omega (arith, lt))
+many_nth (y ∷ xs) zero lt = (y, refl)
+many_nth (y ∷ xs) (suc k) lt = many_nth xs k (omega (arith, lt))
+
+many_threads : (ts : List Thread) → length (threads_of ts) ≡ length ts
+many_threads [] = refl
+many_threads (t ∷ ts) = ap suc (many_threads ts)
+
+and_left : (a b : Bool) → (a && b) ≡ true → a ≡ true
+and_left true b e = refl
+and_left false b e = e
+
+-- a report of the right sizes has as many threads as the program
+fits_threads : (p : Parts) (r : PlainReport) → fits_sizes (program_of p) r ≡ true → length r.threads ≡ length p.threads
+fits_threads p r fits = eqb-true (length r.threads) (length (threads_of p.threads)) (and_left (length r.threads == length (threads_of p.threads)) _ fits) ∙ many_threads p.threads
+
+pub thread_below : (p : Parts) (r : PlainReport) → fits_sizes (program_of p) r ≡ true → (k : ℕ) (ran : PlainRan) → nth r.threads k ≡ Some ran → k < length p.threads
+thread_below p r fits k ran is = (let lt = nth_many r.threads k ran is in let e = fits_threads p r fits in omega (arith, lt, e))
+
+pub thread_there : (p : Parts) (k : ℕ) → k < length p.threads → (t : PlainThread) × (nth (program_of p).threads k ≡ Some t)
+thread_there p k lt = many_nth (threads_of p.threads) k (let e = many_threads p.threads in omega (arith, lt, e))
+
+-- what is found of a thread and its entry is what is found of the piece
+pub some_finding : (p : PlainProgram) (r : PlainReport) (n a : ℕ) (t : PlainThread) (ran : PlainRan) → nth p.threads a ≡ Some t → nth r.threads a ≡ Some ran → thread_found p r n a t ran ≡ piece_finding p r n (OfThread a)
+some_finding p r n a t ran e is = sym (ap (λ o. thread_finding p r n a o (nth r.threads a)) e ∙ ap (thread_finding p r n a (Some t)) is)
+
+pub some_serial : (p : PlainProgram) (r : PlainReport) (n a : ℕ) (t : PlainThread) (ran : PlainRan) → nth p.threads a ≡ Some t → nth r.threads a ≡ Some ran → thread_serial p r n (Some t) (Some ran) ≡ piece_serial p r n (OfThread a)
+some_serial p r n a t ran e is = sym (ap (λ o. thread_serial p r n o (nth r.threads a)) e ∙ ap (thread_serial p r n (Some t)) is)
+
+-- what is judged of the thread with this number is what is found of the piece
+pub finding_so : {A E : Type 0} (q : A → Finding) (p : Parts) (r : PlainReport) (n a : ℕ) (ran : PlainRan) (m : ThreadMeaning) (es : List SeenEvent) (o : Result A E) → a < length p.threads → nth r.threads a ≡ Some ran
+    → ((t : PlainThread) → nth (program_of p).threads a ≡ Some t → Tells m (source_of (program_of p) t) n es)
+    → IfOk o (λ f. (t : PlainThread) → nth (program_of p).threads a ≡ Some t → Tells m (source_of (program_of p) t) n es → q f ≡ thread_found (program_of p) r n a t ran)
+    → IfOk o (λ f. q f ≡ piece_finding (program_of p) r n (OfThread a))
+finding_so q p r n a ran m es o lt here tells h =
+    let there = thread_there p a lt in
+    so o h (λ f k. k there.0 there.1 (tells there.0 there.1) ∙ some_finding (program_of p) r n a there.0 ran there.1 here)
+
+pub serial_so : {A E : Type 0} (q : A → Finding) (s : A → Bool) (p : Parts) (r : PlainReport) (n a : ℕ) (ran : PlainRan) (m : ThreadMeaning) (es : List SeenEvent) (o : Result A E) → a < length p.threads → nth r.threads a ≡ Some ran
+    → ((t : PlainThread) → nth (program_of p).threads a ≡ Some t → Tells m (source_of (program_of p) t) n es)
+    → IfOk o (λ f. (t : PlainThread) → nth (program_of p).threads a ≡ Some t → Tells m (source_of (program_of p) t) n es → q f ≡ Fine → s f ≡ thread_serial (program_of p) r n (Some t) (Some ran))
+    → IfOk o (λ f. q f ≡ Fine → s f ≡ piece_serial (program_of p) r n (OfThread a))
+serial_so q s p r n a ran m es o lt here tells h =
+    let there = thread_there p a lt in
+    so o h (λ f k fine. k there.0 there.1 (tells there.0 there.1) fine ∙ some_serial (program_of p) r n a there.0 ran there.1 here)
+
+-- what the evaluator tells of a thread, in the program by another spelling
+pub tells_so : (p q : Parts) → p ≡ q → (i k : ℕ) → i ≡ k → (n : ℕ) (m : ThreadMeaning) (es : List SeenEvent) → IfSome (thread_source (program_of p) i) (λ s. Tells m s n es)
+    → (t : PlainThread) → nth (program_of q).threads k ≡ Some t → Tells m (source_of (program_of q) t) n es
+tells_so p q same i k number n m es h t there =
+    source_told (program_of q) k t there (λ s. Tells m s n es) (subst (λ j. IfSome (thread_source (program_of q) j) (λ s. Tells m s n es)) number (subst (λ (x : Parts). IfSome (thread_source (program_of x) i) (λ s. Tells m s n es)) same h))

@@ -1,0 +1,85 @@
+//! What an audit finds of a thread.
+
+ghost use Rattle.std.specs.Prelude.{◌≡◌, ◌<◌, length, IfOk, Some};
+ghost use Rattle.txs_value_base.specs.Places.{nth};
+ghost use Rattle.txs_tree_meaning.specs.Tree.{PlainThread};
+ghost use Rattle.txs_tree_meaning.specs.View.{program_of};
+ghost use Rattle.txs_tree_eval.specs.Told.{Tells};
+ghost use Rattle.txs_tree_eval_node.specs.Events.{seen_events};
+ghost use Rattle.txs_theorem_threads.specs.FollowsAll.{source_of};
+ghost use Rattle.txs_theorem_audit.specs.Audited.{Fine, ran_as};
+ghost use Rattle.txs_theorem_audit.specs.Explained.{events_of};
+ghost use Rattle.txs_theorem_audit.specs.Pieces.{OfThread, piece_finding, piece_serial, thread_serial};
+ghost use Rattle.txs_theorem_audit.specs.Verdict.{thread_found};
+ghost use Rattle.txs_audit_piece.specs.Judged.{as_found};
+
+use crate::books::Books;
+use crate::transactions::{Found, transactions_found};
+use std::alloc::{AllocError, Global};
+use txs_audit_piece::{Finding, end_found};
+use txs_theorem_audit_eval::{calm_is_answered, covered_is_answered, noted_are_answered};
+use txs_tree_eval::{Seen, ThreadMeaning, eval_thread};
+use txs_world_protocol::Ran;
+
+/// What is found of the program's thread with this entry, whose meaning on the entry's events with their worlds is told so: its
+/// transactions, and then its end.
+fn judge<'b>(
+    alloc: Global,
+    books: &'b Books<'_>,
+    thread: u16,
+    turns: u32,
+    ran: &Ran,
+    seen: &'b [Seen<'b>],
+    meaning: &ThreadMeaning,
+) -> Result<Found, AllocError>
+    requires there { thread < length books.now.program.threads }
+    requires events { seen_events seen.now ≡ events_of (program_of books.now.program) books.now.report (ran_as ran.now) }
+    ensures finding { IfOk result (λ f. (t : PlainThread) → nth (program_of books.now.program).threads thread ≡ Some t
+        → Tells meaning.now (source_of (program_of books.now.program) t) turns (seen_events seen.now)
+        → as_found f.finding ≡ thread_found (program_of books.now.program) books.now.report turns thread t (ran_as ran.now)) }
+    ensures serial { IfOk result (λ f. (t : PlainThread) → nth (program_of books.now.program).threads thread ≡ Some t
+        → Tells meaning.now (source_of (program_of books.now.program) t) turns (seen_events seen.now)
+        → as_found f.finding ≡ Fine
+        → f.serial ≡ thread_serial (program_of books.now.program) books.now.report turns (Some t) (Some (ran_as ran.now))) }
+{
+    calm_is_answered();
+    covered_is_answered();
+    noted_are_answered();
+    let found = transactions_found(books, thread, ran.trace.as_slice(), meaning.txs.as_slice())?;
+    if !found.finding.is_fine() {
+        return Ok(found);
+    }
+    let finding = end_found(alloc, books.program(), thread, seen, turns, ran, meaning)?;
+    Ok(Found {
+        finding,
+        serial: found.serial,
+    })
+}
+
+/// What an audit finds of the thread with this number, where each loop makes at most `turns` turns; and where that is nothing,
+/// whether each of its commits is covered. Nothing is found of a number that no thread has.
+///
+/// # Errors
+/// `AllocError` where there was no memory for what the thread means.
+pub fn thread_found(
+    alloc: Global,
+    books: &Books<'_>,
+    thread: u16,
+    turns: u32,
+) -> Result<Found, AllocError>
+    ensures finding { IfOk result (λ f. as_found f.finding ≡ piece_finding (program_of books.now.program) books.now.report turns (OfThread thread)) }
+    ensures serial { IfOk result (λ f. as_found f.finding ≡ Fine → f.serial ≡ piece_serial (program_of books.now.program) books.now.report turns (OfThread thread)) }
+{
+    books.are_legal();
+    let number = usize::from(thread);
+    let Some(ran) = books.report().threads.get(number) else {
+        return Ok(Found {
+            finding: Finding::Fine,
+            serial: true,
+        });
+    };
+    let seen = books.see_all(alloc, ran.trace.as_slice())?;
+    let events = seen.as_slice();
+    let meaning = eval_thread(alloc, books.program(), number, events, turns)?;
+    judge(alloc, books, thread, turns, ran, events, &meaning)
+}

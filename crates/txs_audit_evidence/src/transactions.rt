@@ -1,0 +1,309 @@
+//! The transactions of a thread, at the events that ended them.
+
+ghost use Rattle.std.specs.Prelude.{◌≡◌, ◌&&◌, true, take, IfOk, IfSome, option_copied};
+ghost use Rattle.txs_frame.specs.Frame.{has_number};
+ghost use Rattle.txs_value_base.specs.Places.{nth};
+ghost use Rattle.txs_world_book.specs.Book.{first_failed};
+ghost use Rattle.txs_world_book.specs.Served.{cells_of};
+ghost use Rattle.txs_theorem_audit.specs.Audited.{Fine, books_of};
+ghost use Rattle.txs_theorem_audit.specs.Verdict.{is_commit, is_end, is_first_failed, is_untouched};
+ghost use Rattle.txs_theorem_audit_eval.specs.Evaluated.{calm_by, calm_found_by, covered_all_by, state_of};
+ghost use Rattle.txs_theorem_serial.specs.Serial.{are_held, is_covered};
+ghost use Rattle.txs_audit_piece.specs.Judged.{as_found};
+ghost use Rattle.txs_audit_evidence.specs.Named.{plain_trace};
+ghost use Rattle.txs_audit_evidence.specs.Transacted.{covered_by, end_in, end_of, is_among};
+
+use crate::books::Books;
+use std::alloc::AllocError;
+use txs_audit_piece::Finding;
+use txs_frame::TxFrame;
+use txs_tree_eval::TxMeaning;
+use txs_tree_eval_transaction::same_cell;
+use txs_value_cell::Action;
+use txs_value_data::CellId;
+use txs_world_protocol::{Event, EventKind, Place};
+
+/// What is found of a piece, and, where that is nothing, whether each of its commits is covered.
+#[derive(Clone, Copy)]
+pub struct Found {
+    pub finding: Finding,
+    pub serial: bool,
+}
+
+// ---- the events that end transactions
+
+/// Whether an event ends a transaction.
+fn is_end(kind: &EventKind) -> bool
+    ensures { result ≡ is_end kind.now }
+{
+    match kind {
+        EventKind::Commit { .. } | EventKind::Refused { .. } => true,
+        _ => false,
+    }
+}
+
+/// Whether an event is a commit.
+fn is_commit(kind: &EventKind) -> bool
+    ensures { result ≡ is_commit kind.now }
+{
+    match kind {
+        EventKind::Commit { .. } => true,
+        _ => false,
+    }
+}
+
+/// What an event is, where it ends a transaction.
+fn end_of(event: &Event) -> Option<&EventKind>
+    ensures { option_copied result ≡ end_of event.now }
+{
+    if is_end(&event.kind) {
+        return Some(&event.kind);
+    }
+    None
+}
+
+/// What the event at a place is, where it ends a transaction. Then it is one of the store's book.
+fn end_at<'a>(books: &Books<'a>, place: Place) -> Option<&'a EventKind>
+    ensures end { option_copied result ≡ end_in (nth (books_of books.now.report place.book) place.at) }
+    ensures home { IfSome result (λ k. place.book ≡ 0) }
+{
+    books.are_legal();
+    match books.event_at(place) {
+        Some(event) => end_of(event),
+        None => None,
+    }
+}
+
+// ---- whether a transaction was undisturbed
+
+/// Whether none of these refs was written at index `at` or later, among the first so many events of the store's book.
+fn is_untouched(books: &Books<'_>, refs: &[CellId], at: u32, events: u32) -> bool
+    ensures { result ≡ is_untouched (take events books.now.report.book) at refs.now }
+{
+    for cell in refs {
+        if books.is_written(cell.number, at, events) {
+            return false;
+        }
+    }
+    true
+}
+
+/// Whether no ref that a transaction set or ensured was.
+fn is_undisturbed(books: &Books<'_>, done: &TxFrame, sets: &[CellId], at: u32, events: u32) -> bool
+    requires { sets.now ≡ done.now.sets }
+    ensures { result ≡ (is_untouched (take events books.now.report.book) at done.now.sets && is_untouched (take events books.now.report.book) at done.now.ensures) }
+{
+    if !is_untouched(books, sets, at, events) {
+        return false;
+    }
+    is_untouched(books, done.ensured(), at, events)
+}
+
+/// The agent of the first of these actions whose agent has failed among the first so many events of the store's book.
+fn first_failed(books: &Books<'_>, sends: &[Action], events: u32) -> Option<CellId>
+    ensures { result ≡ first_failed (cells_of books.now.program.cells) (take events books.now.report.book) sends.now }
+{
+    for action in sends {
+        if books.has_failed(action.agent.number, events) {
+            return Some(action.agent);
+        }
+    }
+    None
+}
+
+/// Whether this is the agent of the first of these actions whose agent has failed.
+fn is_refused(books: &Books<'_>, sends: &[Action], agent: CellId, events: u32) -> bool
+    ensures { result ≡ is_first_failed (first_failed (cells_of books.now.program.cells) (take events books.now.report.book) sends.now) agent }
+{
+    match first_failed(books, sends, events) {
+        Some(failed) => same_cell(failed, agent),
+        None => false,
+    }
+}
+
+/// Whether the transaction that an event ended behind so many events of the store's book was undisturbed. It set these refs.
+fn is_calm(
+    books: &Books<'_>,
+    kind: &EventKind,
+    meaning: &TxMeaning,
+    sets: &[CellId],
+    events: u32,
+) -> bool
+    requires { sets.now ≡ meaning.now.done.sets }
+    ensures { result ≡ calm_by (cells_of books.now.program.cells) (take events books.now.report.book) kind.now meaning.now }
+{
+    match kind {
+        EventKind::Commit { at, .. } => is_undisturbed(books, &meaning.done, sets, *at, events),
+        EventKind::Refused { at, agent, .. } => {
+            if !is_undisturbed(books, &meaning.done, sets, *at, events) {
+                return false;
+            }
+            is_refused(books, meaning.done.sends(), *agent, events)
+        }
+        _ => true,
+    }
+}
+
+// ---- whether a transaction is covered
+
+/// Whether the ref with this number is among these.
+fn has_number(refs: &[CellId], number: u16) -> bool
+    ensures { result ≡ has_number refs.now number }
+{
+    for cell in refs {
+        if cell.number == number {
+            return true;
+        }
+    }
+    false
+}
+
+/// The index of the first of these refs, from this one on, whose number is no less.
+fn seek(refs: &[CellId], from: usize, number: u16) -> usize {
+    for at in from..refs.len() {
+        if refs[at].number >= number {
+            return at;
+        }
+    }
+    refs.len()
+}
+
+/// Whether the ref at this index has this number.
+fn is_at(refs: &[CellId], at: usize, number: u16) -> bool
+    ensures { result ≡ true → has_number refs.now number ≡ true }
+{
+    if at >= refs.len() {
+        return false;
+    }
+    refs[at].number == number
+}
+
+/// Whether the ref with this number is among those that were set or those that were ensured, where it is at these indexes if
+/// it is there and their numbers ascend.
+fn is_held(sets: &[CellId], set: usize, ensured: &[CellId], ensure: usize, number: u16) -> bool
+    ensures { result ≡ is_among sets.now ensured.now number }
+{
+    if is_at(sets, set, number) {
+        return true;
+    }
+    if is_at(ensured, ensure, number) {
+        return true;
+    }
+    if has_number(sets, number) {
+        return true;
+    }
+    has_number(ensured, number)
+}
+
+/// Whether each of these refs was set or ensured. All three lists have ascending numbers, so that one pass finds it.
+fn are_held(done: &TxFrame, sets: &[CellId], reads: &[CellId]) -> bool
+    requires { sets.now ≡ done.now.sets }
+    ensures { result ≡ are_held done.now reads.now }
+{
+    let ensured = done.ensured();
+    let mut set = 0;
+    let mut ensure = 0;
+    for read in reads {
+        set = seek(sets, set, read.number);
+        ensure = seek(ensured, ensure, read.number);
+        if !is_held(sets, set, ensured, ensure, read.number) {
+            return false;
+        }
+    }
+    true
+}
+
+/// Whether a transaction set or ensured every ref that it read, and used the result of no commute. It set these refs.
+fn is_covered(meaning: &TxMeaning, sets: &[CellId]) -> bool
+    requires { sets.now ≡ meaning.now.done.sets }
+    ensures { result ≡ is_covered (state_of meaning.now) }
+{
+    if meaning.used {
+        return false;
+    }
+    are_held(&meaning.done, sets, meaning.reads.as_slice())
+}
+
+/// Whether the transaction that an event ended is covered, if it was committed.
+fn is_covered_by(kind: &EventKind, meaning: &TxMeaning, sets: &[CellId]) -> bool
+    requires { sets.now ≡ meaning.now.done.sets }
+    ensures { result ≡ covered_by kind.now meaning.now }
+{
+    if !is_commit(kind) {
+        return true;
+    }
+    is_covered(meaning, sets)
+}
+
+// ---- all transactions
+
+/// Whether a transaction was undisturbed, and whether it is covered if it was committed.
+#[derive(Clone, Copy)]
+struct Judged {
+    calm: bool,
+    covered: bool,
+}
+
+/// The transaction that an event ended behind so many events of the store's book.
+fn judge(
+    books: &Books<'_>,
+    kind: &EventKind,
+    meaning: &TxMeaning,
+    events: u32,
+) -> Result<Judged, AllocError>
+    ensures calm { IfOk result (λ j. j.calm ≡ calm_by (cells_of books.now.program.cells) (take events books.now.report.book) kind.now meaning.now) }
+    ensures covered { IfOk result (λ j. j.covered ≡ covered_by kind.now meaning.now) }
+{
+    let sets = meaning.done.sets()?;
+    let calm = is_calm(books, kind, meaning, sets.as_slice(), events);
+    let covered = is_covered_by(kind, meaning, sets.as_slice());
+    Ok(Judged { calm, covered })
+}
+
+/// Whether both hold.
+fn both(a: bool, b: bool) -> bool
+    ensures { result ≡ (a && b) }
+{
+    a && b
+}
+
+/// What is found of an actor's transactions, each at the event of its trace that ended it: that of the first that was
+/// disturbed.
+///
+/// # Errors
+/// `AllocError` where there was no memory for what a transaction set.
+pub fn transactions_found(
+    books: &Books<'_>,
+    actor: u16,
+    trace: &[Place],
+    txs: &[TxMeaning],
+) -> Result<Found, AllocError>
+    ensures found { IfOk result (λ f. as_found f.finding ≡ calm_found_by (cells_of books.now.program.cells) (books_of books.now.report) actor 0 (plain_trace trace.now) txs.now) }
+    ensures serial { IfOk result (λ f. as_found f.finding ≡ Fine → f.serial ≡ covered_all_by (books_of books.now.report) (plain_trace trace.now) txs.now) }
+{
+    let mut next = 0;
+    let mut serial = true;
+    for (i, place) in trace.iter().enumerate() {
+        if next >= txs.len() {
+            return Ok(Found {
+                finding: Finding::Fine,
+                serial,
+            });
+        }
+        if let Some(kind) = end_at(books, *place) {
+            let judged = judge(books, kind, &txs[next], place.at)?;
+            if !judged.calm {
+                return Ok(Found {
+                    finding: Finding::Off(actor, i),
+                    serial: false,
+                });
+            }
+            serial = both(serial, judged.covered);
+            next += 1;
+        }
+    }
+    Ok(Found {
+        finding: Finding::Fine,
+        serial,
+    })
+}

@@ -1,0 +1,77 @@
+-- What the program tells of a script whose run is audited.
+use Rattle.std.specs.Prelude.{◌≡◌, ◌^◌, ℕ, nat_lt, false, List, [], ◌∷◌, ◌++◌, codes, if◌then◌else◌}
+use Rattle.std.specs.declared.result.Result.TheVariants.{Ok}
+use Rattle.txs_cli_audit.specs.Audit.{AuditTells}
+use Rattle.txs_cli_audit.specs.declared.answer.NoAnswer.{NoAnswer}
+use Rattle.txs_cli_plays.specs.Plays.{plays_in}
+use Rattle.txs_cli_report.specs.Lines.{Script}
+use Rattle.txs_cli_report.specs.Told.{Told, Wanted, ScriptTells, IsCompiled, ReportTells, ListTells, list_name}
+use Rattle.txs_cli_request.specs.declared.request.RunOptions.{RunOptions}
+use Rattle.txs_code_meaning.specs.PlainCode.{PlainCode}
+use Rattle.txs_machine.specs.Agents.{actors_of}
+use Rattle.txs_machine.specs.RunTheorem.{ExplainsAll}
+use Rattle.txs_machine.specs.Schedule.{all_named}
+use Rattle.txs_machine.specs.declared.run_error.RunError.{RunError}
+use Rattle.txs_machine.specs.declared.schedule.Entries.{Entries}
+use Rattle.txs_machine.specs.declared.schedule.Play.{Play}
+use Rattle.txs_theorem_audit.specs.Audited.{report_as}
+use Rattle.txs_theorem_audit.specs.Verdict.{verdict}
+use Rattle.txs_tree_meaning.specs.View.{Parts, program_of}
+use Rattle.txs_world_protocol.specs.declared.report.Report.{Report}
+use Rattle.txs_world_shared.specs.Parts.{values_of, faults_of}
+use Rattle.txs_world_shared.specs.SharedState.{PlainShared, shared_of}
+use Rattle.txs_cli.specs.RunTold.{FailureTells}
+use Rattle.txs_cli.specs.Runner.{IsWorked}
+
+-- how many turns an audit allows each loop: as many as an actor may make steps, but no more than a number of 32 bits says
+abbrev pub audit_turns : ℕ → ℕ
+audit_turns steps = if nat_lt steps (2 ^ 32) then steps else 4294967295
+
+-- A report of a run that leaves this state, and that has these entries: with the state's books, and the values and faults that it leaves.
+pub record IsRunReport (s : PlainShared) (entries : Entries) (r : Report) : Type 0 where
+  pub threads : r.threads ≡ entries.threads
+  pub agents : r.agents ≡ entries.agents
+  pub books : r.book.items ∷ r.atom_books.items ≡ s.books
+  pub cells : r.cells.items ≡ values_of s
+  pub failed : r.failed.items ≡ faults_of s
+
+-- What is told of a run of a program's code and of the audit of its report: what the report tells, and behind it the verdict on the report, or
+-- that who audits had no answer, which may be for such reasons.
+pub record AuditedRunTells (unaudited : Report → NoAnswer → Type 0) (parts : Parts) (code : PlainCode) (script : Script) (o : RunOptions) (t : Told) : Type 0 where
+  pub shared : PlainShared
+  pub entries : Entries
+  pub worked : IsWorked code o.steps shared entries
+  pub ran : Told
+  pub told : ReportTells code script shared entries o.cells o.events ran
+  pub report : Report
+  pub of : IsRunReport shared entries report
+  pub audited : AuditTells (unaudited report) script (verdict (program_of parts) (report_as report) (audit_turns o.steps)) ran t
+
+-- What is told of a script that is to run and to be audited: of its run, which its program explains, and of the audit; that the script is refused; or
+-- what is told in place of a run.
+pub data AuditedTells (unrun : PlainCode → Told → Type 0) (unaudited : Parts → Report → NoAnswer → Type 0) (script : Script) (o : RunOptions) (t : Told) : Type 0 where
+  of_run :
+      (parts : Parts) (code : PlainCode) (compiled : IsCompiled script.text (program_of parts) code) (told : AuditedRunTells (unaudited parts) parts code script o t)
+      (explained : ExplainsAll (program_of parts) (shared_of told.shared) told.entries.threads.items told.entries.agents.items) → AuditedTells unrun unaudited script o t
+  of_refused : (told : (wanted : Wanted) → ScriptTells script t wanted) → AuditedTells unrun unaudited script o t
+  of_unrun : (parts : Parts) (code : PlainCode) (compiled : IsCompiled script.text (program_of parts) code) (told : unrun code t) → AuditedTells unrun unaudited script o t
+
+-- in place of a run by workers: why it has no report, where what runs code may have failed so
+abbrev pub IsUnworked : (PlainCode → RunError → Type 0) → PlainCode → Told → Type 0
+IsUnworked failed code t = (failure : RunError) × failed code failure × FailureTells failure t
+
+-- in place of a run by these plays: that one names no actor
+abbrev pub IsUnplayed : List Play → PlainCode → Told → Type 0
+IsUnplayed plays code t = (all_named (actors_of code) plays ≡ false) × (t.output ≡ []) × (t.errors ≡ codes "run failed: NoActor" ++ codes "\n") × (t.status ≡ 2)
+
+-- What is told of a stream whose front is the script: that it couldn't be read, that there was no memory, or what is told of the script.
+pub data StreamAuditedTells (unrun : PlainCode → Told → Type 0) (unaudited : Parts → Report → NoAnswer → Type 0) (script : Script) (o : RunOptions) (t : Told) : Type 0 where
+  of_script : (told : AuditedTells unrun unaudited script o t) → StreamAuditedTells unrun unaudited script o t
+  of_unread : (output : t.output ≡ []) (errors : t.errors ≡ codes "read failed" ++ codes "\n") (status : t.status ≡ 2) → StreamAuditedTells unrun unaudited script o t
+  of_memory : (output : t.output ≡ []) (errors : t.errors ≡ codes "out of memory\n") (status : t.status ≡ 4) → StreamAuditedTells unrun unaudited script o t
+
+-- What is told of a script that is to run by a list of plays and to be audited: what is told of its run by them, or of the list, and nothing is read.
+pub data ScheduleAuditedTells (turns : List ℕ) (unaudited : Parts → Report → NoAnswer → Type 0) (script : Script) (o : RunOptions) (t : Told) : Type 0 where
+  of_plays :
+      (plays : List Play) (read : plays_in turns ≡ Ok plays) (told : StreamAuditedTells (IsUnplayed plays) unaudited script o t) → ScheduleAuditedTells turns unaudited script o t
+  of_list : (told : ListTells turns (list_name script.file) t) → ScheduleAuditedTells turns unaudited script o t

@@ -1,0 +1,160 @@
+//! What is told of a script whose run is audited, be it by workers or by turns.
+
+ghost use Rattle.std.specs.Prelude.{◌≡◌, IfOk};
+ghost use Rattle.txs_cli.specs.Audited.{AuditedRunTells, AuditedTells, IsUnplayed, IsUnworked, audit_turns};
+ghost use Rattle.txs_cli.specs.Runner.{HasFailed, IsRunnable, IsWorked, RunsLawfully};
+ghost use Rattle.txs_cli_audit.specs.Audit.{HasNoAnswer, IsRight};
+ghost use Rattle.txs_cli_report.specs.Lent.{script_of, told_of};
+ghost use Rattle.txs_cli_report.specs.Told.{IsCompiled};
+ghost use Rattle.txs_code_decode.specs.CodeForm.{HasForm};
+ghost use Rattle.txs_machine.specs.Schedule.{spread};
+ghost use Rattle.txs_tree_meaning.specs.View.{program_of};
+
+use crate::alone::{run_all, run_plays};
+use crate::run::of_failure;
+use crate::script::Working;
+use std::alloc::{AllocError, Global};
+use txs_cli_audit::{Answer, Audited, NoAnswer, add_audit};
+use txs_cli_report::explain::Script;
+use txs_cli_report::script::report_run;
+use txs_cli_report::told::{Told, UNUSABLE, complaint, refused};
+use txs_code_meaning::Verified;
+use txs_compile::compile;
+use txs_machine::{Entries, Repeated, RunError, ScheduleError};
+use txs_tree_meaning::Program;
+use txs_world_protocol::Report;
+use txs_world_shared::SharedState;
+
+/// How many turns an audit allows each loop, where each actor makes so many steps at most.
+fn turns_of(steps: u64) -> u32
+    ensures { result ≡ audit_turns steps }
+{
+    if steps > u32::MAX as u64 {
+        return u32::MAX;
+    }
+    steps as u32
+}
+
+/// What is told of a run of a script's code that is over, and of the audit of its report by so many workers.
+fn audit_run<A: Fn(Global, &Program, &Report, u32, usize) -> Result<Answer, NoAnswer>>(
+    alloc: Global,
+    auditor: &A,
+    script: Script<'_>,
+    compiled: &(Program, Verified),
+    ran: (SharedState, Entries),
+    working: Working,
+) -> Result<Told, AllocError>
+    requires call { (a : _) (p : _) (r : _) (n : _) (w : _) → A.pre auditor.now a p r n w }
+    requires right { (a : _) (p : _) (r : _) (n : _) (w : _) (v : _) → A.post auditor.now a p r n w v → IsRight p.now r.now n v }
+    requires form { HasForm compiled.now.1 }
+    requires worked { IsWorked compiled.now.1 working.options.steps ran.0 ran.1 }
+    ensures { IfOk result (λ t. AuditedRunTells (λ r e. HasNoAnswer (A.post auditor.now) compiled.now.0 r (audit_turns working.options.steps) working.workers e) compiled.now.0 compiled.now.1 (script_of script.entry) working.options (told_of t)) }
+{
+    let (shared, entries) = ran;
+    let code = compiled.1.code();
+    let mut told = report_run(alloc, script, code, &entries, &shared, working.options)?;
+    let report = entries.into_report(alloc, shared)?;
+    let audited = Audited {
+        program: &compiled.0,
+        report: &report,
+    };
+    let turns = turns_of(working.options.steps);
+    let workers = working.workers;
+    add_audit(alloc, auditor, script, audited, turns, workers, &mut told)?;
+    Ok(told)
+}
+
+/// Runs the code of a script by workers, and tells of the run and of its audit.
+fn work_compiled<
+    X: Fn(Global, &Verified, usize, u64) -> Result<(SharedState, Entries), RunError>,
+    A: Fn(Global, &Program, &Report, u32, usize) -> Result<Answer, NoAnswer>,
+>(
+    alloc: Global,
+    runner: &X,
+    auditor: &A,
+    script: Script<'_>,
+    compiled: &(Program, Verified),
+    working: Working,
+) -> Result<Told, AllocError>
+    requires call { (a : _) (code : _) (n : _) (steps : _) → IsRunnable code.now → X.pre runner.now a code n steps }
+    requires ran { (a : _) (code : _) (n : _) (steps : _) (r : _) → X.post runner.now a code n steps r → RunsLawfully code.now steps r }
+    requires audit { (a : _) (p : _) (r : _) (n : _) (w : _) → A.pre auditor.now a p r n w }
+    requires right { (a : _) (p : _) (r : _) (n : _) (w : _) (v : _) → A.post auditor.now a p r n w v → IsRight p.now r.now n v }
+    requires compiled { IsCompiled script.text.now (program_of compiled.now.0) compiled.now.1 }
+    requires form { HasForm compiled.now.1 }
+    ensures { IfOk result (λ t. AuditedTells (IsUnworked (λ code. HasFailed (X.post runner.now) code working.workers working.options.steps))
+        (λ p r e. HasNoAnswer (A.post auditor.now) p r (audit_turns working.options.steps) working.workers e) (script_of script.entry) working.options (told_of t)) }
+{
+    match run_all(alloc, runner, &compiled.1, working) {
+        Ok(ran) => audit_run(alloc, auditor, script, compiled, ran, working),
+        Err(failure) => of_failure(alloc, failure),
+    }
+}
+
+/// Runs the code of a script by these plays and then in rounds, and tells of the run and of its audit.
+fn play_compiled<A: Fn(Global, &Program, &Report, u32, usize) -> Result<Answer, NoAnswer>>(
+    alloc: Global,
+    auditor: &A,
+    script: Script<'_>,
+    compiled: &(Program, Verified),
+    plays: &[Repeated],
+    working: Working,
+) -> Result<Told, AllocError>
+    requires audit { (a : _) (p : _) (r : _) (n : _) (w : _) → A.pre auditor.now a p r n w }
+    requires right { (a : _) (p : _) (r : _) (n : _) (w : _) (v : _) → A.post auditor.now a p r n w v → IsRight p.now r.now n v }
+    requires compiled { IsCompiled script.text.now (program_of compiled.now.0) compiled.now.1 }
+    requires form { HasForm compiled.now.1 }
+    ensures { IfOk result (λ t. AuditedTells (IsUnplayed (spread plays.now))
+        (λ p r e. HasNoAnswer (A.post auditor.now) p r (audit_turns working.options.steps) working.workers e) (script_of script.entry) working.options (told_of t)) }
+{
+    match run_plays(alloc, &compiled.1, plays, working.options.steps) {
+        Ok(ran) => audit_run(alloc, auditor, script, compiled, ran, working),
+        Err(ScheduleError::NoActor) => complaint(alloc, UNUSABLE, "run failed: NoActor"),
+        Err(ScheduleError::Memory) => Err(AllocError),
+    }
+}
+
+/// Runs the script by workers, and tells of the run and of its audit.
+pub(crate) fn work_audited<
+    X: Fn(Global, &Verified, usize, u64) -> Result<(SharedState, Entries), RunError>,
+    A: Fn(Global, &Program, &Report, u32, usize) -> Result<Answer, NoAnswer>,
+>(
+    alloc: Global,
+    runner: &X,
+    auditor: &A,
+    script: Script<'_>,
+    working: Working,
+) -> Result<Told, AllocError>
+    requires call { (a : _) (code : _) (n : _) (steps : _) → IsRunnable code.now → X.pre runner.now a code n steps }
+    requires ran { (a : _) (code : _) (n : _) (steps : _) (r : _) → X.post runner.now a code n steps r → RunsLawfully code.now steps r }
+    requires audit { (a : _) (p : _) (r : _) (n : _) (w : _) → A.pre auditor.now a p r n w }
+    requires right { (a : _) (p : _) (r : _) (n : _) (w : _) (v : _) → A.post auditor.now a p r n w v → IsRight p.now r.now n v }
+    ensures { IfOk result (λ t. AuditedTells (IsUnworked (λ code. HasFailed (X.post runner.now) code working.workers working.options.steps))
+        (λ p r e. HasNoAnswer (A.post auditor.now) p r (audit_turns working.options.steps) working.workers e) (script_of script.entry) working.options (told_of t)) }
+{
+    match compile(alloc, script.text) {
+        Ok(compiled) => work_compiled(alloc, runner, auditor, script, &compiled, working),
+        Err(error) => refused(alloc, script, &error),
+    }
+}
+
+/// Runs the script by these plays and then in rounds, and tells of the run and of its audit.
+pub(crate) fn play_audited<
+    A: Fn(Global, &Program, &Report, u32, usize) -> Result<Answer, NoAnswer>,
+>(
+    alloc: Global,
+    auditor: &A,
+    script: Script<'_>,
+    plays: &[Repeated],
+    working: Working,
+) -> Result<Told, AllocError>
+    requires audit { (a : _) (p : _) (r : _) (n : _) (w : _) → A.pre auditor.now a p r n w }
+    requires right { (a : _) (p : _) (r : _) (n : _) (w : _) (v : _) → A.post auditor.now a p r n w v → IsRight p.now r.now n v }
+    ensures { IfOk result (λ t. AuditedTells (IsUnplayed (spread plays.now))
+        (λ p r e. HasNoAnswer (A.post auditor.now) p r (audit_turns working.options.steps) working.workers e) (script_of script.entry) working.options (told_of t)) }
+{
+    match compile(alloc, script.text) {
+        Ok(compiled) => play_compiled(alloc, auditor, script, &compiled, plays, working),
+        Err(error) => refused(alloc, script, &error),
+    }
+}

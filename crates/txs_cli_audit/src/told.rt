@@ -1,0 +1,102 @@
+//! Adds what is told of an audit to what is told of its run.
+
+ghost use Rattle.std.specs.Prelude.{◌≡◌, ◌++◌, codes, decimal, OnOk};
+ghost use Rattle.txs_cli_audit.specs.Audit.{AnswerTells, AuditTells, HasNoAnswer, IsRight, NoAnswerTells, answer_as, at_event, audit_line, audit_status, no_answer_line};
+ghost use Rattle.txs_cli_report.specs.Lent.{script_of, told_of};
+ghost use Rattle.txs_theorem_audit.specs.Audited.{report_as};
+ghost use Rattle.txs_theorem_audit.specs.Verdict.{verdict};
+ghost use Rattle.txs_tree_meaning.specs.View.{program_of};
+
+use crate::answer::{Answer, EventAt, NoAnswer};
+use crate::explain::{Audited, explain};
+use std::alloc::{AllocError, Global};
+use txs_cli_report::explain::{Script, write_number};
+use txs_cli_report::told::{DONE, SPENT, Told};
+use txs_tree_meaning::Program;
+use txs_world_protocol::Report;
+
+/// Appends a word with the event that an answer names.
+fn write_at(output: &mut Vec<u8>, word: &[u8], at: EventAt) -> Result<(), AllocError>
+    ensures { OnOk result (output.new.items ≡ output.old.items ++ at_event word.now at.actor at.event) }
+{
+    write_number(output, word, usize::from(at.actor))?;
+    write_number(output, b" ", at.event)?;
+    output.extend_from_slice(b"\n")
+}
+
+/// Appends the line of an answer.
+fn write_line(output: &mut Vec<u8>, answer: Answer) -> Result<(), AllocError>
+    ensures { OnOk result (output.new.items ≡ output.old.items ++ audit_line (answer_as answer)) }
+{
+    match answer {
+        Answer::Agrees { serial: true } => output.extend_from_slice(b"audit agrees serial\n"),
+        Answer::Agrees { serial: false } => output.extend_from_slice(b"audit agrees\n"),
+        Answer::Differs(at) => write_at(output, b"audit differs ", at),
+        Answer::Undecided(at) => write_at(output, b"audit undecided ", at),
+    }
+}
+
+/// How an answer counts in the status.
+fn status_of(answer: Answer) -> u8
+    ensures { result ≡ audit_status (answer_as answer) }
+{
+    match answer {
+        Answer::Differs(_) => SPENT,
+        Answer::Agrees { .. } | Answer::Undecided(_) => DONE,
+    }
+}
+
+/// Adds what is told of an answer: its line behind the standard output, what explains it behind the standard error, and the status, where
+/// it is higher.
+pub fn add_answer(
+    alloc: Global,
+    script: Script<'_>,
+    audited: Audited<'_>,
+    answer: Answer,
+    told: &mut Told,
+) -> Result<(), AllocError>
+    ensures { OnOk result (AnswerTells (script_of script.entry) (answer_as answer) (told_of told.old) (told_of told.new)) }
+{
+    told.status = told.status.max(status_of(answer));
+    write_line(&mut told.output, answer)?;
+    explain(alloc, &mut told.errors, script, audited, answer)
+}
+
+/// The line that says why there is no answer.
+fn line_of(failure: NoAnswer) -> &'static [u8]
+    ensures { result.now ≡ no_answer_line failure }
+{
+    match failure {
+        NoAnswer::NoThread => b"run failed: NoThread\n",
+        NoAnswer::Memory => b"out of memory\n",
+    }
+}
+
+/// Adds that there is no answer: its line behind the standard error, and the status.
+fn add_no_answer(failure: NoAnswer, told: &mut Told) -> Result<(), AllocError>
+    ensures { OnOk result (NoAnswerTells failure (told_of told.old) (told_of told.new)) }
+{
+    told.status = told.status.max(SPENT);
+    told.errors.extend_from_slice(line_of(failure))
+}
+
+/// Has the report audited against the program, with so many turns for each loop and so many workers, and adds what is told of that to what is
+/// told of the run: the verdict, or why there is none. Where there was no memory nothing is said of what is told.
+pub fn add_audit<A: Fn(Global, &Program, &Report, u32, usize) -> Result<Answer, NoAnswer>>(
+    alloc: Global,
+    auditor: &A,
+    script: Script<'_>,
+    audited: Audited<'_>,
+    turns: u32,
+    workers: usize,
+    told: &mut Told,
+) -> Result<(), AllocError>
+    requires call { (a : _) (p : _) (r : _) (n : _) (w : _) → A.pre auditor.now a p r n w }
+    requires right { (a : _) (p : _) (r : _) (n : _) (w : _) (v : _) → A.post auditor.now a p r n w v → IsRight p.now r.now n v }
+    ensures { OnOk result (AuditTells (HasNoAnswer (A.post auditor.now) audited.entry.program.now audited.entry.report.now turns workers) (script_of script.entry) (verdict (program_of audited.entry.program.now) (report_as audited.entry.report.now) turns) (told_of told.old) (told_of told.new)) }
+{
+    match auditor(alloc, audited.program, audited.report, turns, workers) {
+        Ok(answer) => add_answer(alloc, script, audited, answer, told),
+        Err(failure) => add_no_answer(failure, told),
+    }
+}

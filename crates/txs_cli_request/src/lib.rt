@@ -1,0 +1,6 @@
+//! What the program can be asked for, as its commands say it.
+#![tactic(auto)]
+
+pub mod request;
+
+pub use request::{Input, Request, RunOptions};

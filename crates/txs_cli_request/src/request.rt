@@ -1,0 +1,59 @@
+//! Requests to the program, one for each command.
+
+/// What a command works on.
+#[derive(Drop)]
+pub struct Input {
+    /// The file, where it is named; else it is the standard input.
+    pub file: Option<String>,
+    /// Whether it is the byte form of code, and no script.
+    pub code: bool,
+    /// Whether refusals, faults and stops of a script are explained.
+    pub explain: bool,
+}
+
+/// What a run is told beside its input.
+#[derive(Clone, Copy)]
+pub struct RunOptions {
+    /// How many steps each thread and each agent makes at most.
+    pub steps: u64,
+    /// Whether the cells are printed.
+    pub cells: bool,
+    /// Whether the events of the journal are printed.
+    pub events: bool,
+    /// Whether the report is audited, which has to be of a script.
+    pub audit: bool,
+}
+
+/// What the program is asked for.
+#[derive(Drop)]
+pub enum Request {
+    /// `check`: to check a script.
+    Check {
+        input: Input,
+    },
+    /// `dis`: to list code, or the code that a script compiles to.
+    List {
+        input: Input,
+    },
+    /// `build`: to write the code that a script compiles to, in its byte form, to the file of this name.
+    Build {
+        input: Input,
+        out: String,
+    },
+    /// `run`: to run a script or code by so many workers.
+    Run {
+        input: Input,
+        workers: u64,
+        options: RunOptions,
+    },
+    /// `schedule`: to run a script or code by a schedule, whose entries come before the rounds.
+    Schedule {
+        input: Input,
+        plays: String,
+        options: RunOptions,
+    },
+    /// To print a text on the standard output, which is help.
+    Shown(String),
+    /// To print a text on the standard error, for a usage fault.
+    Faulty(String),
+}
