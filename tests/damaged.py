@@ -5,12 +5,10 @@ have, and texts of no sense. Each has to be taken, or refused by a line of docs/
 --long tries each beginning of each row's script, each index of each form, and each of 256 values in the form of docs/FORMATS.md; else some
 of them are tried.
 TXS names another program than crates/txs/out/txs. Its last line is 'N passed, M failed'."""
-import argparse
 import glob
 import os
 import random
 import re
-import tempfile
 import disturbed
 import trial
 
@@ -195,19 +193,5 @@ def texts(t, count, is_long):
 PARTS = {"beginnings": beginnings, "forms": forms, "promises": promises, "texts": texts}
 
 
-def main():
-    parser = argparse.ArgumentParser(description=__doc__, formatter_class=argparse.RawDescriptionHelpFormatter)
-    parser.add_argument("--long", action="store_true")
-    parser.add_argument("--only", default=",".join(PARTS))
-    a = parser.parse_args()
-    trial.need_the_program()
-    count = trial.Count()
-    with tempfile.TemporaryDirectory() as folder:
-        t = trial.Trial(folder, trial.disturbing(folder))
-        for part in a.only.split(","):
-            PARTS[part](t, count, a.long)
-    count.end()
-
-
 if __name__ == "__main__":
-    main()
+    trial.main(__doc__, PARTS, trial.disturbing)

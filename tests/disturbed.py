@@ -3,7 +3,6 @@
 Runs the built program while the system refuses it something: growths of memory, threads, reads, writes. Each run has to end, by no
 signal, with one of the answers that the part allows. --long tries each growth of each script; else every few of them are tried.
 TXS names another program than crates/txs/out/txs. Its last line is 'N passed, M failed'."""
-import argparse
 import os
 import re
 import tempfile
@@ -211,19 +210,5 @@ def files(t, count, is_long):
 PARTS = {"growths": growths, "threads": threads, "reads": reads, "writes": writes, "files": files}
 
 
-def main():
-    parser = argparse.ArgumentParser(description=__doc__, formatter_class=argparse.RawDescriptionHelpFormatter)
-    parser.add_argument("--long", action="store_true")
-    parser.add_argument("--only", default=",".join(PARTS))
-    a = parser.parse_args()
-    trial.need_the_program()
-    count = trial.Count()
-    with tempfile.TemporaryDirectory() as folder:
-        t = trial.Trial(folder, trial.disturbing(folder))
-        for part in a.only.split(","):
-            PARTS[part](t, count, a.long)
-    count.end()
-
-
 if __name__ == "__main__":
-    main()
+    trial.main(__doc__, PARTS, trial.disturbing)

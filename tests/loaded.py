@@ -3,12 +3,10 @@
 Runs the built program until its journal is full, and many times with threads that contend: what is left obeys the laws of each script,
 and memory grows with the journal alone. --long makes 10,000 runs; else some hundreds are made.
 TXS names another program than crates/txs/out/txs. Its last line is 'N passed, M failed'."""
-import argparse
 import collections
 import os
 import re
 import subprocess
-import tempfile
 import time
 import trial
 
@@ -184,19 +182,5 @@ def again(t, count, is_long):
 PARTS = {"journals": journals, "runs": runs, "memory": memory, "sizes": sizes, "again": again}
 
 
-def main():
-    parser = argparse.ArgumentParser(description=__doc__, formatter_class=argparse.RawDescriptionHelpFormatter)
-    parser.add_argument("--long", action="store_true")
-    parser.add_argument("--only", default=",".join(PARTS))
-    a = parser.parse_args()
-    trial.need_the_program()
-    count = trial.Count()
-    with tempfile.TemporaryDirectory() as folder:
-        t = trial.Trial(folder)
-        for part in a.only.split(","):
-            PARTS[part](t, count, a.long)
-    count.end()
-
-
 if __name__ == "__main__":
-    main()
+    trial.main(__doc__, PARTS)

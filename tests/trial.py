@@ -1,5 +1,6 @@
 """What the scripts beside it share: the built program, run on given input with a time limit, also where tests/disturb.c refuses
 it something; and the count of what passed."""
+import argparse
 import concurrent.futures
 import os
 import struct
@@ -127,3 +128,19 @@ def each(call, items, jobs=None):
 def need_the_program():
     if not os.access(PROGRAM, os.X_OK):
         sys.exit("no program at %s\n0 passed, 1 failed" % PROGRAM)
+
+
+def main(doc, parts, disturbing=None):
+    """The main function of a script: it tries its parts, or those named by --only, with what builds the library that disturbs
+    runs, if one is wanted."""
+    parser = argparse.ArgumentParser(description=doc, formatter_class=argparse.RawDescriptionHelpFormatter)
+    parser.add_argument("--long", action="store_true")
+    parser.add_argument("--only", default=",".join(parts))
+    a = parser.parse_args()
+    need_the_program()
+    count = Count()
+    with tempfile.TemporaryDirectory() as folder:
+        t = Trial(folder, disturbing(folder) if disturbing else None)
+        for part in a.only.split(","):
+            parts[part](t, count, a.long)
+    count.end()

@@ -2,11 +2,8 @@
 //! `txs build [FILE] --out F`.
 #![tactic(auto)]
 
-ghost use Rattle.std.specs.Prelude.{◌≡◌};
 ghost use Rattle.std.specs.Thread.{IsSync};
-ghost use Rattle.txs_audit.specs.Answered.{as_verdict};
-ghost use Rattle.txs_cli_audit.specs.Audit.{IsRight, answer_as};
-ghost use Rattle.txs_cli.specs.Runner.{IsRunnable, RunsLawfully};
+ghost use Rattle.txs_cli_audit.specs.Audit.{IsRight};
 
 use std::alloc::Global;
 use std::fs::File;
@@ -16,17 +13,13 @@ use std::sync::Wait;
 use std::thread::Threads;
 use std::{env, fs, io};
 use txs_audit::{AuditError, Verdict, audit};
-use txs_cli::{Answer, EventAt, NoAnswer, play_with};
 use txs_cli_args::parse_words;
 use txs_cli_report::told::{DONE, SPENT, UNUSABLE};
 use txs_cli_report::write_told;
 use txs_cli_request::{Input, Request};
-use txs_code_meaning::Verified;
-use txs_machine::{Entries, RunError};
-use txs_threads::{Gathered, OpenGate, run_threads};
+use txs_program::play_by_workers;
 use txs_tree_meaning::Program;
 use txs_world_protocol::Report;
-use txs_world_shared::SharedState;
 
 /// The reader of a file that can't be opened.
 #[derive(Drop)]
@@ -94,21 +87,19 @@ fn explain_part(rt: &HostRuntime, request: &Request, name: &str) {
 
 /// Does what the request asks for on its file or on standard input, over this writer.
 fn play_on<
-    X: Fn(Global, &Verified, usize, u64) -> Result<(SharedState, Entries), RunError>,
-    A: Fn(Global, &Program, &Report, u32, usize) -> Result<Answer, NoAnswer>,
+    T: Threads + Wait + Sync,
+    A: Fn(Global, &Program, &Report, u32, usize) -> Result<Verdict, AuditError>,
     W: Write,
->(rt: &HostRuntime, runner: &X, auditor: &A, request: &Request, writer: &mut W) -> u8
-    requires call { (a : _) (code : _) (n : _) (steps : _) → IsRunnable code.now → X.pre runner.now a code n steps }
-    requires ran { (a : _) (code : _) (n : _) (steps : _) (r : _) → X.post runner.now a code n steps r → RunsLawfully code.now steps r }
+>(rt: &HostRuntime, threads: &T, auditor: &A, request: &Request, writer: &mut W) -> u8
     requires audit { (a : _) (p : _) (r : _) (n : _) (w : _) → A.pre auditor.now a p r n w }
     requires right { (a : _) (p : _) (r : _) (n : _) (w : _) (v : _) → A.post auditor.now a p r n w v → IsRight p.now r.now n v }
 {
     let alloc = rt.alloc();
     let mut faults = rt.stderr();
     let Some(name) = file_of(request) else {
-        return play_with(
+        return play_by_workers(
+            threads,
             alloc,
-            runner,
             auditor,
             request,
             &mut rt.stdin(),
@@ -117,9 +108,9 @@ fn play_on<
         );
     };
     match File::open(rt, name) {
-        Ok(mut file) => play_with(
+        Ok(mut file) => play_by_workers(
+            threads,
             alloc,
-            runner,
             auditor,
             request,
             &mut file,
@@ -127,9 +118,9 @@ fn play_on<
             &mut faults,
         ),
         Err(error) => {
-            let status = play_with(
+            let status = play_by_workers(
+                threads,
                 alloc,
-                runner,
                 auditor,
                 request,
                 &mut Unreadable,
@@ -198,11 +189,9 @@ fn complain(rt: &HostRuntime, line: &[u8], status: u8) -> u8 {
 
 /// Does what a request asks for whose code goes to a file. That is written where all went well, and else left as it is.
 fn build_to<
-    X: Fn(Global, &Verified, usize, u64) -> Result<(SharedState, Entries), RunError>,
-    A: Fn(Global, &Program, &Report, u32, usize) -> Result<Answer, NoAnswer>,
->(rt: &HostRuntime, runner: &X, auditor: &A, request: &Request, out: &str) -> u8
-    requires call { (a : _) (code : _) (n : _) (steps : _) → IsRunnable code.now → X.pre runner.now a code n steps }
-    requires ran { (a : _) (code : _) (n : _) (steps : _) (r : _) → X.post runner.now a code n steps r → RunsLawfully code.now steps r }
+    T: Threads + Wait + Sync,
+    A: Fn(Global, &Program, &Report, u32, usize) -> Result<Verdict, AuditError>,
+>(rt: &HostRuntime, threads: &T, auditor: &A, request: &Request, out: &str) -> u8
     requires audit { (a : _) (p : _) (r : _) (n : _) (w : _) → A.pre auditor.now a p r n w }
     requires right { (a : _) (p : _) (r : _) (n : _) (w : _) (v : _) → A.post auditor.now a p r n w v → IsRight p.now r.now n v }
 {
@@ -214,7 +203,7 @@ fn build_to<
         );
     }
     let mut code = Vec::new(rt.alloc());
-    let status = play_on(rt, runner, auditor, request, &mut code);
+    let status = play_on(rt, threads, auditor, request, &mut code);
     if status != DONE {
         return status;
     }
@@ -234,28 +223,15 @@ fn build_to<
 
 /// Does what the request asks for.
 fn play_all<
-    X: Fn(Global, &Verified, usize, u64) -> Result<(SharedState, Entries), RunError>,
-    A: Fn(Global, &Program, &Report, u32, usize) -> Result<Answer, NoAnswer>,
->(rt: &HostRuntime, runner: &X, auditor: &A, request: &Request) -> u8
-    requires call { (a : _) (code : _) (n : _) (steps : _) → IsRunnable code.now → X.pre runner.now a code n steps }
-    requires ran { (a : _) (code : _) (n : _) (steps : _) (r : _) → X.post runner.now a code n steps r → RunsLawfully code.now steps r }
+    T: Threads + Wait + Sync,
+    A: Fn(Global, &Program, &Report, u32, usize) -> Result<Verdict, AuditError>,
+>(rt: &HostRuntime, threads: &T, auditor: &A, request: &Request) -> u8
     requires audit { (a : _) (p : _) (r : _) (n : _) (w : _) → A.pre auditor.now a p r n w }
     requires right { (a : _) (p : _) (r : _) (n : _) (w : _) (v : _) → A.post auditor.now a p r n w v → IsRight p.now r.now n v }
 {
     match request {
-        Request::Build { out, .. } => build_to(rt, runner, auditor, request, out.as_str()),
-        _ => play_on(rt, runner, auditor, request, &mut io::writer(rt)),
-    }
-}
-
-/// What an audit answered, as the program tells it.
-fn answer_of(verdict: Verdict) -> Answer
-    ensures { answer_as result ≡ as_verdict verdict }
-{
-    match verdict {
-        Verdict::Agrees { serial } => Answer::Agrees { serial },
-        Verdict::Differs { actor, event } => Answer::Differs(EventAt { actor, event }),
-        Verdict::Undecided { actor, event } => Answer::Undecided(EventAt { actor, event }),
+        Request::Build { out, .. } => build_to(rt, threads, auditor, request, out.as_str()),
+        _ => play_on(rt, threads, auditor, request, &mut io::writer(rt)),
     }
 }
 
@@ -267,44 +243,24 @@ fn audit_by<T: Threads + Wait + Sync>(
     report: &Report,
     turns: u32,
     workers: usize,
-) -> Result<Answer, NoAnswer>
+) -> Result<Verdict, AuditError>
     requires sync { IsSync T.row }
     ensures { IsRight program.now report.now turns result }
 {
     let Ok(workers) = u16::try_from(workers) else {
-        return Err(NoAnswer::NoThread);
+        return Err(AuditError::NoThread);
     };
-    match audit(threads, alloc, program, report, workers, turns) {
-        Ok(verdict) => Ok(answer_of(verdict)),
-        Err(AuditError::NoThread) => Err(NoAnswer::NoThread),
-        Err(AuditError::Memory) => Err(NoAnswer::Memory),
-    }
+    audit(threads, alloc, program, report, workers, turns)
 }
 
-/// Does what the request asks for; where that is a run by workers or an audit, these are started with this handle.
-fn play_by_workers<T: Threads + Wait + Sync>(
-    rt: &HostRuntime,
-    threads: &T,
-    request: &Request,
-) -> u8 {
+/// Does what the request asks for; where that is an audit, its workers are started with this handle.
+fn play_audited<T: Threads + Wait + Sync>(rt: &HostRuntime, threads: &T, request: &Request) -> u8 {
     play_all(
         rt,
-        &|alloc: Global, code: &Verified, workers: usize, steps: u64| -> Result<
-            (SharedState, Entries),
-            RunError,
-        >
-            requires sync { IsSync T.row }
-            requires few { IsRunnable code.now }
-            ensures { RunsLawfully code.now steps result }
-        {
-            let Gathered { shared, report } = run_threads(
-                threads, alloc, code, workers, steps, &OpenGate,
-            )?;
-            Ok((shared, report))
-        },
+        threads,
         &|alloc: Global, program: &Program, report: &Report, turns: u32, workers: usize| -> Result<
-            Answer,
-            NoAnswer,
+            Verdict,
+            AuditError,
         >
             requires sync { IsSync T.row }
             ensures { IsRight program.now report.now turns result }
@@ -333,7 +289,7 @@ fn request_of(rt: &HostRuntime) -> io::Result<Request> {
 
 fn main(rt: HostRuntime) -> ExitCode {
     let status = match request_of(&rt) {
-        Ok(request) => play_by_workers(&rt, &rt, &request),
+        Ok(request) => play_audited(&rt, &rt, &request),
         Err(error) => unread(&rt, &error),
     };
     ExitCode::from(status)

@@ -5,7 +5,7 @@ use Rattle.std.proofs.lemmas.Bool.{false≢true}
 use Rattle.txs_tree_meaning.specs.Tree.{PlainProgram}
 use Rattle.txs_world_protocol.specs.declared.event.Event.{Event}
 use Rattle.txs_theorem_audit.specs.Audited as audited
-use Rattle.txs_theorem_audit.specs.Audited.{PlainRan, PlainReport, books_of, Finding, Fine, Off, Short, and_then, check, answer}
+use Rattle.txs_theorem_audit.specs.Audited.{PlainActorReport, PlainReport, books_of, Finding, Fine, Off, Short, and_then, check, answer}
 use Rattle.txs_theorem_audit.specs.Pieces.{PiecesAreAll, pieces_of}
 use Rattle.txs_theorem_audit.specs.Verdict.{agents_found, are_serial, atoms_found, atoms_from, fits_sizes, store_found, threads_found, trace_found, traces_found, verdict}
 use Rattle.txs_audit_piece.specs.Judged.{is_fine}
@@ -73,9 +73,9 @@ first_actor (Off a i) g n x y = x
 first_actor (Short a i) g n x y = x
 
 -- an actor whose trace is off has an entry
-traces_within : (books : ℕ → List Event) (count a : ℕ) (rans : List PlainRan) (n : ℕ) → a + length rans ≤ n → IsActor n (traces_found books count a rans)
+traces_within : (books : ℕ → List Event) (count a : ℕ) (rans : List PlainActorReport) (n : ℕ) → a + length rans ≤ n → IsActor n (traces_found books count a rans)
 traces_within books count a [] n le = tt
 traces_within books count a (x ∷ xs) n le = first_actor (trace_found books count a x.trace) (traces_found books count (suc a) xs) n (checked _ a _ n (omega (arith, le))) (traces_within books count (suc a) xs n (omega (arith, le)))
 
-pub off_within : (books : ℕ → List Event) (count : ℕ) (rans : List PlainRan) (a i : ℕ) → Off a i ≡ traces_found books count 0 rans → a < length rans
+pub off_within : (books : ℕ → List Event) (count : ℕ) (rans : List PlainActorReport) (a i : ℕ) → Off a i ≡ traces_found books count 0 rans → a < length rans
 off_within books count rans a i h = subst (IsActor (length rans)) (sym h) (traces_within books count 0 rans (length rans) (omega arith))

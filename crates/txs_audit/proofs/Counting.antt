@@ -9,7 +9,7 @@ use Rattle.txs_value_data.specs.declared.value.CellKind.TheVariants.{Agent, Atom
 use Rattle.txs_tree_meaning.specs.Sound.{Sound}
 use Rattle.txs_tree_meaning.specs.View.{program_of}
 use Rattle.txs_world_protocol.specs.declared.event.Place.{Place}
-use Rattle.txs_world_protocol.specs.declared.report.Ran.{Ran}
+use Rattle.txs_world_protocol.specs.declared.report.ActorReport.{ActorReport}
 use Rattle.txs_tree_meaning.specs.Tree.{PlainProgram}
 use Rattle.txs_theorem_audit.specs.Audited.{PlainReport, Off, books_of, place_of, ran_as}
 use Rattle.txs_theorem_audit.specs.Verdict.{fits_sizes, traces_found}
@@ -37,7 +37,7 @@ drop_there (x ∷ xs) i lt = (get_or (x ∷ xs) i x, drop_more (x ∷ xs) i x lt
 
 -- ---- threads
 
-pub threads_next : (xs : List Piece) (rans : List Ran) (i : ℕ) (whole : List plain.Piece) → i < length rans
+pub threads_next : (xs : List Piece) (rans : List ActorReport) (i : ℕ) (whole : List plain.Piece) → i < length rans
     → pieces_as xs ++ thread_pieces i (map ran_as (drop i rans)) ≡ whole → pieces_as (xs ++ piece.Thread i ∷ []) ++ thread_pieces (i + 1) (map ran_as (drop (i + 1) rans)) ≡ whole
 threads_next xs rans i whole lt h =
     one_more xs (piece.Thread i) (thread_pieces (i + 1) (map ran_as (drop (i + 1) rans)))
@@ -45,7 +45,7 @@ threads_next xs rans i whole lt h =
     ∙ ap (λ l. pieces_as xs ++ thread_pieces i (map ran_as l)) (sym (drop_there rans i lt).1)
     ∙ h
 
-pub threads_end : (xs : List plain.Piece) (rans : List Ran) (i : ℕ) (whole : List plain.Piece) → length rans ≤ i → xs ++ thread_pieces i (map ran_as (drop i rans)) ≡ whole → xs ≡ whole
+pub threads_end : (xs : List plain.Piece) (rans : List ActorReport) (i : ℕ) (whole : List plain.Piece) → length rans ≤ i → xs ++ thread_pieces i (map ran_as (drop i rans)) ≡ whole → xs ≡ whole
 threads_end xs rans i whole le h = sym (append-nil xs) ∙ ap (λ l. xs ++ thread_pieces i (map ran_as l)) (sym (drop_all i rans le)) ∙ h
 
 -- ---- entries of an agent's trace
@@ -68,7 +68,7 @@ end_next xs a olds acts h =
 
 -- ---- agents
 
-pub agents_next : (olds news : List plain.Piece) (rans : List Ran) (i : ℕ) (r : Ran) (whole : List plain.Piece) → i < length rans → r ≡ get_or rans i r → news ≡ olds ++ agent_piece i (ran_as r)
+pub agents_next : (olds news : List plain.Piece) (rans : List ActorReport) (i : ℕ) (r : ActorReport) (whole : List plain.Piece) → i < length rans → r ≡ get_or rans i r → news ≡ olds ++ agent_piece i (ran_as r)
     → olds ++ agent_pieces i (map ran_as (drop i rans)) ≡ whole → news ++ agent_pieces (i + 1) (map ran_as (drop (i + 1) rans)) ≡ whole
 agents_next olds news rans i r whole lt is more h =
     let acts = act_pieces i 0 (ran_as r).trace in
@@ -80,7 +80,7 @@ agents_next olds news rans i r whole lt is more h =
     ∙ ap (λ l. olds ++ agent_pieces i (map ran_as l)) (ap (λ y. y ∷ drop (i + 1) rans) is ∙ sym (drop_more rans i r lt))
     ∙ h
 
-pub agents_end : (xs : List plain.Piece) (rans : List Ran) (i : ℕ) (whole : List plain.Piece) → length rans ≤ i → xs ++ agent_pieces i (map ran_as (drop i rans)) ≡ whole → xs ≡ whole
+pub agents_end : (xs : List plain.Piece) (rans : List ActorReport) (i : ℕ) (whole : List plain.Piece) → length rans ≤ i → xs ++ agent_pieces i (map ran_as (drop i rans)) ≡ whole → xs ≡ whole
 agents_end xs rans i whole le h = sym (append-nil xs) ∙ ap (λ l. xs ++ agent_pieces i (map ran_as l)) (sym (drop_all i rans le)) ∙ h
 
 -- ---- few entries
@@ -94,11 +94,11 @@ agents_few n (d ∷ ds) = go d.kind (agents_few (suc n) ds)
     go Atom le = omega (arith, le)
     go Agent le = omega (arith, le)
 
-many_as : (rans : List Ran) → length (map ran_as rans) ≡ length rans
+many_as : (rans : List ActorReport) → length (map ran_as rans) ≡ length rans
 many_as [] = refl
 many_as (x ∷ xs) = ap suc (many_as xs)
 
-pub few_threads : (b : PlainBooks) → AreLegal b → Sound (program_of b.program) → (rans : List Ran) → map ran_as rans ≡ b.report.threads → length rans ≤ 65535
+pub few_threads : (b : PlainBooks) → AreLegal b → Sound (program_of b.program) → (rans : List ActorReport) → map ran_as rans ≡ b.report.threads → length rans ≤ 65535
 few_threads b legal sound rans is =
     let threads = (sized_of (program_of b.program) b.report legal.fits).threads in
     let few = sound.scoped.few_threads in
@@ -106,7 +106,7 @@ few_threads b legal sound rans is =
     let same = many_as rans in
     omega (arith, threads, few, many, same)
 
-pub few_agents : (b : PlainBooks) → AreLegal b → Sound (program_of b.program) → (rans : List Ran) → map ran_as rans ≡ b.report.agents → length rans ≤ 65535
+pub few_agents : (b : PlainBooks) → AreLegal b → Sound (program_of b.program) → (rans : List ActorReport) → map ran_as rans ≡ b.report.agents → length rans ≤ 65535
 few_agents b legal sound rans is =
     let agents = (sized_of (program_of b.program) b.report legal.fits).agents in
     let few = agents_few 0 b.program.cells in

@@ -27,7 +27,7 @@ use Rattle.txs_world_protocol.proofs.event.Outcome.TheSendSync as outcome_sent
 use Rattle.txs_world_protocol.proofs.event.Place.TheSendSync as place_sent
 use Rattle.txs_world_protocol.specs.contracts.event.Event as event_is
 use Rattle.txs_world_protocol.specs.contracts.event.EventKind as event_kind_is
-use Rattle.txs_world_protocol.specs.contracts.report.Ran as ran_is
+use Rattle.txs_world_protocol.specs.contracts.report.ActorReport as ran_is
 use Rattle.txs_world_protocol.specs.contracts.report.Report as report_is
 use Rattle.txs_world_book.specs.contracts.cell.Cells as cells_is
 use Rattle.txs_world_book.specs.contracts.cell.Cells.TheInside as cells_in

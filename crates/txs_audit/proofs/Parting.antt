@@ -15,7 +15,7 @@ use Rattle.txs_audit.specs.Pieced.{IsFound, Sought, both, nothing, piece_as, pie
 use Rattle.txs_audit.specs.declared.judging.Judge as Judge
 use Rattle.txs_audit.specs.declared.parts.Part.{Part}
 use Rattle.txs_audit.specs.declared.pieces.Piece.{Piece}
-use Rattle.txs_audit.specs.declared.verdict.AuditError.{AuditError}
+use Rattle.txs_audit_answer.specs.declared.verdict.AuditError.{AuditError}
 
 abbrev IsFine : Finding → Type 0
 IsFine Fine = Unit {0}

@@ -1,7 +1,7 @@
 -- Pieces as an audit's definition has them, and what is sought of them.
 use Rattle.std.specs.Prelude.{◌≡◌, ℕ, Bool, true, ◌&&◌, List, [], ◌∷◌, ◌++◌, map}
 use Rattle.txs_tree_meaning.specs.View.{program_of}
-use Rattle.txs_theorem_audit.specs.Audited.{PlainRan, Finding, Fine, and_then}
+use Rattle.txs_theorem_audit.specs.Audited.{PlainActorReport, Finding, Fine, and_then}
 use Rattle.txs_theorem_audit.specs.Pieces as plain
 use Rattle.txs_theorem_audit.specs.Pieces.{pieces_finding, pieces_serial}
 use Rattle.txs_audit_piece.specs.Judged.{as_found}
@@ -21,7 +21,7 @@ abbrev pub pieces_as : List Piece → List plain.Piece
 pieces_as xs = map piece_as xs
 
 -- the pieces of the agent with this number
-abbrev pub agent_piece : ℕ → PlainRan → List plain.Piece
+abbrev pub agent_piece : ℕ → PlainActorReport → List plain.Piece
 agent_piece i ran = plain.act_pieces i 0 ran.trace ++ plain.OfEnd i ∷ []
 
 -- what an audit finds, and if that is nothing, whether each commit is covered

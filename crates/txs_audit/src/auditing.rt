@@ -6,15 +6,16 @@ ghost use Rattle.txs_theorem_audit.specs.Audited.{Fine, answer, books_of, report
 ghost use Rattle.txs_theorem_audit.specs.Pieces.{pieces_finding, pieces_of, pieces_serial};
 ghost use Rattle.txs_theorem_audit.specs.Verdict.{fits_sizes, traces_found, verdict};
 ghost use Rattle.txs_audit_trace.specs.Named.{off_in};
-ghost use Rattle.txs_audit.specs.Answered.{as_verdict};
-ghost use Rattle.txs_audit.specs.declared.verdict.AuditError.TheVariants.{NoThread};
+ghost use Rattle.txs_audit_answer.specs.Answered.{as_verdict};
+ghost use Rattle.txs_audit_answer.specs.declared.verdict.AuditError.TheVariants.{NoThread};
 
 use crate::pieces::pieces_of;
-use crate::verdict::{AuditError, Verdict, verdict_of};
+use crate::verdict::verdict_of;
 use crate::workers::found_by;
 use std::alloc::{AllocError, Global};
 use std::sync::Wait;
 use std::thread::Threads;
+use txs_audit_answer::{AuditError, Verdict};
 use txs_audit_evidence::transactions::Found;
 use txs_audit_evidence::{Books, open_books};
 use txs_audit_trace::{has_sizes, traces_off};
@@ -40,6 +41,7 @@ fn first_off(
     requires { fits_sizes (program_of program.now) (report_as report.now) ≡ true }
     ensures { IfOk result (λ o. off_in o ≡ traces_found (books_of (report_as report.now)) (suc (length (report_as report.now).atom_books)) 0 ((report_as report.now).threads ++ (report_as report.now).agents)) }
 {
+    // A step of the proof, which does nothing when it runs.
     program.is_sound();
     match traces_off(alloc, report)? {
         Some((actor, event)) => Ok(Some((as_actor(actor), event))),
@@ -80,6 +82,7 @@ fn audit_books<R: Threads + Wait + Sync, G: Gate>(
     requires workers { workers ≤ 64 }
     ensures { IfOk result (λ v. as_verdict v ≡ verdict (program_of program.now) (report_as report.now) turns) }
 {
+    // A law that the proof uses; it does nothing when it runs.
     pieces_are_all();
     match open_books(alloc, program, report)? {
         Ok(books) => audit_pieces(rt, alloc, &books, workers, turns, gate),

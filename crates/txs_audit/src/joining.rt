@@ -6,8 +6,8 @@ ghost use Rattle.txs_audit.specs.Pieced.{IsFound, Sought, both};
 
 use crate::judging::Judge;
 use crate::parts::Part;
-use crate::verdict::AuditError;
 use std::thread::{PromisedHandle, Threads};
+use txs_audit_answer::AuditError;
 use txs_audit_evidence::transactions::Found;
 use txs_audit_piece::Finding;
 

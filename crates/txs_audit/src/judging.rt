@@ -36,6 +36,7 @@ impl<'a> Judge for Books<'a> {
     fn splits(&self)
         ensures { (n : ℕ) (xs ys : List Piece) → sought_of self.now n (pieces_as (xs ++ ys)) ≡ both (sought_of self.now n (pieces_as xs)) (sought_of self.now n (pieces_as ys)) }
     {
+        // A law that the proof uses; it does nothing when it runs.
         halves_are_whole();
     }
 }

@@ -12,8 +12,8 @@ mod joining;
 mod judging;
 mod parts;
 pub mod pieces;
-pub mod verdict;
+mod verdict;
 mod workers;
 
 pub use auditing::{audit, audit_gated};
-pub use verdict::{AuditError, Verdict};
+pub use txs_audit_answer::{AuditError, Verdict};

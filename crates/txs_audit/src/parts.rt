@@ -6,9 +6,9 @@ ghost use Rattle.txs_audit.specs.Pieced.{IsFound, both};
 
 use crate::judging::Judge;
 use crate::pieces::Piece;
-use crate::verdict::AuditError;
 use std::alloc::AllocError;
 use std::thread::Promise;
+use txs_audit_answer::AuditError;
 use txs_audit_evidence::transactions::Found;
 
 /// These pieces, judged so, where each loop makes at most `turns` turns. As a promise: what a worker answers is what is found of them.

@@ -11,7 +11,7 @@ use txs_audit_evidence::acts::{act_found, agent_end};
 use txs_audit_evidence::threads::thread_found;
 use txs_audit_evidence::transactions::Found;
 use txs_audit_piece::Finding;
-use txs_world_protocol::{Place, Ran};
+use txs_world_protocol::{ActorReport, Place};
 
 /// A piece.
 #[derive(Clone, Copy)]
@@ -25,7 +25,7 @@ pub enum Piece {
 }
 
 /// The threads with these entries join the pieces.
-fn add_threads(pieces: &mut Vec<Piece>, threads: &[Ran]) -> Result<(), AllocError>
+fn add_threads(pieces: &mut Vec<Piece>, threads: &[ActorReport]) -> Result<(), AllocError>
     requires { length threads.now ≤ 65535 }
     ensures { OnOk result (pieces_as pieces.new.items ≡ pieces_as pieces.old.items ++ thread_pieces 0 (map ran_as threads.now)) }
 {
@@ -46,7 +46,7 @@ fn add_acts(pieces: &mut Vec<Piece>, agent: u16, trace: &[Place]) -> Result<(), 
 }
 
 /// The pieces of an agent with this entry join the pieces.
-fn add_agent(pieces: &mut Vec<Piece>, agent: u16, ran: &Ran) -> Result<(), AllocError>
+fn add_agent(pieces: &mut Vec<Piece>, agent: u16, ran: &ActorReport) -> Result<(), AllocError>
     ensures { OnOk result (pieces_as pieces.new.items ≡ pieces_as pieces.old.items ++ agent_piece agent (ran_as ran.now)) }
 {
     add_acts(pieces, agent, ran.trace.as_slice())?;
@@ -55,7 +55,7 @@ fn add_agent(pieces: &mut Vec<Piece>, agent: u16, ran: &Ran) -> Result<(), Alloc
 }
 
 /// The pieces of the agents with these entries join the pieces.
-fn add_agents(pieces: &mut Vec<Piece>, agents: &[Ran]) -> Result<(), AllocError>
+fn add_agents(pieces: &mut Vec<Piece>, agents: &[ActorReport]) -> Result<(), AllocError>
     requires { length agents.now ≤ 65535 }
     ensures { OnOk result (pieces_as pieces.new.items ≡ pieces_as pieces.old.items ++ agent_pieces 0 (map ran_as agents.now)) }
 {

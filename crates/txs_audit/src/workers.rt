@@ -9,12 +9,12 @@ use crate::joining::joined;
 use crate::judging::Judge;
 use crate::parts::Part;
 use crate::pieces::Piece;
-use crate::verdict::AuditError;
 use core::thread::Stack;
 use std::alloc::Global;
 use std::sync::Wait;
 use std::thread;
 use std::thread::{PromisedHandle, Scope, Threads};
+use txs_audit_answer::AuditError;
 use txs_audit_evidence::transactions::Found;
 use txs_threads::{Gate, Moment};
 

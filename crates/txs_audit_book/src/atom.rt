@@ -11,10 +11,10 @@ ghost use Rattle.txs_audit_book.specs.Swapped.{GoneSwaps, WentAtom, atom_test, s
 use crate::replay::Gone;
 use crate::stands::mark;
 use std::alloc::{AllocError, Global};
-use txs_tree_eval_transaction::{History, same_cell};
+use txs_tree_eval_transaction::History;
 use txs_value_data::{CellId, copy_value};
 use txs_world_book::stand_of;
-use txs_world_protocol::{Event, EventKind};
+use txs_world_protocol::{Event, EventKind, same_cell};
 
 /// A book has no more events.
 const MOST_EVENTS: usize = 1_000_000;

@@ -3,7 +3,6 @@
 #![tactic(auto)]
 
 pub mod atom;
-mod cells;
 mod inbox;
 mod parts;
 pub mod replay;

@@ -10,7 +10,6 @@ ghost use Rattle.txs_audit_book.specs.Moves.{MayPut, mail_put};
 ghost use Rattle.txs_theorem_audit.specs.Verdict.{is_legal_kind};
 ghost use Rattle.txs_audit_book.specs.Tests.{store_test};
 
-use crate::cells::{are_sends, are_written, has_agent, has_readable, has_ref};
 use crate::inbox::{Inbox, act_at, open_inboxes, send_all, send_one};
 use crate::stands::{is_no_redo, mark};
 use crate::values::{open_histories, put_values};
@@ -18,7 +17,9 @@ use std::alloc::{AllocError, Global};
 use txs_tree_eval_transaction::History;
 use txs_value_cell::{Action, CellDefinition};
 use txs_value_data::{CellId, Listed, Value};
-use txs_world_book::{Cells, StoreCell, stand_of};
+use txs_world_book::{
+    Cells, StoreCell, are_sends, are_written, has_agent, has_readable, has_ref, stand_of,
+};
 use txs_world_protocol::{Event, EventKind};
 
 /// The cells, how many threads there are, the values that each cell has had, what is known of agents, and where actors stand.

@@ -6,7 +6,7 @@ use Rattle.txs_value_data.specs.declared.value.Value.{Value}
 use Rattle.txs_world_protocol.specs.SeenEvent.{SeenEvent}
 use Rattle.txs_world_protocol.specs.declared.event.Event.{Event}
 use Rattle.txs_world_protocol.specs.declared.event.Place as event
-use Rattle.txs_world_protocol.specs.declared.report.Ran.{Ran}
+use Rattle.txs_world_protocol.specs.declared.report.ActorReport.{ActorReport}
 use Rattle.txs_world_protocol.specs.declared.report.Report.{Report}
 use Rattle.txs_world_book.specs.Served.{cells_of}
 use Rattle.txs_world_book.specs.declared.cell.StoreCell.{StoreCell}
@@ -22,7 +22,7 @@ use Rattle.txs_tree_eval.specs.declared.transaction.TxMeaning.{TxMeaning}
 use Rattle.txs_theorem_runs.specs.Told.{seen_of}
 use Rattle.txs_theorem_threads.specs.FollowsAll.{source_of}
 use Rattle.txs_theorem_threads.specs.Noted.{txs_of}
-use Rattle.txs_theorem_audit.specs.Audited.{PlainRan, PlainReport, books_of, place_of, ran_as, report_as, Finding, Fine, Off, Short, and_then}
+use Rattle.txs_theorem_audit.specs.Audited.{PlainActorReport, PlainReport, books_of, place_of, ran_as, report_as, Finding, Fine, Off, Short, and_then}
 use Rattle.txs_theorem_audit.specs.Pieces.{OfThread, piece_finding, piece_serial, thread_finding, thread_serial}
 use Rattle.txs_theorem_audit.specs.Verdict.{calm_found, covered_all, end_found, fits_sizes, noted_by, thread_found}
 use Rattle.txs_theorem_audit_eval.specs.Evaluated.{CalmBy, CoveredBy, NotedBy, calm_found_by, covered_all_by}
@@ -49,7 +49,7 @@ first_found (Off a i) g e = refl
 first_found (Short a i) g e = refl
 
 -- a thread whose end is fine has a meaning
-end_means : (s : ThreadSource) (n a : ℕ) (es : List SeenEvent) (ran : PlainRan) (m : Completion ThreadState Value) → end_found s n a es ran m ≡ Fine → is_wrong m ≡ false
+end_means : (s : ThreadSource) (n a : ℕ) (es : List SeenEvent) (ran : PlainActorReport) (m : Completion ThreadState Value) → end_found s n a es ran m ≡ Fine → is_wrong m ≡ false
 end_means s n a es ran (Completes v t) e = refl
 end_means s n a es ran (Recurs vs t) e = absurd cc
 end_means s n a es ran (Faults f t) e = refl
@@ -68,7 +68,7 @@ told_covered books b ps qs ms ns p m is = is ∙ ap (λ l. covered_all_by books 
 
 -- ---- a thread and its entry
 
-module _ (p : PlainProgram) (r : PlainReport) (n a : ℕ) (t : PlainThread) (ran : PlainRan) where
+module _ (p : PlainProgram) (r : PlainReport) (n a : ℕ) (t : PlainThread) (ran : PlainActorReport) where
   abbrev source : ThreadSource
   source = source_of p t
 
@@ -107,7 +107,7 @@ module _ (p : PlainProgram) (r : PlainReport) (n a : ℕ) (t : PlainThread) (ran
       ∙ ap (λ b. covered_all (books_of r) ran.trace (if b then txs_of (right_meaning source n events) else txs_of meaning)) (end_means source n a events ran meaning (sym ends ∙ fine))
 
 -- an end that is found by another spelling of the program and the events
-pub end_so : (p q : Parts) → p ≡ q → (es ds : List SeenEvent) → es ≡ ds → (n a : ℕ) (ran : PlainRan) (m : ThreadMeaning) (g : Finding)
+pub end_so : (p q : Parts) → p ≡ q → (es ds : List SeenEvent) → es ≡ ds → (n a : ℕ) (ran : PlainActorReport) (m : ThreadMeaning) (g : Finding)
     → ((t : PlainThread) → nth (program_of p).threads a ≡ Some t → Tells m (source_of (program_of p) t) n es → g ≡ end_found (source_of (program_of p) t) n a es ran (thread_meaning (source_of (program_of p) t) n es))
     → (t : PlainThread) → nth (program_of q).threads a ≡ Some t → Tells m (source_of (program_of q) t) n es → g ≡ end_found (source_of (program_of q) t) n a ds ran (thread_meaning (source_of (program_of q) t) n ds)
 end_so p q same es ds are n a ran m g ends t there tells =
@@ -122,12 +122,12 @@ so (Ok x) h f = f x h
 so (Err e) h f = tt
 
 -- the entry with this number
-entry_at : (xs : List Ran) (i : ℕ) (x : Ran) → i < length xs → x ≡ get_or xs i x → nth (map ran_as xs) i ≡ Some (ran_as x)
+entry_at : (xs : List ActorReport) (i : ℕ) (x : ActorReport) → i < length xs → x ≡ get_or xs i x → nth (map ran_as xs) i ≡ Some (ran_as x)
 entry_at [] i x lt is = absurd (omega (arith, lt))
 entry_at (y ∷ xs) zero x lt is = ap (λ z. Some (ran_as z)) (sym is)
 entry_at (y ∷ xs) (suc i) x lt is = entry_at xs i x (omega (arith, lt)) is
 
-pub entry_there : (r : Report) (p : PlainReport) → report_as r ≡ p → (xs : List Ran) → xs ≡ r.threads.items → (i k : ℕ) → i ≡ k → (x : Ran) → true ≡ nat_lt i (length xs) → x ≡ get_or xs i x → nth p.threads k ≡ Some (ran_as x)
+pub entry_there : (r : Report) (p : PlainReport) → report_as r ≡ p → (xs : List ActorReport) → xs ≡ r.threads.items → (i k : ℕ) → i ≡ k → (x : ActorReport) → true ≡ nat_lt i (length xs) → x ≡ get_or xs i x → nth p.threads k ≡ Some (ran_as x)
 entry_there r p is xs same i k number x lt here =
     ap (λ (q : PlainReport). nth q.threads k) (sym is)
     ∙ ap (λ l. nth (map ran_as l) k) (sym same)
@@ -157,21 +157,21 @@ and_left false b e = e
 fits_threads : (p : Parts) (r : PlainReport) → fits_sizes (program_of p) r ≡ true → length r.threads ≡ length p.threads
 fits_threads p r fits = eqb-true (length r.threads) (length (threads_of p.threads)) (and_left (length r.threads == length (threads_of p.threads)) _ fits) ∙ many_threads p.threads
 
-pub thread_below : (p : Parts) (r : PlainReport) → fits_sizes (program_of p) r ≡ true → (k : ℕ) (ran : PlainRan) → nth r.threads k ≡ Some ran → k < length p.threads
+pub thread_below : (p : Parts) (r : PlainReport) → fits_sizes (program_of p) r ≡ true → (k : ℕ) (ran : PlainActorReport) → nth r.threads k ≡ Some ran → k < length p.threads
 thread_below p r fits k ran is = (let lt = nth_many r.threads k ran is in let e = fits_threads p r fits in omega (arith, lt, e))
 
 pub thread_there : (p : Parts) (k : ℕ) → k < length p.threads → (t : PlainThread) × (nth (program_of p).threads k ≡ Some t)
 thread_there p k lt = many_nth (threads_of p.threads) k (let e = many_threads p.threads in omega (arith, lt, e))
 
 -- what is found of a thread and its entry is what is found of the piece
-pub some_finding : (p : PlainProgram) (r : PlainReport) (n a : ℕ) (t : PlainThread) (ran : PlainRan) → nth p.threads a ≡ Some t → nth r.threads a ≡ Some ran → thread_found p r n a t ran ≡ piece_finding p r n (OfThread a)
+pub some_finding : (p : PlainProgram) (r : PlainReport) (n a : ℕ) (t : PlainThread) (ran : PlainActorReport) → nth p.threads a ≡ Some t → nth r.threads a ≡ Some ran → thread_found p r n a t ran ≡ piece_finding p r n (OfThread a)
 some_finding p r n a t ran e is = sym (ap (λ o. thread_finding p r n a o (nth r.threads a)) e ∙ ap (thread_finding p r n a (Some t)) is)
 
-pub some_serial : (p : PlainProgram) (r : PlainReport) (n a : ℕ) (t : PlainThread) (ran : PlainRan) → nth p.threads a ≡ Some t → nth r.threads a ≡ Some ran → thread_serial p r n (Some t) (Some ran) ≡ piece_serial p r n (OfThread a)
+pub some_serial : (p : PlainProgram) (r : PlainReport) (n a : ℕ) (t : PlainThread) (ran : PlainActorReport) → nth p.threads a ≡ Some t → nth r.threads a ≡ Some ran → thread_serial p r n (Some t) (Some ran) ≡ piece_serial p r n (OfThread a)
 some_serial p r n a t ran e is = sym (ap (λ o. thread_serial p r n o (nth r.threads a)) e ∙ ap (thread_serial p r n (Some t)) is)
 
 -- what is judged of the thread with this number is what is found of the piece
-pub finding_so : {A E : Type 0} (q : A → Finding) (p : Parts) (r : PlainReport) (n a : ℕ) (ran : PlainRan) (m : ThreadMeaning) (es : List SeenEvent) (o : Result A E) → a < length p.threads → nth r.threads a ≡ Some ran
+pub finding_so : {A E : Type 0} (q : A → Finding) (p : Parts) (r : PlainReport) (n a : ℕ) (ran : PlainActorReport) (m : ThreadMeaning) (es : List SeenEvent) (o : Result A E) → a < length p.threads → nth r.threads a ≡ Some ran
     → ((t : PlainThread) → nth (program_of p).threads a ≡ Some t → Tells m (source_of (program_of p) t) n es)
     → IfOk o (λ f. (t : PlainThread) → nth (program_of p).threads a ≡ Some t → Tells m (source_of (program_of p) t) n es → q f ≡ thread_found (program_of p) r n a t ran)
     → IfOk o (λ f. q f ≡ piece_finding (program_of p) r n (OfThread a))
@@ -179,7 +179,7 @@ finding_so q p r n a ran m es o lt here tells h =
     let there = thread_there p a lt in
     so o h (λ f k. k there.0 there.1 (tells there.0 there.1) ∙ some_finding (program_of p) r n a there.0 ran there.1 here)
 
-pub serial_so : {A E : Type 0} (q : A → Finding) (s : A → Bool) (p : Parts) (r : PlainReport) (n a : ℕ) (ran : PlainRan) (m : ThreadMeaning) (es : List SeenEvent) (o : Result A E) → a < length p.threads → nth r.threads a ≡ Some ran
+pub serial_so : {A E : Type 0} (q : A → Finding) (s : A → Bool) (p : Parts) (r : PlainReport) (n a : ℕ) (ran : PlainActorReport) (m : ThreadMeaning) (es : List SeenEvent) (o : Result A E) → a < length p.threads → nth r.threads a ≡ Some ran
     → ((t : PlainThread) → nth (program_of p).threads a ≡ Some t → Tells m (source_of (program_of p) t) n es)
     → IfOk o (λ f. (t : PlainThread) → nth (program_of p).threads a ≡ Some t → Tells m (source_of (program_of p) t) n es → q f ≡ Fine → s f ≡ thread_serial (program_of p) r n (Some t) (Some ran))
     → IfOk o (λ f. q f ≡ Fine → s f ≡ piece_serial (program_of p) r n (OfThread a))

@@ -127,6 +127,7 @@ fn actor_of(books: &Books<'_>, agent: u16) -> u16
 {
     books.are_legal();
     let program = books.program();
+    // A step of the proof, which does nothing when it runs.
     program.is_sound();
     program.threads().len() as u16 + agent
 }

@@ -18,10 +18,10 @@ ghost use Rattle.txs_audit_evidence.specs.Leaving.{same_newest};
 use txs_audit_book::Replay;
 use txs_audit_piece::ends::same_fault;
 use txs_tree_eval::History;
-use txs_tree_eval_transaction::same_value;
 use txs_value_base::Fault;
 use txs_value_cell::CellDefinition;
 use txs_value_data::{CellId, CellKind, Value};
+use txs_world_protocol::same_value;
 
 /// Whether two faults that there may be are the same.
 fn same_failure(a: Option<Fault>, b: Option<Fault>) -> bool

@@ -7,7 +7,7 @@ ghost use Rattle.txs_audit_piece.specs.Judged.{as_found};
 ghost use Rattle.txs_audit_evidence.specs.Named.{plain_entry, plain_trace};
 
 use txs_audit_piece::Finding;
-use txs_world_protocol::{Place, Ran, Report};
+use txs_world_protocol::{ActorReport, Place, Report};
 
 /// Whether this is the place of the event at this index of a book.
 fn is_at(place: Place, book: u32, at: usize) -> bool
@@ -29,7 +29,7 @@ fn index_in(book: u32, at: usize, trace: &[Place]) -> usize
 }
 
 /// The entry of an actor: threads come first, and behind them the agents.
-fn entry_of<'a>(report: &'a Report, actor: u16) -> Option<&'a Ran>
+fn entry_of<'a>(report: &'a Report, actor: u16) -> Option<&'a ActorReport>
     ensures { plain_entry (option_copied result) ≡ entry_of (report_as report.now) actor }
 {
     let actor = usize::from(actor);

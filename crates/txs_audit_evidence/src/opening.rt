@@ -41,6 +41,7 @@ fn store_left(
     requires same { replay.now ≡ replay_in (plain_books program.now report.now) }
     ensures { IfOk result (StoreLeft program.now report.now) }
 {
+    // A step of the proof, which does nothing when it runs.
     program.is_sound();
     let cells = program.cells();
     let agents = agents_of(alloc, cells)?;
@@ -58,6 +59,7 @@ fn open_store<'a>(
     requires { fits_sizes (program_of program.now) (report_as report.now) ≡ true }
     ensures { IfOk result (StoreOpened program.now report.now) }
 {
+    // A step of the proof, which does nothing when it runs.
     program.is_sound();
     let threads = program.threads().len() as u16;
     let book = report.book.as_slice();
@@ -99,6 +101,7 @@ fn open_atom(
     requires there { nth (atoms_from 0 program.now.cells) n ≡ Some cell }
     ensures { IfOk result (AtomOpened program.now report.now n cell) }
 {
+    // A step of the proof, which does nothing when it runs.
     program.is_sound();
     let threads = program.threads().len() as u16;
     let events = report.atom_books[n].as_slice();
@@ -143,6 +146,7 @@ fn open_atoms(
     requires { fits_sizes (program_of program.now) (report_as report.now) ≡ true }
     ensures { IfOk result (AtomsOpened program.now report.now) }
 {
+    // A step of the proof, which does nothing when it runs.
     program.is_sound();
     let atoms = atoms_of(alloc, program.cells())?;
     open_each(alloc, program, report, atoms.as_slice())

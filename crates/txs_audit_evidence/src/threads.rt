@@ -19,7 +19,7 @@ use std::alloc::{AllocError, Global};
 use txs_audit_piece::{Finding, end_found};
 use txs_theorem_audit_eval::{calm_is_answered, covered_is_answered, noted_are_answered};
 use txs_tree_eval::{Seen, ThreadMeaning, eval_thread};
-use txs_world_protocol::Ran;
+use txs_world_protocol::ActorReport;
 
 /// What is found of the program's thread with this entry, whose meaning on the entry's events with their worlds is told so: its
 /// transactions, and then its end.
@@ -28,7 +28,7 @@ fn judge<'b>(
     books: &'b Books<'_>,
     thread: u16,
     turns: u32,
-    ran: &Ran,
+    ran: &ActorReport,
     seen: &'b [Seen<'b>],
     meaning: &ThreadMeaning,
 ) -> Result<Found, AllocError>
@@ -42,6 +42,7 @@ fn judge<'b>(
         → as_found f.finding ≡ Fine
         → f.serial ≡ thread_serial (program_of books.now.program) books.now.report turns (Some t) (Some (ran_as ran.now))) }
 {
+    // Laws that the proof uses; they do nothing when they run.
     calm_is_answered();
     covered_is_answered();
     noted_are_answered();

@@ -18,10 +18,9 @@ use std::alloc::AllocError;
 use txs_audit_piece::Finding;
 use txs_frame::TxFrame;
 use txs_tree_eval::TxMeaning;
-use txs_tree_eval_transaction::same_cell;
 use txs_value_cell::Action;
 use txs_value_data::CellId;
-use txs_world_protocol::{Event, EventKind, Place};
+use txs_world_protocol::{Event, EventKind, Place, same_cell};
 
 /// What is found of a piece, and, where that is nothing, whether each of its commits is covered.
 #[derive(Clone, Copy)]

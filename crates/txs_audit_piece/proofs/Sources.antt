@@ -5,7 +5,7 @@ use Rattle.txs_world_protocol.specs.SeenEvent.{SeenEvent}
 use Rattle.txs_world_protocol.specs.declared.event.Outcome.{Outcome}
 use Rattle.txs_tree_eval.specs.Told.{Tells, source_in, thread_source}
 use Rattle.txs_tree_eval.specs.declared.meaning.ThreadMeaning.{ThreadMeaning}
-use Rattle.txs_world_protocol.specs.declared.report.Ran.{Ran}
+use Rattle.txs_world_protocol.specs.declared.report.ActorReport.{ActorReport}
 use Rattle.txs_tree_meaning.specs.Thread.{thread_meaning}
 use Rattle.txs_theorem_audit.specs.Audited.{ran_as}
 use Rattle.txs_tree_eval.specs.declared.meaning.Needs.{Needs}
@@ -70,7 +70,7 @@ least_some law p k n t e (x ∷ es) before m out some is tells =
 
 -- ---- the end
 
-pub end_told : EndBy → (p : PlainProgram) → Sound p → (k n : ℕ) (t : PlainThread) → nth p.threads k ≡ Some t → (es : List Seen) (ran : Ran) (m : ThreadMeaning) (part : Bool)
+pub end_told : EndBy → (p : PlainProgram) → Sound p → (k n : ℕ) (t : PlainThread) → nth p.threads k ≡ Some t → (es : List Seen) (ran : ActorReport) (m : ThreadMeaning) (part : Bool)
     → part ≡ part_by ran.outcome ran.printed.items m.printed (least_printed (source_of p t) n (seen_events es)) → Tells m (source_of p t) n (seen_events es)
     → end_with k (length es) ran.outcome ran.printed.items part m.needs m.outcome m.printed m.eaten ≡ end_found (source_of p t) n k (seen_events es) (ran_as ran) (thread_meaning (source_of p t) n (seen_events es))
 end_told law p sound k n t e es ran m part is tells =

@@ -14,10 +14,10 @@ use std::alloc::{AllocError, Global};
 use txs_check::FunctionTable;
 use txs_theorem_audit_eval::act_is_answered;
 use txs_tree_eval::{EvalStop, eval_pure};
-use txs_tree_eval_transaction::same_value;
 use txs_value_base::{Callee, Fault, Span};
 use txs_value_cell::Action;
 use txs_value_data::{Value, copy_value};
+use txs_world_protocol::same_value;
 
 /// The agent's state and the action's values.
 fn with_state(alloc: Global, state: &Value, args: &[Value]) -> Result<Vec<Value>, AllocError>
@@ -117,6 +117,7 @@ pub fn act_means(
     }
     let program = functions.program();
     let given = eval_pure(alloc, program, action.callee, values.as_slice(), turns);
+    // A law that the proof uses; it does nothing when it runs.
     act_is_answered();
     if is_no_memory(&given) {
         return Err(AllocError);

@@ -20,7 +20,7 @@ use std::alloc::{AllocError, Global};
 use txs_theorem_audit_eval::{end_is_answered, least_is_answered};
 use txs_tree_eval::{Needs, Seen, ThreadMeaning, eval_thread};
 use txs_tree_meaning::Program;
-use txs_world_protocol::Ran;
+use txs_world_protocol::ActorReport;
 
 /// Whether these bytes begin with what a thread's meaning prints, where it has one.
 fn least(meaning: &ThreadMeaning, out: &[u8]) -> bool
@@ -49,6 +49,7 @@ fn prints_least<'a>(
         return Ok(true);
     }
     let (before, _) = seen.split_at(seen.len() - 1);
+    // A law that the proof uses; it does nothing when it runs.
     least_is_answered();
     let meaning = eval_thread(alloc, program, thread, before, turns)?;
     Ok(least(&meaning, out))
@@ -61,7 +62,7 @@ fn printed_part<'a>(
     thread: usize,
     seen: &'a [Seen<'a>],
     turns: u32,
-    ran: &Ran,
+    ran: &ActorReport,
     meaning: &ThreadMeaning,
 ) -> Result<bool, AllocError>
     requires { thread < length program.now.threads }
@@ -80,7 +81,7 @@ fn printed_part<'a>(
 
 /// The end of a thread that has a meaning on so many events: whether it ended and printed so, or else was stopped and printed
 /// a part.
-fn printed_all(ran: &Ran, meaning: &ThreadMeaning, part: bool) -> bool
+fn printed_all(ran: &ActorReport, meaning: &ThreadMeaning, part: bool) -> bool
     ensures { result ≡ ended_with ran.now.outcome ran.now.printed.items part meaning.now.outcome meaning.now.printed }
 {
     if same_end(meaning.outcome, ran.outcome) {
@@ -90,7 +91,13 @@ fn printed_all(ran: &Ran, meaning: &ThreadMeaning, part: bool) -> bool
 }
 
 /// The end of a thread by its meaning on so many events, and whether it was stopped and printed a part.
-fn end_with(actor: u16, events: usize, ran: &Ran, meaning: &ThreadMeaning, part: bool) -> Finding
+fn end_with(
+    actor: u16,
+    events: usize,
+    ran: &ActorReport,
+    meaning: &ThreadMeaning,
+    part: bool,
+) -> Finding
     ensures { as_found result ≡ end_with actor events ran.now.outcome ran.now.printed.items part meaning.now.needs meaning.now.outcome meaning.now.printed meaning.now.eaten }
 {
     let eaten = meaning.eaten;
@@ -121,7 +128,7 @@ pub fn end_found<'a>(
     thread: u16,
     seen: &'a [Seen<'a>],
     turns: u32,
-    ran: &Ran,
+    ran: &ActorReport,
     meaning: &ThreadMeaning,
 ) -> Result<Finding, AllocError>
     requires { thread < length program.now.threads }
@@ -129,6 +136,7 @@ pub fn end_found<'a>(
         → Tells meaning.now (source_of (program_of program.now) t) turns (seen_events seen.now)
         → as_found f ≡ end_found (source_of (program_of program.now) t) turns thread (seen_events seen.now) (ran_as ran.now) (thread_meaning (source_of (program_of program.now) t) turns (seen_events seen.now))) }
 {
+    // Laws that the proof uses; they do nothing when they run.
     program.is_sound();
     end_is_answered();
     let number = usize::from(thread);

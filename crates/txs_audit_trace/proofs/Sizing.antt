@@ -12,7 +12,7 @@ use Rattle.txs_value_cell.specs.declared.cell.CellDefinition.{CellDefinition}
 use Rattle.txs_value_data.specs.declared.value.CellId.{CellId}
 use Rattle.txs_value_data.specs.declared.value.CellKind.{CellKind}
 use Rattle.txs_value_data.specs.declared.value.CellKind.TheVariants.{Ref, Atom, Agent}
-use Rattle.txs_world_protocol.specs.declared.report.Ran.{Ran}
+use Rattle.txs_world_protocol.specs.declared.report.ActorReport.{ActorReport}
 use Rattle.txs_world_protocol.specs.declared.report.Report.{Report}
 use Rattle.txs_audit_trace.specs.Many.{many_of}
 
@@ -50,7 +50,7 @@ pub threads_many : (ts : List Thread) → length (threads_of ts) ≡ length ts
 threads_many [] = refl
 threads_many (t ∷ ts) = ap suc (threads_many ts)
 
-rans_many : (xs : List Ran) → length (map ran_as xs) ≡ length xs
+rans_many : (xs : List ActorReport) → length (map ran_as xs) ≡ length xs
 rans_many [] = refl
 rans_many (x ∷ xs) = ap suc (rans_many xs)
 

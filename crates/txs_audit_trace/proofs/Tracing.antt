@@ -3,14 +3,14 @@ use Rattle.std.proofs.Common.{◌≡◌, ◌≤◌, ◌<◌, ◌+◌, ℕ, zero,
 use Rattle.std.proofs.lemmas.Bool.{false≢true, ltb-true}
 use Rattle.std.proofs.lemmas.Bool.Decides.{nat_tests}
 use Rattle.std.proofs.lemmas.List.{get_or-set_same, get_or-set_other, length-set, drop_all, drop_more, take_all, take_more, length-take-le}
-use Rattle.txs_theorem_audit.specs.Audited.{Finding, Fine, Off, Short, PlainRan, and_then, books_of, check, place_of, ran_as, report_as}
+use Rattle.txs_theorem_audit.specs.Audited.{Finding, Fine, Off, Short, PlainActorReport, and_then, books_of, check, place_of, ran_as, report_as}
 use Rattle.txs_theorem_audit.specs.Verdict.{begins, same_numbers, runs_right, names_all, in_books, trace_found, traces_found}
 use Rattle.txs_theorem_runs.specs.Told.{Place, places_in, places_by}
 use Rattle.txs_value_base.specs.Places.{nth}
 use Rattle.txs_world_book.proofs.Outcomes.{both}
 use Rattle.txs_world_protocol.specs.declared.event.Event.{Event}
 use Rattle.txs_world_protocol.specs.declared.event.Place as event
-use Rattle.txs_world_protocol.specs.declared.report.Ran.{Ran}
+use Rattle.txs_world_protocol.specs.declared.report.ActorReport.{ActorReport}
 use Rattle.txs_world_protocol.specs.declared.report.Report.{Report}
 use Rattle.txs_audit_trace.specs.Named.{AllBegun, Begun, Counted, Outside, OffIn, OffOf, all_named, is_this, off_at, off_in, plain_trace}
 use Rattle.txs_audit_trace.specs.Rows.{AllRows}
@@ -281,7 +281,7 @@ named_end a all ns i le = ap (all_named a (drop i all)) (drop_all i ns le) ∙ n
 
 -- ---- the traces of several entries
 
-pub traces_append : (books : ℕ → List Event) (count a : ℕ) (xs ys : List PlainRan) → traces_found books count a (xs ++ ys) ≡ and_then (traces_found books count a xs) (traces_found books count (a + length xs) ys)
+pub traces_append : (books : ℕ → List Event) (count a : ℕ) (xs ys : List PlainActorReport) → traces_found books count a (xs ++ ys) ≡ and_then (traces_found books count a xs) (traces_found books count (a + length xs) ys)
 traces_append books count a [] ys = ap (λ n. traces_found books count n ys) (none a)
   where
     none : (n : ℕ) → n ≡ n + 0
@@ -298,7 +298,7 @@ traces_append books count a (x ∷ xs) ys =
     assoc (Off b i) g h = refl
     assoc (Short b i) g h = refl
 
-module _ (all : List (List (List ℕ))) (first : ℕ) (rans : List Ran) (i : ℕ) (r : Ran) (lt : i < length rans) (is : r ≡ get_or rans i r) where
+module _ (all : List (List (List ℕ))) (first : ℕ) (rans : List ActorReport) (i : ℕ) (r : ActorReport) (lt : i < length rans) (is : r ≡ get_or rans i r) where
   abbrev pub AsWhole : ℕ → Type 0
   AsWhole k = (actors : ℕ) (books : ℕ → List Event) → first + length rans ≤ actors → AllRows actors (length all) books all → Outside (length all) books
       → traces_found books (length all) (first + k) (map ran_as (drop k rans)) ≡ traces_found books (length all) first (map ran_as rans)
@@ -323,7 +323,7 @@ module _ (all : List (List (List ℕ))) (first : ℕ) (rans : List Ran) (i : ℕ
       ∙ sym (one_ran books) ∙ whole actors books le rows out
 
 -- none was off
-pub rans_end : (all : List (List (List ℕ))) (first : ℕ) (rans : List Ran) (i : ℕ) → length rans ≤ i
+pub rans_end : (all : List (List (List ℕ))) (first : ℕ) (rans : List ActorReport) (i : ℕ) → length rans ≤ i
     → ((actors : ℕ) (books : ℕ → List Event) → first + length rans ≤ actors → AllRows actors (length all) books all → Outside (length all) books
     → traces_found books (length all) (first + i) (map ran_as (drop i rans)) ≡ traces_found books (length all) first (map ran_as rans))
     → OffIn all first rans None
@@ -351,7 +351,7 @@ module _ (r : Report) (actors : ℕ) (all : List (List (List ℕ))) (is : actors
       ∙ ap (λ n. and_then (traces_found books (length all) 0 (map ran_as r.threads.items)) (traces_found books (length all) n (map ran_as r.agents.items))) (as_many r.threads.items)
       ∙ ap (λ f. and_then f (traces_found books (length all) (length r.threads.items) (map ran_as r.agents.items))) (sym (off actors books (omega (arith, is)) rows out))
     where
-      as_many : (xs : List Ran) → 0 + length (map ran_as xs) ≡ length xs
+      as_many : (xs : List ActorReport) → 0 + length (map ran_as xs) ≡ length xs
       as_many [] = refl
       as_many (x ∷ xs) = (let e = as_many xs in omega (arith, e))
 

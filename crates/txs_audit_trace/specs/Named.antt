@@ -6,7 +6,7 @@ use Rattle.txs_theorem_audit.specs.Verdict.{begins, in_books, runs_right, trace_
 use Rattle.txs_theorem_runs.specs.Told.{Place, places_in, places_by}
 use Rattle.txs_world_protocol.specs.declared.event.Event.{Event}
 use Rattle.txs_world_protocol.specs.declared.event.Place as event
-use Rattle.txs_world_protocol.specs.declared.report.Ran.{Ran}
+use Rattle.txs_world_protocol.specs.declared.report.ActorReport.{ActorReport}
 use Rattle.txs_audit_trace.specs.Rows.{AllRows}
 
 -- whether what is there is this number
@@ -62,7 +62,7 @@ abbrev pub OffOf : List (List (List ℕ)) → ℕ → List Place → Option ℕ 
 OffOf all a trace o = (actors : ℕ) (books : ℕ → List Event) → a < actors → AllRows actors (length all) books all → Outside (length all) books → off_at a o ≡ trace_found books (length all) a trace
 
 -- in the traces of these entries, of which the first is this actor's, that is off
-abbrev pub OffIn : List (List (List ℕ)) → ℕ → List Ran → Option (ℕ × ℕ) → Type 0
+abbrev pub OffIn : List (List (List ℕ)) → ℕ → List ActorReport → Option (ℕ × ℕ) → Type 0
 OffIn all first rans o = (actors : ℕ) (books : ℕ → List Event) → first + length rans ≤ actors → AllRows actors (length all) books all → Outside (length all) books → off_in o ≡ traces_found books (length all) first (map ran_as rans)
 
 -- there is a row of each of so many actors in each book, from this actor on

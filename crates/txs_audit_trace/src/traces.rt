@@ -10,7 +10,7 @@ ghost use Rattle.txs_audit_trace.specs.Named.{HasActor, HasActors, OffIn, OffOf,
 use crate::rows::{Row, all_rows};
 use std::alloc::{AllocError, Global};
 use txs_value_data::Listed;
-use txs_world_protocol::{Place, Ran, Report};
+use txs_world_protocol::{ActorReport, Place, Report};
 
 /// As many zeros.
 fn zeros(alloc: Global, count: usize) -> Result<Vec<usize>, AllocError>
@@ -100,7 +100,7 @@ fn rans_off(
     alloc: Global,
     all: &[Listed<Row>],
     first: usize,
-    rans: &[Ran],
+    rans: &[ActorReport],
 ) -> Result<Option<(usize, usize)>, AllocError>
     requires few { first + length rans.now < 2 ^ 64 }
     requires rows { HasActors first (length rans.now) all.now }

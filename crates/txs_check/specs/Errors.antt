@@ -28,6 +28,6 @@ check_name OutsideOnly = codes "OutsideOnly"
 check_name CodeTooLarge = codes "CodeTooLarge"
 check_name Memory = codes "Memory"
 
--- want of memory has no place
+-- running out of memory has no place
 abbrev pub out_of_memory : CheckError
 out_of_memory = record { kind = Memory; at = record { from = 0; to = 0 } }

@@ -1,4 +1,4 @@
--- What a refusal says of a program: a form that stands in it has that fault, or its forms are too many.
+-- What a refusal says of a program: a form that is in it has that fault, or its forms are too many.
 use Rattle.std.specs.Prelude.{◌≡◌, ◌<◌, ◌+◌, ℕ, suc, Bool, true, false, nat_eq, List, [], ◌∷◌, ◌++◌, Some}
 use Rattle.txs_value_apply.specs.Core.{takes}
 use Rattle.txs_value_cell.specs.Forms.{rule}
@@ -37,12 +37,12 @@ pub data IsLast (form : Tree) : Trees → Type 0 where
   is_only : IsLast form (more form none)
   is_behind : (e : Tree) (rest : Trees) → IsLast form rest → IsLast form (more e rest)
 
--- it is one of these, and others stand behind it
+-- it is one of these, and others are behind it
 pub data IsBefore (form : Tree) : Trees → Type 0 where
   is_now : (e : Tree) (rest : Trees) → IsBefore form (more form (more e rest))
   is_then : (e : Tree) (rest : Trees) → IsBefore form rest → IsBefore form (more e rest)
 
--- A form stands in another one, or is that one: in which zone, and what a recur meets there, by where the other one stands.
+-- A form is in another one, or is that one: in which zone, and what a recur meets there, by where the other one is.
 -- Only the branches of a choice, the last form of a block and the body of a `let` are in tail position where the whole is; a loop
 -- is the target of its body, and a `dosync` is a barrier.
 pub data Stands (zone : Zone) (target : Target) (form : Tree) : Zone → Target → Tree → Type 0 where
@@ -89,7 +89,7 @@ abbrev pub callee_takes : List Known → Callee → ℕ → Bool
 callee_takes ks (CoreOp op) n = takes op n
 callee_takes ks (Function f) n = accepts (nth ks f) n
 
--- A form has the fault of this kind where it stands in this zone, with this target of recur, among these functions.
+-- A form has the fault of this kind where it is in this zone, with this target of recur, among these functions.
 pub data HasFault (ks : List Known) (zone : Zone) (target : Target) : CheckErrorKind → Tree → Type 0 where
   -- a recur without loop or function around it, or outside its tail position, or with a dosync between
   recurs_nowhere : (values : Trees) (m : Mark) → target ≡ Nowhere → HasFault ks zone target RecurNotTail (Recur values m)
@@ -111,7 +111,7 @@ pub data HasFault (ks : List Known) (zone : Zone) (target : Target) : CheckError
   stands_inside : (f : CellForm) (e : Tree) → zone ≡ InDosync → IsForm f e → (rule f).stands ≡ Outside → HasFault ks zone target OutsideOnly e
   prints_inside : (args : Trees) (m : Mark) → zone ≡ InDosync → HasFault ks zone target OutsideOnly (Println args m)
 
--- a form that stands in this one, which stands so, has the fault, and the refusal's place
+-- a form that is in this one, which is so, has the fault, and the refusal's place
 pub record FaultIn (ks : List Known) (zone : Zone) (target : Target) (tree : Tree) (e : CheckError) : Type 0 where
   pub form_zone : Zone
   pub form_target : Target

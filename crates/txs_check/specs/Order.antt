@@ -1,4 +1,4 @@
--- What it is that bodies stand in script order.
+-- What it is that bodies are in script order.
 use Rattle.std.specs.Prelude.{ℕ, ◌≤◌, List, [], ◌∷◌}
 use Rattle.txs_check.specs.declared.place.Zone.{Zone}
 use Rattle.txs_check.specs.declared.place.Zone.TheVariants.{InFunction, InFuture, InDosync}

@@ -60,7 +60,7 @@ across Nowhere = Nowhere
 across Across = Across
 across (Nearest n tail) = Across
 
--- a recur of so many values stands in tail position of its target, which has as many, and no dosync is between
+-- a recur of so many values is in tail position of its target, which has as many, and no dosync is between
 abbrev pub recurs : Target → ℕ → Span → Checked
 recurs Nowhere n at = refused RecurNotTail at
 recurs Across n at = refused RecurAcrossDosync at
@@ -91,13 +91,13 @@ abbrev pub called : List Known → Callee → ℕ → Span → Checked
 called ks (CoreOp op) n at = operates op n at
 called ks (Function f) n at = only (accepts (nth ks f) n) Arity at >> only (is_pure (nth ks f)) NotPure at
 
--- what is for transactions alone doesn't stand in a future outside them, nor what is for outside alone in them
+-- what is for transactions alone isn't in a future outside them, nor is what is for outside alone in them
 abbrev pub placed : Zone → Standing → Span → Checked
 placed InFunction s at = fine
 placed InFuture s at = only (may_stand s false) InsideOnly at
 placed InDosync s at = only (may_stand s true) OutsideOnly at
 
--- a form on a cell stands where the table says
+-- a form on a cell is where the table says
 abbrev pub formed : Zone → CellForm → Span → Checked
 formed zone form at = placed zone (rule form).stands at
 
@@ -127,7 +127,7 @@ here ks zone target (Send cell callee args m) = applied ks zone form_of.Send cal
 
 -- ---- the order of branches
 
--- where a form stands in the script
+-- where a form is in the script
 abbrev pub place_of : Tree → Span
 place_of (Const v m) = m.span
 place_of (Local i m) = m.span
@@ -147,7 +147,7 @@ place_of (Update form cell callee args m) = m.span
 place_of (Send cell callee args m) = m.span
 
 -- Whether the second of two branches is written first, as an `if-not` writes them: by where the choice and its branches begin.
--- A branch that begins where the choice does is made by the expansion, as the rest of a `cond`, and stands behind the first.
+-- A branch that begins where the choice does is made by the expansion, as the rest of a `cond`, and is behind the first.
 abbrev pub turned : ℕ → ℕ → ℕ → Bool
 turned whole one other = nat_lt whole other && nat_lt other one
 
@@ -188,7 +188,7 @@ abbrev mutual
   checked_all ks zone target none = fine
   checked_all ks zone target (more e rest) = checked ks zone target e >> checked_all ks zone target rest
 
-  -- the last one stands where the form does
+  -- the last one is where the form does
   pub checked_do : List Known → Zone → Target → Trees → Checked
   checked_do ks zone target none = fine
   checked_do ks zone target (more e none) = checked ks zone target e
@@ -196,7 +196,7 @@ abbrev mutual
 
 -- ---- a program
 
--- the body of a function or of a future: where it stands, what a recur meets there, and the span of the definition or future
+-- the body of a function or of a future: where it is, what a recur meets there, and the span of the definition or future
 pub record Body : Type 0 where
   pub zone : Zone
   pub target : Target
@@ -207,11 +207,11 @@ pub record Body : Type 0 where
 abbrev pub function_body : PlainFunction → Body
 function_body f = record { zone = InFunction; target = Nearest f.parameters true; tree = f.body; span = f.span }
 
--- a future is no target of recur, and stands outside every transaction
+-- a future is no target of recur, and is outside every transaction
 abbrev pub thread_body : PlainThread → Body
 thread_body t = record { zone = InFuture; target = Nowhere; tree = t.body; span = t.span }
 
--- how many of the first threads stand before this place of the script
+-- how many of the first threads are before this place of the script
 abbrev pub before : ℕ → List PlainThread → ℕ
 before from [] = 0
 before from (t ∷ ts) = if nat_lt t.span.from from then suc (before from ts) else 0
@@ -234,7 +234,7 @@ checked_bodies ks (b ∷ bs) = checked_body ks b >> checked_bodies ks bs
 abbrev pub taken : ℕ → Tree → Span → Result ℕ CheckError
 taken left e at = if nat_le (nodes e) left then Ok (left - nodes e) else Err (record { kind = CodeTooLarge; at = at })
 
--- goes on with what is left, unless a body was too much
+-- continues with what is left, unless a body was too much
 infixl 10 ◌>>=◌
 abbrev pub ◌>>=◌ : Result ℕ CheckError → (ℕ → Result ℕ CheckError) → Result ℕ CheckError
 Ok left >>= next = next left

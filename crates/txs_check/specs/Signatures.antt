@@ -22,7 +22,7 @@ class_in ks e = record { inside = inside_in ks e; outside = outside_in ks e; pur
 abbrev pub class_in_all : List Known → Trees → Class
 class_in_all ks es = record { inside = any_inside ks es; outside = any_outside ks es; pure = all_pure ks es }
 
--- what stands so: no form on a cell is pure
+-- what is placed so: no form on a cell is pure
 abbrev pub class_standing : Standing → Class
 class_standing s = record { inside = only_inside s; outside = only_outside s; pure = false }
 

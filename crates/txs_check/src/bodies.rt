@@ -13,7 +13,7 @@ use crate::walk::check_node;
 use txs_tree_meaning::{Function, Node, Thread};
 use txs_value_base::Span;
 
-/// How many of the first threads stand before this place of the script.
+/// How many of the first threads are before this place of the script.
 fn count_before(from: u32, threads: &[Thread]) -> usize
     ensures few { result ≤ length threads.now }
     ensures count { result ≡ before from (threads_of threads.now) }
@@ -28,7 +28,7 @@ fn count_before(from: u32, threads: &[Thread]) -> usize
     count
 }
 
-/// Whether each future's body may stand.
+/// Whether each future's body is allowed where it is.
 fn check_threads(signatures: &[Signature], threads: &[Thread]) -> Result<(), CheckError>
     ensures { result ≡ checked_bodies (known_as signatures.now) (map thread_body (threads_of threads.now)) }
 {
@@ -38,7 +38,7 @@ fn check_threads(signatures: &[Signature], threads: &[Thread]) -> Result<(), Che
     Ok(())
 }
 
-/// Whether each body may stand, in script order.
+/// Whether each body is allowed where it is, in script order.
 pub fn check_bodies(
     signatures: &[Signature],
     functions: &[Function],

@@ -34,7 +34,7 @@ const PURE: Class = Class {
     pure: true,
 };
 
-/// What isn't pure, and may stand on both sides.
+/// What isn't pure, and is allowed on both sides.
 const IMPURE: Class = Class {
     inside: false,
     outside: false,

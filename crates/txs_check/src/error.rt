@@ -32,7 +32,7 @@ pub enum CheckErrorKind {
 }
 
 impl CheckErrorKind {
-    /// The number under which the reason is reported: 21 to 28, and 0 for want of memory.
+    /// The number under which the reason is reported: 21 to 28, and 0 where memory ran out.
     pub fn number(self) -> u8
         ensures { result ≡ check_number self }
     {

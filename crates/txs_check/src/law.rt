@@ -1,4 +1,4 @@
-//! Laws of the checks. Each stands on a function that does nothing when it runs.
+//! Laws of the checks. Each is the contract of a function that does nothing when it runs.
 
 ghost use Rattle.std.specs.Prelude.{◌≡◌, ◌≢◌, ◌⊎◌, ◌↔◌, List, map};
 ghost use Rattle.txs_tree_meaning.specs.Scoped.{Scoped};
@@ -31,7 +31,7 @@ pub fn bodies_in_script_order()
     ensures ascend { (fs : List PlainFunction) (ts : List PlainThread) → Ascend (map function_body fs) → Ascend (map thread_body ts) → Ascend (in_order fs ts) }
 {}
 
-/// Each refusal is true of the program: a form that stands at its place has that fault where it stands, or
+/// Each refusal is true of the program: a form that is at its place has that fault where it is, or
 /// with the body at its place the program has too many nodes.
 pub fn refusals_are_true()
     ensures { (p : PlainProgram) (e : CheckError) → CheckStops p e → IsTrueOf p e }

@@ -1,4 +1,4 @@
-//! Where a node stands: in a transaction or outside, and what a recur meets there.
+//! Where a node is: in a transaction or outside, and what a recur meets there.
 
 ghost use Rattle.std.specs.Prelude.{◌≡◌};
 ghost use Rattle.txs_check.specs.Refused.{inner, across, only, recurs, placed};
@@ -7,7 +7,7 @@ use crate::error::{CheckError, CheckErrorKind};
 use txs_value_base::Span;
 use txs_value_cell::Standing;
 
-/// Where a node stands: in a function outside every transaction of it, in a future outside every transaction,
+/// Where a node is: in a function outside every transaction of it, in a future outside every transaction,
 /// or in a transaction.
 #[derive(Clone, Copy)]
 pub enum Zone {
@@ -48,7 +48,7 @@ impl Target {
         }
     }
 
-    /// Whether a recur of so many values may stand here.
+    /// Whether a recur of so many values may be here.
     pub fn check_recur(self, count: usize, at: Span) -> Result<(), CheckError>
         ensures { result ≡ recurs self count at }
     {
@@ -64,7 +64,7 @@ impl Target {
 }
 
 impl Zone {
-    /// Whether what stands so may stand here.
+    /// Whether what is placed so may be here.
     pub fn check_standing(self, standing: Standing, at: Span) -> Result<(), CheckError>
         ensures { result ≡ placed self standing at }
     {

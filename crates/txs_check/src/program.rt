@@ -26,6 +26,7 @@ fn check_raw(alloc: Global, raw: &Raw) -> Result<(), CheckError>
     let signatures = signatures_of(alloc, functions)?;
     check_bodies(signatures.as_slice(), functions, threads)?;
     room_after_all(MOST_NODES, functions, threads)?;
+    // Laws that the proof uses; they do nothing when they run.
     sound_where_nothing_refuses();
     Ok(())
 }

@@ -82,14 +82,14 @@ fn check_callee(
     }
 }
 
-/// Whether the form on a cell may stand here.
+/// Whether the form on a cell may be here.
 fn check_form(zone: Zone, form: CellForm, at: Span) -> Result<(), CheckError>
     ensures { result ≡ formed zone form at }
 {
     zone.check_standing(form.rule().stands, at)
 }
 
-/// Whether the form on a cell may stand here and have the callee applied, with these arguments behind the cell's value.
+/// Whether the form on a cell may be here and have the callee applied, with these arguments behind the cell's value.
 fn check_applied(
     signatures: &[Signature],
     zone: Zone,
@@ -104,7 +104,7 @@ fn check_applied(
     check_form(zone, form, at)
 }
 
-/// Whether the node itself may stand here.
+/// Whether the node itself may be here.
 fn check_here(
     signatures: &[Signature],
     zone: Zone,
@@ -150,7 +150,7 @@ fn is_turned(whole: u32, first: u32, second: u32) -> bool
     whole < second && second < first
 }
 
-/// Whether the node may stand here, and then its parts, as they are written: the first refusal is the answer.
+/// Whether the node may be here, and then its parts, as they are written: the first refusal is the answer.
 #[cycle(walk)]
 pub fn check_node(
     signatures: &[Signature],

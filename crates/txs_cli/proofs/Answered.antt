@@ -34,18 +34,18 @@ stream_written r known P writes memory told written =
 
 -- of a stream that couldn't be read
 pub unread_told : {E : Type 0} (r : Result owned.Told E) (known : Option (List ℕ)) (P : List ℕ → Told → Type 0) → ((input : List ℕ) (t : Told) → t.output ≡ [] → t.errors ≡ codes "read failed" ++ codes "\n" → t.status ≡ 2 → P input t)
-    → IfOk r (λ t. (t.output.items ≡ []) × (t.errors.items ≡ codes "read failed" ++ codes "\n") × (t.status ≡ 2)) → IfOk r (λ t. IfSome known (λ input. P input (told_of t)))
+    → IfOk r (λ t. ((told_of t).output ≡ []) × (t.errors.items ≡ codes "read failed" ++ codes "\n") × (t.status ≡ 2)) → IfOk r (λ t. IfSome known (λ input. P input (told_of t)))
 unread_told (Ok t) known P unread is = some_always known (λ input. P input (told_of t)) (λ input. unread input (told_of t) is.0 is.1 is.2)
 unread_told (Err e) known P unread is = tt
 
 -- of bytes that are refused
 pub refused_answered : {E : Type 0} (r : Result owned.Told E) (failed : PlainCode → RunError → Type 0) (bytes : List ℕ) (steps : ℕ) (cells events : Bool) (e : LoadError) → IsRefusal bytes e → IfOk r (λ t. e ≢ NoMemory)
-    → IfOk r (λ t. t.output.items ≡ []) → IfOk r (λ t. t.errors.items ≡ load_line e) → IfOk r (λ t. t.status ≡ 1) → IfOk r (λ t. WorkedCodeTells failed bytes steps cells events (told_of t))
+    → IfOk r (λ t. (told_of t).output ≡ []) → IfOk r (λ t. t.errors.items ≡ load_line e) → IfOk r (λ t. t.status ≡ 1) → IfOk r (λ t. WorkedCodeTells failed bytes steps cells events (told_of t))
 refused_answered (Ok t) failed bytes steps cells events e refused told output errors status = of_refused e told refused output errors status
 refused_answered (Err x) failed bytes steps cells events e refused told output errors status = tt
 
 -- of a run that has no report
-pub failure_answered : {E : Type 0} (r : Result owned.Told E) (failure : RunError) → failure ≢ Memory → IfOk r (λ t. t.output.items ≡ [])
+pub failure_answered : {E : Type 0} (r : Result owned.Told E) (failure : RunError) → failure ≢ Memory → IfOk r (λ t. (told_of t).output ≡ [])
     → IfOk r (λ t. t.errors.items ≡ (codes "run failed: " ++ error_name failure) ++ codes "\n") → IfOk r (λ t. t.status ≡ 4) → IfOk r (λ t. FailureTells failure (told_of t))
 failure_answered (Ok t) failure told output errors status = record { told = told; output = output; errors = errors; status = status }
 failure_answered (Err x) failure told output errors status = tt

@@ -2,7 +2,7 @@
 use Rattle.std.specs.Prelude.{◌≡◌, ◌^◌, ℕ, nat_lt, false, List, [], ◌∷◌, ◌++◌, codes, if◌then◌else◌}
 use Rattle.std.specs.declared.result.Result.TheVariants.{Ok}
 use Rattle.txs_cli_audit.specs.Audit.{AuditTells}
-use Rattle.txs_cli_audit.specs.declared.answer.NoAnswer.{NoAnswer}
+use Rattle.txs_audit_answer.specs.declared.verdict.AuditError.{AuditError}
 use Rattle.txs_cli_plays.specs.Plays.{plays_in}
 use Rattle.txs_cli_report.specs.Lines.{Script}
 use Rattle.txs_cli_report.specs.Told.{Told, Wanted, ScriptTells, IsCompiled, ReportTells, ListTells, list_name}
@@ -37,7 +37,7 @@ pub record IsRunReport (s : PlainShared) (entries : Entries) (r : Report) : Type
 
 -- What is told of a run of a program's code and of the audit of its report: what the report tells, and behind it the verdict on the report, or
 -- that who audits had no answer, which may be for such reasons.
-pub record AuditedRunTells (unaudited : Report → NoAnswer → Type 0) (parts : Parts) (code : PlainCode) (script : Script) (o : RunOptions) (t : Told) : Type 0 where
+pub record AuditedRunTells (unaudited : Report → AuditError → Type 0) (parts : Parts) (code : PlainCode) (script : Script) (o : RunOptions) (t : Told) : Type 0 where
   pub shared : PlainShared
   pub entries : Entries
   pub worked : IsWorked code o.steps shared entries
@@ -49,7 +49,7 @@ pub record AuditedRunTells (unaudited : Report → NoAnswer → Type 0) (parts :
 
 -- What is told of a script that is to run and to be audited: of its run, which its program explains, and of the audit; that the script is refused; or
 -- what is told in place of a run.
-pub data AuditedTells (unrun : PlainCode → Told → Type 0) (unaudited : Parts → Report → NoAnswer → Type 0) (script : Script) (o : RunOptions) (t : Told) : Type 0 where
+pub data AuditedTells (unrun : PlainCode → Told → Type 0) (unaudited : Parts → Report → AuditError → Type 0) (script : Script) (o : RunOptions) (t : Told) : Type 0 where
   of_run :
       (parts : Parts) (code : PlainCode) (compiled : IsCompiled script.text (program_of parts) code) (told : AuditedRunTells (unaudited parts) parts code script o t)
       (explained : ExplainsAll (program_of parts) (shared_of told.shared) told.entries.threads.items told.entries.agents.items) → AuditedTells unrun unaudited script o t
@@ -65,13 +65,13 @@ abbrev pub IsUnplayed : List Play → PlainCode → Told → Type 0
 IsUnplayed plays code t = (all_named (actors_of code) plays ≡ false) × (t.output ≡ []) × (t.errors ≡ codes "run failed: NoActor" ++ codes "\n") × (t.status ≡ 2)
 
 -- What is told of a stream whose front is the script: that it couldn't be read, that there was no memory, or what is told of the script.
-pub data StreamAuditedTells (unrun : PlainCode → Told → Type 0) (unaudited : Parts → Report → NoAnswer → Type 0) (script : Script) (o : RunOptions) (t : Told) : Type 0 where
+pub data StreamAuditedTells (unrun : PlainCode → Told → Type 0) (unaudited : Parts → Report → AuditError → Type 0) (script : Script) (o : RunOptions) (t : Told) : Type 0 where
   of_script : (told : AuditedTells unrun unaudited script o t) → StreamAuditedTells unrun unaudited script o t
   of_unread : (output : t.output ≡ []) (errors : t.errors ≡ codes "read failed" ++ codes "\n") (status : t.status ≡ 2) → StreamAuditedTells unrun unaudited script o t
   of_memory : (output : t.output ≡ []) (errors : t.errors ≡ codes "out of memory\n") (status : t.status ≡ 4) → StreamAuditedTells unrun unaudited script o t
 
 -- What is told of a script that is to run by a list of plays and to be audited: what is told of its run by them, or of the list, and nothing is read.
-pub data ScheduleAuditedTells (turns : List ℕ) (unaudited : Parts → Report → NoAnswer → Type 0) (script : Script) (o : RunOptions) (t : Told) : Type 0 where
+pub data ScheduleAuditedTells (turns : List ℕ) (unaudited : Parts → Report → AuditError → Type 0) (script : Script) (o : RunOptions) (t : Told) : Type 0 where
   of_plays :
       (plays : List Play) (read : plays_in turns ≡ Ok plays) (told : StreamAuditedTells (IsUnplayed plays) unaudited script o t) → ScheduleAuditedTells turns unaudited script o t
   of_list : (told : ListTells turns (list_name script.file) t) → ScheduleAuditedTells turns unaudited script o t

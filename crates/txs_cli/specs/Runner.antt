@@ -10,7 +10,7 @@ use Rattle.txs_machine.specs.Schedule.{HaveEnded}
 use Rattle.txs_machine.specs.declared.run_error.RunError.{RunError}
 use Rattle.txs_machine.specs.declared.run_error.RunError.TheVariants.{JournalMismatch, NoThread, Memory}
 use Rattle.txs_machine.specs.declared.schedule.Entries.{Entries}
-use Rattle.txs_world_protocol.specs.declared.report.Ran.{Ran}
+use Rattle.txs_world_protocol.specs.declared.report.ActorReport.{ActorReport}
 use Rattle.txs_world_shared.specs.SharedState.{PlainShared, shared_of}
 use Rattle.txs_value_base.specs.Places.{nth}
 
@@ -19,12 +19,12 @@ abbrev pub IsRunnable : PlainCode → Type 0
 IsRunnable code = length code.threads + length code.cells ≤ 65535
 
 -- each entry says what the actor of a thread did over the books, where it makes no more than so many steps, in the order of the threads
-abbrev pub ThreadsHaveDone : PlainCode → ℕ → PlainShared → List Ran → Type 0
-ThreadsHaveDone code limit s rans = (k : ℕ) (ran : Ran) → nth rans k ≡ Some ran → HasDone code k limit (books_of s) ran
+abbrev pub ThreadsHaveDone : PlainCode → ℕ → PlainShared → List ActorReport → Type 0
+ThreadsHaveDone code limit s rans = (k : ℕ) (ran : ActorReport) → nth rans k ≡ Some ran → HasDone code k limit (books_of s) ran
 
 -- each entry says what the actor of an agent did over the books, where it makes no more than so many steps, in the order of the agents
-abbrev pub AgentsHaveDone : PlainCode → ℕ → PlainShared → List Ran → Type 0
-AgentsHaveDone code limit s rans = (i : ℕ) (ran : Ran) → nth rans i ≡ Some ran → AgentHasDone code (length code.threads + i) limit (books_of s) ran
+abbrev pub AgentsHaveDone : PlainCode → ℕ → PlainShared → List ActorReport → Type 0
+AgentsHaveDone code limit s rans = (i : ℕ) (ran : ActorReport) → nth rans i ≡ Some ran → AgentHasDone code (length code.threads + i) limit (books_of s) ran
 
 -- A run of the code, where each actor makes no more than so many steps, leaves a state of its cells, and there is one entry for each thread and for each
 -- agent, which says what its actor did; each thread has ended, and no agent that goes on has something to do; and each program that the code follows

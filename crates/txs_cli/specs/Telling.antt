@@ -10,7 +10,7 @@ use Rattle.txs_cli.specs.Audited.{IsUnworked, ScheduleAuditedTells, StreamAudite
 use Rattle.txs_cli.specs.CodeWorkersTold.{StreamWorkedCodeTells}
 use Rattle.txs_cli.specs.WorkersTold.{StreamWorkedTells}
 use Rattle.txs_cli.specs.CodeTold.{Listed, BytesTell, BytesScheduleTell}
-use Rattle.txs_cli_audit.specs.declared.answer.NoAnswer.{NoAnswer}
+use Rattle.txs_audit_answer.specs.declared.verdict.AuditError.{AuditError}
 use Rattle.txs_tree_meaning.specs.View.{Parts}
 use Rattle.txs_world_protocol.specs.declared.report.Report.{Report}
 use Rattle.txs_cli_request.specs.declared.request.Input.{Input}
@@ -74,29 +74,29 @@ abbrev pub audit_workers : ℕ
 audit_workers = 4
 
 -- what is told of an input that workers are to run, and whose report is to be audited, where it is a script: code in its byte form can't be audited
-abbrev pub WorkAuditTells : (PlainCode → RunError → Type 0) → (Parts → Report → NoAnswer → Type 0) → Bool → List ℕ → Input → RunOptions → Told → Type 0
+abbrev pub WorkAuditTells : (PlainCode → RunError → Type 0) → (Parts → Report → AuditError → Type 0) → Bool → List ℕ → Input → RunOptions → Told → Type 0
 WorkAuditTells failed unaudited true bytes input o t = t ≡ wrong_use
 WorkAuditTells failed unaudited false bytes input o t = StreamAuditedTells (IsUnworked failed) unaudited (script_in bytes input) o t
 
 -- the same of an input that is to run by this list of plays
-abbrev pub TurnsAuditTells : (Parts → Report → NoAnswer → Type 0) → Bool → List ℕ → Input → List ℕ → RunOptions → Told → Type 0
+abbrev pub TurnsAuditTells : (Parts → Report → AuditError → Type 0) → Bool → List ℕ → Input → List ℕ → RunOptions → Told → Type 0
 TurnsAuditTells unaudited true bytes input plays o t = t ≡ wrong_use
 TurnsAuditTells unaudited false bytes input plays o t = ScheduleAuditedTells plays unaudited (script_in bytes input) o t
 
 -- what is told of an input that workers are to run, with an audit or without
-abbrev pub WorkTells : (PlainCode → RunError → Type 0) → (Parts → Report → NoAnswer → Type 0) → Bool → List ℕ → Input → RunOptions → Told → Type 0
+abbrev pub WorkTells : (PlainCode → RunError → Type 0) → (Parts → Report → AuditError → Type 0) → Bool → List ℕ → Input → RunOptions → Told → Type 0
 WorkTells failed unaudited true bytes input o t = WorkAuditTells failed unaudited input.code bytes input o t
 WorkTells failed unaudited false bytes input o t = WorkOfInputTells failed input.code bytes input o t
 
 -- the same of an input that is to run by this list of plays
-abbrev pub PlaysTell : (Parts → Report → NoAnswer → Type 0) → Bool → List ℕ → Input → List ℕ → RunOptions → Told → Type 0
+abbrev pub PlaysTell : (Parts → Report → AuditError → Type 0) → Bool → List ℕ → Input → List ℕ → RunOptions → Told → Type 0
 PlaysTell unaudited true bytes input plays o t = TurnsAuditTells unaudited input.code bytes input plays o t
 PlaysTell unaudited false bytes input plays o t = TurnsOfInputTell input.code bytes input plays o t
 
 -- What is told for a request where what runs scripts and code, and who audits, are handed in: of a script or of code that workers are to run what is told of
 -- their run, of a script whose report is to be audited what is told of its run and of the audit, and else what is told for the request. What runs them may have
 -- failed so, of that code, with the request's workers and steps; and who audits may have had no answer so, with so many turns and workers.
-abbrev pub WorkedRequestTells : (PlainCode → ℕ → ℕ → RunError → Type 0) → (Parts → Report → ℕ → ℕ → NoAnswer → Type 0) → List ℕ → Request → Told → Type 0
+abbrev pub WorkedRequestTells : (PlainCode → ℕ → ℕ → RunError → Type 0) → (Parts → Report → ℕ → ℕ → AuditError → Type 0) → List ℕ → Request → Told → Type 0
 WorkedRequestTells failed unaudited bytes (Check input) t = RequestTells bytes (Check input) t
 WorkedRequestTells failed unaudited bytes (asked.List input) t = RequestTells bytes (asked.List input) t
 WorkedRequestTells failed unaudited bytes (Build input out) t = RequestTells bytes (Build input out) t

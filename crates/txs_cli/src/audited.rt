@@ -14,9 +14,11 @@ use crate::alone::{run_all, run_plays};
 use crate::run::of_failure;
 use crate::script::Working;
 use std::alloc::{AllocError, Global};
-use txs_cli_audit::{Answer, Audited, NoAnswer, add_audit};
+use std::mem;
+use txs_audit_answer::{AuditError, Verdict};
+use txs_cli_audit::{Audited, add_audit};
 use txs_cli_report::explain::Script;
-use txs_cli_report::script::report_run;
+use txs_cli_report::script::report_lines;
 use txs_cli_report::told::{Told, UNUSABLE, complaint, refused};
 use txs_code_meaning::Verified;
 use txs_compile::compile;
@@ -36,7 +38,7 @@ fn turns_of(steps: u64) -> u32
 }
 
 /// What is told of a run of a script's code that is over, and of the audit of its report by so many workers.
-fn audit_run<A: Fn(Global, &Program, &Report, u32, usize) -> Result<Answer, NoAnswer>>(
+fn audit_run<A: Fn(Global, &Program, &Report, u32, usize) -> Result<Verdict, AuditError>>(
     alloc: Global,
     auditor: &A,
     script: Script<'_>,
@@ -52,8 +54,8 @@ fn audit_run<A: Fn(Global, &Program, &Report, u32, usize) -> Result<Answer, NoAn
 {
     let (shared, entries) = ran;
     let code = compiled.1.code();
-    let mut told = report_run(alloc, script, code, &entries, &shared, working.options)?;
-    let report = entries.into_report(alloc, shared)?;
+    let mut told = report_lines(alloc, script, code, &entries, &shared, working.options)?;
+    let mut report = entries.into_report(alloc, shared)?;
     let audited = Audited {
         program: &compiled.0,
         report: &report,
@@ -61,13 +63,14 @@ fn audit_run<A: Fn(Global, &Program, &Report, u32, usize) -> Result<Answer, NoAn
     let turns = turns_of(working.options.steps);
     let workers = working.workers;
     add_audit(alloc, auditor, script, audited, turns, workers, &mut told)?;
+    mem::swap(&mut told.threads, &mut report.threads);
     Ok(told)
 }
 
 /// Runs the code of a script by workers, and tells of the run and of its audit.
 fn work_compiled<
     X: Fn(Global, &Verified, usize, u64) -> Result<(SharedState, Entries), RunError>,
-    A: Fn(Global, &Program, &Report, u32, usize) -> Result<Answer, NoAnswer>,
+    A: Fn(Global, &Program, &Report, u32, usize) -> Result<Verdict, AuditError>,
 >(
     alloc: Global,
     runner: &X,
@@ -92,7 +95,7 @@ fn work_compiled<
 }
 
 /// Runs the code of a script by these plays and then in rounds, and tells of the run and of its audit.
-fn play_compiled<A: Fn(Global, &Program, &Report, u32, usize) -> Result<Answer, NoAnswer>>(
+fn play_compiled<A: Fn(Global, &Program, &Report, u32, usize) -> Result<Verdict, AuditError>>(
     alloc: Global,
     auditor: &A,
     script: Script<'_>,
@@ -117,7 +120,7 @@ fn play_compiled<A: Fn(Global, &Program, &Report, u32, usize) -> Result<Answer, 
 /// Runs the script by workers, and tells of the run and of its audit.
 pub(crate) fn work_audited<
     X: Fn(Global, &Verified, usize, u64) -> Result<(SharedState, Entries), RunError>,
-    A: Fn(Global, &Program, &Report, u32, usize) -> Result<Answer, NoAnswer>,
+    A: Fn(Global, &Program, &Report, u32, usize) -> Result<Verdict, AuditError>,
 >(
     alloc: Global,
     runner: &X,
@@ -140,7 +143,7 @@ pub(crate) fn work_audited<
 
 /// Runs the script by these plays and then in rounds, and tells of the run and of its audit.
 pub(crate) fn play_audited<
-    A: Fn(Global, &Program, &Report, u32, usize) -> Result<Answer, NoAnswer>,
+    A: Fn(Global, &Program, &Report, u32, usize) -> Result<Verdict, AuditError>,
 >(
     alloc: Global,
     auditor: &A,

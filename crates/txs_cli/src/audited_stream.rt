@@ -13,7 +13,7 @@ use crate::script::Working;
 use crate::workers_play::unread;
 use std::alloc::Global;
 use std::io::{Read, Write};
-use txs_cli_audit::{Answer, NoAnswer};
+use txs_audit_answer::{AuditError, Verdict};
 use txs_cli_plays::{ListError, read_plays};
 use txs_cli_report::explain::Script;
 use txs_cli_report::schedule::refuse_list;
@@ -29,7 +29,7 @@ use txs_world_shared::SharedState;
 /// Runs the reader's script by workers and has its report audited, and writes what is told of both, as `play_workers` does.
 pub(crate) fn work_stream<
     X: Fn(Global, &Verified, usize, u64) -> Result<(SharedState, Entries), RunError>,
-    A: Fn(Global, &Program, &Report, u32, usize) -> Result<Answer, NoAnswer>,
+    A: Fn(Global, &Program, &Report, u32, usize) -> Result<Verdict, AuditError>,
     R: Read,
     W: Write,
     F: Write,
@@ -63,7 +63,7 @@ pub(crate) fn work_stream<
 
 /// Runs the reader's script by these plays and then in rounds and has its report audited, and writes what is told of both.
 fn play_stream<
-    A: Fn(Global, &Program, &Report, u32, usize) -> Result<Answer, NoAnswer>,
+    A: Fn(Global, &Program, &Report, u32, usize) -> Result<Verdict, AuditError>,
     R: Read,
     W: Write,
     F: Write,
@@ -96,7 +96,7 @@ fn play_stream<
 /// Runs the reader's script by a list of plays and then in rounds and has its report audited, and writes what is told of both. A list that isn't
 /// one is told of before anything is read, with status 2.
 pub(crate) fn schedule_stream<
-    A: Fn(Global, &Program, &Report, u32, usize) -> Result<Answer, NoAnswer>,
+    A: Fn(Global, &Program, &Report, u32, usize) -> Result<Verdict, AuditError>,
     R: Read,
     W: Write,
     F: Write,

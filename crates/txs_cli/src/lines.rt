@@ -3,35 +3,29 @@
 ghost use Rattle.std.specs.Option.{option_map};
 ghost use Rattle.std.specs.Prelude.{◌≡◌, ◌≢◌, ◌++◌, [], codes, decimal, unwrap_or, IfOk, OnOk};
 ghost use Rattle.txs_code_load.specs.declared.error.LoadError.TheVariants.{Memory};
+ghost use Rattle.txs_cli_report.specs.Lent.{told_of};
 ghost use Rattle.txs_cli.specs.CodeTold.{at_number, in_body, load_line, refused_front};
 
-use itoa::Buffer;
 use std::alloc::{AllocError, Global};
+use txs_cli_plays::{write_both, write_number};
 use txs_cli_report::told::{REFUSED, Told};
 use txs_code_load::error::LoadError;
 use txs_verify::BodyName;
 
-/// Appends a number between two words.
-fn write_number(
-    line: &mut Vec<u8>,
-    before: &[u8],
-    number: u64,
-    behind: &[u8],
-) -> Result<(), AllocError>
-    ensures { OnOk result (line.new.items ≡ line.old.items ++ (before.now ++ decimal number ++ behind.now)) }
+/// Appends a place, and ends the line.
+fn end_line(line: &mut Vec<u8>, at: usize) -> Result<(), AllocError>
+    ensures { OnOk result (line.new.items ≡ line.old.items ++ at_number (codes " at ") at) }
 {
-    line.extend_from_slice(before)?;
-    let mut buffer = Buffer::new();
-    line.extend_from_slice(buffer.format(number).as_bytes())?;
-    line.extend_from_slice(behind)
+    write_number(line, b" at ", at)?;
+    line.extend_from_slice(b"\n")
 }
 
 /// Appends a word, the number of a body, and the place of an instruction there, and ends the line.
 fn end_at(line: &mut Vec<u8>, word: &[u8], number: usize, at: usize) -> Result<(), AllocError>
     ensures { OnOk result (line.new.items ≡ line.old.items ++ (word.now ++ decimal number ++ at_number (codes " at ") at)) }
 {
-    write_number(line, word, number as u64, b" at ")?;
-    write_number(line, b"", at as u64, b"\n")
+    write_number(line, word, number)?;
+    end_line(line, at)
 }
 
 /// Appends the line of a refusal: its number and its name, and its place in a body, or among the bytes where no body is named.
@@ -44,12 +38,12 @@ fn write_line(
 ) -> Result<(), AllocError>
     ensures { OnOk result (line.new.items ≡ line.old.items ++ (refused_front number name.now ++ unwrap_or (option_map (λ b. in_body b at) body) (at_number (codes " at ") at))) }
 {
-    write_number(line, b"refused ", u64::from(number), b" ")?;
-    line.extend_from_slice(name.as_bytes())?;
+    write_number(line, b"refused ", usize::from(number))?;
+    write_both(line, b" ", name.as_bytes())?;
     match body {
         Some(BodyName::Function(number)) => end_at(line, b" in fn ", number, at),
         Some(BodyName::Thread(number)) => end_at(line, b" in thread ", number, at),
-        None => write_number(line, b" at ", at as u64, b"\n"),
+        None => end_line(line, at),
     }
 }
 
@@ -68,13 +62,14 @@ fn write_refusal(line: &mut Vec<u8>, error: LoadError) -> Result<(), AllocError>
 /// What is told of bytes that aren't taken as code. Of want of memory the program tells otherwise.
 pub(crate) fn refused(alloc: Global, error: LoadError) -> Result<Told, AllocError>
     ensures told { IfOk result (λ t. error ≢ Memory) }
-    ensures output { IfOk result (λ t. t.output.items ≡ []) }
+    ensures output { IfOk result (λ t. (told_of t).output ≡ []) }
     ensures errors { IfOk result (λ t. t.errors.items ≡ load_line error) }
     ensures status { IfOk result (λ t. t.status ≡ 1) }
 {
     let mut errors = Vec::new(alloc);
     write_refusal(&mut errors, error)?;
     Ok(Told {
+        threads: Vec::new(alloc),
         output: Vec::new(alloc),
         errors,
         status: REFUSED,

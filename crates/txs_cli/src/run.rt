@@ -43,7 +43,9 @@ pub(crate) fn run_told<
     ensures { IfOk result (λ t. RunTold (HasFailed (X.post runner.now) code.now working.workers working.options.steps) code.now (script_of script.entry) working.options.steps working.options.cells working.options.events (told_of t)) }
 {
     match run_all(alloc, runner, code, working) {
-        Ok(ran) => report_run(alloc, script, code.code(), &ran.1, &ran.0, working.options),
+        Ok((shared, report)) => {
+            report_run(alloc, script, code.code(), report, &shared, working.options)
+        }
         Err(failure) => of_failure(alloc, failure),
     }
 }

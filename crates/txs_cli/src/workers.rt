@@ -14,7 +14,7 @@ use crate::script::Working;
 use crate::workers_play::play_workers;
 use std::alloc::Global;
 use std::io::{Read, Write};
-use txs_cli_audit::{Answer, NoAnswer};
+use txs_audit_answer::{AuditError, Verdict};
 use txs_cli_request::{Input, Request, RunOptions};
 use txs_code_meaning::Verified;
 use txs_machine::{Entries, RunError};
@@ -55,7 +55,7 @@ fn work<
 /// Runs the reader's script by workers and has its report audited; code in its byte form can't be audited.
 fn work_and_audit<
     X: Fn(Global, &Verified, usize, u64) -> Result<(SharedState, Entries), RunError>,
-    A: Fn(Global, &Program, &Report, u32, usize) -> Result<Answer, NoAnswer>,
+    A: Fn(Global, &Program, &Report, u32, usize) -> Result<Verdict, AuditError>,
     R: Read,
     W: Write,
     F: Write,
@@ -87,7 +87,7 @@ fn work_and_audit<
 
 /// Runs the reader's script by a schedule and has its report audited; code in its byte form can't be audited.
 fn schedule_and_audit<
-    A: Fn(Global, &Program, &Report, u32, usize) -> Result<Answer, NoAnswer>,
+    A: Fn(Global, &Program, &Report, u32, usize) -> Result<Verdict, AuditError>,
     R: Read,
     W: Write,
     F: Write,
@@ -116,7 +116,7 @@ fn schedule_and_audit<
 /// Runs the input by workers, with an audit where one is asked for.
 fn work_all<
     X: Fn(Global, &Verified, usize, u64) -> Result<(SharedState, Entries), RunError>,
-    A: Fn(Global, &Program, &Report, u32, usize) -> Result<Answer, NoAnswer>,
+    A: Fn(Global, &Program, &Report, u32, usize) -> Result<Verdict, AuditError>,
     R: Read,
     W: Write,
     F: Write,
@@ -147,7 +147,7 @@ fn work_all<
 
 /// Runs the input by a schedule, with an audit where one is asked for.
 fn schedule_all<
-    A: Fn(Global, &Program, &Report, u32, usize) -> Result<Answer, NoAnswer>,
+    A: Fn(Global, &Program, &Report, u32, usize) -> Result<Verdict, AuditError>,
     R: Read,
     W: Write,
     F: Write,
@@ -182,7 +182,7 @@ fn schedule_all<
 /// an audit, it is made by this auditor: with as many workers as the run has, else four.
 pub fn play_with<
     X: Fn(Global, &Verified, usize, u64) -> Result<(SharedState, Entries), RunError>,
-    A: Fn(Global, &Program, &Report, u32, usize) -> Result<Answer, NoAnswer>,
+    A: Fn(Global, &Program, &Report, u32, usize) -> Result<Verdict, AuditError>,
     R: Read,
     W: Write,
     F: Write,

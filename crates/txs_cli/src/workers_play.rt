@@ -3,7 +3,7 @@
 ghost use Rattle.std.specs.Prelude.{◌≡◌, ◌++◌, [], codes, IfOk, IfSome};
 ghost use Rattle.txs_cli.specs.Runner.{HasFailed, IsRunnable, RunsLawfully};
 ghost use Rattle.txs_cli.specs.WorkersTold.{StreamWorkedTells};
-ghost use Rattle.txs_cli_report.specs.Lent.{text_in};
+ghost use Rattle.txs_cli_report.specs.Lent.{text_in, told_of};
 ghost use Rattle.txs_cli_report.specs.Told.{Told as PlainTold, Written, front};
 
 use crate::script::{Working, work_script};
@@ -19,7 +19,7 @@ use txs_world_shared::SharedState;
 
 /// What is told of a stream that couldn't be read. Of want of memory the program tells otherwise.
 pub(crate) fn unread(alloc: Global, fault: ReadFault) -> Result<Told, AllocError>
-    ensures { IfOk result (λ t. (t.output.items ≡ []) × (t.errors.items ≡ codes "read failed" ++ codes "\n") × (t.status ≡ 2)) }
+    ensures { IfOk result (λ t. ((told_of t).output ≡ []) × (t.errors.items ≡ codes "read failed" ++ codes "\n") × (t.status ≡ 2)) }
 {
     match fault {
         ReadFault::Failed => complaint(alloc, UNUSABLE, "read failed"),

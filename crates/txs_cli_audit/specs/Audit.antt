@@ -3,10 +3,10 @@ use Rattle.std.specs.Prelude.{◌≡◌, ℕ, max, true, false, List, [], ◌++�
 use Rattle.std.specs.Borrow.{Bor}
 use Rattle.std.proofs.Common.{Global, Result}
 use Rattle.std.specs.declared.result.Result.TheVariants.{Err}
-use Rattle.txs_cli_audit.specs.declared.answer.Answer.{Answer}
-use Rattle.txs_cli_audit.specs.declared.answer.Answer.TheVariants as answered
-use Rattle.txs_cli_audit.specs.declared.answer.NoAnswer.{NoAnswer}
-use Rattle.txs_cli_audit.specs.declared.answer.NoAnswer.TheVariants.{NoThread, Memory}
+use Rattle.txs_audit_answer.specs.Answered.{as_verdict}
+use Rattle.txs_audit_answer.specs.declared.verdict.Verdict as answered
+use Rattle.txs_audit_answer.specs.declared.verdict.AuditError.{AuditError}
+use Rattle.txs_audit_answer.specs.declared.verdict.AuditError.TheVariants.{NoThread, Memory}
 use Rattle.txs_cli_report.specs.Lines.{Script, lesson_of}
 use Rattle.txs_cli_report.specs.Told.{Told}
 use Rattle.txs_theorem_audit.specs.Audited.{Verdict, Agrees, Differs, Undecided, report_as}
@@ -15,18 +15,12 @@ use Rattle.txs_tree_meaning.specs.View.{Parts, program_of}
 use Rattle.txs_value_base.specs.declared.fault.Span.{Span}
 use Rattle.txs_world_protocol.specs.declared.report.Report.{Report}
 
--- the verdict that an answer is
-abbrev pub answer_as : Answer → Verdict
-answer_as (answered.Agrees serial) = Agrees serial
-answer_as (answered.Differs at) = Differs at.actor at.event
-answer_as (answered.Undecided at) = Undecided at.actor at.event
-
 -- an answer, where there is one, is the verdict on this report, where each loop makes so many turns at most
-abbrev pub IsRight : Parts → Report → ℕ → Result Answer NoAnswer → Type 0
-IsRight p r n v = IfOk v (λ a. answer_as a ≡ verdict (program_of p) (report_as r) n)
+abbrev pub IsRight : Parts → Report → ℕ → Result answered.Verdict AuditError → Type 0
+IsRight p r n v = IfOk v (λ a. as_verdict a ≡ verdict (program_of p) (report_as r) n)
 
 -- who audits, answering so, has had no answer for this reason to this report of this program, with so many turns and workers
-abbrev pub HasNoAnswer : (Global → Bor Parts → Bor Report → ℕ → ℕ → Result Answer NoAnswer → Type 0) → Parts → Report → ℕ → ℕ → NoAnswer → Type 0
+abbrev pub HasNoAnswer : (Global → Bor Parts → Bor Report → ℕ → ℕ → Result answered.Verdict AuditError → Type 0) → Parts → Report → ℕ → ℕ → AuditError → Type 0
 HasNoAnswer answers p r turns workers e = (alloc : Global) × (program : Bor Parts) × (report : Bor Report) × (program.now ≡ p) × (report.now ≡ r) × answers alloc program report turns workers (Err e)
 
 -- ---- the line and the status
@@ -55,7 +49,7 @@ LessonOf script (Differs actor event) lesson = (form : Option Span) × (sentence
 LessonOf script (Undecided actor event) lesson = (form : Option Span) × (sentence : List ℕ) × (lesson ≡ lesson_of script.file script.text form (Some sentence))
 
 -- the line that says why there is no verdict
-abbrev pub no_answer_line : NoAnswer → List ℕ
+abbrev pub no_answer_line : AuditError → List ℕ
 no_answer_line NoThread = codes "run failed: NoThread\n"
 no_answer_line Memory = codes "out of memory\n"
 
@@ -70,12 +64,12 @@ pub record AnswerTells (script : Script) (v : Verdict) (before t : Told) : Type 
   pub status : t.status ≡ max before.status (audit_status v)
 
 -- What is told where there is no verdict, behind what is told of the run: why there is none, and status 4.
-pub record NoAnswerTells (e : NoAnswer) (before t : Told) : Type 0 where
+pub record NoAnswerTells (e : AuditError) (before t : Told) : Type 0 where
   pub output : t.output ≡ before.output
   pub errors : t.errors ≡ before.errors ++ no_answer_line e
   pub status : t.status ≡ max before.status 4
 
 -- What is told of an audit whose verdict is this, behind what is told of the run: the verdict, or that who audits had no answer.
-pub data AuditTells (failed : NoAnswer → Type 0) (script : Script) (v : Verdict) (before t : Told) : Type 0 where
+pub data AuditTells (failed : AuditError → Type 0) (script : Script) (v : Verdict) (before t : Told) : Type 0 where
   of_answer : (told : AnswerTells script v before t) → AuditTells failed script v before t
-  of_none : (e : NoAnswer) (so : failed e) (told : NoAnswerTells e before t) → AuditTells failed script v before t
+  of_none : (e : AuditError) (so : failed e) (told : NoAnswerTells e before t) → AuditTells failed script v before t

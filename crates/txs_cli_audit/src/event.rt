@@ -1,6 +1,5 @@
 //! The event that an answer names, in a sentence: whose it is, and where it is.
 
-use crate::answer::EventAt;
 use crate::explain::Audited;
 use itoa::Buffer;
 use std::alloc::AllocError;
@@ -10,10 +9,17 @@ use txs_tree_meaning::Program;
 use txs_value_base::Span;
 use txs_value_cell::Action;
 use txs_value_data::{CellId, CellKind};
-use txs_world_protocol::{Event, EventKind, Outcome, Place, Ran, Report};
+use txs_world_protocol::{ActorReport, Event, EventKind, Outcome, Place, Report};
+
+/// An event of an actor: its index in the actor's trace, which is the trace's length where all events are behind it.
+#[derive(Clone, Copy)]
+pub(crate) struct EventAt {
+    pub(crate) actor: u16,
+    pub(crate) event: usize,
+}
 
 /// The entry of an actor: threads come first, and behind them the agents.
-fn entry_of(report: &Report, actor: u16) -> Option<&Ran> {
+fn entry_of(report: &Report, actor: u16) -> Option<&ActorReport> {
     let actor = usize::from(actor);
     let threads = report.threads.len();
     if actor < threads {
@@ -46,15 +52,15 @@ fn name_in(program: &Program, kind: CellKind, n: usize) -> Option<&str> {
     None
 }
 
-/// Appends a word, and a number behind it.
-fn write_number(text: &mut String, word: &str, number: usize) -> Result<(), AllocError> {
+/// Appends a word to a sentence, and a number behind it.
+fn push_number(text: &mut String, word: &str, number: usize) -> Result<(), AllocError> {
     let mut buffer = Buffer::new();
     text.push_str(word)?;
     text.push_str(buffer.format(number))
 }
 
-/// Appends a word, and a name behind it.
-fn write_name(text: &mut String, word: &str, name: &str) -> Result<(), AllocError> {
+/// Appends a word to a sentence, and a name behind it.
+fn push_name(text: &mut String, word: &str, name: &str) -> Result<(), AllocError> {
     text.push_str(word)?;
     text.push_str(name)
 }
@@ -68,11 +74,11 @@ pub(crate) fn write_actor(
     let number = usize::from(actor);
     let threads = audited.report.threads.len();
     if number < threads {
-        return write_number(text, "thread ", number);
+        return push_number(text, "thread ", number);
     }
     match name_in(audited.program, CellKind::Agent, number - threads) {
-        Some(name) => write_name(text, "agent ", name),
-        None => write_number(text, "actor ", number),
+        Some(name) => push_name(text, "agent ", name),
+        None => push_number(text, "actor ", number),
     }
 }
 
@@ -82,17 +88,17 @@ fn write_book(text: &mut String, program: &Program, book: u32) -> Result<(), All
         return text.push_str(" of the journal");
     }
     match name_in(program, CellKind::Atom, book as usize - 1) {
-        Some(name) => write_name(text, " of the journal of atom ", name),
-        None => write_number(text, " of the journal numbered ", book as usize),
+        Some(name) => push_name(text, " of the journal of atom ", name),
+        None => push_number(text, " of the journal numbered ", book as usize),
     }
 }
 
 /// Appends where an event is, and its name.
 fn write_place(text: &mut String, audited: Audited<'_>, place: Place) -> Result<(), AllocError> {
-    write_number(text, "index ", place.at as usize)?;
+    push_number(text, "index ", place.at as usize)?;
     write_book(text, audited.program, place.book)?;
     match event_in(audited.report, place) {
-        Some(event) => write_name(text, ", ", name_of(&event.kind)),
+        Some(event) => push_name(text, ", ", name_of(&event.kind)),
         None => text.push_str(", where no event is"),
     }
 }
@@ -108,12 +114,12 @@ pub(crate) fn write_event(
     };
     match entry.trace.get(at.event) {
         Some(place) => {
-            write_number(text, " at its event ", at.event)?;
+            push_number(text, " at its event ", at.event)?;
             text.push_str(" (")?;
             write_place(text, audited, *place)?;
             text.push_str(")")
         }
-        None => write_number(
+        None => push_number(
             text,
             " behind all its events, of which there are ",
             entry.trace.len(),

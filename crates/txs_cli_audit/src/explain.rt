@@ -1,14 +1,15 @@
 //! What explains an answer: the form of the text, and which event it is.
 
 ghost use Rattle.std.specs.Prelude.{◌≡◌, ◌++◌, ℕ, List, Option, Some, OnOk};
-ghost use Rattle.txs_cli_audit.specs.Audit.{LessonOf, answer_as};
+ghost use Rattle.txs_audit_answer.specs.Answered.{as_verdict};
+ghost use Rattle.txs_cli_audit.specs.Audit.{LessonOf};
 ghost use Rattle.txs_cli_report.specs.Lent.{script_of, text_in};
 ghost use Rattle.txs_cli_report.specs.Lines.{lesson_of};
 ghost use Rattle.txs_value_base.specs.declared.fault.Span.{Span as PlainSpan};
 
-use crate::answer::{Answer, EventAt};
-use crate::event::{form_of, write_actor, write_event};
+use crate::event::{EventAt, form_of, write_actor, write_event};
 use std::alloc::{AllocError, Global};
+use txs_audit_answer::Verdict;
 use txs_cli_report::explain::{Script, write_explained};
 use txs_tree_meaning::Program;
 use txs_world_protocol::Report;
@@ -74,13 +75,19 @@ pub(crate) fn explain(
     errors: &mut Vec<u8>,
     script: Script<'_>,
     audited: Audited<'_>,
-    answer: Answer,
+    answer: Verdict,
 ) -> Result<(), AllocError>
-    ensures { OnOk result ((lesson : List ℕ) × LessonOf (script_of script.entry) (answer_as answer) lesson × (errors.new.items ≡ errors.old.items ++ lesson)) }
+    ensures { OnOk result ((lesson : List ℕ) × LessonOf (script_of script.entry) (as_verdict answer) lesson × (errors.new.items ≡ errors.old.items ++ lesson)) }
 {
     match answer {
-        Answer::Agrees { .. } => Ok(()),
-        Answer::Differs(at) => explain_event(alloc, errors, script, audited, at, DIFFERS),
-        Answer::Undecided(at) => explain_event(alloc, errors, script, audited, at, UNDECIDED),
+        Verdict::Agrees { .. } => Ok(()),
+        Verdict::Differs { actor, event } => {
+            let at = EventAt { actor, event };
+            explain_event(alloc, errors, script, audited, at, DIFFERS)
+        }
+        Verdict::Undecided { actor, event } => {
+            let at = EventAt { actor, event };
+            explain_event(alloc, errors, script, audited, at, UNDECIDED)
+        }
     }
 }

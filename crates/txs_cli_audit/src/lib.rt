@@ -2,11 +2,9 @@
 //! closure; what is told is the verdict of the definitions, or why there is none.
 #![tactic(auto)]
 
-pub mod answer;
 mod event;
 mod explain;
 pub mod told;
 
-pub use answer::{Answer, EventAt, NoAnswer};
 pub use explain::Audited;
 pub use told::{add_answer, add_audit};

@@ -1,48 +1,52 @@
 //! Adds what is told of an audit to what is told of its run.
 
 ghost use Rattle.std.specs.Prelude.{◌≡◌, ◌++◌, codes, decimal, OnOk};
-ghost use Rattle.txs_cli_audit.specs.Audit.{AnswerTells, AuditTells, HasNoAnswer, IsRight, NoAnswerTells, answer_as, at_event, audit_line, audit_status, no_answer_line};
-ghost use Rattle.txs_cli_report.specs.Lent.{script_of, told_of};
+ghost use Rattle.txs_audit_answer.specs.Answered.{as_verdict};
+ghost use Rattle.txs_cli_audit.specs.Audit.{AnswerTells, AuditTells, HasNoAnswer, IsRight, NoAnswerTells, at_event, audit_line, audit_status, no_answer_line};
+ghost use Rattle.txs_cli_report.specs.Lent.{lines_of, script_of};
 ghost use Rattle.txs_theorem_audit.specs.Audited.{report_as};
 ghost use Rattle.txs_theorem_audit.specs.Verdict.{verdict};
 ghost use Rattle.txs_tree_meaning.specs.View.{program_of};
 
-use crate::answer::{Answer, EventAt, NoAnswer};
 use crate::explain::{Audited, explain};
 use std::alloc::{AllocError, Global};
-use txs_cli_report::explain::{Script, write_number};
+use txs_audit_answer::{AuditError, Verdict};
+use txs_cli_plays::write_number;
+use txs_cli_report::explain::Script;
 use txs_cli_report::told::{DONE, SPENT, Told};
 use txs_tree_meaning::Program;
 use txs_world_protocol::Report;
 
-/// Appends a word with the event that an answer names.
-fn write_at(output: &mut Vec<u8>, word: &[u8], at: EventAt) -> Result<(), AllocError>
-    ensures { OnOk result (output.new.items ≡ output.old.items ++ at_event word.now at.actor at.event) }
+/// Appends a word with the event that an answer names: its actor, and its index in the actor's trace.
+fn write_at(output: &mut Vec<u8>, word: &[u8], actor: u16, event: usize) -> Result<(), AllocError>
+    ensures { OnOk result (output.new.items ≡ output.old.items ++ at_event word.now actor event) }
 {
-    write_number(output, word, usize::from(at.actor))?;
-    write_number(output, b" ", at.event)?;
+    write_number(output, word, usize::from(actor))?;
+    write_number(output, b" ", event)?;
     output.extend_from_slice(b"\n")
 }
 
 /// Appends the line of an answer.
-fn write_line(output: &mut Vec<u8>, answer: Answer) -> Result<(), AllocError>
-    ensures { OnOk result (output.new.items ≡ output.old.items ++ audit_line (answer_as answer)) }
+fn write_line(output: &mut Vec<u8>, answer: Verdict) -> Result<(), AllocError>
+    ensures { OnOk result (output.new.items ≡ output.old.items ++ audit_line (as_verdict answer)) }
 {
     match answer {
-        Answer::Agrees { serial: true } => output.extend_from_slice(b"audit agrees serial\n"),
-        Answer::Agrees { serial: false } => output.extend_from_slice(b"audit agrees\n"),
-        Answer::Differs(at) => write_at(output, b"audit differs ", at),
-        Answer::Undecided(at) => write_at(output, b"audit undecided ", at),
+        Verdict::Agrees { serial: true } => output.extend_from_slice(b"audit agrees serial\n"),
+        Verdict::Agrees { serial: false } => output.extend_from_slice(b"audit agrees\n"),
+        Verdict::Differs { actor, event } => write_at(output, b"audit differs ", actor, event),
+        Verdict::Undecided { actor, event } => {
+            write_at(output, b"audit undecided ", actor, event)
+        }
     }
 }
 
 /// How an answer counts in the status.
-fn status_of(answer: Answer) -> u8
-    ensures { result ≡ audit_status (answer_as answer) }
+fn status_of(answer: Verdict) -> u8
+    ensures { result ≡ audit_status (as_verdict answer) }
 {
     match answer {
-        Answer::Differs(_) => SPENT,
-        Answer::Agrees { .. } | Answer::Undecided(_) => DONE,
+        Verdict::Differs { .. } => SPENT,
+        Verdict::Agrees { .. } | Verdict::Undecided { .. } => DONE,
     }
 }
 
@@ -52,10 +56,11 @@ pub fn add_answer(
     alloc: Global,
     script: Script<'_>,
     audited: Audited<'_>,
-    answer: Answer,
+    answer: Verdict,
     told: &mut Told,
 ) -> Result<(), AllocError>
-    ensures { OnOk result (AnswerTells (script_of script.entry) (answer_as answer) (told_of told.old) (told_of told.new)) }
+    ensures threads { told.new.threads ≡ told.old.threads }
+    ensures told { OnOk result (AnswerTells (script_of script.entry) (as_verdict answer) (lines_of told.old) (lines_of told.new)) }
 {
     told.status = told.status.max(status_of(answer));
     write_line(&mut told.output, answer)?;
@@ -63,18 +68,19 @@ pub fn add_answer(
 }
 
 /// The line that says why there is no answer.
-fn line_of(failure: NoAnswer) -> &'static [u8]
+fn line_of(failure: AuditError) -> &'static [u8]
     ensures { result.now ≡ no_answer_line failure }
 {
     match failure {
-        NoAnswer::NoThread => b"run failed: NoThread\n",
-        NoAnswer::Memory => b"out of memory\n",
+        AuditError::NoThread => b"run failed: NoThread\n",
+        AuditError::Memory => b"out of memory\n",
     }
 }
 
 /// Adds that there is no answer: its line behind the standard error, and the status.
-fn add_no_answer(failure: NoAnswer, told: &mut Told) -> Result<(), AllocError>
-    ensures { OnOk result (NoAnswerTells failure (told_of told.old) (told_of told.new)) }
+fn add_no_answer(failure: AuditError, told: &mut Told) -> Result<(), AllocError>
+    ensures threads { told.new.threads ≡ told.old.threads }
+    ensures told { OnOk result (NoAnswerTells failure (lines_of told.old) (lines_of told.new)) }
 {
     told.status = told.status.max(SPENT);
     told.errors.extend_from_slice(line_of(failure))
@@ -82,7 +88,7 @@ fn add_no_answer(failure: NoAnswer, told: &mut Told) -> Result<(), AllocError>
 
 /// Has the report audited against the program, with so many turns for each loop and so many workers, and adds what is told of that to what is
 /// told of the run: the verdict, or why there is none. Where there was no memory nothing is said of what is told.
-pub fn add_audit<A: Fn(Global, &Program, &Report, u32, usize) -> Result<Answer, NoAnswer>>(
+pub fn add_audit<A: Fn(Global, &Program, &Report, u32, usize) -> Result<Verdict, AuditError>>(
     alloc: Global,
     auditor: &A,
     script: Script<'_>,
@@ -93,7 +99,8 @@ pub fn add_audit<A: Fn(Global, &Program, &Report, u32, usize) -> Result<Answer, 
 ) -> Result<(), AllocError>
     requires call { (a : _) (p : _) (r : _) (n : _) (w : _) → A.pre auditor.now a p r n w }
     requires right { (a : _) (p : _) (r : _) (n : _) (w : _) (v : _) → A.post auditor.now a p r n w v → IsRight p.now r.now n v }
-    ensures { OnOk result (AuditTells (HasNoAnswer (A.post auditor.now) audited.entry.program.now audited.entry.report.now turns workers) (script_of script.entry) (verdict (program_of audited.entry.program.now) (report_as audited.entry.report.now) turns) (told_of told.old) (told_of told.new)) }
+    ensures threads { told.new.threads ≡ told.old.threads }
+    ensures told { OnOk result (AuditTells (HasNoAnswer (A.post auditor.now) audited.entry.program.now audited.entry.report.now turns workers) (script_of script.entry) (verdict (program_of audited.entry.program.now) (report_as audited.entry.report.now) turns) (lines_of told.old) (lines_of told.new)) }
 {
     match auditor(alloc, audited.program, audited.report, turns, workers) {
         Ok(answer) => add_answer(alloc, script, audited, answer, told),

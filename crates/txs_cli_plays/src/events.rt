@@ -1,11 +1,11 @@
 //! The lines that tell of a book's events.
 
-ghost use Rattle.std.specs.Prelude.{◌≡◌, ◌≤◌, ◌++◌, codes, decimal, length, OnErr, OnOk};
+ghost use Rattle.std.specs.Prelude.{◌≡◌, ◌≤◌, ◌++◌, length, OnErr, OnOk};
 ghost use Rattle.txs_cli_plays.specs.EventLines.{event_name, event_line, event_lines};
 ghost use Rattle.txs_value_data.specs.Limits.{most_events};
 ghost use Rattle.txs_value_data.specs.Printed.{Extends};
 
-use itoa::Buffer;
+use crate::text::{write_both, write_number};
 use std::alloc::AllocError;
 use txs_world_protocol::{Event, EventKind};
 
@@ -27,25 +27,15 @@ pub fn name_of(kind: &EventKind) -> &'static str
     }
 }
 
-/// Appends a number and a space.
-fn write_number(output: &mut Vec<u8>, number: u32) -> Result<(), AllocError>
-    ensures ok { OnOk result (output.new.items ≡ output.old.items ++ decimal number ++ codes " ") }
-    ensures kept { Extends output.old.items output.new.items }
-{
-    let mut buffer = Buffer::new();
-    output.extend_from_slice(buffer.format(number).as_bytes())?;
-    Ok(output.push(b' ')?)
-}
-
 /// Appends the line of an event: its place in the book, its actor, and what that did.
 fn write_event(output: &mut Vec<u8>, place: u32, event: &Event) -> Result<(), AllocError>
     ensures ok { OnOk result (output.new.items ≡ output.old.items ++ event_line place event.now) }
     ensures kept { Extends output.old.items output.new.items }
 {
-    write_number(output, place)?;
-    write_number(output, u32::from(event.actor))?;
-    output.extend_from_slice(name_of(&event.kind).as_bytes())?;
-    Ok(output.push(b'\n')?)
+    write_number(output, b"", place as usize)?;
+    write_number(output, b" ", usize::from(event.actor))?;
+    write_both(output, b" ", name_of(&event.kind).as_bytes())?;
+    output.extend_from_slice(b"\n")
 }
 
 /// Appends the lines of events.

@@ -16,7 +16,7 @@ stream_answered (Ok t) known script wanted h = some_maps known (λ input. Stream
 stream_answered (Err e) known script wanted h = some_always known (λ input. Tells (script input) wanted (answer_of (Err e))) (λ input. of_memory refl refl refl)
 
 -- of a list of plays that is wrong
-pub list_answered : {E : Type 0} (r : Result owned.Told E) (turns : List ℕ) (name : Option (List ℕ)) (wrong : WrongPlay) → plays_in turns ≡ Err wrong → IfOk r (λ t. t.output.items ≡ [])
+pub list_answered : {E : Type 0} (r : Result owned.Told E) (turns : List ℕ) (name : Option (List ℕ)) (wrong : WrongPlay) → plays_in turns ≡ Err wrong → IfOk r (λ t. (told_of t).output ≡ [])
     → IfOk r (λ t. IsLesson (record { text = turns; file = name }) (codes "wrong list\n") (list_place wrong) t.errors.items) → IfOk r (λ t. t.status ≡ 2) → ListTells turns name (answer_of r)
 list_answered (Ok t) turns name wrong read output errors status = of_wrong wrong read output errors status
 list_answered (Err e) turns name wrong read output errors status = of_memory refl refl refl

@@ -2,7 +2,7 @@
 use Rattle.std.specs.Prelude.{◌≡◌, ℕ, suc, max, List, [], ◌∷◌, ◌++◌, Option, Some, None}
 use Rattle.txs_world_protocol.specs.declared.event.Outcome.{Outcome}
 use Rattle.txs_world_protocol.specs.declared.event.Outcome.TheVariants.{Failed}
-use Rattle.txs_world_protocol.specs.declared.report.Ran.{Ran}
+use Rattle.txs_world_protocol.specs.declared.report.ActorReport.{ActorReport}
 use Rattle.txs_world_shared.specs.SharedState.{PlainShared, numbered_book}
 use Rattle.txs_world_book.specs.Book.{mail_after}
 use Rattle.txs_world_book.specs.Served.{cells_of}
@@ -56,14 +56,14 @@ named_from n [] = []
 named_from n (d ∷ ds) = with_named d.kind n d.name (named_from (suc n) ds)
 
 -- what is told of these agents, one after the other, each of which has its entry in the report
-abbrev pub AreAgentsTold : Script → (CellId → Option Fault) → List (CellId × List ℕ) → List Ran → List ℕ → Type 0
+abbrev pub AreAgentsTold : Script → (CellId → Option Fault) → List (CellId × List ℕ) → List ActorReport → List ℕ → Type 0
 AreAgentsTold script failure [] rs lines = lines ≡ []
 AreAgentsTold script failure (g ∷ gs) [] lines = ⊥
 AreAgentsTold script failure (g ∷ gs) (r ∷ rs) lines =
     (one : List ℕ) × (rest : List ℕ) × AgentTold script g.1 (failure g.0) r.outcome one × AreAgentsTold script failure gs rs rest × (lines ≡ one ++ rest)
 
 -- the highest of a status and those of these agents
-abbrev pub status_of_agents : ℕ → (CellId → Option Fault) → List (CellId × List ℕ) → List Ran → ℕ
+abbrev pub status_of_agents : ℕ → (CellId → Option Fault) → List (CellId × List ℕ) → List ActorReport → ℕ
 status_of_agents m failure [] rs = m
 status_of_agents m failure (g ∷ gs) [] = m
 status_of_agents m failure (g ∷ gs) (r ∷ rs) = status_of_agents (max (max m (end_status (failed_by (failure g.0)))) (end_status r.outcome)) failure gs rs

@@ -3,8 +3,8 @@ use Rattle.std.specs.Prelude.{ℕ, List, [], Option, Some, None, Result, codes}
 use Rattle.std.specs.Borrow.{Bor}
 use Rattle.std.specs.declared.result.Result.TheVariants.{Ok, Err}
 use Rattle.txs_machine.specs.Schedule.{spread}
-use Rattle.txs_cli_report.specs.Lines.{Script, agent_front, thread_front}
-use Rattle.txs_cli_report.specs.Told.{Told, Wanted, Check, Listing, Build, Run}
+use Rattle.txs_cli_report.specs.Lines.{Script, agent_front, all_printed, thread_front}
+use Rattle.txs_cli_report.specs.Told.{Told, Wanted, Check, Listing, Build, Run, behind_bytes}
 use Rattle.txs_cli_report.specs.declared.explain.Script as lent
 use Rattle.txs_cli_report.specs.declared.told.Front.{Front}
 use Rattle.txs_cli_report.specs.declared.told.Front.TheVariants as lent_front
@@ -21,9 +21,13 @@ text_in (Some text) = Some text.now
 abbrev pub script_of : lent.Script → Script
 script_of s = record { text = s.text.now; file = text_in s.file }
 
--- what is told, as plain data
+-- what is told by lines, without what threads printed
+abbrev pub lines_of : owned.Told → Told
+lines_of t = record { output = t.output.items; errors = t.errors.items; status = t.status }
+
+-- what is told, as plain data: behind what the threads printed the lines
 abbrev pub told_of : owned.Told → Told
-told_of t = record { output = t.output.items; errors = t.errors.items; status = t.status }
+told_of t = behind_bytes (all_printed t.threads.items) (lines_of t)
 
 -- what is told of an answer, which may be that there was no memory for it
 abbrev pub answer_of : {E : Type 0} → Result owned.Told E → Told

@@ -5,7 +5,7 @@ use Rattle.txs_world_protocol.specs.declared.event.Outcome.TheVariants.{Done, Fa
 use Rattle.txs_check.specs.Errors.{check_number, check_name}
 use Rattle.txs_compile.specs.declared.compile_error.CompileError.{CompileError}
 use Rattle.txs_compile.specs.declared.compile_error.CompileError.TheVariants.{Read, Resolve, Check as Unsound, Memory as NoMemory}
-use Rattle.txs_world_protocol.specs.declared.report.Ran.{Ran}
+use Rattle.txs_world_protocol.specs.declared.report.ActorReport.{ActorReport}
 use Rattle.txs_cli_report.specs.Explained.{explained}
 use Rattle.txs_cli_plays.specs.declared.plays.WrongPlay.{WrongPlay}
 use Rattle.txs_reader.specs.Errors.{report_number as read_number, report_name as read_name}
@@ -106,17 +106,17 @@ how_ended None = Done
 how_ended (Some o) = o
 
 -- what all threads printed, one after the other in their order
-abbrev pub all_printed : List Ran → List ℕ
+abbrev pub all_printed : List ActorReport → List ℕ
 all_printed [] = []
 all_printed (r ∷ rs) = r.printed.items ++ all_printed rs
 
 -- the highest of a status and those of these threads
-abbrev pub status_from : ℕ → List Ran → ℕ
+abbrev pub status_from : ℕ → List ActorReport → ℕ
 status_from m [] = m
 status_from m (r ∷ rs) = status_from (max m (status_of (how_ended r.outcome))) rs
 
 -- the standard error: for each of these threads the line that tells how it ended, in their order, where the first is the k-th
-abbrev pub AreLessons : Script → ℕ → List Ran → List ℕ → Type 0
+abbrev pub AreLessons : Script → ℕ → List ActorReport → List ℕ → Type 0
 AreLessons script k [] errors = errors ≡ []
 AreLessons script k (r ∷ rs) errors =
     (line : List ℕ) × (rest : List ℕ) × IsLesson script (end_line (thread_front k) (how_ended r.outcome)) (end_place (how_ended r.outcome)) line × AreLessons script (suc k) rs rest × (errors ≡ line ++ rest)

@@ -21,7 +21,7 @@ use Rattle.txs_machine.specs.RunTheorem.{ExplainsAll}
 use Rattle.txs_machine.specs.Schedule.{AreDone, HaveEnded, IsExplainedBy, all_named}
 use Rattle.txs_machine.specs.declared.schedule.Entries.{Entries}
 use Rattle.txs_machine.specs.declared.schedule.Play.{Play}
-use Rattle.txs_world_protocol.specs.declared.report.Ran.{Ran}
+use Rattle.txs_world_protocol.specs.declared.report.ActorReport.{ActorReport}
 use Rattle.txs_cli_report.specs.AgentLines.{AreAgentsTold, failure_of, named_from, status_of_agents}
 use Rattle.txs_cli_report.specs.CellLines.{cell_lines}
 use Rattle.txs_cli_report.specs.Lines.{Script, IsLesson, AreLessons, all_printed, list_place, refused_line, refused_place, status_from}
@@ -39,6 +39,10 @@ pub record Told : Type 0 where
   pub errors : List ℕ
   pub status : ℕ
 
+-- the same behind these bytes of the standard output
+abbrev pub behind_bytes : List ℕ → Told → Told
+behind_bytes bytes t = record { output = bytes ++ t.output; errors = t.errors; status = t.status }
+
 -- What is wanted of a script: that it is compiled, that its code is listed or written in its byte form, or that its threads and agents run by these plays and then in
 -- rounds, until all threads have ended and no agent has something to do, each for so many steps at most; and whether the cells and the events are told behind what they print.
 pub data Wanted : Type 0 where
@@ -50,7 +54,7 @@ pub data Wanted : Type 0 where
 -- ---- what is told of a run
 
 -- The standard error of a run: for each thread the line that tells how it ended, and behind these what is told of each agent.
-pub record EndsTold (cells : List CellDefinition) (script : Script) (s : PlainShared) (threads agents : List Ran) (errors : List ℕ) : Type 0 where
+pub record EndsTold (cells : List CellDefinition) (script : Script) (s : PlainShared) (threads agents : List ActorReport) (errors : List ℕ) : Type 0 where
   pub of_threads : List ℕ
   pub of_agents : List ℕ
   pub first : AreLessons script 0 threads of_threads
@@ -58,15 +62,15 @@ pub record EndsTold (cells : List CellDefinition) (script : Script) (s : PlainSh
   pub is : errors ≡ of_threads ++ of_agents
 
 -- the highest status of all threads and agents
-abbrev pub run_status : List CellDefinition → PlainShared → List Ran → List Ran → ℕ
+abbrev pub run_status : List CellDefinition → PlainShared → List ActorReport → List ActorReport → ℕ
 run_status cells s threads agents = status_of_agents (status_from 0 threads) (failure_of s) (named_from 0 cells) agents
 
 -- What a run of all threads and agents of the code over what they share tells, which it leaves so: what the threads printed, how each ended, which
 -- agents have failed and whose actors were stopped, and the highest status. The entries of the report say what each actor did, and each program that
 -- the code follows explains them: those of the threads, and, where the code follows its functions as well and sends what it may send, all.
 pub record RunTells (code : PlainCode) (script : Script) (steps : ℕ) (s : PlainShared) (t : Told) : Type 0 where
-  pub rans : List Ran
-  pub agents : List Ran
+  pub rans : List ActorReport
+  pub agents : List ActorReport
   pub done : AreDone code steps (books_of s) rans
   pub ended : HaveEnded rans
   pub explained : IsExplainedBy code (shared_of s) rans

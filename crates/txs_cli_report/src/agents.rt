@@ -9,7 +9,7 @@ ghost use Rattle.txs_world_book.specs.Served.{cells_of};
 use crate::explain::Script;
 use crate::told::{Front, Told, how_ended, tell_end};
 use std::alloc::AllocError;
-use txs_machine::Ran;
+use txs_machine::ActorReport;
 use txs_value_base::Fault;
 use txs_value_cell::CellDefinition;
 use txs_value_data::{CellId, CellKind};
@@ -33,9 +33,9 @@ fn add_cell<'a>(
     script: Script<'_>,
     cell: &CellDefinition,
     number: u16,
-    entries: &'a [Ran],
+    entries: &'a [ActorReport],
     shared: &SharedState,
-) -> Result<&'a [Ran], AllocError>
+) -> Result<&'a [ActorReport], AllocError>
     requires there { has_cell (cells_of shared.now.cells) (record { kind = cell.now.kind; number = number }) ≡ true }
     requires entry { length (with_named cell.now.kind number cell.now.name []) ≤ length entries.now }
     ensures output { told.new.output.items ≡ told.old.output.items }
@@ -67,7 +67,7 @@ pub fn add_agents(
     told: &mut Told,
     script: Script<'_>,
     cells: &[CellDefinition],
-    agents: &[Ran],
+    agents: &[ActorReport],
     shared: &SharedState,
 ) -> Result<(), AllocError>
     requires few { length cells.now ≤ 1000 }

@@ -1,12 +1,12 @@
 //! What stands behind a line on the standard error where it is explained: the place in the script, the line
 //! of the script with carets below it, and what to do.
 
-ghost use Rattle.std.specs.Prelude.{◌≡◌, ◌++◌, decimal, OnErr, OnOk};
+ghost use Rattle.std.specs.Prelude.{◌≡◌, ◌++◌, OnErr, OnOk};
 ghost use Rattle.txs_value_data.specs.Printed.{Extends};
 ghost use Rattle.txs_cli_report.specs.Explained.{place_line, shown_where, explained};
 
-use itoa::Buffer;
 use std::alloc::AllocError;
+use txs_cli_plays::{write_both, write_number};
 use txs_reader_lines::{position, write_pointed};
 use txs_value_base::Span;
 
@@ -16,24 +16,6 @@ pub struct Script<'a> {
     pub text: &'a [u8],
     /// The name of its file where the lines are to be explained.
     pub file: Option<&'a str>,
-}
-
-/// Appends two texts, one behind the other.
-pub(crate) fn write_both(out: &mut Vec<u8>, first: &[u8], second: &[u8]) -> Result<(), AllocError>
-    ensures ok { OnOk result (out.new.items ≡ out.old.items ++ (first.now ++ second.now)) }
-    ensures kept { Extends out.old.items out.new.items }
-{
-    out.extend_from_slice(first)?;
-    out.extend_from_slice(second)
-}
-
-/// Appends a number behind these bytes.
-pub fn write_number(out: &mut Vec<u8>, before: &[u8], number: usize) -> Result<(), AllocError>
-    ensures ok { OnOk result (out.new.items ≡ out.old.items ++ (before.now ++ decimal number)) }
-    ensures kept { Extends out.old.items out.new.items }
-{
-    let mut buffer = Buffer::new();
-    write_both(out, before, buffer.format(number).as_bytes())
 }
 
 /// Appends the line that names a place: the file, the line and the column, both from 1.

@@ -3,14 +3,16 @@
 ghost use Rattle.std.specs.Io.KnownBytes.{Appends};
 ghost use Rattle.std.specs.Prelude.{◌++◌, codes, IfOk, IfSome, OnErr, OnOk};
 ghost use Rattle.txs_cli_report.specs.Lent.{answer_of, text_in, told_of, wanted_of};
+ghost use Rattle.txs_cli_report.specs.Lines.{all_printed};
 ghost use Rattle.txs_cli_report.specs.Told.{Told as PlainTold, HasErrors, IsBegun, LacksErrors, StreamTells, Tells, Written, front};
 
 use crate::explain::Script;
 use crate::script::use_script;
-use crate::streams::{ReadFault, WriteFault, read_bytes, write_bytes};
+use crate::streams::{ReadFault, WriteFault, read_bytes, write_bytes, write_piece};
 use crate::told::{SPENT, Told, UNUSABLE, Use, complaint};
 use std::alloc::{AllocError, Global};
 use std::io::{Read, Write};
+use txs_world_protocol::ActorReport;
 
 /// Reads the script and uses it.
 fn use_stream<R: Read>(
@@ -40,19 +42,44 @@ fn write_fault<F: Write>(faults: &mut F, errors: &[u8]) -> Result<(), WriteFault
     write_bytes(faults, b"write failed\n")
 }
 
-/// Writes the standard output, and then the standard error. Answers the status, which is 2 at least where one of them
-/// couldn't be written; and whether the standard error was, of which only a write that failed says that it wasn't.
+/// Writes what threads printed, in their order and nothing else. The writer isn't flushed.
+fn write_printed<W: Write>(writer: &mut W, threads: &[ActorReport]) -> Result<(), WriteFault>
+    ensures whole { OnOk result (Appends (W.contents writer.old) (W.contents writer.new) (all_printed threads.now)) }
+    ensures begun { OnErr result (IsBegun (W.contents writer.old) (W.contents writer.new) (all_printed threads.now)) }
+{
+    for thread in threads {
+        write_piece(writer, thread.printed.as_slice())?;
+    }
+    Ok(())
+}
+
+/// Writes the standard output: what threads printed, in their order, and these lines behind it.
+fn write_output<W: Write>(
+    writer: &mut W,
+    threads: &[ActorReport],
+    lines: &[u8],
+) -> Result<(), WriteFault>
+    ensures whole { OnOk result (Appends (W.contents writer.old) (W.contents writer.new) (all_printed threads.now ++ lines.now)) }
+    ensures begun { OnErr result (IsBegun (W.contents writer.old) (W.contents writer.new) (all_printed threads.now ++ lines.now)) }
+{
+    write_printed(writer, threads)?;
+    write_bytes(writer, lines)
+}
+
+/// Writes the standard output, which begins with what threads printed, and then the standard error. Answers the status, which is 2 at least
+/// where one of them couldn't be written; and whether the standard error was, of which only a write that failed says that it wasn't.
 fn write_streams<W: Write, F: Write>(
+    threads: &[ActorReport],
     output: &[u8],
     errors: &[u8],
     status: u8,
     writer: &mut W,
     faults: &mut F,
 ) -> (u8, Result<(), WriteFault>)
-    ensures whole { OnOk result.1 (HasErrors (W.contents writer.old) (W.contents writer.new) (F.contents faults.old) (F.contents faults.new) (record { output = output.now; errors = errors.now; status = status }) result.0) }
-    ensures cut { OnErr result.1 (LacksErrors (W.contents writer.old) (W.contents writer.new) (F.contents faults.old) (F.contents faults.new) (record { output = output.now; errors = errors.now; status = status }) result.0) }
+    ensures whole { OnOk result.1 (HasErrors (W.contents writer.old) (W.contents writer.new) (F.contents faults.old) (F.contents faults.new) (record { output = all_printed threads.now ++ output.now; errors = errors.now; status = status }) result.0) }
+    ensures cut { OnErr result.1 (LacksErrors (W.contents writer.old) (W.contents writer.new) (F.contents faults.old) (F.contents faults.new) (record { output = all_printed threads.now ++ output.now; errors = errors.now; status = status }) result.0) }
 {
-    if write_bytes(writer, output).is_err() {
+    if write_output(writer, threads, output).is_err() {
         let told = write_fault(faults, errors);
         return (status.max(UNUSABLE), told);
     }
@@ -60,6 +87,22 @@ fn write_streams<W: Write, F: Write>(
         Ok(()) => (status, Ok(())),
         Err(fault) => (status.max(UNUSABLE), Err(fault)),
     }
+}
+
+/// Writes the standard output, which begins with what threads printed, and then the standard error. Answers the status, which is 2 at least
+/// where one of them couldn't be written.
+fn write_whole<W: Write, F: Write>(
+    threads: &[ActorReport],
+    output: &[u8],
+    errors: &[u8],
+    status: u8,
+    writer: &mut W,
+    faults: &mut F,
+) -> u8
+    ensures { Written (W.contents writer.old) (W.contents writer.new) (F.contents faults.old) (F.contents faults.new) (record { output = all_printed threads.now ++ output.now; errors = errors.now; status = status }) result }
+{
+    let ended = write_streams(threads, output, errors, status, writer, faults);
+    ended.0
 }
 
 /// Writes the standard output, and then the standard error. Answers the status, which is 2 at least where one of them
@@ -73,8 +116,7 @@ pub fn write_told<W: Write, F: Write>(
 ) -> u8
     ensures { Written (W.contents writer.old) (W.contents writer.new) (F.contents faults.old) (F.contents faults.new) (record { output = output.now; errors = errors.now; status = status }) result }
 {
-    let ended = write_streams(output, errors, status, writer, faults);
-    ended.0
+    write_whole(&[], output, errors, status, writer, faults)
 }
 
 /// Writes what is told, or that there was no memory for it. Answers the status.
@@ -86,7 +128,8 @@ pub fn write_answer<W: Write, F: Write>(
     ensures { Written (W.contents writer.old) (W.contents writer.new) (F.contents faults.old) (F.contents faults.new) (answer_of told) result }
 {
     match told {
-        Ok(told) => write_told(
+        Ok(told) => write_whole(
+            told.threads.as_slice(),
             told.output.as_slice(),
             told.errors.as_slice(),
             told.status,

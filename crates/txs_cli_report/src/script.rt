@@ -10,9 +10,9 @@ ghost use Rattle.txs_machine.specs.Schedule.{all_named, spread};
 ghost use Rattle.txs_theorem_runs.specs.Shared.{untouched};
 ghost use Rattle.txs_world_shared.specs.SharedState.{shared_of, numbered_book};
 ghost use Rattle.txs_cli_report.specs.AgentLines.{named_from};
-ghost use Rattle.txs_cli_report.specs.Lent.{script_of, told_of, wanted_of};
+ghost use Rattle.txs_cli_report.specs.Lent.{lines_of, script_of, told_of, wanted_of};
 ghost use Rattle.txs_cli_report.specs.Lines.{all_printed};
-ghost use Rattle.txs_cli_report.specs.Told.{EndsTold, IsCompiled, ReportTells, RunAnswers, ScriptTells, TurnsTell, FormTold, cells_told, events_told, run_status};
+ghost use Rattle.txs_cli_report.specs.Told.{EndsTold, IsCompiled, ReportTells, RunAnswers, ScriptTells, TurnsTell, FormTold, behind_bytes, cells_told, events_told, run_status};
 ghost use Rattle.txs_tree_meaning.specs.View.{program_of};
 
 use crate::agents::add_agents;
@@ -20,6 +20,7 @@ use crate::cells::write_cells;
 use crate::explain::Script;
 use crate::told::{Told, UNUSABLE, Use, answer, complaint, of_threads, refused};
 use std::alloc::{AllocError, Global};
+use std::mem;
 use txs_cli_plays::write_events;
 use txs_cli_request::RunOptions;
 use txs_code_encode::encode;
@@ -31,7 +32,7 @@ use txs_tree_meaning::Program;
 use txs_value_cell::CellDefinition;
 use txs_world_shared::SharedState;
 
-/// What is told of the threads and agents of a run that is over: the lines of threads, and behind them those of agents.
+/// What is told of the threads and agents of a run that is over, but for what they printed: the lines of threads, and behind them those of agents.
 fn of_report(
     alloc: Global,
     script: Script<'_>,
@@ -43,7 +44,7 @@ fn of_report(
     requires few_cells { length cells.now ≤ 1000 }
     requires made { shared.now.cells ≡ cells.now }
     requires one_each { length report.now.agents.items ≡ length (named_from 0 cells.now) }
-    ensures output { IfOk result (λ t. t.output.items ≡ all_printed report.now.threads.items) }
+    ensures output { IfOk result (λ t. t.output.items ≡ []) }
     ensures errors { IfOk result (λ t. EndsTold cells.now (script_of script.entry) shared.now report.now.threads.items report.now.agents.items t.errors.items) }
     ensures status { IfOk result (λ t. t.status ≡ run_status cells.now shared.now report.now.threads.items report.now.agents.items) }
 {
@@ -116,9 +117,9 @@ fn tell_book(
     done
 }
 
-/// What is told of a run of the code that is over: what its report tells, and behind it its cells and the events of the store's book, where
-/// they are wanted.
-pub fn report_run(
+/// What is told of a run of the code that is over, but for what its threads printed: how each ended, its cells and the events of the store's book,
+/// where they are wanted. Behind what the threads printed it is what the report tells.
+pub fn report_lines(
     alloc: Global,
     script: Script<'_>,
     code: &Code,
@@ -130,11 +131,32 @@ pub fn report_run(
     requires few_cells { length code.now.cells ≤ 1000 }
     requires made { shared.now.cells ≡ code.now.cells }
     requires one_each { length report.now.agents.items ≡ length (agents_of code.now) }
-    ensures { IfOk result (λ t. ReportTells code.now (script_of script.entry) shared.now report.now options.cells options.events (told_of t)) }
+    ensures { IfOk result (λ t. ReportTells code.now (script_of script.entry) shared.now report.now options.cells options.events (behind_bytes (all_printed report.now.threads.items) (lines_of t))) }
 {
     let cells = code.cells();
     let mut told = of_report(alloc, script, cells, report, shared)?;
     tell_book(&mut told, options, cells, shared)?;
+    Ok(told)
+}
+
+/// What is told of a run of the code that is over: what its report tells, and behind it its cells and the events of the store's book, where
+/// they are wanted. What its threads printed is moved, and not copied.
+pub fn report_run(
+    alloc: Global,
+    script: Script<'_>,
+    code: &Code,
+    mut report: Entries,
+    shared: &SharedState,
+    options: RunOptions,
+) -> Result<Told, AllocError>
+    requires few_threads { length report.threads.items ≤ 64 }
+    requires few_cells { length code.now.cells ≤ 1000 }
+    requires made { shared.now.cells ≡ code.now.cells }
+    requires one_each { length report.agents.items ≡ length (agents_of code.now) }
+    ensures { IfOk result (λ t. ReportTells code.now (script_of script.entry) shared.now report options.cells options.events (told_of t)) }
+{
+    let mut told = report_lines(alloc, script, code, &report, shared, options)?;
+    mem::swap(&mut told.threads, &mut report.threads);
     Ok(told)
 }
 
@@ -159,7 +181,7 @@ pub fn run_code(
 {
     match run_repeated(alloc, code, plays, options.steps, true, shared) {
         Ok(report) => {
-            let told = report_run(alloc, script, code.code(), &report, shared, options)?;
+            let told = report_run(alloc, script, code.code(), report, shared, options)?;
             Ok(Some(told))
         }
         Err(ScheduleError::NoActor) => Ok(None),
@@ -189,7 +211,7 @@ pub fn run_by_turns(
 
 /// What is told of a script that compiles, where nothing runs.
 fn accepted(alloc: Global) -> Result<Told, AllocError>
-    ensures output { IfOk result (λ t. t.output.items ≡ codes "ok\n") }
+    ensures output { IfOk result (λ t. (told_of t).output ≡ codes "ok\n") }
     ensures errors { IfOk result (λ t. t.errors.items ≡ []) }
     ensures status { IfOk result (λ t. t.status ≡ 0) }
 {
@@ -199,7 +221,7 @@ fn accepted(alloc: Global) -> Result<Told, AllocError>
 
 /// The listing of the code, on the standard output.
 pub fn listing_of(alloc: Global, code: &Code) -> Result<Told, AllocError>
-    ensures output { IfOk result (λ t. t.output.items ≡ listing code.now) }
+    ensures output { IfOk result (λ t. (told_of t).output ≡ listing code.now) }
     ensures errors { IfOk result (λ t. t.errors.items ≡ []) }
     ensures status { IfOk result (λ t. t.status ≡ 0) }
 {

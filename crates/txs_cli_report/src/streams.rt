@@ -83,6 +83,20 @@ pub fn read_bytes<R: Read>(alloc: Global, reader: &mut R) -> Result<Vec<u8>, Rea
 #[error("write failed")]
 pub struct WriteFault(());
 
+/// Writes all bytes, in order and nothing else. The writer isn't flushed.
+///
+/// # Errors
+/// As those of `write_bytes`.
+pub(crate) fn write_piece<W: Write>(writer: &mut W, bytes: &[u8]) -> Result<(), WriteFault>
+    ensures whole { OnOk result (Appends (W.contents writer.old) (W.contents writer.new) bytes.now) }
+    ensures begun { OnErr result (IsBegun (W.contents writer.old) (W.contents writer.new) bytes.now) }
+{
+    match write_all(writer, bytes) {
+        Ok(()) => Ok(()),
+        Err(_) => Err(WriteFault(())),
+    }
+}
+
 /// Writes all bytes, in order and nothing else, and flushes the writer.
 ///
 /// # Errors
@@ -92,9 +106,7 @@ pub fn write_bytes<W: Write>(writer: &mut W, bytes: &[u8]) -> Result<(), WriteFa
     ensures whole { OnOk result (Appends (W.contents writer.old) (W.contents writer.new) bytes.now) }
     ensures begun { OnErr result (IsBegun (W.contents writer.old) (W.contents writer.new) bytes.now) }
 {
-    if write_all(writer, bytes).is_err() {
-        return Err(WriteFault(()));
-    }
+    write_piece(writer, bytes)?;
     match writer.flush() {
         Ok(()) => Ok(()),
         Err(_) => Err(WriteFault(())),

@@ -4,24 +4,27 @@ ghost use Rattle.std.specs.Prelude.{◌≡◌, ◌≢◌, ◌≤◌, ◌++◌, �
 ghost use Rattle.txs_compile.specs.Compiled.{IsRefusal};
 ghost use Rattle.txs_compile.specs.declared.compile_error.CompileError.TheVariants.{Memory};
 ghost use Rattle.txs_cli_report.specs.Lent.{front_of, text_in, script_of, told_of};
-ghost use Rattle.txs_cli_report.specs.Lines.{IsLesson, at_place, lesson_of, list_place, refusal_line, refused_line, refused_place, thread_front, failed_line, stopped_line, end_line, end_place, status_of, how_ended, all_printed, status_from, AreLessons};
+ghost use Rattle.txs_cli_report.specs.Lines.{IsLesson, at_place, lesson_of, list_place, refusal_line, refused_line, refused_place, thread_front, failed_line, stopped_line, end_line, end_place, status_of, how_ended, status_from, AreLessons};
 ghost use Rattle.txs_cli_report.specs.Told.{ScriptTells, Wanted};
 
-use crate::explain::{Script, write_both, write_explained, write_number};
+use crate::explain::{Script, write_explained};
 use std::alloc::{AllocError, Global};
 use txs_cli_advice::{
     OF_JOURNAL, OF_LIST, OF_MEMORY, OF_STEPS, of_check, of_fault, of_read, of_resolve, on_check,
     on_read, on_resolve,
 };
-use txs_cli_plays::WrongPlay;
+use txs_cli_plays::{WrongPlay, write_both, write_number};
 use txs_cli_request::RunOptions;
 use txs_compile::CompileError;
-use txs_machine::{Entries, Ran, Repeated};
+use txs_machine::{ActorReport, Entries, Repeated};
 use txs_value_base::{Fault, Span};
 use txs_world_protocol::Outcome;
 
 /// What the program tells: its standard output and error, and its status.
 pub struct Told {
+    /// The threads that have run. The standard output begins with what they printed, in their order; it is written from here, and not copied.
+    pub threads: Vec<ActorReport>,
+    /// The lines of the standard output behind that.
     pub output: Vec<u8>,
     pub errors: Vec<u8>,
     pub status: u8,
@@ -31,10 +34,12 @@ pub struct Told {
 impl Drop for Told {
     fn drop(self) {
         let Told {
+            threads,
             output,
             errors,
             status: _,
         } = self;
+        drop(threads);
         drop(output);
         drop(errors);
     }
@@ -89,11 +94,13 @@ pub const SPENT: u8 = 4;
 
 /// A text on the standard output alone.
 pub fn answer(output: Vec<u8>, alloc: Global) -> Told
+    ensures whole { (told_of result).output ≡ output.items }
     ensures output { result.output.items ≡ output.items }
     ensures errors { result.errors.items ≡ [] }
     ensures status { result.status ≡ 0 }
 {
     Told {
+        threads: Vec::new(alloc),
         output,
         errors: Vec::new(alloc),
         status: DONE,
@@ -102,13 +109,14 @@ pub fn answer(output: Vec<u8>, alloc: Global) -> Told
 
 /// A line on the standard error alone.
 pub fn complaint(alloc: Global, status: u8, line: &str) -> Result<Told, AllocError>
-    ensures output { IfOk result (λ t. t.output.items ≡ []) }
+    ensures output { IfOk result (λ t. (told_of t).output ≡ []) }
     ensures errors { IfOk result (λ t. t.errors.items ≡ line.now ++ codes "\n") }
     ensures status { IfOk result (λ t. t.status ≡ status) }
 {
     let mut errors = Vec::new(alloc);
     write_both(&mut errors, line.as_bytes(), b"\n")?;
     Ok(Told {
+        threads: Vec::new(alloc),
         output: Vec::new(alloc),
         errors,
         status,
@@ -243,6 +251,7 @@ pub fn refused(alloc: Global, script: Script<'_>, error: &CompileError) -> Resul
     let mut errors = Vec::new(alloc);
     write_refusal(&mut errors, script, &refusal, advice)?;
     Ok(Told {
+        threads: Vec::new(alloc),
         output: Vec::new(alloc),
         errors,
         status: REFUSED,
@@ -265,7 +274,7 @@ fn list_place(wrong: WrongPlay) -> Option<Span>
 
 /// What is told of a list of plays that has an item which says none.
 pub fn wrong_list(alloc: Global, list: Script<'_>, wrong: WrongPlay) -> Result<Told, AllocError>
-    ensures output { IfOk result (λ t. t.output.items ≡ []) }
+    ensures output { IfOk result (λ t. (told_of t).output ≡ []) }
     ensures errors { IfOk result (λ t. IsLesson (script_of list.entry) (codes "wrong list\n") (list_place wrong) t.errors.items) }
     ensures status { IfOk result (λ t. t.status ≡ 2) }
 {
@@ -359,20 +368,24 @@ pub(crate) fn how_ended(outcome: Option<Outcome>) -> Outcome
     }
 }
 
-/// Adds what is told of a thread that has run: what it printed, the line that tells how it ended, and the status, where it is higher.
-fn add_thread(told: &mut Told, script: Script<'_>, k: u16, thread: &Ran) -> Result<(), AllocError>
-    ensures output { OnOk result (told.new.output.items ≡ told.old.output.items ++ thread.now.printed.items) }
+/// Adds what is told of a thread that has run, but for what it printed: the line that tells how it ended, and the status, where it is higher.
+fn add_thread(
+    told: &mut Told,
+    script: Script<'_>,
+    k: u16,
+    thread: &ActorReport,
+) -> Result<(), AllocError>
+    ensures output { told.new.output.items ≡ told.old.output.items }
     ensures errors { OnOk result ((line : List ℕ) × IsLesson (script_of script.entry) (end_line (thread_front k) (how_ended thread.now.outcome)) (end_place (how_ended thread.now.outcome)) line × (told.new.errors.items ≡ told.old.errors.items ++ line)) }
     ensures status { OnOk result (told.new.status ≡ max told.old.status (status_of (how_ended thread.now.outcome))) }
 {
-    told.output.extend_from_slice(thread.printed.as_slice())?;
     tell_end(told, script, Front::Thread(k), how_ended(thread.outcome))
 }
 
-/// What is told of all threads that have run, in their order.
+/// What is told of all threads that have run, in their order, but for what they printed.
 pub fn of_threads(alloc: Global, script: Script<'_>, report: &Entries) -> Result<Told, AllocError>
     requires few { length report.now.threads.items ≤ 64 }
-    ensures output { IfOk result (λ t. t.output.items ≡ all_printed report.now.threads.items) }
+    ensures output { IfOk result (λ t. t.output.items ≡ []) }
     ensures errors { IfOk result (λ t. AreLessons (script_of script.entry) 0 report.now.threads.items t.errors.items) }
     ensures status { IfOk result (λ t. t.status ≡ status_from 0 report.now.threads.items) }
 {

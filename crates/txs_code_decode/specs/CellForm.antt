@@ -22,7 +22,7 @@ kind_byte Ref = 0
 kind_byte Atom = 1
 kind_byte Agent = 2
 
--- the modes that a cell of a kind may have: only an agent goes on after a fault
+-- the modes that a cell of a kind may have: only an agent continues after a fault
 abbrev pub modes : CellKind → List ErrorMode
 modes Ref = Fail ∷ []
 modes Atom = Fail ∷ []
@@ -41,7 +41,7 @@ kind_format = one_of byte kinds kind_byte BadOperand
 unfoldable pub mode_format : CellKind → Format ErrorMode
 mode_format kind = one_of byte (modes kind) mode_byte BadOperand
 
--- a value where cells may stand or not, and are of these kinds, with vectors in at most 32 levels
+-- a value where cells may be or not, and are of these kinds, with vectors in at most 32 levels
 unfoldable pub constant_format : Bool → List CellKind → Format Value
 constant_format cells kinds = mapped value_of plain_of (value_format cells kinds most_depth)
 

@@ -177,12 +177,12 @@ decoded bytes = at_place (length bytes) (whole code_format bytes)
 abbrev pub HasMagic : List ℕ → Type 0
 HasMagic bytes = (rest : List ℕ) × (bytes ≡ codes "TXS1" ++ rest)
 
--- a stop is answered as want of memory
+-- a stop is answered as running out of memory
 abbrev pub IsMemory : Stop → Type 0
 IsMemory stops.Memory = Unit {0}
 IsMemory (stops.Refused r) = r.kind ≡ NoMemory
 
--- the answer is this, unless it is want of memory
+-- the answer is this, unless it is running out of memory
 abbrev pub Answers : Result PlainCode CodeError → Result PlainCode CodeError → Type 0
 Answers (Ok code) wanted = wanted ≡ Ok code
 Answers (Err e) wanted = (e ≡ out_of_memory → ⊥) → wanted ≡ Err e

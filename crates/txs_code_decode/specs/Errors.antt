@@ -24,6 +24,6 @@ code_error_name Trailing = codes "Trailing"
 code_error_name TooLarge = codes "TooLarge"
 code_error_name Memory = codes "Memory"
 
--- want of memory has no place
+-- running out of memory has no place
 abbrev pub out_of_memory : CodeError
 out_of_memory = record { kind = Memory; at = 0 }

@@ -79,12 +79,12 @@ tested f test = record {
   read = λ bytes. f.read bytes >>= λ x. judge (test x.0) bytes x.0 x.1;
 }
 
--- what was found, or the refusal of the field that tells it
+-- what was found, or the refusal of the field that says it
 abbrev pub found : {A : Type 0} → CodeErrorKind → Option A → List ℕ → List ℕ → Read A
 found kind None bytes rest = refuse kind bytes
 found kind (Some a) bytes rest = Ok (a, rest)
 
--- one of a list, told by its place there; a place that the list doesn't have is refused so
+-- one of a list, given by its place there; a place that the list doesn't have is refused so
 abbrev pub one_of : {A : Type 0} → Format ℕ → List A → (A → ℕ) → CodeErrorKind → Format A
 one_of field all place kind = record {
   form = λ a. field.form (place a);
@@ -133,7 +133,7 @@ many n f = record {
 abbrev pub counted : {A : Type 0} → Format ℕ → Format A → Format (List A)
 counted count f = mapped (λ p. p.1) (λ xs. (length xs, xs)) (pair count (λ n. many n f))
 
--- a value that tells which of several formats is that of what stands behind it
+-- a value that says which of several formats is that of what is behind it
 abbrev pub tagged : {A T : Type 0} → Format T → (A → T) → (T → Format A) → Format A
 tagged field tag body = record {
   form = λ a. field.form (tag a) ++ (body (tag a)).form a;

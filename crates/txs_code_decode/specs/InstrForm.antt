@@ -61,7 +61,7 @@ abbrev pub callee_function : Callee → ℕ
 callee_function (callee.Core op) = 0
 callee_function (callee.Function f) = f
 
--- what stands behind a callee's tag, where there are so many functions: its number in two bytes
+-- what is behind a callee's tag, where there are so many functions: its number in two bytes
 abbrev pub callee_body : ℕ → CalleeTag → Format Callee
 callee_body functions callee_tag.Core = mapped callee.Core callee_op (one_of (number w16) operations op_number BadOperand)
 callee_body functions callee_tag.Function = mapped callee.Function callee_function (tested (number w16) (below functions))
@@ -214,7 +214,7 @@ operands constants functions opcode.Reset = only (instr.Put Reset)
 operands constants functions opcode.Send = callee_and_count functions instr.Send
 operands constants functions opcode.Halt = only instr.Halt
 
--- which instruction stands here
+-- which instruction is here
 unfoldable pub opcode_format : Format Opcode
 opcode_format = one_of byte opcodes opcode_byte BadOpcode
 

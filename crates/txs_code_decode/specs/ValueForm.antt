@@ -76,13 +76,13 @@ tag_of (text bs) = tag.Text
 tag_of (vector vs) = tag.Vector
 tag_of (cell c) = tag.Cell
 
--- a vector stands only where there is room for its level, a cell only where cells may stand
+-- a vector stands only where there is room for its level, a cell only where cells may be
 abbrev pub tag_test : Bool → ℕ → Test Tag
 tag_test cells room tag.Vector = must BadOperand (nat_lt 0 room)
 tag_test cells room tag.Cell = must BadOperand cells
 tag_test cells room _ = None
 
--- the tag of a value, where cells may stand or not, with room for so many levels of vectors
+-- the tag of a value, where cells may be or not, with room for so many levels of vectors
 unfoldable pub tag_format : Bool → ℕ → Format Tag
 tag_format cells room = tested (one_of byte tags tag_byte BadOpcode) (tag_test cells room)
 
@@ -115,7 +115,7 @@ cell_number _ = 0
 abbrev pub cell_at : List CellKind → ℕ → PlainValue
 cell_at kinds n = cell (record { kind = slice_index_or kinds n Ref; number = n })
 
--- What stands behind a value's tag. Cells are of these kinds, and item is the format of a vector's items.
+-- What is behind a value's tag. Cells are of these kinds, and item is the format of a vector's items.
 abbrev pub value_body : List CellKind → Format PlainValue → Tag → Format PlainValue
 value_body kinds item tag.Nil = only nil
 value_body kinds item tag.False = only (truth false)
@@ -130,7 +130,7 @@ value_body kinds item tag.Cell = mapped (cell_at kinds) cell_number (tested (num
 abbrev pub value_over : Bool → List CellKind → ℕ → Format PlainValue → Format PlainValue
 value_over cells kinds room item = tagged (tag_format cells room) tag_of (value_body kinds item)
 
--- a value with vectors in so many levels, where cells may stand or not, and are of these kinds
+-- a value with vectors in so many levels, where cells may be or not, and are of these kinds
 unfoldable pub value_format : Bool → List CellKind → ℕ → Format PlainValue
 value_format cells kinds zero = value_over cells kinds 0 never
 value_format cells kinds (suc room) = value_over cells kinds (suc room) (value_format cells kinds room)

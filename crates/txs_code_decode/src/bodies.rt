@@ -12,6 +12,7 @@ use crate::fields::{u8_at, u16_at, u32_at};
 use crate::instrs::{Instructions, instrs_at};
 use std::alloc::Global;
 use txs_code_meaning::Body;
+use txs_value_data::limits::{MOST_DEFINITIONS, MOST_THREADS};
 
 /// The instructions that all bodies of code may have together.
 const MOST_INSTRUCTIONS: usize = 1_000_000;
@@ -129,7 +130,7 @@ fn functions_at(alloc: Global, constants: usize, bytes: &[u8]) -> Result<(Vec<Bo
 {
     match u16_at(bytes) {
         Ok((count, rest)) => {
-            if count > 1000 {
+            if usize::from(count) > MOST_DEFINITIONS {
                 return Err(refused(CodeErrorKind::TooLarge, bytes));
             }
             let functions = usize::from(count);
@@ -153,7 +154,7 @@ fn threads_at(
 {
     match u16_at(bytes) {
         Ok((count, rest)) => {
-            if count > 64 {
+            if usize::from(count) > MOST_THREADS {
                 return Err(refused(CodeErrorKind::TooLarge, bytes));
             }
             bodies_at(alloc, true, constants, functions, left, count, rest)

@@ -7,7 +7,7 @@ ghost use Rattle.txs_code_decode.specs.CellForm.{kinds, kinds_of, kind_format, m
 
 use crate::error::{CodeErrorKind, Stop, refused};
 use crate::fields::{name_at, room_for, u8_at};
-use crate::values::value_at;
+use crate::values::{LEVELS, value_at};
 use std::alloc::Global;
 use txs_value_cell::{CellDefinition, ErrorMode};
 use txs_value_data::{CellKind, Value};
@@ -38,7 +38,7 @@ fn mode_of(kind: CellKind, byte: u8) -> Option<ErrorMode>
     }
 }
 
-/// A value, where cells may stand or not, and these are the cells.
+/// A value, where cells may be or not, and these are the cells.
 fn constant_at<'a>(
     alloc: Global,
     cells: bool,
@@ -47,7 +47,7 @@ fn constant_at<'a>(
 ) -> Result<(Value, &'a [u8]), Stop>
     ensures { Gives (λ x. (x.0, x.1.now)) result ((constant_format cells (kinds_of defined.now)).read bytes.now) }
 {
-    value_at(alloc, cells, defined, 32, bytes)
+    value_at(alloc, cells, defined, LEVELS, bytes)
 }
 
 /// A cell.

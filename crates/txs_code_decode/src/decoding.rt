@@ -11,14 +11,18 @@ use crate::bodies::program_at;
 use crate::cells::some_cells_at;
 use crate::error::{CodeError, CodeErrorKind, Stop, refused};
 use crate::fields::{u16_at, u32_at};
-use crate::values::values_at;
+use crate::values::{LEVELS, values_at};
 use std::alloc::Global;
 use txs_code_meaning::Code;
 use txs_value_cell::CellDefinition;
 use txs_value_data::Value;
+use txs_value_data::limits::MOST_DEFINITIONS;
 
 /// `TXS1` as a number.
 const MAGIC: u32 = 0x5458_5331;
+
+/// The constants of code.
+const MOST_CONSTANTS: u32 = 1_000_000;
 
 /// The cells.
 #[tactic(auto, unfolding(crate::specs::CodeForm::cells_format))]
@@ -27,7 +31,7 @@ fn cells_at(alloc: Global, bytes: &[u8]) -> Result<(Vec<CellDefinition>, &[u8]),
 {
     match u16_at(bytes) {
         Ok((count, rest)) => {
-            if count > 1000 {
+            if usize::from(count) > MOST_DEFINITIONS {
                 return Err(refused(CodeErrorKind::TooLarge, bytes));
             }
             some_cells_at(alloc, count, rest)
@@ -47,10 +51,10 @@ fn constants_at<'a>(
 {
     match u32_at(bytes) {
         Ok((count, rest)) => {
-            if count > 1_000_000 {
+            if count > MOST_CONSTANTS {
                 return Err(refused(CodeErrorKind::TooLarge, bytes));
             }
-            values_at(alloc, true, defined, 32, count, rest)
+            values_at(alloc, true, defined, LEVELS, count, rest)
         }
         Err(stop) => Err(stop),
     }

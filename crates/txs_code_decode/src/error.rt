@@ -18,7 +18,7 @@ pub enum CodeErrorKind {
     BadOpcode,
     /// Another field holds what it may not hold.
     BadOperand,
-    /// Bytes stand behind the code.
+    /// Bytes are behind the code.
     Trailing,
     /// More of something than code may have.
     TooLarge,
@@ -27,7 +27,7 @@ pub enum CodeErrorKind {
 }
 
 impl CodeErrorKind {
-    /// The number under which the reason is reported: 31 to 36, and 0 for want of memory.
+    /// The number under which the reason is reported: 31 to 36, and 0 where memory ran out.
     pub fn number(self) -> u8
         ensures { result ≡ code_error_number self }
     {
@@ -69,7 +69,7 @@ impl Display for CodeErrorKind {
 }
 
 /// Why bytes are no code, and the place of the field that is the reason, from 0: its first byte; the number of all bytes where they
-/// end too early; 0 for want of memory.
+/// end too early; 0 where memory ran out.
 #[derive(Clone, Copy, PartialEq, Eq)]
 pub struct CodeError {
     pub kind: CodeErrorKind,

@@ -14,7 +14,7 @@ use txs_code_meaning::Instr;
 use txs_value_base::Span;
 use txs_value_cell::{LookForm, PutForm, UpdateForm};
 
-/// The instruction of this byte whose operands stand here, where there are so many constants and functions.
+/// The instruction of this byte whose operands are here, where there are so many constants and functions.
 fn operands_at(
     constants: usize,
     functions: usize,

@@ -1,4 +1,4 @@
-//! Instructions by the byte that tells which they are.
+//! Instructions by the byte that says which they are.
 
 ghost use Rattle.std.specs.Prelude.{◌≡◌};
 ghost use Rattle.txs_value_base.specs.Places.{nth};

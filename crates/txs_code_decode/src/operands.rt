@@ -27,7 +27,7 @@ fn op_of(number: u16) -> Option<Op>
     }
 }
 
-/// What stands behind a number among operands, and in how many bytes the number is.
+/// What is behind a number among operands, and in how many bytes the number is.
 #[derive(Clone, Copy)]
 pub(crate) enum Numbered {
     Local,

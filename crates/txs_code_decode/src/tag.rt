@@ -1,4 +1,4 @@
-//! The bytes that tell what stands behind them.
+//! The bytes that say what is behind them.
 
 ghost use Rattle.std.specs.Prelude.{◌≡◌};
 ghost use Rattle.txs_value_base.specs.Places.{nth};

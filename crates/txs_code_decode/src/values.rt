@@ -15,7 +15,10 @@ use std::alloc::Global;
 use txs_value_cell::CellDefinition;
 use txs_value_data::{CellId, Items, Value};
 
-/// Whether a value of this tag may stand where cells may or not, with room for so many levels of vectors.
+/// The levels that a value may have, which is `MOST_DEPTH`.
+pub(crate) const LEVELS: usize = 32;
+
+/// Whether a value of this tag may be where cells may or not, with room for so many levels of vectors.
 fn may_stand(cells: bool, room: usize, tag: Tag) -> bool
     ensures { must BadOperand result ≡ tag_test cells room tag }
 {
@@ -26,7 +29,7 @@ fn may_stand(cells: bool, room: usize, tag: Tag) -> bool
     }
 }
 
-/// The tag of a value, where cells may stand or not, with room for so many levels of vectors.
+/// The tag of a value, where cells may be or not, with room for so many levels of vectors.
 #[tactic(auto, unfolding(crate::specs::ValueForm::tag_format))]
 fn tag_at(cells: bool, room: usize, bytes: &[u8]) -> Result<(Tag, &[u8]), Stop>
     ensures { Gives (λ x. (x.0, x.1.now)) result ((tag_format cells room).read bytes.now) }
@@ -45,7 +48,7 @@ fn tag_at(cells: bool, room: usize, bytes: &[u8]) -> Result<(Tag, &[u8]), Stop>
     }
 }
 
-/// The cell, as a value, of the number that stands here, where these cells are.
+/// The cell, as a value, of the number that is here, where these cells are.
 fn cell_at<'a>(defined: &[CellDefinition], bytes: &'a [u8]) -> Result<(Value, &'a [u8]), Stop>
     ensures { Gives (λ x. (plain_of x.0, x.1.now)) result ((value_body (kinds_of defined.now) never tag.Cell).read bytes.now) }
 {
@@ -110,7 +113,7 @@ fn vector_at<'a>(
     }
 }
 
-/// A value, with vectors in so many levels, where cells may stand or not, and these are the cells.
+/// A value, with vectors in so many levels, where cells may be or not, and these are the cells.
 #[cycle(value)]
 pub(crate) fn value_at<'a>(
     alloc: Global,

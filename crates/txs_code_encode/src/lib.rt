@@ -1,5 +1,5 @@
 //! Code in its byte form, written, and read by txs_code_decode. Promises that `encode` gives the form; that `bytes_of` gives it where there is
-//! one, and tells where there is none; and that `same_code` is equality.
+//! one, and says where there is none; and that `same_code` is equality.
 #![tactic(auto)]
 
 mod encoding;

@@ -5,7 +5,8 @@ ghost use Rattle.std.specs.Prelude.{◌≡◌, ◌↔◌, IsTrue};
 use txs_code_meaning::{Body, Code, Instr, OpenForm};
 use txs_value_base::Span;
 use txs_value_cell::CellDefinition;
-use txs_value_data::{Value, same};
+use txs_value_data::same;
+use txs_world_protocol::same_values;
 
 /// Whether two opens begin the same, with the same callee.
 fn same_open(a: OpenForm, b: OpenForm) -> bool
@@ -122,21 +123,6 @@ fn same_cells(a: &[CellDefinition], b: &[CellDefinition]) -> bool
     }
     for i in 0..a.len() {
         if !same_cell(&a[i], &b[i]) {
-            return false;
-        }
-    }
-    true
-}
-
-/// Whether values are equal, one by one.
-fn same_values(a: &[Value], b: &[Value]) -> bool
-    ensures { IsTrue result ↔ (a.now ≡ b.now) }
-{
-    if a.len() != b.len() {
-        return false;
-    }
-    for i in 0..a.len() {
-        if !same(&a[i], &b[i]) {
             return false;
         }
     }

@@ -56,9 +56,9 @@ IsRefusal bytes (load.Bytes e) = decoded bytes ≡ Err e
 IsRefusal bytes (load.Code e) = IsFormOfWrong bytes (load.Code e)
 IsRefusal bytes load.Memory = Unit {0}
 
--- ---- bytes behind which more may stand
+-- ---- bytes behind which more may be
 
--- what stands behind bytes changes nothing of such a refusal
+-- what is behind bytes changes nothing of such a refusal
 abbrev pub stays_refused : CodeErrorKind → Bool
 stays_refused bytes_kind.BadMagic = true
 stays_refused bytes_kind.Truncated = false
@@ -73,7 +73,7 @@ abbrev pub settles : Result PlainCode CodeError → Bool
 settles (Ok code) = false
 settles (Err e) = stays_refused e.kind
 
--- no form begins with these bytes: they are refused so, whatever stands behind them
+-- no form begins with these bytes: they are refused so, whatever is behind them
 abbrev pub is_settled : List ℕ → Bool
 is_settled bytes = settles (decoded bytes)
 

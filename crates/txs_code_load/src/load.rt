@@ -53,7 +53,7 @@ fn check(alloc: Global, code: Code) -> Result<(Code, Rooms), LoadError>
 /// The code that the bytes are the form of, with the least rooms for its stacks with which it is well typed.
 ///
 /// # Errors
-/// The first refusal of the bytes from left to right; a refusal of their code; or want of memory.
+/// The first refusal of the bytes from left to right; a refusal of their code; or out of memory.
 pub fn load(alloc: Global, bytes: &[u8]) -> Result<(Code, Rooms), LoadError>
     ensures form { IfOk result (λ r. IsFormOf bytes.now r.0) }
     ensures typed { IfOk result (λ r. WellTyped r.0 r.1.functions.items r.1.threads.items) }

@@ -7,7 +7,7 @@ ghost use Rattle.txs_code_load.specs.Load.{RefusalsStay, is_settled, stays_refus
 use std::alloc::{AllocError, Global};
 use txs_code_decode::{CodeError, CodeErrorKind, decode};
 
-/// Whether what stands behind bytes changes nothing of their refusal.
+/// Whether what is behind bytes changes nothing of their refusal.
 fn stays_refused(error: CodeError) -> Result<bool, AllocError>
     ensures value { IfOk result (λ stays. stays ≡ stays_refused error.kind) }
     ensures told { IfOk result (λ stays. error.kind ≢ kind.Memory) }
@@ -23,7 +23,7 @@ fn stays_refused(error: CodeError) -> Result<bool, AllocError>
     }
 }
 
-/// Whether no byte form begins with these bytes: they are refused, and stay so whatever stands behind them.
+/// Whether no byte form begins with these bytes: they are refused, and stay so whatever is behind them.
 ///
 /// # Errors
 /// `AllocError` where there was no memory for the code that they begin.

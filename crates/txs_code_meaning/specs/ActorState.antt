@@ -5,7 +5,7 @@ use Rattle.txs_world_protocol.specs.declared.ask.Ask.{Ask}
 use Rattle.txs_world_protocol.specs.declared.ask.Ask.TheVariants as ask
 use Rattle.txs_world_protocol.specs.declared.ask.Reply.{Reply}
 use Rattle.txs_world_protocol.specs.declared.ask.Reply.TheVariants as reply
-use Rattle.txs_frame.specs.Frame.{Work, no_work, commuted, set_writes, set_ref, ensure_ref, commute_ref, hold_send}
+use Rattle.txs_frame.specs.Frame.{PlainTxFrame, empty_frame, commuted, set_writes, set_ref, ensure_ref, commute_ref, hold_send}
 use Rattle.txs_frame.specs.declared.frame.Commute.{Commute}
 use Rattle.txs_value_cell.specs.Forms.{rule, cell_of}
 use Rattle.txs_value_base.specs.Places.{fault_at}
@@ -28,7 +28,7 @@ use Rattle.txs_value_data.specs.declared.value.CellId.{CellId}
 use Rattle.txs_value_data.specs.declared.value.Value.{Value}
 use Rattle.txs_value_data.specs.declared.value.Value.TheVariants.{Nil, Cell}
 
--- an action in hand: its agent, the action, and the sends that it holds
+-- an action that runs: its agent, the action, and the sends that it holds
 pub record InHand : Type 0 where
   pub agent : CellId
   pub action : Action
@@ -46,7 +46,7 @@ pub record ActorState : Type 0 where
   pub printed : List ℕ
   pub at : ℕ
   pub view : ℕ
-  pub done : Work
+  pub done : PlainTxFrame
   pub commuting : Option Commute
   -- the action that an agent runs
   pub acting : Option InHand
@@ -78,7 +78,7 @@ pub data StepResult (A : Type 0) : Type 0 where
   -- an unlawful reply, or a form where it may not stand
   Malformed : StepResult A
 
--- goes on with what a step gave
+-- continues with what a step gave
 abbrev pub on_step : {A B : Type 0} → StepResult A → (A → ActorState → StepResult B) → StepResult B
 on_step (Continue a s) go = go a s
 on_step (Break f s) go = Break f s
@@ -180,7 +180,7 @@ handed_out _ = SaysNothing
 
 -- the transaction begins at this read point, and has done nothing
 abbrev pub begun : ℕ → ActorState → StepResult (Unit {0})
-begun p s = Continue tt (record s { at = p; view = p; done = no_work; commuting = None })
+begun p s = Continue tt (record s { at = p; view = p; done = empty_frame; commuting = None })
 
 -- a transaction begins
 unfoldable pub begin : ActorState → StepResult (Unit {0})
@@ -233,7 +233,7 @@ commit ws s = heard commit_verdict (asks (ask.Commit s.at (set_writes s.done) s.
 unfoldable pub peek : CellId → ActorState → StepResult Value
 peek c s = heard newest_value (asks (ask.Peek c) s)
 
--- a swap in hand: its atom, and the place in the atom's book that it was opened at
+-- a swap that is applied: its atom, and the place in the atom's book that it was opened at
 pub record SwapInHand : Type 0 where
   pub cell : CellId
   pub at : ℕ

@@ -17,7 +17,7 @@ use Rattle.txs_value_data.specs.declared.value.Value.{Value}
 use Rattle.txs_value_data.specs.declared.value.Value.TheVariants.{Cell}
 use Rattle.txs_code_meaning.specs.ActorState.{ActorState, StepResult, Continue, Break, Redo, Await, Malformed, SwapInHand, close_swap, break_swap, read, assign, RefUpdate, update_form, open_update, close_update, open_swap, send_to}
 
--- whether an ask about this cell is of the kind that a form makes; the truth value tells whether a transaction is running
+-- whether an ask about this cell is of the kind that a form makes; the truth value says whether a transaction is running
 abbrev pub IsAskOf : FormAsk → Bool → CellId → Ask → Type 0
 -- a ref's value at the read point
 IsAskOf ItsValue true c (ask.Look d at) = d ≡ c

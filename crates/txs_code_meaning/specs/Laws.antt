@@ -23,7 +23,7 @@ MaySend (Running left inner from) = Unit {0}
 MaySend (Applying left from work values) = Unit {0}
 MaySend (Swapping swap from) = ⊥
 
--- a send stands where it may
+-- a send is where it may
 abbrev pub SendsLawfully : Option PlainInstr → Activity → Type 0
 SendsLawfully (Some (SendOf callee args span)) doing = MaySend doing
 SendsLawfully _ doing = Unit {0}

@@ -1,14 +1,14 @@
 -- Where an actor begins, and where its code comes to.
 use Rattle.std.specs.Prelude.{ℕ, List, [], ◌++◌, Some, None}
 use Rattle.txs_world_protocol.specs.Ask.{Exchange}
-use Rattle.txs_frame.specs.Frame.{no_work}
+use Rattle.txs_frame.specs.Frame.{empty_frame}
 use Rattle.txs_value_data.specs.declared.value.CellId.{CellId}
 use Rattle.txs_code_meaning.specs.ActorState.{ActorState}
 use Rattle.txs_code_meaning.specs.Machine.{ThreadCode, locals_of, agent_code, Configuration, first_place, Outcome, exec, Library}
 
 -- an actor's state before its first turn, with the exchanges to come
 abbrev pub fresh : List Exchange → ActorState
-fresh todo = record { todo = todo; printed = []; at = 0; view = 0; done = no_work; commuting = None; acting = None; wants = None }
+fresh todo = record { todo = todo; printed = []; at = 0; view = 0; done = empty_frame; commuting = None; acting = None; wants = None }
 
 -- where an actor begins
 abbrev pub opening : ThreadCode → List Exchange → Configuration

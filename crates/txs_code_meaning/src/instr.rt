@@ -27,7 +27,7 @@ pub enum Instr {
     Pop,
     /// Goes on at a place.
     Jump(u32),
-    /// Pops a value, and goes on at a place where it is logically false.
+    /// Pops a value, and continues at a place where it is logically false.
     JumpFalse(u32),
     /// A core operation on so many values at the top of the stack, with its value in their place.
     Core(Op, u16),
@@ -48,13 +48,13 @@ pub enum Instr {
     TxBegin,
     /// A transaction ends, or leaves the one that runs.
     TxEnd,
-    /// The value of the cell that stands below so many values, between it and them. At once behind it stand the operation or call
+    /// The value of the cell that is below so many values, between it and them. At once behind it stand the operation or call
     /// of the callee, on that value and those, and the close.
     Open(OpenForm, u16),
     /// The value at the top of the stack becomes that of the cell below it, in whose place it stands then.
     Close(UpdateForm),
-    /// Sends the agent that stands below so many values an action: the callee, which is to be called on the agent's state and
-    /// these values. The agent stands in the place of all.
+    /// Sends the agent that is below so many values an action: the callee, which is to be called on the agent's state and
+    /// these values. The agent is in the place of all.
     Send(Callee, u16),
     /// Ends a thread.
     Halt,

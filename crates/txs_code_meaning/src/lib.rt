@@ -1,6 +1,6 @@
 //! Code: the instructions of functions and threads with their spans, the cells and constants that they name, and what makes code well
 //! typed: lawful instructions, and tables of the stack's depth and of the transactions and open forms at each place that it comes to.
-//! What the machine does with code is told by the definitions, by cases on instructions, and so is what an actor's state is.
+//! What the machine does with code is given by the definitions, by cases on instructions, and so is what an actor's state is.
 #![tactic(auto)]
 
 pub mod code;

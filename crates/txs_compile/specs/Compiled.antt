@@ -1,7 +1,7 @@
 -- What compiling a script gives.
 use Rattle.std.specs.Prelude.{◌≢◌, ℕ, List, map}
 use Rattle.txs_reader.specs.Script.{Reads, ReadStops}
-use Rattle.txs_reader.specs.Tree.{Tree as Form}
+use Rattle.txs_reader.specs.Tree.{PlainForm as Form}
 use Rattle.txs_reader.specs.declared.error.ReadErrorKind.TheVariants.{Memory as Unread}
 use Rattle.txs_reader.specs.declared.error.ReadError.{ReadError}
 use Rattle.txs_resolve.specs.Names.{Resolves, ResolveStops}
@@ -45,7 +45,7 @@ pub record IsUnchecked (bytes : List ℕ) (e : CheckError) : Type 0 where
 abbrev pub codes_of : PlainCode → List ThreadCode
 codes_of code = map (λ b. thread_code code b) code.threads
 
--- a refusal is that of the first layer that refuses, and true; want of memory says nothing of the script
+-- a refusal is that of the first layer that refuses, and true; running out of memory says nothing of the script
 abbrev pub IsRefusal : List ℕ → CompileError → Type 0
 IsRefusal bytes (Read e) = IsUnread bytes e
 IsRefusal bytes (Resolve e) = IsUnresolved bytes e

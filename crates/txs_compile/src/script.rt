@@ -106,6 +106,7 @@ pub fn compile(alloc: Global, bytes: &[u8]) -> Result<(Program, Verified), Compi
     let program = program_of_forms(alloc, bytes, forms.as_slice())?;
     let improved = optimised_copy(alloc, &program, MOST_NODES)?;
     let verified = generate(alloc, &improved)?;
+    // Laws and steps that the proof uses; they do nothing when they run.
     let _rooms = verified.rooms();
     resolved_is_marked();
     code_of_program_behaves();

@@ -38,7 +38,7 @@ kind_name Ref = codes "ref"
 kind_name Atom = codes "atom"
 kind_name Agent = codes "agent"
 
--- what stands at the end of a cell's line: that it goes on after an action that faulted
+-- what is at the end of a cell's line: that it continues after an action that faulted
 abbrev pub mode_words : ErrorMode → List ℕ
 mode_words Fail = []
 mode_words Continue = codes " continue"
@@ -134,7 +134,7 @@ abbrev pub numbered : {A : Type 0} → (ℕ → A → List ℕ) → ℕ → List
 numbered lines k [] = []
 numbered lines k (x ∷ xs) = lines k x ++ numbered lines (suc k) xs
 
--- the lines of instructions with their spans, of which the first stands at this place
+-- the lines of instructions with their spans, of which the first is at this place
 abbrev pub instr_lines : ℕ → List Instr → List Span → List ℕ
 instr_lines place (instr ∷ instrs) (span ∷ spans) = instr_line place instr span ++ instr_lines (suc place) instrs spans
 instr_lines place _ _ = []

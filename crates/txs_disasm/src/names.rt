@@ -18,7 +18,7 @@ pub(crate) fn kind_name(kind: CellKind) -> &'static [u8]
     }
 }
 
-/// What stands at the end of a cell's line, up to its last byte.
+/// What is at the end of a cell's line, up to its last byte.
 pub(crate) fn cell_end(mode: ErrorMode) -> &'static [u8]
     ensures { result.now ≡ mode_words mode ++ codes "\n" }
 {

@@ -95,7 +95,7 @@ impl Page {
         }
     }
 
-    /// Writes what stands on the page, and empties it.
+    /// Writes what is on the page, and empties it.
     pub(crate) fn send<W: Write>(&mut self, writer: &mut W) -> Result<(), WriteFault>
         ensures whole { OnOk result (Appends (W.contents writer.old) (W.contents writer.new) self.old.bytes.items) }
         ensures empty { OnOk result (self.new.bytes.items ≡ []) }
@@ -107,7 +107,7 @@ impl Page {
         Ok(())
     }
 
-    /// Goes on behind a line that was put on the page, if there was memory for it: writes what stands on the page, and empties it,
+    /// Goes on behind a line that was put on the page, if there was memory for it: writes what is on the page, and empties it,
     /// once it is long.
     pub(crate) fn send_line<W: Write>(
         &mut self,

@@ -10,7 +10,7 @@ use Rattle.txs_value_data.specs.declared.value.CellId.{CellId}
 use Rattle.txs_value_data.specs.declared.value.CellKind.{CellKind}
 use Rattle.txs_value_data.specs.declared.value.CellKind.TheVariants.{Ref}
 use Rattle.txs_value_data.specs.declared.value.Value.{Value}
-use Rattle.txs_frame.specs.Frame.{Work, no_work, with_cell, with_cells, has_number, outside_of, is_set, is_commuted, commuted, set_writes, set_ref, ensure_ref, commute_ref, SetAnswers}
+use Rattle.txs_frame.specs.Frame.{PlainTxFrame, empty_frame, with_cell, with_cells, has_number, outside_of, is_set, is_commuted, commuted, set_writes, set_ref, ensure_ref, commute_ref, SetAnswers}
 use Rattle.txs_frame.specs.declared.frame.Commute.{Commute}
 use Rattle.txs_frame.specs.declared.frame.SetError.{SetError}
 use Rattle.txs_frame.specs.declared.frame.SetError.TheVariants.{SetAfterCommute, Memory}
@@ -55,7 +55,7 @@ missing os k r i p e =
     q.is
 
 -- a frame of which all is cleared
-pub emptied : (os : List Own) (es : List CellId) (cs : List Commute) (ss : List Action) → os ≡ [] → es ≡ [] → cs ≡ [] → ss ≡ [] → work_of os es cs ss ≡ no_work
+pub emptied : (os : List Own) (es : List CellId) (cs : List Commute) (ss : List Action) → os ≡ [] → es ≡ [] → cs ≡ [] → ss ≡ [] → work_of os es cs ss ≡ empty_frame
 emptied os es cs ss o e c s =
     ap (λ (x : List Own). work_of x es cs ss) o
     ∙ ap (λ (x : List CellId). work_of [] x cs ss) e
@@ -192,15 +192,15 @@ module _ (os : List Own) (es : List CellId) (cs : List Commute) (ss : List Actio
       )
 
 -- what `set` answers, by what setting gives
-pub answers_set : (x : Result Work FaultKind) (old now : Work) → x ≡ Ok now → SetAnswers x old (Ok tt) now
-answers_set x old now e = subst (λ (y : Result Work FaultKind). SetAnswers y old (Ok tt) now) (sym e) refl
+pub answers_set : (x : Result PlainTxFrame FaultKind) (old now : PlainTxFrame) → x ≡ Ok now → SetAnswers x old (Ok tt) now
+answers_set x old now e = subst (λ (y : Result PlainTxFrame FaultKind). SetAnswers y old (Ok tt) now) (sym e) refl
 
-pub answers_refused : (x : Result Work FaultKind) (old : Work) → x ≡ Err fault.SetAfterCommute → SetAnswers x old (Err SetAfterCommute) old
-answers_refused x old e = subst (λ (y : Result Work FaultKind). SetAnswers y old (Err SetAfterCommute) old) (sym e) refl
+pub answers_refused : (x : Result PlainTxFrame FaultKind) (old : PlainTxFrame) → x ≡ Err fault.SetAfterCommute → SetAnswers x old (Err SetAfterCommute) old
+answers_refused x old e = subst (λ (y : Result PlainTxFrame FaultKind). SetAnswers y old (Err SetAfterCommute) old) (sym e) refl
 
-pub answers_memory : (x : Result Work FaultKind) (old now w : Work) (r : Result (Unit {0}) SetError) → x ≡ Ok w → r ≡ Err Memory → now ≡ old → SetAnswers x old r now
+pub answers_memory : (x : Result PlainTxFrame FaultKind) (old now w : PlainTxFrame) (r : Result (Unit {0}) SetError) → x ≡ Ok w → r ≡ Err Memory → now ≡ old → SetAnswers x old r now
 answers_memory x old now w r e f same =
-    subst (λ (y : Result Work FaultKind). SetAnswers y old r now) (sym e) (subst (λ (q : Result (Unit {0}) SetError). SetAnswers (Ok w) old q now) (sym f) same)
+    subst (λ (y : Result PlainTxFrame FaultKind). SetAnswers y old r now) (sym e) (subst (λ (q : Result (Unit {0}) SetError). SetAnswers (Ok w) old q now) (sym f) same)
 
 -- ---- what is gathered
 

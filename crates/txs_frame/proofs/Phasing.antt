@@ -8,7 +8,7 @@ use Rattle.txs_value_base.specs.declared.op.Callee.{Callee}
 use Rattle.txs_value_data.specs.declared.value.CellId.{CellId}
 use Rattle.txs_value_data.specs.declared.value.Value.{Value}
 use Rattle.txs_value_data.specs.declared.value.Value.TheVariants.{Nil}
-use Rattle.txs_frame.specs.Frame.{Work, with_cell, with_cells, has_number, outside_of, refs_of, commuted, commutes_of, by_ref, phase_work}
+use Rattle.txs_frame.specs.Frame.{PlainTxFrame, with_cell, with_cells, has_number, outside_of, refs_of, commuted, commutes_of, by_ref, phase_work}
 use Rattle.txs_frame.specs.Kept.{Ascends, IsPlaceOf, item_of, with_item, cell_number}
 use Rattle.txs_frame.specs.Phase.{blank, filled, next_callee, value_or_nil, write_number, AreViewed, IsPhase}
 use Rattle.txs_frame.specs.declared.frame.Commute.{Commute}
@@ -62,7 +62,7 @@ outside_ascend l ds (c ∷ cs) up = test (has_number ds c.number) (outside_ascen
     test true more = let h = up.0 in ascends_from cell_number l (suc c.number) (outside_of ds cs) (omega (arith, h)) more
     test false more = (up.0, more)
 
-pub commuted_ascend : (w : Work) → Ascends cell_number 0 (commuted w)
+pub commuted_ascend : (w : PlainTxFrame) → Ascends cell_number 0 (commuted w)
 commuted_ascend w = outside_ascend 0 w.sets (refs_of w.commutes) (refs_ascend [] (map (λ c. c.cell) w.commutes) tt)
 
 -- ---- refs without a value yet
@@ -104,7 +104,7 @@ viewed_all ws [] cs h = tt
 viewed_all ws (d ∷ ds) cs h = viewed_both ws (commutes_of d.number cs) (by_ref ds cs) (viewed_of ws d.number cs h.0) (viewed_all ws ds cs h.1)
 
 -- the phase of a transaction, before its refs are viewed
-pub begins : (w : Work) → IsPhase (blank (commuted w)) (phase_work w)
+pub begins : (w : PlainTxFrame) → IsPhase (blank (commuted w)) (phase_work w)
 begins w = record { ascends = blank_ascends 0 (commuted w) (commuted_ascend w); viewed = viewed_all (blank (commuted w)) (commuted w) w.commutes (blank_there (commuted w)) }
 
 -- ---- values that are viewed

@@ -13,7 +13,7 @@ use Rattle.txs_frame.specs.declared.frame.SetError.TheVariants.{SetAfterCommute,
 
 -- What a transaction has done: the values that it has of its own, the refs that it set and those that it ensured (each once,
 -- by ascending number), and in order its commutes and the sends that it holds.
-pub record Work : Type 0 where
+pub record PlainTxFrame : Type 0 where
   pub values : Writes
   pub sets : List CellId
   pub ensures : List CellId
@@ -21,8 +21,8 @@ pub record Work : Type 0 where
   pub sends : List Action
 
 -- before a transaction has done anything
-abbrev pub no_work : Work
-no_work = record { values = []; sets = []; ensures = []; commutes = []; sends = [] }
+abbrev pub empty_frame : PlainTxFrame
+empty_frame = record { values = []; sets = []; ensures = []; commutes = []; sends = [] }
 
 -- ---- sets of refs
 
@@ -61,45 +61,45 @@ refs_of cs = with_cells [] (map (λ c. c.cell) cs)
 -- ---- what a transaction has done to a ref
 
 -- whether the transaction set the ref with this number
-abbrev pub is_set : Work → ℕ → Bool
+abbrev pub is_set : PlainTxFrame → ℕ → Bool
 is_set w k = has_number w.sets k
 
 -- whether the transaction commuted the ref with this number
-abbrev pub is_commuted : Work → ℕ → Bool
+abbrev pub is_commuted : PlainTxFrame → ℕ → Bool
 is_commuted w k = has_number (refs_of w.commutes) k
 
 -- the refs that were commuted and not set, ascending
-abbrev pub commuted : Work → List CellId
+abbrev pub commuted : PlainTxFrame → List CellId
 commuted w = outside_of w.sets (refs_of w.commutes)
 
 -- the refs that were set, with their values, ascending
-abbrev pub set_writes : Work → Writes
+abbrev pub set_writes : PlainTxFrame → Writes
 set_writes w = writes_to w.sets w.values
 
 -- ---- what a transaction does
 
 -- A ref is set, unless it was commuted: Clojure's `ref-set` and `alter` say "Can't set after commute".
-abbrev pub set_ref : CellId → Value → Work → Result Work FaultKind
+abbrev pub set_ref : CellId → Value → PlainTxFrame → Result PlainTxFrame FaultKind
 set_ref c v w =
     if is_commuted w c.number then Err fault.SetAfterCommute
     else Ok (record w { values = with_write w.values c v; sets = with_cell w.sets c })
 
 -- a ref is ensured
-abbrev pub ensure_ref : CellId → Work → Work
+abbrev pub ensure_ref : CellId → PlainTxFrame → PlainTxFrame
 ensure_ref c w = record w { ensures = with_cell w.ensures c }
 
 -- a commute is kept, with the value that the transaction has by it
-abbrev pub commute_ref : CellId → Callee → List Value → Value → Work → Work
+abbrev pub commute_ref : CellId → Callee → List Value → Value → PlainTxFrame → PlainTxFrame
 commute_ref c callee args v w =
     record w { values = with_write w.values c v; commutes = w.commutes ++ record { cell = c; callee = callee; args = args } ∷ [] }
 
 -- a send is held
-abbrev pub hold_send : Action → Work → Work
+abbrev pub hold_send : Action → PlainTxFrame → PlainTxFrame
 hold_send a w = record w { sends = w.sends ++ a ∷ [] }
 
--- What a call answers and leaves, where this is what setting the ref gives: that work; or for want of memory the work as it was;
+-- What a call answers and leaves, where this is what setting the ref gives: that work; or out of memory the work as it was;
 -- or that the ref was commuted, and the work as it was.
-abbrev pub SetAnswers : Result Work FaultKind → Work → Result (Unit {0}) SetError → Work → Type 0
+abbrev pub SetAnswers : Result PlainTxFrame FaultKind → PlainTxFrame → Result (Unit {0}) SetError → PlainTxFrame → Type 0
 SetAnswers (Ok w) before (Ok u) now = now ≡ w
 SetAnswers (Ok w) before (Err Memory) now = now ≡ before
 SetAnswers (Ok w) before (Err SetAfterCommute) now = ⊥
@@ -121,5 +121,5 @@ by_ref (d ∷ ds) cs = commutes_of d.number cs ++ by_ref ds cs
 
 -- What the commute phase does: the commutes of the refs that weren't set, ref by ref in ascending number. The others have done
 -- their work when they were called.
-abbrev pub phase_work : Work → List Commute
+abbrev pub phase_work : PlainTxFrame → List Commute
 phase_work w = by_ref (commuted w) w.commutes

@@ -7,7 +7,7 @@ use Rattle.txs_world_protocol.specs.Ask.{Writes}
 use Rattle.txs_value_cell.specs.declared.action.Action.{Action}
 use Rattle.txs_value_data.specs.declared.value.CellId.{CellId}
 use Rattle.txs_value_data.specs.declared.value.CellKind.TheVariants.{Ref}
-use Rattle.txs_frame.specs.Frame.{Work, refs_of}
+use Rattle.txs_frame.specs.Frame.{PlainTxFrame, refs_of}
 use Rattle.txs_frame.specs.declared.frame.Commute.{Commute}
 use Rattle.txs_frame.specs.declared.own.How.{How}
 use Rattle.txs_frame.specs.declared.own.How.TheVariants as how
@@ -119,7 +119,7 @@ writes_of os = map (λ o. (ref_cell o.number, o.value)) os
 -- ---- the frame
 
 -- what the parts of a frame say together
-abbrev pub work_of : List Own → List CellId → List Commute → List Action → Work
+abbrev pub work_of : List Own → List CellId → List Commute → List Action → PlainTxFrame
 work_of os es cs ss = record { values = writes_of os; sets = cells_by was_set os; ensures = es; commutes = cs; sends = ss }
 
 -- the parts of a frame agree

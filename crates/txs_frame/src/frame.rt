@@ -2,7 +2,7 @@
 
 ghost use Rattle.std.specs.Prelude.{◌≡◌, ◌||◌, ◌++◌, ◌∷◌, [], option_copied, is_some, IfOk, OnOk, OnErr};
 ghost use Rattle.txs_world_protocol.specs.Ask.{buffered};
-ghost use Rattle.txs_frame.specs.Frame.{Work, no_work, is_set, is_commuted, set_ref, ensure_ref, commute_ref, hold_send, commuted, commutes_of, by_ref, phase_work, set_writes, with_cell, SetAnswers};
+ghost use Rattle.txs_frame.specs.Frame.{PlainTxFrame, empty_frame, is_set, is_commuted, set_ref, ensure_ref, commute_ref, hold_send, commuted, commutes_of, by_ref, phase_work, set_writes, with_cell, SetAnswers};
 ghost use Rattle.txs_frame.specs.Kept.{Ascends, IsPlaceOf, cell_number, ref_cell, cells_by, writes_by, was_set, only_commuted};
 ghost use Rattle.txs_value_data.specs.declared.value.CellKind.TheVariants.{Ref as a_ref};
 ghost use Rattle.txs_frame.specs.declared.frame.SetError.TheVariants.{Memory as no_memory};
@@ -71,9 +71,9 @@ impl Drop for TxFrame {
 impl Model for TxFrame {
     ghost use Rattle.std.specs.Coded.{codes};
     ghost use Rattle.txs_value_data.specs.contracts.value.Value as value;
-    ghost use Rattle.txs_frame.specs.Frame.{Work};
+    ghost use Rattle.txs_frame.specs.Frame.{PlainTxFrame};
 
-    ghost Value = { Work };
+    ghost Value = { PlainTxFrame };
 
     ghost coded = { Prim.hlevel (codes, value.the_row.coded) };
 
@@ -87,7 +87,7 @@ impl Model for TxFrame {
 impl TxFrame {
     /// The frame of a transaction that has done nothing.
     pub fn new(alloc: Global) -> TxFrame
-        ensures { result ≡ no_work }
+        ensures { result ≡ empty_frame }
     {
         TxFrame {
             alloc,
@@ -202,7 +202,7 @@ impl TxFrame {
 
     /// The frame is as a new one, and keeps its memory.
     pub fn reset(&mut self)
-        ensures { self.new ≡ no_work }
+        ensures { self.new ≡ empty_frame }
     {
         self.own.clear();
         self.ensured.clear();
@@ -313,7 +313,7 @@ fn ref_cell(number: u16) -> CellId
     }
 }
 
-/// The place of the ref with this number, or where it would stand.
+/// The place of the ref with this number, or where it would be.
 fn find_ref(refs: &[CellId], number: u16) -> Result<usize, usize>
     requires { Ascends cell_number 0 refs.now }
     ensures { IsPlaceOf cell_number refs.now number result }

@@ -1,4 +1,4 @@
-//! Laws of what a transaction has done. Each stands on a function of its own, which does nothing when it
+//! Laws of what a transaction has done. Each is the contract of a function of its own, which does nothing when it
 //! runs.
 
 ghost use Rattle.txs_frame.specs.Laws.{SetIsNotCommuted};

@@ -24,7 +24,7 @@ pub(crate) struct Own {
     pub(crate) how: How,
 }
 
-/// The place of the ref with this number, or where it would stand.
+/// The place of the ref with this number, or where it would be.
 pub(crate) fn find(own: &[Own], number: u16) -> Result<usize, usize>
     requires { Ascends number_of 0 own.now }
     ensures { IsPlaceOf number_of own.now number result }

@@ -51,7 +51,7 @@ impl Model for Phase {
     ghost invariant = { λ p. IsPhase p.values.items (drop p.next p.work.items) };
 }
 
-/// The place of the ref with this number, or where it would stand.
+/// The place of the ref with this number, or where it would be.
 fn find_write(values: &[(CellId, Value)], number: u16) -> Result<usize, usize>
     requires { Ascends write_number 0 values.now }
     ensures { IsPlaceOf write_number values.now number result }

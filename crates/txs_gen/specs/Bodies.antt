@@ -16,7 +16,7 @@ use Rattle.txs_gen.specs.declared.emit.Around.{Around}
 abbrev pub fresh : ℕ → List Value → Emission
 fresh d cs = record { instrs = []; spans = []; constants = cs; locals = d; room = 0 }
 
--- where a body's tree stands: nothing but so many locals, its parameters, is there yet, and a recur goes on at its start
+-- what a body's tree finds: nothing but so many locals, its parameters, is there yet, and a recur continues at its start
 abbrev pub outermost : ℕ → Around
 outermost d = record { depth = d; height = 0; base = 0; start = 0 }
 

@@ -38,7 +38,7 @@ IsWithin base (Some n) d = (base + n ≤ d) × (d ≤ most_locals)
 abbrev pub AreLawful : List Known → Type 0
 AreLawful ks = (f : ℕ) (k : Known) → nth ks f ≡ Some k → (k.parameters ≤ most_parameters) × (k.pure ≡ true → (k.inside ≡ false) × (k.outside ≡ false))
 
--- where a tree stands: the functions that are defined, and its zone
+-- what a tree finds: the functions that are defined, and its zone
 pub record Place : Type 0 where
   pub known : List Known
   pub lawful : AreLawful known
@@ -83,7 +83,7 @@ abbrev pub callee_instrs : Callee → ℕ → List Instr
 callee_instrs (CoreOp op) n = instr.Core op n ∷ []
 callee_instrs (Function f) n = instr.Call f ∷ []
 
--- an update of a cell that stands below so many arguments: its open, the operation or call of its callee, and its close
+-- an update of a cell that is on the stack below so many arguments: its open, the operation or call of its callee, and its close
 abbrev pub update_instrs : UpdateForm → Callee → ℕ → List Instr
 update_instrs form callee n = instr.Open (opening form callee) n ∷ (callee_instrs callee (suc n) ++ instr.Close form ∷ [])
 
@@ -217,7 +217,7 @@ emits t at e = record {
   room = max e.room (top t at.height);
 }
 
--- what there is with the code of these, whose values stand one above another
+-- what there is with the code of these, whose values are on the stack one above another
 unfoldable pub emits_all : Trees → Around → Emission → Emission
 emits_all ts at e = record {
   instrs = e.instrs ++ instrs_of_all ts at.depth at.base at.start (length e.instrs) (length e.constants);
@@ -300,7 +300,7 @@ with_stores i n span e = record e { instrs = e.instrs ++ stores_from i n; spans 
 abbrev pub with_call : Callee → ℕ → Span → Emission → Emission
 with_call callee n span e = record e { instrs = e.instrs ++ callee_instrs callee n; spans = e.spans ++ span ∷ [] }
 
--- an update of a cell that stands below so many arguments
+-- an update of a cell that is on the stack below so many arguments
 abbrev pub with_update : UpdateForm → Callee → ℕ → Span → Emission → Emission
 with_update form callee n span e = record e { instrs = e.instrs ++ update_instrs form callee n; spans = e.spans ++ copies 3 span }
 

@@ -105,7 +105,7 @@ abbrev mutual
   locals_in (Update form cell callee args m) d = max (locals_in cell d) (locals_in_all args d)
   locals_in (Send cell callee args m) d = max (locals_in cell d) (locals_in_all args d)
 
-  -- how many locals are live at once in these, which stand beside one another
+  -- how many locals are live at once in these, which are beside one another
   pub locals_in_all : Trees → ℕ → ℕ
   locals_in_all none d = d
   locals_in_all (more e rest) d = max (locals_in e d) (locals_in_all rest d)

@@ -115,7 +115,7 @@ numbers_in_all [] = []
 numbers_in_all (b ∷ bs) = numbers_in b.instrs ++ numbers_in_all bs
 
 -- the body of a function: its instructions are those of the tree and a return, each with its span, and the return has that
--- of the definition; ps tells how many parameters each function has
+-- of the definition; ps is how many parameters each function has
 pub record IsFunctionOf (ps : List ℕ) (constants : List Value) (b : CodeBody) (f : PlainFunction) : Type 0 where
   pub parameters : b.parameters ≡ f.parameters
   pub code : plain_body ps constants b ≡ function_code f

@@ -15,8 +15,8 @@ use txs_value_base::{Callee, Span};
 use txs_value_cell::UpdateForm;
 use txs_value_data::{Value, copy_value};
 
-/// Where a node's code stands: how many locals there are, how many values are on the stack, and what a
-/// recur does there: from which local on it stores its values, and where it goes on.
+/// What a node's code finds: how many locals there are, how many values are on the stack, and what a
+/// recur does there: from which local on it stores its values, and where it continues.
 #[derive(Clone, Copy)]
 pub struct Around {
     pub depth: u8,
@@ -108,7 +108,7 @@ impl Emitter {
         }
     }
 
-    /// An update of a cell that stands below so many arguments: its open, its call, and its close.
+    /// An update of a cell that is on the stack below so many arguments: its open, its call, and its close.
     fn update(
         &mut self,
         form: UpdateForm,
@@ -311,7 +311,7 @@ fn emit_bound(
     emit(to, body, Around { depth, ..at })
 }
 
-/// The code of a loop: its values become locals, and what follows them is where a recur goes on.
+/// The code of a loop: its values become locals, and what follows them is where a recur continues.
 #[cycle(emit)]
 fn emit_loop(
     to: &mut Emitter,
@@ -337,7 +337,7 @@ fn emit_loop(
     emit(to, body, inner)
 }
 
-/// The code of a recur: its values become the loop's locals, and the loop goes on.
+/// The code of a recur: its values become the loop's locals, and the loop makes its next round.
 #[cycle(emit)]
 fn emit_recur(to: &mut Emitter, values: &[Node], span: Span, at: Around) -> Result<(), AllocError>
     requires part { IsPlacedAll at.depth (trees_of values.now) }

@@ -41,7 +41,7 @@ use Rattle.txs_machine.specs.Schedule.{plays_of, AreDone, ArePlayed, HaveEnded, 
 use Rattle.txs_world_protocol.specs.declared.event.Place.{Place}
 use Rattle.txs_machine.specs.declared.player.Player.{Player}
 use Rattle.txs_machine.specs.declared.schedule.Play.{Play}
-use Rattle.txs_world_protocol.specs.declared.report.Ran.{Ran}
+use Rattle.txs_world_protocol.specs.declared.report.ActorReport.{ActorReport}
 use Rattle.txs_machine.proofs.Playing.{between_of}
 use Rattle.txs_machine.proofs.RunOver.{trace_holds}
 use Rattle.txs_value_cell.specs.Cells.{validators_of}
@@ -52,25 +52,25 @@ is_some (Some x) = Unit {0}
 
 -- ---- the entries of a report
 
-abbrev report_or : Ran → Option Ran → Ran
+abbrev report_or : ActorReport → Option ActorReport → ActorReport
 report_or d None = d
 report_or d (Some r) = r
 
 -- the actor of an entry
-pub reported_at : (xs : List Player) (rs : List Ran) (k : ℕ) (r : Ran) → AreReported xs rs → nth rs k ≡ Some r → (x : Player) × (nth xs k ≡ Some x) × IsReported x r
+pub reported_at : (xs : List Player) (rs : List ActorReport) (k : ℕ) (r : ActorReport) → AreReported xs rs → nth rs k ≡ Some r → (x : Player) × (nth xs k ≡ Some x) × IsReported x r
 reported_at [] [] k r h e = absurd (subst is_some (sym e) tt)
 reported_at [] (s ∷ rs) k r h e = absurd h
 reported_at (x ∷ xs) [] k r h e = absurd h
 reported_at (x ∷ xs) (s ∷ rs) zero r h e = (x, refl, subst (IsReported x) (ap (report_or s) e) h.0)
 reported_at (x ∷ xs) (s ∷ rs) (suc k) r h e = reported_at xs rs k r h.1 e
 
-pub as_many : (xs : List Player) (rs : List Ran) → AreReported xs rs → length rs ≡ length xs
+pub as_many : (xs : List Player) (rs : List ActorReport) → AreReported xs rs → length rs ≡ length xs
 as_many [] [] h = refl
 as_many [] (s ∷ rs) h = absurd h
 as_many (x ∷ xs) [] h = absurd h
 as_many (x ∷ xs) (s ∷ rs) h = ap suc (as_many xs rs h.1)
 
-done_so : DoneIsUndisturbed → RefusedIsUndisturbed → (code : PlainCode) (k limit : ℕ) (books : ℕ → List Event) (x : Player) (r : Ran) → IsBetween code k limit books x → IsReported x r → HasDone code k limit books r
+done_so : DoneIsUndisturbed → RefusedIsUndisturbed → (code : PlainCode) (k limit : ℕ) (books : ℕ → List Event) (x : Player) (r : ActorReport) → IsBetween code k limit books x → IsReported x r → HasDone code k limit books r
 done_so done refused code k limit books x r h p = record {
   actor = x.actor;
   over = h.over.over;
@@ -85,7 +85,7 @@ done_so done refused code k limit books x r h p = record {
 }
 
 -- what all actors did is what the report says
-pub all_done : DoneIsUndisturbed → RefusedIsUndisturbed → (code : PlainCode) (limit : ℕ) (books : ℕ → List Event) (xs : List Player) (rs : List Ran) → length xs ≡ length code.threads → AreBetween code limit books 0 xs → AreReported xs rs → AreDone code limit books rs
+pub all_done : DoneIsUndisturbed → RefusedIsUndisturbed → (code : PlainCode) (limit : ℕ) (books : ℕ → List Event) (xs : List Player) (rs : List ActorReport) → length xs ≡ length code.threads → AreBetween code limit books 0 xs → AreReported xs rs → AreDone code limit books rs
 all_done done refused code limit books xs rs many h p = record {
   one_each = as_many xs rs p ∙ many;
   each = λ k r e. (let x = reported_at xs rs k r p e in done_so done refused code k limit books x.0 r (between_of code limit books k xs x.0 x.1 h) x.2);
@@ -101,7 +101,7 @@ steps_at ys j zero (y ∷ xs) x e h n =
     or_first (Some z) = z
 steps_at ys j (suc i) (y ∷ xs) x e h n = subst (λ m. plays_of m ys ≤ x.actor.steps) (omega arith) (steps_at ys (suc j) i xs x e h.1 n)
 
-pub all_played : (ys : List Play) (xs : List Player) (rs : List Ran) → HaveSteps ys 0 xs → AreReported xs rs → ArePlayed ys rs
+pub all_played : (ys : List Play) (xs : List Player) (rs : List ActorReport) → HaveSteps ys 0 xs → AreReported xs rs → ArePlayed ys rs
 all_played ys xs rs h p k r e n =
     let x = reported_at xs rs k r p e in
     let same : 0 + k ≡ k = omega arith in
@@ -116,7 +116,7 @@ ended_at (y ∷ xs) zero x e h n = h.0 (ap (λ (z : Player). z.actor.outcome) (a
     or_first (Some z) = z
 ended_at (y ∷ xs) (suc k) x e h n = ended_at xs k x e h.1 n
 
-pub all_ended : (xs : List Player) (rs : List Ran) → AllEnded xs → AreReported xs rs → HaveEnded rs
+pub all_ended : (xs : List Player) (rs : List ActorReport) → AllEnded xs → AreReported xs rs → HaveEnded rs
 all_ended xs rs h p k r e n = let x = reported_at xs rs k r p e in ended_at xs k x.0 x.1 h (x.2.ended ∙ n)
 
 -- ---- what sources say
@@ -222,11 +222,11 @@ abbrev pub LeastSo : PlainProgram → PlainThread → (ℕ → List Event) → L
 LeastSo p t books out trace cells = HasPrintedLeast p t (seen_of cells books (places_of trace)) out
 
 -- so an entry is explained
-pub entry_explained : (p : PlainProgram) (k : ℕ) (t : PlainThread) (books : ℕ → List Event) (r : Ran) → TraceHolds books k (places_of r.trace.items) → MeansSo p t books r.outcome r.printed.items r.trace.items p.cells → LeastSo p t books r.printed.items r.trace.items p.cells
+pub entry_explained : (p : PlainProgram) (k : ℕ) (t : PlainThread) (books : ℕ → List Event) (r : ActorReport) → TraceHolds books k (places_of r.trace.items) → MeansSo p t books r.outcome r.printed.items r.trace.items p.cells → LeastSo p t books r.printed.items r.trace.items p.cells
     → ExplainsThread p k t books r
 entry_explained p k t books r traced means least = record { traced = traced; turns = means.0; means = means.1; calm = means.2; least = least }
 
-thread_explained : Known → RefusedIsUndisturbed → (code : PlainCode) (k limit : ℕ) (books : ℕ → List Event) (x : Player) (r : Ran) → IsBetween code k limit books x → IsReported x r
+thread_explained : Known → RefusedIsUndisturbed → (code : PlainCode) (k limit : ℕ) (books : ℕ → List Event) (x : Player) (r : ActorReport) → IsBetween code k limit books x → IsReported x r
     → (p : PlainProgram) (t : PlainThread) → p.cells ≡ code.cells → FollowsAll (map (thread_code code) code.threads) p → nth p.threads k ≡ Some t → ExplainsThread p k t books r
 thread_explained by refused code k limit books x r h rep p t same follows e =
     let a = x.actor in
@@ -248,7 +248,7 @@ pub books_stand : (cells : List CellDefinition) (threads : ℕ) (sh : Shared) �
 books_stand cells threads sh h = record { legal = h.store.legal; undisturbed = h.store.undisturbed; atoms = h.atoms; by_threads = h.by_threads }
 
 -- each program that the code follows explains the run
-pub all_explained : Known → RefusedIsUndisturbed → (code : PlainCode) (limit : ℕ) (sh : Shared) (xs : List Player) (rs : List Ran) → length xs ≡ length code.threads → SharedStands code.cells (length code.threads) sh
+pub all_explained : Known → RefusedIsUndisturbed → (code : PlainCode) (limit : ℕ) (sh : Shared) (xs : List Player) (rs : List ActorReport) → length xs ≡ length code.threads → SharedStands code.cells (length code.threads) sh
     → AreBetween code limit sh.books 0 xs → AreReported xs rs → IsExplainedBy code sh rs
 all_explained by refused code limit sh xs rs many stands h rep p same follows = record {
   one_each = as_many xs rs rep ∙ many ∙ threads;

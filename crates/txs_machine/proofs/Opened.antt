@@ -1,17 +1,13 @@
 -- The actors of a run before its first play, and how many there are.
-use Rattle.std.proofs.Common.{◌≡◌, ◌≤◌, ◌<◌, ◌+◌, ℕ, zero, suc, List, [], ◌∷◌, ◌++◌, length, drop, get_or, Option, Some, None, refl, sym, ap, subst, ◌∙◌, arith}
-use Rattle.std.proofs.lemmas.List.{drop_more}
+use Rattle.std.proofs.Common.{◌≡◌, ◌+◌, ℕ, zero, suc, List, [], ◌∷◌, ◌++◌, length, Option, Some, None, refl, sym, ap, subst, ◌∙◌, arith}
 use Rattle.txs_world_protocol.specs.declared.event.Event.{Event}
 use Rattle.txs_value_base.specs.Places.{nth}
 use Rattle.txs_value_cell.specs.declared.cell.CellDefinition.{CellDefinition}
-use Rattle.txs_value_data.specs.declared.value.CellKind.{CellKind}
-use Rattle.txs_value_data.specs.declared.value.CellKind.TheVariants.{Ref, Atom, Agent}
 use Rattle.txs_code_meaning.specs.Machine.{Unfinished}
 use Rattle.txs_code_meaning.specs.Opening.{opening}
 use Rattle.txs_code_meaning.specs.PlainCode.{PlainCode}
 use Rattle.txs_machine_actor.specs.Laws.{ActorsRun}
 use Rattle.txs_machine_actor.specs.PlainActor.{code_of}
-use Rattle.txs_value_cell.specs.Agents.{agents_from, with_agent}
 use Rattle.txs_machine_actor.specs.Turns.{IsNew}
 use Rattle.txs_world_book.specs.Served.{cells_of}
 use Rattle.txs_world.specs.Store.{none_taken}
@@ -84,34 +80,3 @@ opened_playing laws code limit k s all same count many between new attending age
       (subst (λ n. AreAttending code limit (none_taken (cells_of code.cells)) n (agents_of code) all.agents.items) count attending);
   run = opened_run laws code limit s all.threads.items all.agents.items same new (subst (λ n. AreNew code limit n (attendants all.agents.items)) count agents);
 }
-
--- ---- how many agents there are
-
--- whatever the number of the first cell
-same_many : (m n : ℕ) (ds : List CellDefinition) → length (agents_from m ds) ≡ length (agents_from n ds)
-same_many m n [] = refl
-same_many m n (d ∷ ds) = go d.kind (same_many (suc m) (suc n) ds)
-  where
-    go : (k : CellKind) → length (agents_from (suc m) ds) ≡ length (agents_from (suc n) ds) → length (with_agent k m (agents_from (suc m) ds)) ≡ length (with_agent k n (agents_from (suc n) ds))
-    go Ref e = e
-    go Atom e = e
-    go Agent e = ap suc e
-
--- no more than cells
-pub agents_few : (n : ℕ) (ds : List CellDefinition) → length (agents_from n ds) ≤ length ds
-agents_few n [] = omega arith
-agents_few n (d ∷ ds) = go d.kind (agents_few (suc n) ds)
-  where
-    go : (k : CellKind) → length (agents_from (suc n) ds) ≤ length ds → length (with_agent k n (agents_from (suc n) ds)) ≤ suc (length ds)
-    go Ref h = omega (arith, h)
-    go Atom h = omega (arith, h)
-    go Agent h = omega (arith, h)
-
--- those from a cell on are that one, if it is one, and those behind it
-pub agents_behind : (ds : List CellDefinition) (i : ℕ) (d : CellDefinition) → i < length ds → d ≡ get_or ds i d → length (agents_from 0 (drop i ds)) ≡ length (with_agent d.kind 0 []) + length (agents_from 0 (drop (i + 1) ds))
-agents_behind ds i d l e = ap (λ xs. length (agents_from 0 xs)) (drop_more ds i d l ∙ ap (λ x. x ∷ drop (i + 1) ds) (sym e)) ∙ go d.kind (same_many 1 0 (drop (i + 1) ds))
-  where
-    go : (k : CellKind) → length (agents_from 1 (drop (i + 1) ds)) ≡ length (agents_from 0 (drop (i + 1) ds)) → length (with_agent k 0 (agents_from 1 (drop (i + 1) ds))) ≡ length (with_agent k 0 []) + length (agents_from 0 (drop (i + 1) ds))
-    go Ref h = omega (arith, h)
-    go Atom h = omega (arith, h)
-    go Agent h = omega (arith, h)

@@ -10,6 +10,7 @@ use Rattle.txs_value_data.specs.declared.value.CellKind.TheVariants.{Ref, Atom, 
 use Rattle.txs_code_meaning.specs.Machine.{Outside, Configuration}
 use Rattle.txs_code_meaning.specs.PlainCode.{PlainCode}
 use Rattle.txs_machine_actor.specs.PlainActor.{Lives, activity_of, acting_of, home_of}
+use Rattle.txs_value_cell.proofs.AgentsLemmas.{agents_few}
 use Rattle.txs_value_cell.specs.Agents.{agents_from, with_agent}
 use Rattle.txs_machine_actor.specs.Turns.{IsNew}
 use Rattle.txs_world_book.specs.Served.{cells_of}
@@ -153,16 +154,6 @@ pub agent_placed : (code : PlainCode) (limit k i : ℕ) (xs : List AgentPlayer) 
 agent_placed code limit k i xs d there read kind many n len h =
     let same = as_attending code limit (none_taken (cells_of code.cells)) k (agents_from 0 (take i code.cells)) xs h.attending in
     subst (λ (m : ℕ). IsAgentAt code (record { kind = Agent; number = i }) m) (omega (arith, many, same, len)) (next_agent code i d (nth_read code.cells i d there read) kind)
-
--- there are no more agents than cells
-pub agents_few : (n : ℕ) (ds : List CellDefinition) → length (agents_from n ds) ≤ length ds
-agents_few n [] = omega arith
-agents_few n (d ∷ ds) = let r = agents_few (suc n) ds in let s = go d.kind (agents_from (suc n) ds) in omega (arith, r, s)
-  where
-    go : (k : CellKind) (gs : List CellId) → length (with_agent k n gs) ≤ suc (length gs)
-    go Ref gs = omega arith
-    go Atom gs = omega arith
-    go Agent gs = omega arith
 
 -- all of a list
 pub take_whole : {A : Type 0} (xs : List A) (i : ℕ) → length xs ≤ i → take i xs ≡ xs

@@ -16,7 +16,7 @@ use Rattle.txs_machine.specs.Running.{attendants}
 use Rattle.txs_machine.specs.declared.player.AgentPlayer.{AgentPlayer}
 use Rattle.txs_machine.specs.declared.player.Player.{Player}
 use Rattle.txs_machine.specs.declared.schedule.Play.{Play}
-use Rattle.txs_world_protocol.specs.declared.report.Ran.{Ran}
+use Rattle.txs_world_protocol.specs.declared.report.ActorReport.{ActorReport}
 use Rattle.txs_machine.proofs.Limits.{rounds_left}
 use Rattle.txs_machine.proofs.RunOver.{ValuesKnown, over_others}
 
@@ -208,7 +208,7 @@ unended_at (x ∷ xs) (suc k) a e n = unended_at xs k a e n
 
 -- ---- reports
 
-pub reported_more : (xs : List Player) (rs : List Ran) (x : Player) (r : Ran) → AreReported xs rs → IsReported x r → AreReported (xs ++ x ∷ []) (rs ++ r ∷ [])
+pub reported_more : (xs : List Player) (rs : List ActorReport) (x : Player) (r : ActorReport) → AreReported xs rs → IsReported x r → AreReported (xs ++ x ∷ []) (rs ++ r ∷ [])
 reported_more [] [] x r h p = (p, tt)
 reported_more [] (s ∷ rs) x r h p = absurd h
 reported_more (y ∷ xs) [] x r h p = absurd h

@@ -75,7 +75,8 @@ use Rattle.txs_machine.proofs.Lawfully.{ask_lawful, heard_lawfully, heard_stood,
 use Rattle.txs_machine.proofs.Answered.{Leaves, answer_leaves, full_stops, memory_stops, stop_ends}
 use Rattle.txs_machine.proofs.OwnCells.{openings_known, code_known}
 use Rattle.txs_machine.specs.RunOver.{IsStateOf, books_of, IsIn, places_of, AskedOn, AtFullBook}
-use Rattle.txs_machine.specs.Serving.{may_add, IsNext, with_place, IsServed}
+use Rattle.txs_machine.specs.Serving.{IsNext, with_place, IsServed}
+use Rattle.txs_world_protocol.specs.Ask.{may_add_event}
 use Rattle.txs_world_protocol.specs.declared.event.Place.{Place}
 
 pub append_nil : {A : Type 0} (xs : List A) → xs ++ [] ≡ xs
@@ -919,7 +920,7 @@ memory_may (ask.CloseAt c p v) r m t = tt
 memory_may (ask.Broke c p) r m t = tt
 
 -- so is that of what may add an event
-adding_may : (q : Ask) → may_add q ≡ true → MayAnswer q reply.Memory
+adding_may : (q : Ask) → may_add_event q ≡ true → MayAnswer q reply.Memory
 adding_may ask.Begin h = absurd (false≢true h)
 adding_may (ask.Look c p) h = tt
 adding_may (ask.View cs) h = tt
@@ -940,7 +941,7 @@ served_may s t a q r tr new (inl g) =
 served_may s t a q r tr new (inr u) = subst (MayAnswer q) (sym u.replied) (adding_may q u.adds)
 
 -- an ask that adds nothing leaves its book, and no place is noted
-pub reads_alone : (s t : PlainShared) (a : ℕ) (q : Ask) (r : Reply) (tr : List Place) → may_add q ≡ false → shared.Answers s q (answer_to s a q) r t → IsServed s a q r t tr tr
+pub reads_alone : (s t : PlainShared) (a : ℕ) (q : Ask) (r : Reply) (tr : List Place) → may_add_event q ≡ false → shared.Answers s q (answer_to s a q) r t → IsServed s a q r t tr tr
 reads_alone s t a q r tr none g = inl (record {
   answered = g;
   next = place;
@@ -951,7 +952,7 @@ reads_alone s t a q r tr none g = inl (record {
     place : Place
     place = record { book = book_for s.cells q; at = length ((shared_of s).books (book_for s.cells q)) }
 
-    left : (x : Ask) (book : List Event) → may_add x ≡ false → (serve_on s.cells a x book).book ≡ book
+    left : (x : Ask) (book : List Event) → may_add_event x ≡ false → (serve_on s.cells a x book).book ≡ book
     left ask.Begin book e = refl
     left (ask.View cs) book e = refl
     left (ask.Take g) book e = refl

@@ -31,7 +31,7 @@ use Rattle.txs_theorem_serial.proofs.Together.{commits_serial, runs_are_serial}
 use Rattle.txs_machine.specs.RunOver.{places_of}
 use Rattle.txs_machine.specs.RunTheorem.{meant_by, ExplainsSo, ExplainsThread, Explains, ExplainsAll}
 use Rattle.txs_machine.specs.Serial.{transactions, SaidOfAll, CoveredAreSerial, InOrder, ReportsAreSerial}
-use Rattle.txs_world_protocol.specs.declared.report.Ran.{Ran}
+use Rattle.txs_world_protocol.specs.declared.report.ActorReport.{ActorReport}
 
 abbrev IsThere : {A : Type 0} → Option A → Type 0
 IsThere None = ⊥
@@ -100,9 +100,9 @@ abbrev or_else : {A : Type 0} → A → Option A → A
 or_else d None = d
 or_else d (Some a) = a
 
-module _ (p : PlainProgram) (sh : Shared) (rans : List Ran) (sound : Sound p) (marks : MarkedProgram p) (e : Explains p sh rans) where
+module _ (p : PlainProgram) (sh : Shared) (rans : List ActorReport) (sound : Sound p) (marks : MarkedProgram p) (e : Explains p sh rans) where
   -- what a thread did, by what explains it
-  did_one : (k : ℕ) (t : PlainThread) (ran : Ran) (there : nth p.threads k ≡ Some t) (x : ExplainsThread p k t sh.books ran) → ThreadDid p.functions x.turns p.cells sh.books k (places_of ran.trace.items) (transactions p t sh ran x.turns)
+  did_one : (k : ℕ) (t : PlainThread) (ran : ActorReport) (there : nth p.threads k ≡ Some t) (x : ExplainsThread p k t sh.books ran) → ThreadDid p.functions x.turns p.cells sh.books k (places_of ran.trace.items) (transactions p t sh ran x.turns)
   did_one k t ran there x =
       let s = source_of p t in
       let es = seen_of p.cells sh.books (places_of ran.trace.items) in
@@ -121,14 +121,14 @@ module _ (p : PlainProgram) (sh : Shared) (rans : List Ran) (sound : Sound p) (m
     turns : ℕ
     trace : List told_by.Place
     runs : List TxRun
-    noted : (t : PlainThread) (ran : Ran) → nth p.threads k ≡ Some t → nth rans k ≡ Some ran → (n : ℕ) × ExplainsSo ran.outcome ran.printed.items (meant_by p t sh.books ran.trace.items n) × (runs ≡ transactions p t sh ran n)
+    noted : (t : PlainThread) (ran : ActorReport) → nth p.threads k ≡ Some t → nth rans k ≡ Some ran → (n : ℕ) × ExplainsSo ran.outcome ran.printed.items (meant_by p t sh.books ran.trace.items n) × (runs ≡ transactions p t sh ran n)
     did : k < length p.threads → ThreadDid p.functions turns p.cells sh.books k trace runs × SaidOf all_covered sh.books trace runs
 
   module _ (covered : SaidOfAll (λ n. all_covered) p sh rans e) where
     picked : (k : ℕ) → Picked k
     picked k = go (nth p.threads k) refl (nth rans k) refl
       where
-        go : (a : Option PlainThread) → nth p.threads k ≡ a → (b : Option Ran) → nth rans k ≡ b → Picked k
+        go : (a : Option PlainThread) → nth p.threads k ≡ a → (b : Option ActorReport) → nth rans k ≡ b → Picked k
         go None f b g = record {
           turns = 0;
           trace = [];
@@ -153,7 +153,7 @@ module _ (p : PlainProgram) (sh : Shared) (rans : List Ran) (sound : Sound p) (m
                   let one : t ≡ u = ap (or_else t) (sym f ∙ there) in
                   let two : ran ≡ r = ap (or_else ran) (sym g ∙ here) in
                   subst (λ (v : PlainThread). (n : ℕ) × ExplainsSo r.outcome r.printed.items (meant_by p v sh.books r.trace.items n) × (transactions p t sh ran x.turns ≡ transactions p v sh r n)) one
-                  (subst (λ (w : Ran). (n : ℕ) × ExplainsSo w.outcome w.printed.items (meant_by p t sh.books w.trace.items n) × (transactions p t sh ran x.turns ≡ transactions p t sh w n)) two (x.turns, x.means, refl)));
+                  (subst (λ (w : ActorReport). (n : ℕ) × ExplainsSo w.outcome w.printed.items (meant_by p t sh.books w.trace.items n) × (transactions p t sh ran x.turns ≡ transactions p t sh w n)) two (x.turns, x.means, refl)));
               did = λ lt. (did_one k t ran f x, covered k t ran f g);
             }
 

@@ -40,7 +40,7 @@ use Rattle.txs_machine.specs.declared.player.AgentPlayer.{AgentPlayer}
 use Rattle.txs_world_protocol.specs.declared.event.Place.{Place}
 use Rattle.txs_machine.specs.declared.player.Player.{Player}
 use Rattle.txs_machine.specs.declared.player.Players.{Players}
-use Rattle.txs_world_protocol.specs.declared.report.Ran.{Ran}
+use Rattle.txs_world_protocol.specs.declared.report.ActorReport.{ActorReport}
 use Rattle.txs_machine.proofs.Explaining.{reported_at, as_many, length_map}
 use Rattle.txs_machine.proofs.Going.{turns_append, others_left}
 use Rattle.txs_machine.proofs.RunOver.{longer}
@@ -273,9 +273,9 @@ pub attendants_many : (xs : List AgentPlayer) → length (attendants xs) ≡ len
 attendants_many [] = refl
 attendants_many (x ∷ xs) = ap suc (attendants_many xs)
 
-module _ (traced : RunTraced) (code : PlainCode) (limit : ℕ) (s : PlainShared) (all : Players) (rs : List Ran) (h : ArePlaying code limit s all) (rep : AreReported (attendants all.agents.items) rs) where
+module _ (traced : RunTraced) (code : PlainCode) (limit : ℕ) (s : PlainShared) (all : Players) (rs : List ActorReport) (h : ArePlaying code limit s all) (rep : AreReported (attendants all.agents.items) rs) where
   -- an entry and its actor
-  record IsEntry (i : ℕ) (r : Ran) : Type 0 where
+  record IsEntry (i : ℕ) (r : ActorReport) : Type 0 where
     player : AgentPlayer
     there : nth all.agents.items i ≡ Some player
     reported : IsReported player.player r
@@ -284,7 +284,7 @@ module _ (traced : RunTraced) (code : PlainCode) (limit : ℕ) (s : PlainShared)
     attends : IsAttending code agent (length code.threads + i) limit s.taken player
     of : IsPlayerOf code (length code.threads + i) (books_of s) player.player.actor player.player.trace.items ((run_of code h.run.turns).actors (length code.threads + i))
 
-  entry_at : (i : ℕ) (r : Ran) → nth rs i ≡ Some r → IsEntry i r
+  entry_at : (i : ℕ) (r : ActorReport) → nth rs i ≡ Some r → IsEntry i r
   entry_at i r e =
       let x = reported_at (attendants all.agents.items) rs i r rep e in
       let y = attendant_at all.agents.items i x.0 x.1 in
@@ -299,7 +299,7 @@ module _ (traced : RunTraced) (code : PlainCode) (limit : ℕ) (s : PlainShared)
         of = h.run.agents i y.0 y.1;
       }
 
-  agent_done : (i : ℕ) (r : Ran) → IsEntry i r → AgentHasDone code (length code.threads + i) limit (books_of s) r
+  agent_done : (i : ℕ) (r : ActorReport) → IsEntry i r → AgentHasDone code (length code.threads + i) limit (books_of s) r
   agent_done i r x =
       let t = told_holds traced code s h.run.turns (length code.threads + i) h.run.shared in
       let y = (run_of code h.run.turns).actors (length code.threads + i) in
@@ -356,7 +356,7 @@ module _ (traced : RunTraced) (code : PlainCode) (limit : ℕ) (s : PlainShared)
   silent_so a (Some outcome.JournalFull) at why p g = (tt, ap (λ (u : ActorState). u.printed) (sym p.2) ∙ subst (λ (u : Turned Configuration). GoesOn (outcome_at u)) p.1 g)
   silent_so a (Some outcome.Memory) at why p g = (tt, ap (λ (u : ActorState). u.printed) (sym p.2) ∙ subst (λ (u : Turned Configuration). GoesOn (outcome_at u)) p.1 g)
 
-  pub all_explained_by : RunReported → CodesStaged (map (thread_code code) code.threads) → (ts : List Ran) → IsExplainedBy code (shared_of s) ts → AreExplainedBy code (shared_of s) ts rs
+  pub all_explained_by : RunReported → CodesStaged (map (thread_code code) code.threads) → (ts : List ActorReport) → IsExplainedBy code (shared_of s) ts → AreExplainedBy code (shared_of s) ts rs
   all_explained_by law staged ts by p same follows agents sends = record {
     by_threads = by p same follows;
     one_each = agents_done.one_each ∙ ap (λ cs. length (agents_from 0 cs)) (sym same);
@@ -389,7 +389,7 @@ module _ (traced : RunTraced) (code : PlainCode) (limit : ℕ) (s : PlainShared)
           subst (ReportExplained p (library_of code)) (ap (λ cs. plays cs (length p.threads) (code_of code) h.run.turns) same ∙ ap (λ n. plays code.cells n (code_of code) h.run.turns) (sym threads))
           (law p (map (thread_code code) code.threads) (library_of code) (code_of code) h.run.turns follows agents staged sends runs)
 
-      agent_explained : (i : ℕ) (r : Ran) → IsEntry i r → ExplainsAgent (length p.threads + i) (books_of s) r
+      agent_explained : (i : ℕ) (r : ActorReport) → IsEntry i r → ExplainsAgent (length p.threads + i) (books_of s) r
       agent_explained i r x =
           let at = agent_at code i x.agent x.named in
           let place : length code.threads + i ≡ world.actor_of (length p.threads) (cells_of p.cells) x.agent = at.place ∙ ap (λ n. world.actor_of n (cells_of code.cells) x.agent) threads ∙ ap (λ cs. world.actor_of (length p.threads) (cells_of cs) x.agent) (sym same) in

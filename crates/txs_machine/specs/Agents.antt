@@ -17,7 +17,7 @@ use Rattle.txs_theorem_runs.specs.Shared.{Shared}
 use Rattle.txs_theorem_runs.specs.Told.{Entry, exchange_of, AllHold, TraceHolds, trace_of}
 use Rattle.txs_machine.specs.RunOver.{IsLimited, AtFullBook, places_of}
 use Rattle.txs_machine.specs.RunTheorem.{ExplainsAll}
-use Rattle.txs_world_protocol.specs.declared.report.Ran.{Ran}
+use Rattle.txs_world_protocol.specs.declared.report.ActorReport.{ActorReport}
 
 -- ---- actors
 
@@ -32,9 +32,9 @@ actors_of code = length code.threads + length (agents_of code)
 -- ---- what the actors of agents did
 
 -- An entry of a report says what the k-th actor, an agent's, did over the books: after so many steps, of which it makes no more than its limit, and all
--- where they were spent, it is where the machine's meaning comes to on what the books told it; it has printed these bytes, and ended so if it has;
+-- where they were spent, it is where the machine's meaning comes to on what the books answered it; it has printed these bytes, and ended so if it has;
 -- the trace has the places of its events, and names no others; and where it was stopped for a full book, the book for its ask is full.
-pub record AgentHasDone (code : PlainCode) (k limit : ℕ) (books : ℕ → List Event) (ran : Ran) : Type 0 where
+pub record AgentHasDone (code : PlainCode) (k limit : ℕ) (books : ℕ → List Event) (ran : ActorReport) : Type 0 where
   pub actor : PlainActor
   pub number : actor.number ≡ k
   pub entries : List Entry
@@ -50,15 +50,15 @@ pub record AgentHasDone (code : PlainCode) (k limit : ℕ) (books : ℕ → List
   pub full : actor.outcome ≡ Some outcome.JournalFull → AtFullBook code.cells (code_of code k) books (map exchange_of entries) actor
 
 -- There is one entry for each agent, in the order of the cells, which says what the agent's actor did.
-pub record AgentsAreDone (code : PlainCode) (limit : ℕ) (books : ℕ → List Event) (rans : List Ran) : Type 0 where
+pub record AgentsAreDone (code : PlainCode) (limit : ℕ) (books : ℕ → List Event) (rans : List ActorReport) : Type 0 where
   pub one_each : length rans ≡ length (agents_of code)
-  pub each : (i : ℕ) (ran : Ran) → nth rans i ≡ Some ran → AgentHasDone code (length code.threads + i) limit books ran
+  pub each : (i : ℕ) (ran : ActorReport) → nth rans i ≡ Some ran → AgentHasDone code (length code.threads + i) limit books ran
 
 -- ---- what the source says of agents
 
 -- each program of the code's cells that the code follows, of whose functions its functions are the actions', and whose sends alone it sends, explains
 -- the run
-abbrev pub AreExplainedBy : PlainCode → Shared → List Ran → List Ran → Type 0
+abbrev pub AreExplainedBy : PlainCode → Shared → List ActorReport → List ActorReport → Type 0
 AreExplainedBy code sh threads agents =
     (p : PlainProgram)
     → p.cells ≡ code.cells → FollowsAll (map (thread_code code) code.threads) p
@@ -68,6 +68,6 @@ AreExplainedBy code sh threads agents =
 -- ---- when rounds are over
 
 -- each agent whose actor hasn't ended has failed, or nothing waits for it
-abbrev pub AreDrained : PlainCode → Shared → List Ran → Type 0
+abbrev pub AreDrained : PlainCode → Shared → List ActorReport → Type 0
 AreDrained code sh agents =
-    (i : ℕ) (g : CellId) (ran : Ran) → nth (agents_of code) i ≡ Some g → nth agents i ≡ Some ran → ran.outcome ≡ None → next_action (cells_of code.cells) (sh.books 0) g ≡ None
+    (i : ℕ) (g : CellId) (ran : ActorReport) → nth (agents_of code) i ≡ Some g → nth agents i ≡ Some ran → ran.outcome ≡ None → next_action (cells_of code.cells) (sh.books 0) g ≡ None

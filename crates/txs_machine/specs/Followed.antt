@@ -15,13 +15,13 @@ use Rattle.txs_theorem_threads.specs.Noted.{AreNoted, txs_of}
 use Rattle.txs_theorem_threads.specs.RepliesFit.{Out, RepliesFit, Explained}
 use Rattle.txs_machine_actor.specs.PlainActor.{PlainActor, HasRun, unanswered, code_of, state_of, standing}
 
--- what the machine's meaning is told of an actor
+-- what the machine's meaning needs of an actor
 abbrev pub told : PlainActor → Option Outcome → Option Ask → machine.Outcome
 told a (Some o) q = standing (Some o) (state_of a) (state_of a)
 told a None None = standing None (state_of a) (state_of a)
 told a None (Some q) = Asking (record (state_of a) { wants = Some q })
 
--- what the machine's meaning is told of an actor as it is
+-- what the machine's meaning needs of an actor as it is
 abbrev pub outcome_of_actor : PlainActor → machine.Outcome
 outcome_of_actor a = told a a.outcome (unanswered a)
 

@@ -32,13 +32,13 @@ pub record AskedFrom (cells : List CellDefinition) (code : ThreadCode) (k : ℕ)
   pub awaits : Awaits code before a q
   pub views : MayView cells code k books before
 
--- so it did where the actor asks; one that asks nothing and goes on may view where it is
+-- so it did where the actor asks; one that asks nothing and continues may view where it is
 abbrev pub HasStood : List CellDefinition → ThreadCode → ℕ → (ℕ → List Event) → List Exchange → PlainActor → Stage → Option Outcome → Option Ask → Type 0
 HasStood cells code k books xs a st None None = MayView cells code k books (configuration_of a)
 HasStood cells code k books xs a st None (Some q) = AskedFrom cells code k books xs a st q
 HasStood cells code k books xs a st (Some o) q = Unit {0}
 
--- What an actor was told, and all values of the books, name defined cells alone; and the actor may name the places of its stage: the
+-- What an actor was answered, and all values of the books, name defined cells alone; and the actor may name the places of its stage: the
 -- read point of its try, and in a commute phase its view.
 pub record ToldLawfully (cells : List CellDefinition) (k : ℕ) (books : ℕ → List Event) (es : List Entry) (st : Stage) : Type 0 where
   pub replies : TodoKnown cells (map exchange_of es)
@@ -46,7 +46,7 @@ pub record ToldLawfully (cells : List CellDefinition) (k : ℕ) (books : ℕ →
   pub places : MayName cells books k st
 
 -- What the actor of a thread of the code has done over what is shared, that these are the places of its events, and why its next ask is lawful:
--- its code's instructions stand where they may.
+-- its code's instructions are where they may be.
 pub record RunLawfully (code : PlainCode) (k : ℕ) (books : ℕ → List Event) (trace : List Place) (a : PlainActor) : Type 0 where
   pub over : RunOver code k books a
   pub traced : places_of trace ≡ trace_of code.cells books k over.entries

@@ -12,6 +12,7 @@ pub mod Serial
 pub mod Serving
 pub mod Turning
 pub mod Plays
+pub mod Reported
 pub use Rattle.txs_machine_actor.specs.PlainActor
 pub use Rattle.txs_machine_actor.specs.Turns
 pub use Rattle.txs_theorem_runs.specs.Shared

@@ -9,7 +9,7 @@ use Rattle.txs_machine.specs.RunOver.{IsLimited}
 use Rattle.txs_machine.specs.Schedule.{plays_of}
 use Rattle.txs_machine.specs.declared.player.Player.{Player}
 use Rattle.txs_machine.specs.declared.schedule.Play.{Play}
-use Rattle.txs_world_protocol.specs.declared.report.Ran.{Ran}
+use Rattle.txs_world_protocol.specs.declared.report.ActorReport.{ActorReport}
 
 -- the actor of the k-th thread between two plays: it asks nothing, has done over the books what its code says, and asks next what it may ask
 pub record IsBetween (code : PlainCode) (k limit : ℕ) (books : ℕ → List Event) (x : Player) : Type 0 where
@@ -57,15 +57,15 @@ IsUnended k [] = ⊥
 IsUnended zero (x ∷ xs) = x.actor.outcome ≡ None
 IsUnended (suc k) (x ∷ xs) = IsUnended k xs
 
--- an entry of a report says what the actor came to, and where its events stand
-pub record IsReported (x : Player) (ran : Ran) : Type 0 where
+-- an entry of a report says what the actor came to, and where its events are
+pub record IsReported (x : Player) (ran : ActorReport) : Type 0 where
   pub ended : x.actor.outcome ≡ ran.outcome
   pub printed : x.actor.printed ≡ ran.printed.items
   pub counted : x.actor.steps ≡ ran.steps
   pub traced : x.trace.items ≡ ran.trace.items
 
 -- the entries of a report, one for each actor
-abbrev pub AreReported : List Player → List Ran → Type 0
+abbrev pub AreReported : List Player → List ActorReport → Type 0
 AreReported [] [] = Unit {0}
 AreReported [] (r ∷ rs) = ⊥
 AreReported (x ∷ xs) [] = ⊥

@@ -8,7 +8,7 @@ use Rattle.txs_world_protocol.specs.declared.event.Outcome.{Outcome}
 use Rattle.txs_world_protocol.specs.declared.event.Outcome.TheVariants.{StepsSpent, JournalFull}
 use Rattle.txs_value_cell.specs.declared.cell.CellDefinition.{CellDefinition}
 use Rattle.txs_value_data.specs.declared.value.Value.{Value}
-use Rattle.txs_frame.specs.Frame.{no_work}
+use Rattle.txs_frame.specs.Frame.{empty_frame}
 use Rattle.txs_tree_meaning.specs.Meaning.{Completion}
 use Rattle.txs_tree_meaning.specs.Thread.{ThreadState, thread_meaning}
 use Rattle.txs_tree_meaning.specs.Tree.{ThreadSource}
@@ -63,7 +63,7 @@ pub record AtFullBook (cells : List CellDefinition) (code : ThreadCode) (books :
   pub asked : AsksLast code xs a ask
   pub full : most_events ≤ length (books (book_for cells ask))
 
--- The actor of the k-th thread has done what the machine does on what the books told it, whoever else has written in
+-- The actor of the k-th thread has done what the machine does on what the books answered it, whoever else has written in
 -- them; it asked for each of its entries on those before; and where it was stopped for a full book, the book for its ask is full.
 pub record RunOver (code : PlainCode) (k : ℕ) (books : ℕ → List Event) (a : PlainActor) : Type 0 where
   pub number : a.number ≡ k

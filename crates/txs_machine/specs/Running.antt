@@ -41,7 +41,7 @@ after_turns code = run.plays_from code.cells (length code.threads) (code_of code
 abbrev pub run_of : PlainCode → List run.Play → run.State
 run_of code ys = after_turns code ys (run.opens code.cells (code_of code))
 
--- An actor that goes on is where a run's actor is; one that is done or has failed has ended so there; one that was stopped stands there stopped, and
+-- An actor that continues is where a run's actor is; one that is done or has failed has ended so there; one that was stopped is there stopped, and
 -- has printed and written what that one has.
 abbrev pub IsPlacedAs : PlainActor → Option Outcome → Turned Configuration → Option Stop → Type 0
 IsPlacedAs a None at why = (at ≡ Unfinished (configuration_of a)) × (why ≡ None)
@@ -97,7 +97,7 @@ pub record IsAnswered (k : ℕ) (s : PlainShared) (a : PlainActor) (trace : List
 
 -- ---- agents between two plays
 
--- an agent has an action in hand
+-- an agent runs an action
 abbrev pub is_acting : Option InHand → Bool
 is_acting None = false
 is_acting (Some h) = true
@@ -110,7 +110,7 @@ IsAgents (Running left inner from) = ⊥
 IsAgents (Applying left from work values) = ⊥
 IsAgents (Swapping swap from) = ⊥
 
--- the store knows whether the agent has an action in hand
+-- the store knows whether the agent runs an action
 abbrev pub IsSynced : List Bool → CellId → PlainActor → Type 0
 IsSynced taken g a = a.outcome ≡ None → IsAgents (configuration_of a).doing × (is_taken taken g ≡ is_acting (state_of a).acting)
 
@@ -175,11 +175,11 @@ abbrev pub AreIdle : PlainCode → PlainShared → List AgentPlayer → Type 0
 AreIdle code s [] = Unit {0}
 AreIdle code s (x ∷ xs) = (x.player.actor.outcome ≡ None → HasWork code s x.agent → ⊥) × AreIdle code s xs
 
--- another actor's play leaves whether an agent has an action in hand
+-- another actor's play leaves whether an agent runs an action
 abbrev pub LeavesTaken : CellId → List Bool → List Bool → Type 0
 LeavesTaken g before later = (h : CellId) → (h.number ≡ g.number → ⊥) → is_taken later h ≡ is_taken before h
 
--- an agent asks to take an action where it has none in hand, and to hand in the one that it has, which sends nothing
+-- an agent asks to take an action where it runs none, and to hand in the one that it runs, which sends nothing
 abbrev pub AsksAsAgent : List Bool → CellId → Ask → Type 0
 AsksAsAgent taken g (ask.Take h) = (h ≡ g) × (is_taken taken g ≡ false)
 AsksAsAgent taken g (ask.Finish h new sends) = (h ≡ g) × (is_taken taken g ≡ true) × (is_empty sends ≡ true)

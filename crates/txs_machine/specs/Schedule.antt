@@ -12,7 +12,7 @@ use Rattle.txs_machine.specs.RunTheorem.{HasDone, Explains}
 use Rattle.txs_machine.specs.declared.schedule.Play.{Play}
 use Rattle.txs_machine.specs.declared.schedule.Play.TheVariants as play
 use Rattle.txs_machine.specs.declared.schedule.Repeated.{Repeated}
-use Rattle.txs_world_protocol.specs.declared.report.Ran.{Ran}
+use Rattle.txs_world_protocol.specs.declared.report.ActorReport.{ActorReport}
 use Rattle.txs_machine.specs.declared.schedule.ScheduleError.{ScheduleError}
 use Rattle.txs_machine.specs.declared.schedule.ScheduleError.TheVariants.{NoActor, Memory}
 
@@ -41,22 +41,22 @@ spread (r ∷ rs) = replicate r.times r.play ++ spread rs
 -- ---- what the actors did
 
 -- A report has one entry for each thread, which says what its actor did.
-pub record AreDone (code : PlainCode) (limit : ℕ) (books : ℕ → List Event) (rans : List Ran) : Type 0 where
+pub record AreDone (code : PlainCode) (limit : ℕ) (books : ℕ → List Event) (rans : List ActorReport) : Type 0 where
   pub one_each : length rans ≡ length code.threads
-  pub each : (k : ℕ) (ran : Ran) → nth rans k ≡ Some ran → HasDone code k limit books ran
+  pub each : (k : ℕ) (ran : ActorReport) → nth rans k ≡ Some ran → HasDone code k limit books ran
 
 -- a thread that hasn't ended has made at least as many steps as there are plays of it
-abbrev pub ArePlayed : List Play → List Ran → Type 0
-ArePlayed ys rans = (k : ℕ) (ran : Ran) → nth rans k ≡ Some ran → ran.outcome ≡ None → plays_of k ys ≤ ran.steps
+abbrev pub ArePlayed : List Play → List ActorReport → Type 0
+ArePlayed ys rans = (k : ℕ) (ran : ActorReport) → nth rans k ≡ Some ran → ran.outcome ≡ None → plays_of k ys ≤ ran.steps
 
 -- every thread has ended
-abbrev pub HaveEnded : List Ran → Type 0
-HaveEnded rans = (k : ℕ) (ran : Ran) → nth rans k ≡ Some ran → ran.outcome ≡ None → ⊥
+abbrev pub HaveEnded : List ActorReport → Type 0
+HaveEnded rans = (k : ℕ) (ran : ActorReport) → nth rans k ≡ Some ran → ran.outcome ≡ None → ⊥
 
 -- ---- what the source says
 
 -- each program of the code's cells that the code follows explains the run
-abbrev pub IsExplainedBy : PlainCode → Shared → List Ran → Type 0
+abbrev pub IsExplainedBy : PlainCode → Shared → List ActorReport → Type 0
 IsExplainedBy code sh rans = (p : PlainProgram) → p.cells ≡ code.cells → FollowsAll (map (thread_code code) code.threads) p → Explains p sh rans
 
 -- Why there is no report: a play names no actor, and nothing was run; or there was no memory.

@@ -14,38 +14,38 @@ use Rattle.txs_theorem_runs.specs.Transactions.{Says, SaidOf}
 use Rattle.txs_theorem_serial.specs.Whole.{all_covered, serial_if_covered, OneByOne}
 use Rattle.txs_machine.specs.RunOver.{places_of}
 use Rattle.txs_machine.specs.RunTheorem.{meant_by, ExplainsSo, Explains, ExplainsAll}
-use Rattle.txs_world_protocol.specs.declared.report.Ran.{Ran}
+use Rattle.txs_world_protocol.specs.declared.report.ActorReport.{ActorReport}
 
 -- the transactions of a thread's entry, where each loop makes at most n turns
-abbrev pub transactions : PlainProgram → PlainThread → Shared → Ran → ℕ → List TxRun
+abbrev pub transactions : PlainProgram → PlainThread → Shared → ActorReport → ℕ → List TxRun
 transactions p t sh ran n = txs_of (meant_by p t sh.books ran.trace.items n)
 
 -- what is said of the transactions of all threads, by what explains the report; what is said may depend on the bound on a thread's loops
-abbrev pub SaidOfAll : (ℕ → Says) → (p : PlainProgram) (sh : Shared) (rans : List Ran) → Explains p sh rans → Type 0
+abbrev pub SaidOfAll : (ℕ → Says) → (p : PlainProgram) (sh : Shared) (rans : List ActorReport) → Explains p sh rans → Type 0
 SaidOfAll s p sh rans e =
-    (k : ℕ) (t : PlainThread) (ran : Ran) (there : nth p.threads k ≡ Some t) (here : nth rans k ≡ Some ran)
+    (k : ℕ) (t : PlainThread) (ran : ActorReport) (there : nth p.threads k ≡ Some t) (here : nth rans k ≡ Some ran)
     → SaidOf (s (e.each k t ran there here).turns) sh.books (places_of ran.trace.items) (transactions p t sh ran (e.each k t ran there here).turns)
 
 -- Each covered commit of a report that a program explains is serial: run alone at its index of the store's book, with its commutes there, its
 -- transaction gives the same writes, the same sends and, where it is wanted, the same result.
 abbrev pub CoveredAreSerial : Type 0
 CoveredAreSerial =
-    (p : PlainProgram) (sh : Shared) (threads agents : List Ran)
+    (p : PlainProgram) (sh : Shared) (threads agents : List ActorReport)
     → Sound p → MarkedProgram p → (e : ExplainsAll p sh threads agents)
     → SaidOfAll (λ n. serial_if_covered p.functions n p.cells sh.books) p sh threads e.by_threads
 
 -- The commits of the store's book are as if the transactions of these threads had run one after the other, in its order.
-pub record InOrder (p : PlainProgram) (sh : Shared) (rans : List Ran) : Type 0 where
+pub record InOrder (p : PlainProgram) (sh : Shared) (rans : List ActorReport) : Type 0 where
   -- by the threads' numbers
   pub runs : ℕ → List TxRun
   -- they are those of meanings that explain the threads
-  pub noted : (k : ℕ) (t : PlainThread) (ran : Ran) → nth p.threads k ≡ Some t → nth rans k ≡ Some ran
+  pub noted : (k : ℕ) (t : PlainThread) (ran : ActorReport) → nth p.threads k ≡ Some t → nth rans k ≡ Some ran
       → (n : ℕ) × ExplainsSo ran.outcome ran.printed.items (meant_by p t sh.books ran.trace.items n) × (runs k ≡ transactions p t sh ran n)
   pub one_by_one : OneByOne p.functions (validators_of p.cells) runs (opening (cells_of p.cells)) (sh.books 0)
 
 -- So it is of a report that a program explains, where all its commits are covered.
 abbrev pub ReportsAreSerial : Type 0
 ReportsAreSerial =
-    (p : PlainProgram) (sh : Shared) (threads agents : List Ran)
+    (p : PlainProgram) (sh : Shared) (threads agents : List ActorReport)
     → Sound p → MarkedProgram p → (e : ExplainsAll p sh threads agents)
     → SaidOfAll (λ n. all_covered) p sh threads e.by_threads → InOrder p sh threads

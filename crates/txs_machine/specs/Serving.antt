@@ -1,30 +1,15 @@
 -- How a run serves an actor's ask, and keeps the place of the event that it adds.
-use Rattle.std.specs.Prelude.{◌≡◌, ℕ, Bool, true, false, List, [], ◌∷◌, ◌++◌, length, nat_lt, if◌then◌else◌}
+use Rattle.std.specs.Prelude.{◌≡◌, ℕ, Bool, true, List, [], ◌∷◌, ◌++◌, length, nat_lt, if◌then◌else◌}
 use Rattle.std.proofs.Common.{◌⊎◌}
+use Rattle.txs_world_protocol.specs.Ask.{may_add_event}
 use Rattle.txs_world_protocol.specs.declared.ask.Ask.{Ask}
-use Rattle.txs_world_protocol.specs.declared.ask.Ask.TheVariants as ask
 use Rattle.txs_world_protocol.specs.declared.ask.Reply.{Reply}
 use Rattle.txs_world_protocol.specs.declared.ask.Reply.TheVariants.{Memory}
 use Rattle.txs_theorem_runs.specs.Shared.{book_for}
 use Rattle.txs_world_shared.specs.SharedState.{PlainShared, shared_of, answer_to, Answers}
 use Rattle.txs_world_protocol.specs.declared.event.Place.{Place}
 
--- whether an ask may add an event to its book; the others only read one, or take from a mailbox
-abbrev pub may_add : Ask → Bool
-may_add ask.Begin = false
-may_add (ask.Look c p) = true
-may_add (ask.View cs) = false
-may_add (ask.Commit p sets ensured q commuted sends) = true
-may_add (ask.Fail p q) = true
-may_add (ask.Peek c) = true
-may_add (ask.Send x) = true
-may_add (ask.Take g) = false
-may_add (ask.Finish g new sends) = true
-may_add (ask.OpenAt c) = false
-may_add (ask.CloseAt c p v) = true
-may_add (ask.Broke c p) = true
-
--- the place at which the book for an ask goes on
+-- the index at which the book for an ask continues
 pub record IsNext (s : PlainShared) (q : Ask) (p : Place) : Type 0 where
   pub book : p.book ≡ book_for s.cells q
   pub at : p.at ≡ length ((shared_of s).books (book_for s.cells q))
@@ -33,7 +18,7 @@ pub record IsNext (s : PlainShared) (q : Ask) (p : Place) : Type 0 where
 abbrev pub with_place : Bool → List Place → Place → List Place
 with_place added ps p = if added then ps ++ p ∷ [] else ps
 
--- An ask was answered as the state serves it, and the place of the event that it added, if it did, stands behind those before.
+-- An ask was answered as the state serves it, and the place of the event that it added, if it did, is behind those before.
 pub record IsNoted (s : PlainShared) (a : ℕ) (q : Ask) (r : Reply) (t : PlainShared) (ps later : List Place) : Type 0 where
   pub answered : Answers s q (answer_to s a q) r t
   pub next : Place
@@ -42,7 +27,7 @@ pub record IsNoted (s : PlainShared) (a : ℕ) (q : Ask) (r : Reply) (t : PlainS
 
 -- There was no memory for the place of an event that the ask may add: nothing was served.
 pub record IsUnserved (s : PlainShared) (q : Ask) (r : Reply) (t : PlainShared) (ps later : List Place) : Type 0 where
-  pub adds : may_add q ≡ true
+  pub adds : may_add_event q ≡ true
   pub replied : r ≡ Memory
   pub state : t ≡ s
   pub places : later ≡ ps

@@ -1,4 +1,4 @@
-//! The agents of a run: their actors stand behind those of the threads, and rounds go on as long as one has something to do.
+//! The agents of a run: their actors are behind those of the threads, and there are further rounds as long as one has something to do.
 
 ghost use Rattle.std.specs.Prelude.{◌≡◌, ◌≤◌, ◌<◌, ◌+◌, ℕ, length, take, IfOk, IfSome, IsTrue, Some, None, true, false};
 ghost use Rattle.txs_value_cell.specs.Agents.{agents_from};
@@ -62,7 +62,7 @@ pub(crate) fn open_next(
     Ok(())
 }
 
-/// Whether an agent's actor hasn't ended, and has something to do: the agent hasn't failed, and an action waits for it, or is in hand.
+/// Whether an agent's actor hasn't ended, and has something to do: the agent hasn't failed, and an action waits for it, or runs.
 fn is_working(agent: &AgentPlayer, shared: &SharedState) -> bool
     requires { has_agent (cells_of shared.now.cells) agent.now.agent ≡ true }
     ensures unended { IsTrue result → agent.now.player.actor.outcome ≡ None }

@@ -14,5 +14,5 @@ pub use law::{actors_explained, actors_follow, explained_reports_are_serial};
 pub use run_error::RunError;
 pub use schedule::{Entries, Play, Repeated, ScheduleError, run_repeated, run_schedule};
 pub use txs_machine_actor::{Actor, Turn, actors_run, may_answer};
-pub use txs_world_protocol::{Outcome, Place, Ran, Report};
+pub use txs_world_protocol::{ActorReport, Outcome, Place, Report};
 pub use txs_world_shared::SharedState;

@@ -1,7 +1,7 @@
-//! A report that stands alone.
+//! A report that needs no state.
 
-ghost use Rattle.std.specs.Prelude.{◌≡◌, ◌≤◌, ◌∷◌, length, IfOk};
-ghost use Rattle.txs_world_shared.specs.Parts.{values_of, faults_of};
+ghost use Rattle.std.specs.Prelude.{◌≡◌, ◌≤◌, length, IfOk};
+ghost use Rattle.txs_machine.specs.Reported.{IsReportOf};
 
 use crate::schedule::Entries;
 use std::alloc::{AllocError, Global};
@@ -17,9 +17,7 @@ impl Entries {
         requires few { length shared.cells ≤ 65535 }
         ensures threads { IfOk result (λ report. report.threads ≡ self.threads) }
         ensures agents { IfOk result (λ report. report.agents ≡ self.agents) }
-        ensures books { IfOk result (λ report. report.book.items ∷ report.atom_books.items ≡ shared.books) }
-        ensures cells { IfOk result (λ report. report.cells.items ≡ values_of shared) }
-        ensures failed { IfOk result (λ report. report.failed.items ≡ faults_of shared) }
+        ensures report { IfOk result (λ report. IsReportOf shared report) }
     {
         let cells = shared.values(alloc)?;
         let failed = shared.failures(alloc)?;

@@ -5,7 +5,7 @@ ghost use Rattle.txs_machine_actor.specs.PlainActor.{Lives, unanswered};
 ghost use Rattle.txs_theorem_runs.specs.Shared.{book_for};
 ghost use Rattle.txs_world_shared.specs.SharedState.{numbered_book, is_lawful};
 ghost use Rattle.txs_value_data.specs.Limits.{most_events};
-ghost use Rattle.txs_machine.specs.Serving.{may_add, with_place, IsNext, IsServed};
+ghost use Rattle.txs_machine.specs.Serving.{with_place, IsNext, IsServed};
 ghost use Rattle.txs_machine_actor.specs.declared.outcome.Turn.TheVariants.{Asks};
 ghost use Rattle.txs_machine.specs.Briefs.{ask_of};
 ghost use Rattle.txs_machine.specs.Turning.{MayAsk, MayGoOn, HasGoneOn};
@@ -40,17 +40,7 @@ fn brief_ask(turn: &Turn) -> Option<Brief>
     }
 }
 
-/// Whether an ask may add an event to its book.
-fn may_add(ask: &Ask) -> bool
-    ensures { result ≡ may_add ask.now }
-{
-    match ask {
-        Ask::Begin | Ask::View { .. } | Ask::Take { .. } | Ask::OpenAt { .. } => false,
-        _ => true,
-    }
-}
-
-/// The place at which the book for an ask goes on.
+/// The index at which the book for an ask continues.
 fn next_place(shared: &SharedState, ask: &Ask) -> Place
     requires few { length (numbered_book shared.now (book_for shared.now.cells ask.now)) ≤ most_events }
     ensures { IsNext shared.now ask.now result }
@@ -62,7 +52,7 @@ fn next_place(shared: &SharedState, ask: &Ask) -> Place
     }
 }
 
-/// Notes a place behind the others, if its book goes on there.
+/// Notes a place behind the others, if its book continues there.
 fn note(trace: &mut Vec<Place>, shared: &SharedState, place: Place)
     requires { vec_len trace.old < vec_capacity trace.old }
     ensures { trace.new.items ≡ with_place (nat_lt place.at (length (numbered_book shared.now place.book))) trace.old.items place }
@@ -79,9 +69,10 @@ fn serve_noted(trace: &mut Vec<Place>, shared: &mut SharedState, actor: u16, ask
     requires { is_lawful shared.old actor ask ≡ true }
     ensures { IsServed shared.old actor ask result shared.new trace.old.items trace.new.items }
 {
-    if !may_add(&ask) {
+    if !ask.may_add_event() {
         return shared.serve(actor, ask);
     }
+    // A step of the proof, which does nothing when it runs.
     let _stands = shared.events();
     let next = next_place(shared, &ask);
     if trace.reserve(1).is_err() {
@@ -93,7 +84,7 @@ fn serve_noted(trace: &mut Vec<Place>, shared: &mut SharedState, actor: u16, ask
     reply
 }
 
-/// An actor's ask is served, and the actor goes on with the answer.
+/// An actor's ask is served, and the actor continues with the answer.
 #[inline(always)]
 fn take_ask(player: &mut Player, code: &Verified, shared: &mut SharedState, ask: Ask)
     requires lives { Lives code.now player.old.actor }
@@ -120,7 +111,7 @@ fn take_any_ask(player: &mut Player, code: &Verified, shared: &mut SharedState, 
     take_ask(player, code, shared, ask);
 }
 
-/// The same of an ask in few words, each told apart, so that only what serves it is left where the call is inlined.
+/// The same of an ask in few words, each in an arm of its own, so that only what serves it is left where the call is inlined.
 #[inline(always)]
 fn take_brief(player: &mut Player, code: &Verified, shared: &mut SharedState, brief: Brief)
     requires lives { Lives code.now player.old.actor }
@@ -135,7 +126,7 @@ fn take_brief(player: &mut Player, code: &Verified, shared: &mut SharedState, br
     }
 }
 
-/// The same of a whole ask, where a commit is told apart.
+/// The same of a whole ask, where a commit has an arm of its own.
 #[inline(always)]
 fn meet(player: &mut Player, code: &Verified, shared: &mut SharedState, ask: Ask)
     requires lives { Lives code.now player.old.actor }

@@ -57,7 +57,7 @@ impl RunError {
         }
     }
 
-    /// Its name, as it is told.
+    /// Its name, as it is printed.
     pub fn name(self) -> &'static str
         ensures { result.now ≡ error_name self }
     {

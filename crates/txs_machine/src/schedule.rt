@@ -2,7 +2,6 @@
 
 ghost use Rattle.std.specs.Prelude.{◌≡◌, ◌<◌, ◌≤◌, ◌+◌, ◌++◌, ℕ, List, [], length, replicate, true, false, IfOk, IfErr, IfSome, IsTrue, OnOk, Some, None};
 ghost use Rattle.txs_machine_actor.specs.PlainActor.{MayRun};
-ghost use Rattle.txs_value_cell.specs.Agents.{with_agent};
 ghost use Rattle.txs_machine.specs.declared.schedule.Play.{Play as AnyPlay};
 ghost use Rattle.txs_machine.specs.declared.schedule.ScheduleError.TheVariants.{Memory};
 ghost use Rattle.txs_machine.specs.ErrorName.{schedule_error_number};
@@ -26,11 +25,11 @@ use std::fmt::{self, Debug, Display, Formatter, Write};
 use thiserror::Error;
 use txs_code_meaning::Verified;
 use txs_machine_actor::Actor;
-use txs_value_data::CellKind;
-use txs_world_protocol::{Outcome, Ran};
+use txs_value_cell::count_agents;
+use txs_world_protocol::{ActorReport, Outcome};
 use txs_world_shared::SharedState;
 
-/// One play of a schedule: the actor with this number, counted from 0, goes on. Threads come first, and agents behind them.
+/// One play of a schedule: the actor with this number, counted from 0, makes its next turn. Threads come first, and agents behind them.
 #[derive(Clone, Copy)]
 pub enum Play {
     /// It makes one turn, with its ask served and answered.
@@ -49,8 +48,8 @@ pub struct Repeated {
 /// The entries of a report: what all threads did, by their numbers, and what the actors of agents did, in the order of their cells. The
 /// events and the newest values are those of the state that they share.
 pub struct Entries {
-    pub threads: Vec<Ran>,
-    pub agents: Vec<Ran>,
+    pub threads: Vec<ActorReport>,
+    pub agents: Vec<ActorReport>,
 }
 
 // Dropped by a call that is proved here, so that no crate above proves it again.
@@ -64,7 +63,7 @@ impl Drop for Entries {
 
 impl Entries {
     /// The entries of threads, and those of agents.
-    pub(crate) fn into_parts(self) -> (Vec<Ran>, Vec<Ran>)
+    pub(crate) fn into_parts(self) -> (Vec<ActorReport>, Vec<ActorReport>)
         ensures threads { result.0 ≡ self.threads }
         ensures agents { result.1 ≡ self.agents }
     {
@@ -194,6 +193,7 @@ fn open_players(
     requires no_agents { players.old.agents.items ≡ [] }
     ensures { OnOk result (AreReady code.now max_steps threads players.new) }
 {
+    // A step of the proof, which does nothing when it runs.
     let (_functions, _threads) = code.rooms();
     players.threads.reserve(threads as usize)?;
     for k in 0..threads {
@@ -235,6 +235,7 @@ fn play_actor<Caller>(
     if ended {
         return;
     }
+    // Steps of the proof, which do nothing when they run.
     let _own_cells = code.code();
     go_on(player, code, shared, budget);
 }
@@ -277,6 +278,7 @@ fn play_at(
     requires playing { ArePlaying code.now max_steps shared.old players.old }
     ensures { IsPlayAt code.now max_steps k shared.old players.old shared.new players.new }
 {
+    // A step of the proof, which does nothing when it runs.
     let _own_cells = code.code();
     let (_functions, _threads) = code.rooms();
     let threads = players.threads.len();
@@ -374,7 +376,7 @@ fn play_rest(
     }
 }
 
-/// Where no other actor stands behind a thread's, further asks of that one, up to its end: a round has no other, since those
+/// Where no other actor is behind a thread's, further asks of that one, up to its end: a round has no other, since those
 /// before it have ended.
 fn play_out(
     players: &mut Players,
@@ -393,6 +395,7 @@ fn play_out(
     ensures later { AreLater players.old.threads.items players.new.threads.items }
     ensures left { left_all players.new ≤ left_all players.old }
 {
+    // A step of the proof, which does nothing when it runs.
     let _own_cells = code.code();
     let at = k as usize;
     if at >= players.threads.len() {
@@ -429,7 +432,7 @@ fn first_unended(players: &[Player]) -> Option<usize>
     None
 }
 
-/// The first actor with which a round goes on: that of a thread that hasn't ended, else that of an agent that hasn't and has something to do.
+/// The first actor with which a round continues: that of a thread that hasn't ended, else that of an agent that hasn't and has something to do.
 fn first_live(players: &Players, code: &Verified, shared: &SharedState) -> Option<u16>
     requires of { IsStateOf code.now shared.now }
     requires few { length players.now.threads.items + length players.now.agents.items ≤ 65535 }
@@ -477,51 +480,51 @@ fn play_rounds(
     }
 }
 
-/// What an actor did, as a report tells it.
-pub(crate) fn report_of(alloc: Global, player: &Player) -> Result<Ran, AllocError>
-    ensures { IfOk result (λ ran. IsReported player.now ran) }
+/// What an actor did, as a report says: its bytes and places are moved there.
+pub(crate) fn report_of(player: Player) -> ActorReport
+    ensures { IsReported player result }
 {
-    let actor = &player.actor;
-    let printed = Vec::from_slice(alloc, actor.printed())?;
-    let trace = Vec::from_slice(alloc, player.trace.as_slice())?;
-    Ok(Ran {
-        outcome: actor.outcome(),
-        printed,
+    let Player { actor, trace } = player;
+    let outcome = actor.outcome();
+    let steps = actor.steps();
+    ActorReport {
+        outcome,
+        printed: actor.into_printed(),
         trace,
-        steps: actor.steps(),
-    })
+        steps,
+    }
 }
 
-/// What the actors of threads and of agents did.
-fn report_all(
-    alloc: Global,
-    players: &[Player],
-    attending: &[AgentPlayer],
-) -> Result<Entries, AllocError>
-    ensures threads { IfOk result (λ report. AreReported players.now report.threads.items) }
-    ensures agents { IfOk result (λ report. AreReported (attendants attending.now) report.agents.items) }
+/// What the actors of threads did.
+fn report_threads(alloc: Global, players: Vec<Player>) -> Result<Vec<ActorReport>, AllocError>
+    ensures { IfOk result (λ rans. AreReported players.items rans.items) }
 {
-    let mut threads = Vec::with_capacity(alloc, players.len())?;
+    let mut rans = Vec::with_capacity(alloc, players.len())?;
     for player in players {
-        let told = report_of(alloc, player)?;
-        threads.push_reserved(told);
+        rans.push(report_of(player))?;
     }
-    let mut agents = Vec::with_capacity(alloc, attending.len())?;
-    for agent in attending {
-        let ran = report_of(alloc, &agent.player)?;
-        agents.push_reserved(ran);
-    }
-    Ok(Entries { threads, agents })
+    Ok(rans)
 }
 
-/// One for an agent, and none for another cell.
-fn agents_in(kind: CellKind) -> u16
-    ensures { result ≡ length (with_agent kind 0 []) }
+/// What the actors of agents did.
+fn report_agents(alloc: Global, agents: Vec<AgentPlayer>) -> Result<Vec<ActorReport>, AllocError>
+    ensures { IfOk result (λ rans. AreReported (attendants agents.items) rans.items) }
 {
-    match kind {
-        CellKind::Agent => 1,
-        CellKind::Ref | CellKind::Atom => 0,
+    let mut rans = Vec::with_capacity(alloc, agents.len())?;
+    for agent in agents {
+        rans.push(report_of(agent.player))?;
     }
+    Ok(rans)
+}
+
+/// What all actors did.
+fn report_all(alloc: Global, players: Players) -> Result<Entries, AllocError>
+    ensures threads { IfOk result (λ report. AreReported players.threads.items report.threads.items) }
+    ensures agents { IfOk result (λ report. AreReported (attendants players.agents.items) report.agents.items) }
+{
+    let threads = report_threads(alloc, players.threads)?;
+    let agents = report_agents(alloc, players.agents)?;
+    Ok(Entries { threads, agents })
 }
 
 /// How many actors there are: the threads, and behind them the agents.
@@ -530,12 +533,9 @@ fn count_actors(code: &Verified, threads: u16) -> u16
     requires few { length code.now.threads + length code.now.cells ≤ 65535 }
     ensures { result ≡ actors_of code.now }
 {
-    let mut actors = threads;
     let cells = code.code().cells();
-    for cell in cells {
-        actors += agents_in(cell.kind);
-    }
-    actors
+    let agents = count_agents(cells);
+    threads + agents as u16
 }
 
 /// Runs all actors, of which there are so many, over a state in which nothing was done yet, by plays that name some of them.
@@ -556,6 +556,7 @@ fn run_all(
     ensures of { IsStateOf code.now shared.new }
     ensures says { IfOk result (λ report. SaysOf code.now max_steps (spread plays.now) rounds shared.new report) }
 {
+    // A step of the proof, which does nothing when it runs.
     let (_functions, _threads) = code.rooms();
     let mut players = Players {
         threads: Vec::new(alloc),
@@ -564,8 +565,9 @@ fn run_all(
     open_players(alloc, code, shared.threads(), max_steps, &mut players)?;
     play_all(&mut players, code, shared, plays, max_steps);
     play_rounds(&mut players, code, shared, actors, max_steps, rounds);
+    // A step of the proof, which does nothing when it runs.
     let _stands = shared.events();
-    report_all(alloc, players.threads.as_slice(), players.agents.as_slice())
+    report_all(alloc, players)
 }
 
 /// Runs all threads and agents of the code over a state in which nothing was done yet: the plays of a schedule in their order, each as many times as it says, and with `rounds` behind them one ask of

@@ -32,7 +32,7 @@ use Rattle.txs_machine_actor.specs.PlainActor.{PlainActor, home_of, stops_as, as
 use Rattle.txs_machine_transaction.specs.Asks.{applied_in, ask_for}
 use Rattle.txs_machine_transaction.specs.Transaction.{is_running, depth_in, IsSwapping}
 use Rattle.txs_machine_actor.specs.Turns.{TakesAnswer}
-use Rattle.txs_machine_transaction.specs.declared.state.Origin.{Origin}
+use Rattle.txs_machine_transaction.specs.declared.state.Savepoint.{Savepoint}
 use Rattle.txs_machine_transaction.specs.declared.state.Transaction.{Transaction}
 use Rattle.txs_machine_transaction.specs.declared.state.Transaction.TheVariants.{Outside, Restarting, Running, Applying, Evaluating, Swapping}
 use Rattle.txs_machine_transaction.specs.declared.state.Pending.{Pending}
@@ -87,7 +87,7 @@ module _ (d : PlainCode) (kinds : List FunctionKind) (b : CodeBody) (a : PlainAc
       goes_so (record a { pending = None }) refl e refl refl
       (record { own = g.own; base = g.base; ready = g.ready; enters = g.enters; callers = g.callers; is_first = g.is_first; counted = g.counted; swaps = g.swaps; began = g.began; shallow = g.shallow; commutes = g.commutes; opened = g.opened; serves = g.serves; applies = g.applies })
 
-  begins_goes : (left : ℕ) (from : Origin) → a.outcome ≡ None → GoesOn d kinds b a → BeganAnew d kinds a.number home from → After (begins_again a left from)
+  begins_goes : (left : ℕ) (from : Savepoint) → a.outcome ≡ None → GoesOn d kinds b a → BeganAnew d kinds a.number home from → After (begins_again a left from)
   begins_goes zero from e g w = ends_so (outcome.Failed (fault_at RetryLimit from.span))
   begins_goes (suc left) from e g w =
       let x = begins_again a (suc left) from in
@@ -97,7 +97,7 @@ module _ (d : PlainCode) (kinds : List FunctionKind) (b : CodeBody) (a : PlainAc
       inl (record { number = refl; body = v.stands.code_body; is = v.stands.is; goes = subst (λ (o : Option Outcome). CanGoOn d kinds v.stands.code_body x o None) (sym e) go })
 
   -- the swap goes again from its open
-  opens_goes : (from : Origin) → a.outcome ≡ None → GoesOn d kinds b a → Began d kinds a.number home from → After (opens_again a from)
+  opens_goes : (from : Savepoint) → a.outcome ≡ None → GoesOn d kinds b a → Began d kinds a.number home from → After (opens_again a from)
   opens_goes from e g v =
       let x = opens_again a from in
       let go : GoesOn d kinds v.stands.code_body x =
@@ -120,7 +120,7 @@ module _ (d : PlainCode) (kinds : List FunctionKind) (b : CodeBody) (a : PlainAc
   again_goes (Evaluating left from phase aside) e g w = stays_so e g
   again_goes (Swapping c p from) e g w = stays_so e g
 
-  ends_goes : (left : ℕ) (from : Origin) → a.outcome ≡ None → (g : GoesOn d kinds b a) → NoneAside a.tx → g.base.0 + g.own.0 ≡ 1 → g.base.1 + g.own.1 ≡ 0 → 1 ≤ a.steps → BeganAnew d kinds a.number home from → After (ends_again a left from)
+  ends_goes : (left : ℕ) (from : Savepoint) → a.outcome ≡ None → (g : GoesOn d kinds b a) → NoneAside a.tx → g.base.0 + g.own.0 ≡ 1 → g.base.1 + g.own.1 ≡ 0 → 1 ≤ a.steps → BeganAnew d kinds a.number home from → After (ends_again a left from)
   ends_goes zero from e g u c z le w = ends_so (outcome.Failed (fault_at RetryLimit from.span))
   ends_goes (suc left) from e g u c z le w =
       goes_so (ends_again a (suc left) from) refl e refl refl

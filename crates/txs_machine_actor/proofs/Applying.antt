@@ -1,7 +1,7 @@
 -- Commutes that can be applied, and where they are.
 use Rattle.std.proofs.Common.{◌≡◌, ℕ, zero, suc, ◌+◌, ◌==◌, ◌<◌, ◌≤◌, Bool, true, false, if◌then◌else◌, List, [], ◌∷◌, ◌++◌, length, Option, Some, None, Ok, Err, refl, sym, ap, ◌∙◌, subst, arith}
 use Rattle.txs_world_protocol.specs.Ask.{Writes}
-use Rattle.txs_frame.specs.Frame.{Work, commutes_of, by_ref}
+use Rattle.txs_frame.specs.Frame.{PlainTxFrame, commutes_of, by_ref}
 use Rattle.txs_frame.specs.Phase.{blank, given, next_arguments, next_callee}
 use Rattle.txs_frame.specs.declared.frame.Commute.{Commute}
 use Rattle.txs_value_apply.specs.Core.{core, takes}
@@ -22,7 +22,7 @@ use Rattle.txs_machine_actor.specs.PlainActor.{owner_of, functions_of, added, Ca
 use Rattle.txs_machine_transaction.specs.Transaction.{depth_in, IsSwapping, IsUnapplied}
 use Rattle.txs_machine_actor.specs.Turns.{function_of, next_function}
 use Rattle.txs_machine_stack.specs.PlainFrame.{PlainFrame}
-use Rattle.txs_machine_transaction.specs.declared.state.Origin.{Origin}
+use Rattle.txs_machine_transaction.specs.declared.state.Savepoint.{Savepoint}
 use Rattle.txs_machine_transaction.specs.declared.state.Pending.TheVariants as pending
 use Rattle.txs_machine_transaction.specs.declared.state.Transaction.{Transaction}
 use Rattle.txs_machine_transaction.specs.declared.state.Transaction.TheVariants.{Outside, Restarting, Running, Applying, Evaluating, Swapping}
@@ -193,12 +193,12 @@ module _ (op : Op) where
   next_takes [] ws all e = cc
   next_takes (k ∷ ks) ws all e = (omega arith, subst (λ (f : Callee). IsOperation f (length k.args)) (some e) all)
 
-  pub stage_applied : (left : ℕ) (from : Origin) (vs : List Value) (w : Work) (had : Option Commute) (ks : List Commute) (ws : Writes) (v : Value) → next_callee ks ≡ Some (callee.Core op) → core op (next_arguments ks ws) ≡ Ok v
+  pub stage_applied : (left : ℕ) (from : Savepoint) (vs : List Value) (w : PlainTxFrame) (had : Option Commute) (ks : List Commute) (ws : Writes) (v : Value) → next_callee ks ≡ Some (callee.Core op) → core op (next_arguments ks ws) ≡ Ok v
       → goes_through left from vs w had ks ws ≡ stays vs (applying left from (given ks ws v).work (given ks ws v).values) w had
   stage_applied left from vs w had [] ws v e f = cc
   stage_applied left from vs w had (k ∷ ks) ws v e f = ap (λ x. applies x left from vs w had k ks ws) (some e) ∙ ap (applies_as left from vs w had k ks ws) f
 
-  pub stage_faults : (left : ℕ) (from : Origin) (vs : List Value) (w : Work) (had : Option Commute) (ks : List Commute) (ws : Writes) (x : FaultKind) → next_callee ks ≡ Some (callee.Core op) → core op (next_arguments ks ws) ≡ Err x
+  pub stage_faults : (left : ℕ) (from : Savepoint) (vs : List Value) (w : PlainTxFrame) (had : Option Commute) (ks : List Commute) (ws : Writes) (x : FaultKind) → next_callee ks ≡ Some (callee.Core op) → core op (next_arguments ks ws) ≡ Err x
       → goes_through left from vs w had ks ws ≡ falls (fault_at x from.span) (applying left from ks ws) w had
   stage_faults left from vs w had [] ws x e f = cc
   stage_faults left from vs w had (k ∷ ks) ws x e f = ap (λ y. applies y left from vs w had k ks ws) (some e) ∙ ap (applies_as left from vs w had k ks ws) f

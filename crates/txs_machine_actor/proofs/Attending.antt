@@ -9,7 +9,7 @@ use Rattle.txs_world_protocol.specs.declared.ask.Reply.{Reply}
 use Rattle.txs_world_protocol.specs.declared.ask.Reply.TheVariants as reply
 use Rattle.txs_world_protocol.specs.declared.event.Outcome.{Outcome}
 use Rattle.txs_world_protocol.specs.declared.event.Outcome.TheVariants as outcome
-use Rattle.txs_frame.specs.Frame.{Work, no_work}
+use Rattle.txs_frame.specs.Frame.{PlainTxFrame, empty_frame}
 use Rattle.txs_machine_calls.specs.Travels.{Needs}
 use Rattle.txs_code_meaning.specs.Opening.{given, opening}
 use Rattle.txs_frame.specs.declared.frame.Commute.{Commute}
@@ -98,7 +98,7 @@ moves_so d a c r e lt h =
 
 -- ---- turns in the agent's own body
 
-module _ (d : PlainCode) (function_rooms thread_rooms : List ℕ) (typed : WellTyped d function_rooms thread_rooms) (n : ℕ) (was : List ℕ) (p seen : ℕ) (done : Work) (kept : Option Commute) (limit room : ℕ) (g : CellId)
+module _ (d : PlainCode) (function_rooms thread_rooms : List ℕ) (typed : WellTyped d function_rooms thread_rooms) (n : ℕ) (was : List ℕ) (p seen : ℕ) (done : PlainTxFrame) (kept : Option Commute) (limit room : ℕ) (g : CellId)
     (actor : IsActorOf d n g) (roomy : 0 < room) (commutes : AllApply (functions_of d typed.kinds) done.commutes) (opened : OpenApplies (functions_of d typed.kinds) kept) where
   -- the agent's actor in its own body
   abbrev pub own : ℕ → Option InHand → List Value → ℕ → Option Pending → PlainActor
@@ -496,7 +496,7 @@ module _ (d : PlainCode) (a : PlainActor) (h : Attends d a) (e : a.outcome ≡ N
     here = t;
     actor = subst (λ (x : CellId). IsActorOf d c.number x) (sym is) (subst (λ (x : ℕ). IsActorOf d x h.agent) (sym n) h.actor);
     roomy = roomy;
-    commutes = subst (λ (x : Work). AllApply (functions_of d h.typed.kinds) x.commutes) (sym w) h.commutes;
+    commutes = subst (λ (x : PlainTxFrame). AllApply (functions_of d h.typed.kinds) x.commutes) (sym w) h.commutes;
     opened = subst (λ (x : Option Commute). OpenApplies (functions_of d h.typed.kinds) x) (sym k) h.opened;
     attends = on_so;
   }
@@ -553,23 +553,23 @@ attends_lands d a r l i m out =
 
 -- ---- an agent's actor before its first turn
 
-module _ (d : PlainCode) (n limit : ℕ) (g : CellId) (actor : IsActorOf d n g) (out : List ℕ) (w : Work) where
+module _ (d : PlainCode) (n limit : ℕ) (g : CellId) (actor : IsActorOf d n g) (out : List ℕ) (w : PlainTxFrame) where
   abbrev new_agent : PlainActor
   new_agent = it n (Attending g None) 0 [] 0 0 [] out 0 0 w None 0 limit 1 Outside None
 
-  pub agent_is_new : out ≡ [] → w ≡ no_work → IsNew d n limit new_agent
+  pub agent_is_new : out ≡ [] → w ≡ empty_frame → IsNew d n limit new_agent
   agent_is_new unprinted undone =
-      let at_first : List ℕ → Work → Configuration = λ o y. first_place [] (stated [] o 0 0 y None None) in
+      let at_first : List ℕ → PlainTxFrame → Configuration = λ o y. first_place [] (stated [] o 0 0 y None None) in
       record {
         number = refl;
-        opens = ap (λ (o : List ℕ). at_first o w) unprinted ∙ ap (λ (y : Work). at_first [] y) undone ∙ ap (λ (t : ThreadCode). opening t []) (sym actor);
+        opens = ap (λ (o : List ℕ). at_first o w) unprinted ∙ ap (λ (y : PlainTxFrame). at_first [] y) undone ∙ ap (λ (t : ThreadCode). opening t []) (sym actor);
         unended = refl;
         unasking = refl;
         unused = refl;
         limited = refl;
       }
 
-  pub agent_lives : w ≡ no_work → (function_rooms thread_rooms : List ℕ) → WellTyped d function_rooms thread_rooms → Attends d new_agent
+  pub agent_lives : w ≡ empty_frame → (function_rooms thread_rooms : List ℕ) → WellTyped d function_rooms thread_rooms → Attends d new_agent
   agent_lives undone function_rooms thread_rooms typed = record {
     function_rooms = function_rooms;
     thread_rooms = thread_rooms;
@@ -579,7 +579,7 @@ module _ (d : PlainCode) (n limit : ℕ) (g : CellId) (actor : IsActorOf d n g) 
     here = refl;
     actor = actor;
     roomy = omega arith;
-    commutes = subst (λ (y : Work). AllApply (functions_of d typed.kinds) y.commutes) (sym undone) tt;
+    commutes = subst (λ (y : PlainTxFrame). AllApply (functions_of d typed.kinds) y.commutes) (sym undone) tt;
     opened = tt;
     attends = waits refl;
   }

@@ -1,7 +1,7 @@
 -- A send outside every transaction finds its arguments on the stack.
 use Rattle.std.proofs.Common.{◌≡◌, ℕ, zero, suc, ◌<◌, ◌≤◌, Bool, true, false, List, [], ◌∷◌, length, Option, Some, None, Result, Ok, Err, subst}
 use Rattle.txs_world_protocol.specs.Ask.{Writes, buffered}
-use Rattle.txs_frame.specs.Frame.{Work, commuted, set_ref}
+use Rattle.txs_frame.specs.Frame.{PlainTxFrame, commuted, set_ref}
 use Rattle.txs_frame.specs.Phase.{next_arguments}
 use Rattle.txs_frame.specs.declared.frame.Commute.{Commute}
 use Rattle.txs_value_apply.specs.Core.{Answer, core}
@@ -24,7 +24,7 @@ use Rattle.txs_code_meaning.specs.declared.instr.OpenForm.TheVariants as open_fo
 use Rattle.txs_machine_loop.specs.Values.{last_of, under}
 use Rattle.txs_machine_transaction.specs.Effect.{Effect, moves, stays, waits, dispatches, breaks, falls, own_or, ensures_cell, opens_cell, update_of, sets_as, sets_cell, resets_cell, sends_cell, swaps_cell, swapped, keeps_cell, closes, settles, applies_as, applies, goes_through, ends, CanMove, IsRare, effect}
 use Rattle.txs_machine_transaction.specs.Transaction.{is_running}
-use Rattle.txs_machine_transaction.specs.declared.state.Origin.{Origin}
+use Rattle.txs_machine_transaction.specs.declared.state.Savepoint.{Savepoint}
 use Rattle.txs_machine_transaction.specs.declared.state.Transaction.{Transaction}
 use Rattle.txs_machine_transaction.specs.declared.state.Transaction.TheVariants.{Outside, Restarting, Running, Applying, Evaluating, Swapping}
 
@@ -42,7 +42,7 @@ module _ (room : ℕ) where
   own_or_well None go e f g = g
   own_or_well (Some v) go e f g = f v
 
-  module _ (from : Origin) (vs : List Value) (tx : Transaction) (w : Work) where
+  module _ (from : Savepoint) (vs : List Value) (tx : Transaction) (w : PlainTxFrame) where
     ensures_well : (k : Option Commute) (r : Result CellId FaultKind) → SendsWell (ensures_cell vs tx w k r)
     ensures_well k (Ok c) = own_or_well (buffered w.values c.number) _ _ (λ v. tt) tt
     ensures_well k (Err x) = tt
@@ -51,7 +51,7 @@ module _ (room : ℕ) where
     opens_well u n k (Ok c) = own_or_well (buffered w.values c.number) _ _ (λ v. tt) tt
     opens_well u n k (Err x) = tt
 
-    set_well : (k : Option Commute) (o : Result Work FaultKind) → SendsWell (sets_as vs tx w k o)
+    set_well : (k : Option Commute) (o : Result PlainTxFrame FaultKind) → SendsWell (sets_as vs tx w k o)
     set_well k (Ok new) = tt
     set_well k (Err x) = tt
 
@@ -85,15 +85,15 @@ module _ (room : ℕ) where
     settles_well [] t k = tt
     settles_well (c ∷ cs) t k = tt
 
-    applied_well : (left : ℕ) (at : Origin) (k : Option Commute) (o : Commute) (os : List Commute) (ws : Writes) (x : Answer) → SendsWell (applies_as left at vs w k o os ws x)
+    applied_well : (left : ℕ) (at : Savepoint) (k : Option Commute) (o : Commute) (os : List Commute) (ws : Writes) (x : Answer) → SendsWell (applies_as left at vs w k o os ws x)
     applied_well left at k o os ws (Ok v) = tt
     applied_well left at k o os ws (Err x) = tt
 
-    applies_well : (f : Callee) (left : ℕ) (at : Origin) (k : Option Commute) (o : Commute) (os : List Commute) (ws : Writes) → SendsWell (applies f left at vs w k o os ws)
+    applies_well : (f : Callee) (left : ℕ) (at : Savepoint) (k : Option Commute) (o : Commute) (os : List Commute) (ws : Writes) → SendsWell (applies f left at vs w k o os ws)
     applies_well (callee.Core op) left at k o os ws = applied_well left at k o os ws (core op (next_arguments (o ∷ os) ws))
     applies_well (callee.Function f) left at k o os ws = tt
 
-    through_well : (left : ℕ) (at : Origin) (k : Option Commute) (os : List Commute) (ws : Writes) → SendsWell (goes_through left at vs w k os ws)
+    through_well : (left : ℕ) (at : Savepoint) (k : Option Commute) (os : List Commute) (ws : Writes) → SendsWell (goes_through left at vs w k os ws)
     through_well left at k [] ws = tt
     through_well left at k (o ∷ os) ws = applies_well o.callee left at k o os ws
 
@@ -142,6 +142,6 @@ module _ (room : ℕ) where
     effect_well k instr.Halt can rare = absurd can
 
     -- where an instruction sends outside every transaction, its arguments are among the values, which have room
-    pub dispatched : (k : Option Commute) (i : Instr) → CanMove vs room tx i → IsRare k i → (x : Action) (n : ℕ) (us : List Value) (t : Transaction) (u : Work) (had : Option Commute) → effect from vs tx w k i ≡ dispatches x n us t u had
+    pub dispatched : (k : Option Commute) (i : Instr) → CanMove vs room tx i → IsRare k i → (x : Action) (n : ℕ) (us : List Value) (t : Transaction) (u : PlainTxFrame) (had : Option Commute) → effect from vs tx w k i ≡ dispatches x n us t u had
         → (n < length us) × (length us ≤ room)
     dispatched k i can rare x n us t u had e = subst SendsWell e (effect_well k i can rare)

@@ -7,7 +7,7 @@ use Rattle.txs_world_protocol.specs.declared.ask.Ask.TheVariants as ask
 use Rattle.txs_world_protocol.specs.declared.ask.Reply.{Reply}
 use Rattle.txs_world_protocol.specs.declared.ask.Reply.TheVariants.{Is, Views, Done, Retry, Changed, Opened, Action, Idle}
 use Rattle.txs_world_protocol.specs.declared.event.Outcome.TheVariants as outcome
-use Rattle.txs_frame.specs.Frame.{Work, no_work, commuted, set_writes, set_ref, with_cell, ensure_ref, commute_ref, hold_send, phase_work}
+use Rattle.txs_frame.specs.Frame.{PlainTxFrame, empty_frame, commuted, set_writes, set_ref, with_cell, ensure_ref, commute_ref, hold_send, phase_work}
 use Rattle.txs_frame.specs.Phase.{PlainPhase, blank, arguments_of}
 use Rattle.txs_frame.specs.declared.frame.Commute.{Commute}
 use Rattle.txs_value_cell.specs.Forms.{rule, cell_of}
@@ -43,7 +43,7 @@ use Rattle.txs_machine_transaction.specs.Asks.{applied_in, ask_for}
 use Rattle.txs_machine_transaction.specs.Effect.{Effect, moves, stays, waits, dispatches, breaks, falls, own_or, reads, reads_cell, ensures, ensures_cell, opens_cell, opens as opens_at, sets, sets_as, sets_cell, resets, resets_cell, action_of, sends, sends_cell, swaps, swaps_cell, swapped, keeps_cell, closes, begins as begins_at, settles as settles_at, applying, applies_as, applies as applies_at, goes_through, ends as ends_at, IsOperation, Operates, LeftApply, effect}
 use Rattle.txs_machine_actor.specs.PlainActor.{PlainActor, savepoint_of, frames_on, frames_in, activity_of, home_of, acting_of, MayAnswer, Stops, stops_as, begins_again, run_again, ends_again, end_again, refuse, answered, stands_at}
 use Rattle.txs_machine_transaction.specs.Transaction.{is_running, depth_in, IsUnapplied, IsSwapping}
-use Rattle.txs_machine_transaction.specs.declared.state.Origin.{Origin}
+use Rattle.txs_machine_transaction.specs.declared.state.Savepoint.{Savepoint}
 use Rattle.txs_machine_transaction.specs.declared.state.Pending.{Pending}
 use Rattle.txs_machine_transaction.specs.declared.state.Pending.TheVariants as pending
 use Rattle.txs_machine_transaction.specs.declared.state.Transaction.{Transaction}
@@ -53,7 +53,7 @@ use Rattle.txs_machine_actor.proofs.Meaning.{stated, configuration, same_place}
 use Rattle.txs_machine_actor.proofs.Replies.{begin_replies, view_replies, look_replies, peek_replies, commit_replies, fail_replies, take_replies, finish_replies, reset_replies, send_replies, open_replies, close_replies, broke_replies}
 use Rattle.txs_machine_transaction.proofs.Keeping.{but_one_more}
 
-module _ (n : ℕ) (role : Role) (bn : ℕ) (fs : List PlainFrame) (l at : ℕ) (vs : List Value) (out : List ℕ) (p seen : ℕ) (w : Work) (kept : Option Commute) (steps limit room : ℕ) where
+module _ (n : ℕ) (role : Role) (bn : ℕ) (fs : List PlainFrame) (l at : ℕ) (vs : List Value) (out : List ℕ) (p seen : ℕ) (w : PlainTxFrame) (kept : Option Commute) (steps limit room : ℕ) where
   -- an actor with these values
   abbrev pub it : Transaction → Option Pending → PlainActor
   it tx o = record { number = n; role = role; body = bn; frames = fs; locals = l; place = at; values = vs; printed = out; at = p; view = seen; done = w; commuting = kept; tx = tx; pending = o; outcome = None; steps = steps; limit = limit; room = room }
@@ -67,7 +67,7 @@ module _ (n : ℕ) (role : Role) (bn : ℕ) (fs : List PlainFrame) (l at : ℕ) 
   held = acting_of role
 
   -- where a transaction would begin
-  abbrev pub from_here : Span → Origin
+  abbrev pub from_here : Span → Savepoint
   from_here span = record { span = span; stack = record { body = bn; locals = l; place = at; values = vs; room = room; frames = fs } }
 
   abbrev pub before : List Exchange → ActorState
@@ -202,11 +202,11 @@ module _ (n : ℕ) (role : Role) (bn : ℕ) (fs : List PlainFrame) (l at : ℕ) 
   said span tx (falls d tx1 own had) f g h k = (k.0, k.1, k.2, λ xs. h xs ∙ k.3 xs)
 
   -- the transaction begins again
-  reruns_from : (left : ℕ) (from : Origin) (tx : Transaction) (o : Option Pending) → rerun left (savepoint_of home from) (before []) ≡ stands_at (begins_again (it tx o) left from)
+  reruns_from : (left : ℕ) (from : Savepoint) (tx : Transaction) (o : Option Pending) → rerun left (savepoint_of home from) (before []) ≡ stands_at (begins_again (it tx o) left from)
   reruns_from zero from tx o = refl
   reruns_from (suc left) from tx o = refl
 
-  reruns_so : (left inner : ℕ) (from : Origin) (o : Option Pending) → rerun left (savepoint_of home from) (before []) ≡ stands_at (run_again (it (Running left inner from) o) (Running left inner from))
+  reruns_so : (left inner : ℕ) (from : Savepoint) (o : Option Pending) → rerun left (savepoint_of home from) (before []) ≡ stands_at (run_again (it (Running left inner from) o) (Running left inner from))
   reruns_so left inner from o = reruns_from left from (Running left inner from) o
 
   -- the actor at the next place with this stack
@@ -214,7 +214,7 @@ module _ (n : ℕ) (role : Role) (bn : ℕ) (fs : List PlainFrame) (l at : ℕ) 
   stacked tx st s1 = Unfinished (configuration bn (at + 1) st (take l vs) (frames_in fs home tx) (activity_of home tx) s1)
 
   -- a value in the place of the last, where the transaction has done this
-  replaced_with : (own : Work) (tx : Transaction) (v : Value) → l < length vs
+  replaced_with : (own : PlainTxFrame) (tx : Transaction) (v : Value) → l < length vs
       → stacked tx (v ∷ stack_in l (but_last vs)) (stated [] out p seen own kept held)
       ≡ Unfinished (configuration bn (at + 1) (stack_in l (but_last vs ++ v ∷ [])) (take l (but_last vs ++ v ∷ [])) (frames_in fs home tx) (activity_of home tx) (stated [] out p seen own kept held))
   replaced_with own tx v lt =
@@ -230,7 +230,7 @@ module _ (n : ℕ) (role : Role) (bn : ℕ) (fs : List PlainFrame) (l at : ℕ) 
   on_read tx v s1 = stacked tx (v ∷ stack_in l (but_last vs)) s1
 
   -- `deref` in a transaction
-  inside_by : (span : Span) (left inner : ℕ) (from : Origin) → l < length vs → (r : Result CellId FaultKind)
+  inside_by : (span : Span) (left inner : ℕ) (from : Savepoint) → l < length vs → (r : Result CellId FaultKind)
       → EffectIs span (Running left inner from) (reads_cell true vs (Running left inner from) w kept r)
       (λ xs. on (machine.Running left inner (savepoint_of home from)) (on_step (step_of r span (before xs)) (read_cell Deref true)) (on_read (Running left inner from)))
   unfolding look
@@ -264,7 +264,7 @@ module _ (n : ℕ) (role : Role) (bn : ℕ) (fs : List PlainFrame) (l at : ℕ) 
   guarded c r = on_step r (λ v s1. Continue v (record s1 { done = ensure_ref c s1.done }))
 
   -- `ensure`
-  ensures_by : (span : Span) (left inner : ℕ) (from : Origin) → l < length vs → (r : Result CellId FaultKind)
+  ensures_by : (span : Span) (left inner : ℕ) (from : Savepoint) → l < length vs → (r : Result CellId FaultKind)
       → EffectIs span (Running left inner from) (ensures_cell vs (Running left inner from) w kept r)
       (λ xs. on (machine.Running left inner (savepoint_of home from)) (on_step (step_of r span (before xs)) (read_cell Ensure true)) (on_read (Running left inner from)))
   unfolding look
@@ -298,7 +298,7 @@ module _ (n : ℕ) (role : Role) (bn : ℕ) (fs : List PlainFrame) (l at : ℕ) 
   abbrev opened_as : Option Commute → StepResult Value → StepResult Value
   opened_as had r = on_step r (λ x s2. Continue x (record s2 { commuting = had }))
 
-  opens_by : (u : RefUpdate) (span : Span) (m left inner : ℕ) (from : Origin) → m + l ≤ length vs → (r : Result CellId FaultKind)
+  opens_by : (u : RefUpdate) (span : Span) (m left inner : ℕ) (from : Savepoint) → m + l ≤ length vs → (r : Result CellId FaultKind)
       → EffectIs span (Running left inner from) (opens_cell u m vs (Running left inner from) w kept r)
       (λ xs. on (machine.Running left inner (savepoint_of home from)) (on_step (step_of r span (before xs)) (λ c s1. opened_as (kept_open u c (topmost m vs)) (look c s1))) (on_open m (Running left inner from)))
   unfolding look
@@ -323,7 +323,7 @@ module _ (n : ℕ) (role : Role) (bn : ℕ) (fs : List PlainFrame) (l at : ℕ) 
   unfolding begin
   begun_by left tx low span = record {
     now = ap (λ h. on (activity_of home tx) (on_step (heard read_point h) begun) go) (asks_now ask.Begin);
-    leads = λ r m k. ap (λ h. on (activity_of home tx) (on_step (heard read_point h) begun) go) (asks_then ask.Begin r) ∙ begin_replies Leads (λ q. ap (λ x. over x (stated [] out q q no_work None held)) low) r m;
+    leads = λ r m k. ap (λ h. on (activity_of home tx) (on_step (heard read_point h) begun) go) (asks_then ask.Begin r) ∙ begin_replies Leads (λ q. ap (λ x. over x (stated [] out q q empty_frame None held)) low) r m;
   }
     where
       over : List Frame → ActorState → Turned Configuration
@@ -344,19 +344,19 @@ module _ (n : ℕ) (role : Role) (bn : ℕ) (fs : List PlainFrame) (l at : ℕ) 
   begins_by span (Running left inner from) u = ap (λ i. Unfinished (configuration bn (at + 1) (stack_in l vs) (take l vs) (frames_on fs home) (machine.Running left i (savepoint_of home from)) (before []))) (sym (add-one inner))
 
   -- the transaction ends again from a new view
-  ends_from : (left : ℕ) (from : Origin) (tx : Transaction) (o : Option Pending) (xs : List Exchange) → frames_in fs home tx ≡ frames_on fs home → decided Outdated left (savepoint_of home from) (here tx xs) (before []) ≡ stands_at (ends_again (it tx o) left from)
+  ends_from : (left : ℕ) (from : Savepoint) (tx : Transaction) (o : Option Pending) (xs : List Exchange) → frames_in fs home tx ≡ frames_on fs home → decided Outdated left (savepoint_of home from) (here tx xs) (before []) ≡ stands_at (ends_again (it tx o) left from)
   ends_from zero from tx o xs low = refl
   ends_from (suc left) from tx o xs low = ap (λ x. Unfinished (configuration bn at (stack_in l vs) (take l vs) x (machine.Running left 0 (savepoint_of home from)) (before []))) low
 
   -- how a transaction of so many tries from here, which puts no stack aside, goes on after its commit
-  record GoesOnFrom (tx : Transaction) (left : ℕ) (from : Origin) : Type 0 where
+  record GoesOnFrom (tx : Transaction) (left : ℕ) (from : Savepoint) : Type 0 where
     pub low : frames_in fs home tx ≡ frames_on fs home
     pub again : run_again (it tx (Some pending.Commit)) tx ≡ begins_again (it tx (Some pending.Commit)) left from
     pub from_view : end_again (it tx (Some pending.Commit)) tx ≡ ends_again (it tx (Some pending.Commit)) left from
     pub refused : refuse (it tx (Some pending.Commit)) tx ≡ stops_as (it tx (Some pending.Commit)) (outcome.Failed (fault_at AgentFailed from.span))
 
   -- a transaction ends, with the values that its commutes gave
-  commits : (tx : Transaction) (left : ℕ) (from : Origin) → GoesOnFrom tx left from
+  commits : (tx : Transaction) (left : ℕ) (from : Savepoint) → GoesOnFrom tx left from
       → Asked (λ xs. lands left (savepoint_of home from) (applied_in tx) (here tx xs)) (it tx (Some pending.Commit)) (ask.Commit p (set_writes w) w.ensures seen (applied_in tx) w.sends)
   unfolding commit
   commits tx left from k = record {
@@ -377,7 +377,7 @@ module _ (n : ℕ) (role : Role) (bn : ℕ) (fs : List PlainFrame) (l at : ℕ) 
       Leads r = (Stops r → ⊥) → gone (Replied r (before [])) (met q r) ≡ stands_at (answered (it tx (Some pending.Commit)) r)
 
   -- the refs that were commuted and not set are viewed
-  views_by : (left inner : ℕ) (from : Origin) (phase : PlainPhase) → phase ≡ record { work = phase_work w; values = blank (commuted w) }
+  views_by : (left inner : ℕ) (from : Savepoint) (phase : PlainPhase) → phase ≡ record { work = phase_work w; values = blank (commuted w) }
       → Asked (λ xs. on (machine.Running left inner (savepoint_of home from)) (view (before xs)) (λ values s. Unfinished (staying (machine.Applying left (savepoint_of home from) (phase_work s.done) values) s (here (Running left inner from) xs))))
       (it (Running left inner from) (Some (pending.View phase))) (ask.View (commuted w))
   unfolding view
@@ -407,13 +407,13 @@ module _ (n : ℕ) (role : Role) (bn : ℕ) (fs : List PlainFrame) (l at : ℕ) 
       Leads r = (Stops r → ⊥) → gone (Replied r (before [])) (met q r) ≡ stands_at (answered (it tx (Some (pending.View phase))) r)
 
   -- at a transaction's end
-  settles_by : (span : Span) (left : ℕ) (from : Origin) (cs : List CellId) → commuted w ≡ cs
+  settles_by : (span : Span) (left : ℕ) (from : Savepoint) (cs : List CellId) → commuted w ≡ cs
       → EffectIs span (Running left 0 from) (settles_at cs vs (Running left 0 from) w kept) (λ xs. settles cs left (savepoint_of home from) (here (Running left 0 from) xs))
   settles_by span left from [] e = (refl, refl, refl, refl, commits (Running left 0 from) left from (record { low = refl; again = refl; from_view = refl; refused = refl }))
   settles_by span left from (c ∷ cs) e = (refl, refl, refl, refl, views_by left 0 from (record { work = phase_work w; values = blank (commuted w) }) refl)
 
   -- a commute is applied
-  applies_by : (code : ThreadCode) (span : Span) (left : ℕ) (from : Origin) (k : Commute) (ks : List Commute) (ws : Writes) (f : Callee) → IsOperation f (length k.args)
+  applies_by : (code : ThreadCode) (span : Span) (left : ℕ) (from : Savepoint) (k : Commute) (ks : List Commute) (ws : Writes) (f : Callee) → IsOperation f (length k.args)
       → EffectIs span (applying left from (k ∷ ks) ws) (applies_at f left from vs w kept k ks ws) (λ xs. machine.applies code f left (savepoint_of home from) k ks ws (here (applying left from (k ∷ ks) ws) xs))
   applies_by code span left from k ks ws (callee.Function f) h = absurd h
   applies_by code span left from k ks ws (callee.Core op) h =
@@ -430,7 +430,7 @@ module _ (n : ℕ) (role : Role) (bn : ℕ) (fs : List PlainFrame) (l at : ℕ) 
       by_answer (Err e) = (refl, refl, refl, λ xs. refl)
 
   -- one stage of a commute phase
-  goes_by : (code : ThreadCode) (span : Span) (left : ℕ) (from : Origin) (ks : List Commute) (ws : Writes) → Operates ks
+  goes_by : (code : ThreadCode) (span : Span) (left : ℕ) (from : Savepoint) (ks : List Commute) (ws : Writes) → Operates ks
       → EffectIs span (applying left from ks ws) (goes_through left from vs w kept ks ws) (λ xs. machine.ends code (machine.Applying left (savepoint_of home from) ks ws) (here (applying left from ks ws) xs))
   goes_by code span left from [] ws h = (refl, refl, refl, refl, commits (applying left from [] ws) left from (record { low = refl; again = refl; from_view = refl; refused = refl }))
   goes_by code span left from (k ∷ ks) ws h = applies_by code span left from k ks ws k.callee h
@@ -450,18 +450,18 @@ module _ (n : ℕ) (role : Role) (bn : ℕ) (fs : List PlainFrame) (l at : ℕ) 
   sets_by span tx lt (Err k) = (refl, refl, refl, λ xs. refl)
   sets_by span tx lt (Ok c) = by_set (set_ref c (last_of vs) w)
     where
-      moved_so : (own : Work) → stacked tx (last_of vs ∷ stack_in l (below 2 vs)) (stated [] out p seen own kept held) ≡ Unfinished (configuration bn (at + 1) (stack_in l (below 2 vs ++ last_of vs ∷ [])) (take l (below 2 vs ++ last_of vs ∷ [])) (frames_in fs home tx) (activity_of home tx) (stated [] out p seen own kept held))
+      moved_so : (own : PlainTxFrame) → stacked tx (last_of vs ∷ stack_in l (below 2 vs)) (stated [] out p seen own kept held) ≡ Unfinished (configuration bn (at + 1) (stack_in l (below 2 vs ++ last_of vs ∷ [])) (take l (below 2 vs ++ last_of vs ∷ [])) (frames_in fs home tx) (activity_of home tx) (stated [] out p seen own kept held))
       moved_so own =
           let le : l ≤ length (below 2 vs) = omega (arith, length_below 2 vs, lt) in
           same_place bn (frames_in fs home tx) (activity_of home tx) [] p seen own kept held (at + 1) _ _ _ _ out (sym (pushed_stack l (below 2 vs) (last_of vs) le)) (sym (below_locals l 2 vs (omega (arith, lt))) ∙ sym (pushed_locals l (below 2 vs) (last_of vs) le))
 
-      by_set : (o : Result Work FaultKind)
+      by_set : (o : Result PlainTxFrame FaultKind)
           → EffectIs span tx (sets_as vs tx w kept o) (λ xs. on (activity_of home tx) (on_step (step_of o span (before xs)) (λ w1 s1. Continue (last_of vs) (record s1 { done = w1 }))) (λ v s1. stacked tx (v ∷ stack_in l (below 2 vs)) s1))
       by_set (Ok own) = moved_so own
       by_set (Err k) = (refl, refl, refl, λ xs. refl)
 
   -- a value in the place of some
-  over_some : (own : Work) (tx : Transaction) (m : ℕ) (v : Value) → m + l ≤ length vs
+  over_some : (own : PlainTxFrame) (tx : Transaction) (m : ℕ) (v : Value) → m + l ≤ length vs
       → stacked tx (v ∷ stack_in l (below m vs)) (stated [] out p seen own kept held)
       ≡ Unfinished (configuration bn (at + 1) (stack_in l (below m vs ++ v ∷ [])) (take l (below m vs ++ v ∷ [])) (frames_in fs home tx) (activity_of home tx) (stated [] out p seen own kept held))
   over_some own tx m v h =
@@ -665,7 +665,7 @@ module _ (n : ℕ) (role : Role) (bn : ℕ) (fs : List PlainFrame) (l at : ℕ) 
       outside = said span Outside (swaps m (from_here span) vs Outside w kept) _ _ steps_so (swaps_by span m le (cell_of (rule (form.Update update.Swap)) false (under m vs)))
 
   -- a swap ends, or goes again from its open
-  closes_atom : (c : CellId) (q : ℕ) (from : Origin) → 1 + l < length vs
+  closes_atom : (c : CellId) (q : ℕ) (from : Savepoint) → 1 + l < length vs
       → Asked (λ xs. on (activity_of home (Swapping c q from)) (close_swap (record { cell = c; at = q }) (last_of vs) (before xs)) (λ verdict s. swap_decided verdict (savepoint_of home from) (last_of vs) (stack_in l (below 2 vs)) (here (Swapping c q from) xs) s))
       (it (Swapping c q from) (Some (pending.Close c q (last_of vs)))) (ask.CloseAt c (Some q) (last_of vs))
   unfolding close_swap

@@ -13,4 +13,5 @@ pub mod Replies
 pub mod Saying
 pub mod Striding
 pub mod Travelling
+pub mod Trying
 pub mod Turning

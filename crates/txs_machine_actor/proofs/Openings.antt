@@ -7,7 +7,7 @@ use Rattle.txs_code_meaning.specs.Machine.{Outside, nils}
 use Rattle.txs_code_meaning.specs.PlainCode.{PlainCode, CodeBody, thread_code, function_codes}
 use Rattle.txs_code_meaning.specs.WellTyped.{Functions, a_thread, WellTypedBody, WellTypedThreads, WellTyped}
 use Rattle.txs_code_meaning.specs.Opening.{opening}
-use Rattle.txs_frame.specs.Frame.{Work, no_work}
+use Rattle.txs_frame.specs.Frame.{PlainTxFrame, empty_frame}
 use Rattle.txs_code_meaning.specs.WellTyped.{plain}
 use Rattle.txs_machine_actor.specs.PlainActor.{frames_of, own_body, functions_of, setting_of, Callers, IsFirst, AllApply, GoesOn, Runs}
 use Rattle.txs_machine_loop.specs.Ready.{Ready}
@@ -35,21 +35,21 @@ well_typed_at fs ks (c ∷ bs) (r ∷ rooms) zero b w e = subst (λ (x : CodeBod
 well_typed_at fs ks (c ∷ bs) (r ∷ rooms) (suc k) b w e = well_typed_at fs ks bs rooms k b w.2 e
 
 -- the place of an actor with its locals alone
-opens : (l : ℕ) → placed 0 [] Outside [] 0 0 no_work None None l 0 (nils l) [] ≡ configuration 0 0 [] (nils l) [] Outside (stated [] [] 0 0 no_work None None)
+opens : (l : ℕ) → placed 0 [] Outside [] 0 0 empty_frame None None l 0 (nils l) [] ≡ configuration 0 0 [] (nils l) [] Outside (stated [] [] 0 0 empty_frame None None)
 opens l =
     let none : reverse (drop l (nils l)) ≡ [] = ap reverse (drop_all l (nils l) (omega (arith, length_nils l))) in
     let all : take l (nils l) ≡ nils l = take_all l (nils l) (omega (arith, length_nils l)) in
-    ap (λ st. configuration 0 0 st (take l (nils l)) [] Outside (stated [] [] 0 0 no_work None None)) none ∙ ap (λ ls. configuration 0 0 [] ls [] Outside (stated [] [] 0 0 no_work None None)) all
+    ap (λ st. configuration 0 0 st (take l (nils l)) [] Outside (stated [] [] 0 0 empty_frame None None)) none ∙ ap (λ ls. configuration 0 0 [] ls [] Outside (stated [] [] 0 0 empty_frame None None)) all
 
-module _ (d : PlainCode) (k l limit room : ℕ) (vs : List Value) (fs : List PlainFrame) (out : List ℕ) (own : Work) (b : CodeBody) (is : b ≡ get_or d.threads k b) (lt : k < length d.threads)
-    (sized : l ≡ b.locals) (made : vs ≡ nils l) (uncalled : fs ≡ []) (unprinted : out ≡ []) (undone : own ≡ no_work) where
+module _ (d : PlainCode) (k l limit room : ℕ) (vs : List Value) (fs : List PlainFrame) (out : List ℕ) (own : PlainTxFrame) (b : CodeBody) (is : b ≡ get_or d.threads k b) (lt : k < length d.threads)
+    (sized : l ≡ b.locals) (made : vs ≡ nils l) (uncalled : fs ≡ []) (unprinted : out ≡ []) (undone : own ≡ empty_frame) where
   body_there : nth d.threads k ≡ Some b
   body_there = index_nth d.threads k b lt ∙ ap Some (sym is)
 
   opens_so : placed 0 [] Outside [] 0 0 own None None l 0 vs out ≡ opening (thread_code d b) []
   opens_so =
-      ap (λ x. placed 0 [] Outside [] 0 0 x None None l 0 vs out) undone ∙ ap (λ x. placed 0 [] Outside [] 0 0 no_work None None l 0 x out) made ∙ ap (λ x. placed 0 [] Outside [] 0 0 no_work None None l 0 (nils l) x) unprinted ∙ opens l
-      ∙ ap (λ n. configuration 0 0 [] (nils n) [] Outside (stated [] [] 0 0 no_work None None)) (sized ∙ sym less)
+      ap (λ x. placed 0 [] Outside [] 0 0 x None None l 0 vs out) undone ∙ ap (λ x. placed 0 [] Outside [] 0 0 empty_frame None None l 0 x out) made ∙ ap (λ x. placed 0 [] Outside [] 0 0 empty_frame None None l 0 (nils l) x) unprinted ∙ opens l
+      ∙ ap (λ n. configuration 0 0 [] (nils n) [] Outside (stated [] [] 0 0 empty_frame None None)) (sized ∙ sym less)
     where
       less : b.locals - 0 ≡ b.locals
       less = omega arith
@@ -98,7 +98,7 @@ module _ (d : PlainCode) (k l limit room : ℕ) (vs : List Value) (fs : List Pla
         swaps = refl;
         began = tt;
         shallow = omega arith;
-        commutes = subst (λ (x : Work). AllApply (functions_of d w.kinds) x.commutes) (sym undone) tt;
+        commutes = subst (λ (x : PlainTxFrame). AllApply (functions_of d w.kinds) x.commutes) (sym undone) tt;
         opened = tt;
         serves = tt;
         applies = tt;

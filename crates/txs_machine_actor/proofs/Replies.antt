@@ -4,7 +4,7 @@ use Rattle.txs_world_protocol.specs.Ask.{Writes}
 use Rattle.txs_world_protocol.specs.declared.ask.Ask.TheVariants as ask
 use Rattle.txs_world_protocol.specs.declared.ask.Reply.{Reply}
 use Rattle.txs_world_protocol.specs.declared.ask.Reply.TheVariants.{At, Is, Views, Done, Retry, Changed, AgentIsFailed, Action, Idle, Opened, Full, Memory}
-use Rattle.txs_frame.specs.Frame.{Work, commuted, set_writes}
+use Rattle.txs_frame.specs.Frame.{PlainTxFrame, commuted, set_writes}
 use Rattle.txs_frame.specs.Phase.{PlainPhase}
 use Rattle.txs_frame.specs.declared.frame.Commute.{Commute}
 use Rattle.txs_value_cell.specs.declared.action.Action.{Action as AnAction}
@@ -13,7 +13,7 @@ use Rattle.txs_value_data.specs.declared.value.CellId.{CellId}
 use Rattle.txs_value_data.specs.declared.value.Value.{Value}
 use Rattle.txs_machine_actor.specs.PlainActor.{MayAnswer}
 use Rattle.txs_machine_transaction.specs.Asks.{ask_for}
-use Rattle.txs_machine_transaction.specs.declared.state.Origin.{Origin}
+use Rattle.txs_machine_transaction.specs.declared.state.Savepoint.{Savepoint}
 use Rattle.txs_machine_transaction.specs.declared.state.Pending.{Pending}
 use Rattle.txs_machine_transaction.specs.declared.state.Pending.TheVariants as pending
 
@@ -202,8 +202,8 @@ module _ (P : Reply → Type 0) where
   broke_replies c p done full memory Memory m = memory
 
 -- each reply that an actor's ask may have, by what it is for
-pub record Cases (P : Pending → Bool → Reply → Type 0) (w : Work) : Type 0 where
-  pub begins : (left : ℕ) (from : Origin) (i : Bool) (p : ℕ) → P (pending.Begin left from) i (At p)
+pub record Cases (P : Pending → Bool → Reply → Type 0) (w : PlainTxFrame) : Type 0 where
+  pub begins : (left : ℕ) (from : Savepoint) (i : Bool) (p : ℕ) → P (pending.Begin left from) i (At p)
   pub reads : (c : CellId) (i : Bool) (v : Value) → P (pending.Read c) i (Is v)
   pub reads_again : (c d : CellId) → P (pending.Read c) true (Retry d)
   pub ensures : (c : CellId) (es : List CellId) (i : Bool) (v : Value) → P (pending.Ensure c es) i (Is v)
@@ -214,7 +214,7 @@ pub record Cases (P : Pending → Bool → Reply → Type 0) (w : Work) : Type 0
   pub resets : (c : CellId) (v : Value) (i : Bool) → P (pending.Reset c v) i Done
   pub sends : (x : AnAction) (n : ℕ) (i : Bool) → P (pending.Send x n) i Done
   pub refused : (x : AnAction) (n : ℕ) (i : Bool) (g : CellId) → P (pending.Send x n) i (AgentIsFailed g)
-  pub opens_atom : (c : CellId) (n : ℕ) (from : Origin) (i : Bool) (p : ℕ) (v : Value) → P (pending.Swap c n from) i (Opened p v)
+  pub opens_atom : (c : CellId) (n : ℕ) (from : Savepoint) (i : Bool) (p : ℕ) (v : Value) → P (pending.Swap c n from) i (Opened p v)
   pub closes_atom : (c : CellId) (p : ℕ) (v : Value) (i : Bool) → P (pending.Close c p v) i Done
   pub swaps_again : (c : CellId) (p : ℕ) (v : Value) (i : Bool) (d : CellId) → P (pending.Close c p v) i (Changed d)
   pub commits : (i : Bool) → P pending.Commit i Done
@@ -229,7 +229,7 @@ pub record Cases (P : Pending → Bool → Reply → Type 0) (w : Work) : Type 0
   pub full : (p : Pending) (i : Bool) → P p i Full
   pub memory : (p : Pending) (i : Bool) → P p i Memory
 
-pub by_reply : (P : Pending → Bool → Reply → Type 0) (w : Work) → Cases P w → (p : Pending) (inside : Bool) (at view : ℕ) (ws : Writes) (r : Reply) → MayAnswer (ask_for p inside at view ws w) r → P p inside r
+pub by_reply : (P : Pending → Bool → Reply → Type 0) (w : PlainTxFrame) → Cases P w → (p : Pending) (inside : Bool) (at view : ℕ) (ws : Writes) (r : Reply) → MayAnswer (ask_for p inside at view ws w) r → P p inside r
 by_reply P w k (pending.Begin left from) i at view ws r m = begin_replies (P (pending.Begin left from) i) (k.begins left from i) r m
 by_reply P w k (pending.Read c) true at view ws r m = look_replies (P (pending.Read c) true) c at (k.reads c true) (k.reads_again c) (k.full (pending.Read c) true) (k.memory (pending.Read c) true) r m
 by_reply P w k (pending.Read c) false at view ws r m = peek_replies (P (pending.Read c) false) c (k.reads c false) (k.full (pending.Read c) false) (k.memory (pending.Read c) false) r m

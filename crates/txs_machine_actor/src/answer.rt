@@ -31,10 +31,7 @@ pub fn may_answer(ask: &Ask, reply: &Reply) -> bool
         Reply::AgentIsFailed(_) => matches!(ask, Ask::Commit { .. } | Ask::Send { .. }),
         Reply::Action { .. } | Reply::Idle => matches!(ask, Ask::Take { .. }),
         Reply::Opened(_, _) => matches!(ask, Ask::OpenAt { .. }),
-        Reply::Full => match ask {
-            Ask::Begin | Ask::View { .. } | Ask::Take { .. } | Ask::OpenAt { .. } => false,
-            _ => true,
-        },
+        Reply::Full => ask.may_add_event(),
         Reply::Memory => match ask {
             Ask::Begin => false,
             _ => true,

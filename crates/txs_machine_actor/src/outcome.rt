@@ -5,9 +5,9 @@ use txs_world_protocol::{Ask, Outcome};
 /// What a turn came to.
 #[derive(Drop)]
 pub enum Turn {
-    /// The actor made a step and goes on.
+    /// The actor made a step and continues.
     Went,
-    /// The actor asks the shared state, and goes on once it is answered.
+    /// The actor asks the shared state, and continues once it is answered.
     Asks(Ask),
     /// The actor has ended.
     Ended(Outcome),

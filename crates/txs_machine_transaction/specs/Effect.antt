@@ -1,7 +1,7 @@
 -- What an instruction on cells or the transaction makes of an actor.
 use Rattle.std.specs.Prelude.{◌≡◌, ℕ, zero, suc, ◌+◌, ◌<◌, ◌≤◌, ◌^◌, Bool, true, false, List, [], ◌∷◌, ◌++◌, length, Option, Some, None, Result, Ok, Err}
 use Rattle.txs_world_protocol.specs.Ask.{Writes, buffered, with_write}
-use Rattle.txs_frame.specs.Frame.{Work, commuted, set_ref, with_cell, ensure_ref, commute_ref, hold_send, phase_work}
+use Rattle.txs_frame.specs.Frame.{PlainTxFrame, commuted, set_ref, with_cell, ensure_ref, commute_ref, hold_send, phase_work}
 use Rattle.txs_frame.specs.Phase.{blank, next_arguments}
 use Rattle.txs_frame.specs.declared.frame.Commute.{Commute}
 use Rattle.txs_value_apply.specs.Core.{Answer, core, takes}
@@ -33,7 +33,7 @@ use Rattle.txs_machine_transaction.specs.declared.moved.Moved.{Moved}
 use Rattle.txs_machine_transaction.specs.declared.moved.Moved.TheVariants as moved
 use Rattle.txs_machine_transaction.specs.declared.moved.Quick.{Quick}
 use Rattle.txs_machine_transaction.specs.declared.moved.Quick.TheVariants as quick
-use Rattle.txs_machine_transaction.specs.declared.state.Origin.{Origin}
+use Rattle.txs_machine_transaction.specs.declared.state.Savepoint.{Savepoint}
 use Rattle.txs_machine_transaction.specs.declared.state.Pending.{Pending}
 use Rattle.txs_machine_transaction.specs.declared.state.Pending.TheVariants as pending
 use Rattle.txs_machine_transaction.specs.declared.state.Transaction.{Transaction}
@@ -78,36 +78,36 @@ CanMove vs room tx _ = ⊥
 -- what such an instruction makes of the values, the transaction, what that has done and the commute that is open: the next
 -- instruction follows, or the same once more, something is asked for, an action is sent, or it faults, here or of another place
 pub data Effect : Type 0 where
-  moves : (values : List Value) (tx : Transaction) (done : Work) (kept : Option Commute) → Effect
-  stays : (values : List Value) (tx : Transaction) (done : Work) (kept : Option Commute) → Effect
-  waits : (p : Pending) (values : List Value) (tx : Transaction) (done : Work) (kept : Option Commute) → Effect
-  dispatches : (x : Action) (args : ℕ) (values : List Value) (tx : Transaction) (done : Work) (kept : Option Commute) → Effect
-  breaks : (k : FaultKind) (tx : Transaction) (done : Work) (kept : Option Commute) → Effect
-  falls : (f : Fault) (tx : Transaction) (done : Work) (kept : Option Commute) → Effect
+  moves : (values : List Value) (tx : Transaction) (done : PlainTxFrame) (kept : Option Commute) → Effect
+  stays : (values : List Value) (tx : Transaction) (done : PlainTxFrame) (kept : Option Commute) → Effect
+  waits : (p : Pending) (values : List Value) (tx : Transaction) (done : PlainTxFrame) (kept : Option Commute) → Effect
+  dispatches : (x : Action) (args : ℕ) (values : List Value) (tx : Transaction) (done : PlainTxFrame) (kept : Option Commute) → Effect
+  breaks : (k : FaultKind) (tx : Transaction) (done : PlainTxFrame) (kept : Option Commute) → Effect
+  falls : (f : Fault) (tx : Transaction) (done : PlainTxFrame) (kept : Option Commute) → Effect
 
--- goes on with the transaction's own value, if it has one
+-- continues with the transaction's own value, if it has one
 abbrev pub own_or : Option Value → (Value → Effect) → Effect → Effect
 own_or None go e = e
 own_or (Some v) go e = go v
 
 -- a cell's value in its place at the top; outside a transaction the store is asked for it
-abbrev pub reads_cell : Bool → List Value → Transaction → Work → Option Commute → Result CellId FaultKind → Effect
+abbrev pub reads_cell : Bool → List Value → Transaction → PlainTxFrame → Option Commute → Result CellId FaultKind → Effect
 reads_cell true vs tx w kept (Ok c) = own_or (buffered w.values c.number) (λ v. moves (but_last vs ++ v ∷ []) tx w kept) (waits (pending.Read c) vs tx w kept)
 reads_cell false vs tx w kept (Ok c) = waits (pending.Read c) vs tx w kept
 reads_cell inside vs tx w kept (Err k) = breaks k tx w kept
 
 -- a read of the cell that is the last value, in a transaction or outside
-abbrev pub reads : Bool → List Value → Transaction → Work → Option Commute → Effect
+abbrev pub reads : Bool → List Value → Transaction → PlainTxFrame → Option Commute → Effect
 reads inside vs tx w kept = reads_cell inside vs tx w kept (cell_of (rule (form.Look Deref)) inside (last_of vs))
 
 -- a ref's value in its place at the top, and the ref is ensured: once it was read, where the transaction has no value of its own
-abbrev pub ensures_cell : List Value → Transaction → Work → Option Commute → Result CellId FaultKind → Effect
+abbrev pub ensures_cell : List Value → Transaction → PlainTxFrame → Option Commute → Result CellId FaultKind → Effect
 ensures_cell vs tx w kept (Ok c) =
     own_or (buffered w.values c.number) (λ v. moves (but_last vs ++ v ∷ []) tx (ensure_ref c w) kept) (waits (pending.Ensure c (with_cell w.ensures c)) vs tx w kept)
 ensures_cell vs tx w kept (Err k) = breaks k tx w kept
 
 -- the same of the ref that is the last value
-abbrev pub ensures : List Value → Transaction → Work → Option Commute → Effect
+abbrev pub ensures : List Value → Transaction → PlainTxFrame → Option Commute → Effect
 ensures vs tx w kept = ensures_cell vs tx w kept (cell_of (rule (form.Look Ensure)) true (last_of vs))
 
 -- the update that opens a ref: a commute is one by its callee
@@ -116,27 +116,27 @@ update_of None = Alters
 update_of (Some callee) = Commutes callee
 
 -- a ref's value between the ref and so many arguments, and the commute is open that keeps them, if the update is one
-abbrev pub opens_cell : RefUpdate → ℕ → List Value → Transaction → Work → Option Commute → Result CellId FaultKind → Effect
+abbrev pub opens_cell : RefUpdate → ℕ → List Value → Transaction → PlainTxFrame → Option Commute → Result CellId FaultKind → Effect
 opens_cell u n vs tx w kept (Ok c) =
     own_or (buffered w.values c.number) (λ v. moves (put_under n v vs) tx w (kept_open u c (topmost n vs))) (waits (pending.Open c n (kept_open u c (topmost n vs))) vs tx w kept)
 opens_cell u n vs tx w kept (Err k) = breaks k tx w kept
 
 -- the same of the ref below the arguments: `alter` and `commute` take a ref alike
-abbrev pub opens : RefUpdate → ℕ → List Value → Transaction → Work → Option Commute → Effect
+abbrev pub opens : RefUpdate → ℕ → List Value → Transaction → PlainTxFrame → Option Commute → Effect
 opens u n vs tx w kept = opens_cell u n vs tx w kept (cell_of (rule (form.Update update.Alter)) true (under n vs))
 
 -- a ref was set, or can't be
-abbrev pub sets_as : List Value → Transaction → Work → Option Commute → Result Work FaultKind → Effect
+abbrev pub sets_as : List Value → Transaction → PlainTxFrame → Option Commute → Result PlainTxFrame FaultKind → Effect
 sets_as vs tx w kept (Ok new) = moves (below 2 vs ++ last_of vs ∷ []) tx new kept
 sets_as vs tx w kept (Err k) = breaks k tx w kept
 
 -- the last value becomes that of the ref below it
-abbrev pub sets_cell : List Value → Transaction → Work → Option Commute → Result CellId FaultKind → Effect
+abbrev pub sets_cell : List Value → Transaction → PlainTxFrame → Option Commute → Result CellId FaultKind → Effect
 sets_cell vs tx w kept (Ok c) = sets_as vs tx w kept (set_ref c (last_of vs) w)
 sets_cell vs tx w kept (Err k) = breaks k tx w kept
 
 -- the same, for a form
-abbrev pub sets : CellForm → List Value → Transaction → Work → Option Commute → Effect
+abbrev pub sets : CellForm → List Value → Transaction → PlainTxFrame → Option Commute → Effect
 sets f vs tx w kept = sets_cell vs tx w kept (cell_of (rule f) true (under 1 vs))
 
 -- a form takes refs alone
@@ -144,53 +144,53 @@ abbrev pub IsForRefs : CellForm → Type 0
 IsForRefs f = (rule f).takes ≡ Some Ref
 
 -- an atom gets the last value: the store is asked for it
-abbrev pub resets_cell : List Value → Transaction → Work → Option Commute → Result CellId FaultKind → Effect
+abbrev pub resets_cell : List Value → Transaction → PlainTxFrame → Option Commute → Result CellId FaultKind → Effect
 resets_cell vs tx w kept (Ok c) = waits (pending.Reset c (last_of vs)) vs tx w kept
 resets_cell vs tx w kept (Err k) = breaks k tx w kept
 
 -- the same of the atom below that value
-abbrev pub resets : List Value → Transaction → Work → Option Commute → Effect
+abbrev pub resets : List Value → Transaction → PlainTxFrame → Option Commute → Effect
 resets vs tx w kept = resets_cell vs tx w kept (cell_of (rule (form.Put Reset)) false (under 1 vs))
 
 -- the action that is sent to an agent, with the topmost values as its further arguments
 abbrev pub action_of : Callee → ℕ → Span → List Value → CellId → Action
 action_of f n span vs g = record { agent = g; callee = f; args = topmost n vs; span = span }
 
--- an action is held in a transaction, and the agent stands in the place of all that was taken; outside it is sent
-abbrev pub sends_cell : Bool → Callee → ℕ → Span → List Value → Transaction → Work → Option Commute → Result CellId FaultKind → Effect
+-- an action is held in a transaction, and the agent is in the place of all that was taken; outside it is sent
+abbrev pub sends_cell : Bool → Callee → ℕ → Span → List Value → Transaction → PlainTxFrame → Option Commute → Result CellId FaultKind → Effect
 sends_cell true f n span vs tx w kept (Ok g) = moves (below (n + 1) vs ++ Cell g ∷ []) tx (hold_send (action_of f n span vs g) w) kept
 sends_cell false f n span vs tx w kept (Ok g) = dispatches (action_of f n span vs g) n vs tx w kept
 sends_cell inside f n span vs tx w kept (Err k) = breaks k tx w kept
 
 -- the same of the agent below the arguments
-abbrev pub sends : Bool → Callee → ℕ → Span → List Value → Transaction → Work → Option Commute → Effect
+abbrev pub sends : Bool → Callee → ℕ → Span → List Value → Transaction → PlainTxFrame → Option Commute → Effect
 sends inside f n span vs tx w kept = sends_cell inside f n span vs tx w kept (cell_of (rule form.Send) inside (under n vs))
 
 -- the commute that was open is kept, with the last value as that of the ref below it
-abbrev pub keeps_cell : Commute → List Value → Transaction → Work → Result CellId FaultKind → Effect
+abbrev pub keeps_cell : Commute → List Value → Transaction → PlainTxFrame → Result CellId FaultKind → Effect
 keeps_cell o vs tx w (Ok c) = moves (below 2 vs ++ last_of vs ∷ []) tx (commute_ref c o.callee o.args (last_of vs) w) None
 keeps_cell o vs tx w (Err k) = breaks k tx w (Some o)
 
 -- the same, where the ref was found
-abbrev pub keeps : Commute → List Value → Transaction → Work → Effect
+abbrev pub keeps : Commute → List Value → Transaction → PlainTxFrame → Effect
 keeps o vs tx w = keeps_cell o vs tx w (cell_of (rule (form.Update update.Alter)) true (under 1 vs))
 
 -- the close of an update: the ref is set, or the commute that was open is kept
-abbrev pub closes : List Value → Transaction → Work → Option Commute → Effect
+abbrev pub closes : List Value → Transaction → PlainTxFrame → Option Commute → Effect
 closes vs tx w None = sets (form.Update update.Alter) vs tx w None
 closes vs tx w (Some o) = keeps o vs tx w
 
 -- an atom is asked for its value, which goes between it and so many arguments: a swap goes again from here
-abbrev pub swaps_cell : ℕ → Origin → List Value → Transaction → Work → Option Commute → Result CellId FaultKind → Effect
+abbrev pub swaps_cell : ℕ → Savepoint → List Value → Transaction → PlainTxFrame → Option Commute → Result CellId FaultKind → Effect
 swaps_cell n from vs tx w kept (Ok c) = waits (pending.Swap c n from) vs tx w kept
 swaps_cell n from vs tx w kept (Err k) = breaks k tx w kept
 
 -- the same of the atom below the arguments
-abbrev pub swaps : ℕ → Origin → List Value → Transaction → Work → Option Commute → Effect
+abbrev pub swaps : ℕ → Savepoint → List Value → Transaction → PlainTxFrame → Option Commute → Effect
 swaps n from vs tx w kept = swaps_cell n from vs tx w kept (cell_of (rule (form.Update update.Swap)) false (under n vs))
 
--- the atom of the swap in hand is asked to get the last value
-abbrev pub swapped : List Value → Work → Option Commute → Transaction → Effect
+-- the atom of the swap that is applied is asked to get the last value
+abbrev pub swapped : List Value → PlainTxFrame → Option Commute → Transaction → Effect
 swapped vs w kept Outside = moves vs Outside w kept
 swapped vs w kept (Restarting left) = moves vs (Restarting left) w kept
 swapped vs w kept (Running left inner from) = moves vs (Running left inner from) w kept
@@ -199,7 +199,7 @@ swapped vs w kept (Evaluating left from phase aside) = moves vs (Evaluating left
 swapped vs w kept (Swapping c p from) = waits (pending.Close c p (last_of vs)) vs (Swapping c p from) w kept
 
 -- a transaction begins here, or joins the one that runs
-abbrev pub begins : Origin → List Value → Work → Option Commute → Transaction → Effect
+abbrev pub begins : Savepoint → List Value → PlainTxFrame → Option Commute → Transaction → Effect
 begins from vs w kept Outside = waits (pending.Begin reruns from) vs Outside w kept
 begins from vs w kept (Restarting left) = waits (pending.Begin left from) vs (Restarting left) w kept
 begins from vs w kept (Running left inner at) = moves vs (Running left (inner + 1) at) w kept
@@ -208,31 +208,31 @@ begins from vs w kept (Evaluating left at phase aside) = moves vs (Evaluating le
 begins from vs w kept (Swapping c p at) = moves vs (Swapping c p at) w kept
 
 -- at a transaction's end: the commit where no ref was commuted and not set, else such refs are viewed
-abbrev pub settles : List CellId → List Value → Transaction → Work → Option Commute → Effect
+abbrev pub settles : List CellId → List Value → Transaction → PlainTxFrame → Option Commute → Effect
 settles [] vs tx w kept = waits pending.Commit vs tx w kept
 settles (c ∷ cs) vs tx w kept = waits (pending.View (record { work = phase_work w; values = blank (commuted w) })) vs tx w kept
 
 -- a transaction whose commutes are applied, with those that are left and the refs' values so far
-abbrev pub applying : ℕ → Origin → List Commute → Writes → Transaction
+abbrev pub applying : ℕ → Savepoint → List Commute → Writes → Transaction
 applying left from ks ws = Applying left from (record { work = ks; values = ws })
 
 -- a commute is applied, or its operation faults where the transaction began
-abbrev pub applies_as : ℕ → Origin → List Value → Work → Option Commute → Commute → List Commute → Writes → Answer → Effect
+abbrev pub applies_as : ℕ → Savepoint → List Value → PlainTxFrame → Option Commute → Commute → List Commute → Writes → Answer → Effect
 applies_as left from vs w kept k ks ws (Ok v) = stays vs (applying left from ks (with_write ws k.cell v)) w kept
 applies_as left from vs w kept k ks ws (Err e) = falls (fault_at e from.span) (applying left from (k ∷ ks) ws) w kept
 
 -- the same of a commute by its callee, which is an operation
-abbrev pub applies : Callee → ℕ → Origin → List Value → Work → Option Commute → Commute → List Commute → Writes → Effect
+abbrev pub applies : Callee → ℕ → Savepoint → List Value → PlainTxFrame → Option Commute → Commute → List Commute → Writes → Effect
 applies (callee.Core op) left from vs w kept k ks ws = applies_as left from vs w kept k ks ws (core op (next_arguments (k ∷ ks) ws))
 applies (callee.Function f) left from vs w kept k ks ws = stays vs (applying left from (k ∷ ks) ws) w kept
 
 -- one stage of a commute phase: the next commute is applied, or the transaction commits
-abbrev pub goes_through : ℕ → Origin → List Value → Work → Option Commute → List Commute → Writes → Effect
+abbrev pub goes_through : ℕ → Savepoint → List Value → PlainTxFrame → Option Commute → List Commute → Writes → Effect
 goes_through left from vs w kept [] ws = waits pending.Commit vs (applying left from [] ws) w kept
 goes_through left from vs w kept (k ∷ ks) ws = applies k.callee left from vs w kept k ks ws
 
 -- a transaction ends, or leaves the one that runs
-abbrev pub ends : List Value → Work → Option Commute → Transaction → Effect
+abbrev pub ends : List Value → PlainTxFrame → Option Commute → Transaction → Effect
 ends vs w kept Outside = moves vs Outside w kept
 ends vs w kept (Restarting left) = moves vs (Restarting left) w kept
 ends vs w kept (Running left zero from) = settles (commuted w) vs (Running left zero from) w kept
@@ -242,7 +242,7 @@ ends vs w kept (Evaluating left from phase aside) = moves vs (Evaluating left fr
 ends vs w kept (Swapping c p from) = moves vs (Swapping c p from) w kept
 
 -- an instruction on cells or the transaction, where a transaction that begins does so from here
-abbrev pub effect : Origin → List Value → Transaction → Work → Option Commute → Instr → Effect
+abbrev pub effect : Savepoint → List Value → Transaction → PlainTxFrame → Option Commute → Instr → Effect
 effect from vs tx w kept (Look Deref) = reads (is_running tx) vs tx w kept
 effect from vs tx w kept (Look Ensure) = ensures vs tx w kept
 effect from vs tx w kept (Put RefSet) = sets (form.Put RefSet) vs tx w kept
@@ -258,9 +258,9 @@ effect from vs tx w kept (Open (open_form.Swap callee) n) = swaps n from vs tx w
 effect from vs tx w kept (Close update.Swap) = swapped vs w kept tx
 effect from vs tx w kept _ = moves vs tx w kept
 
--- what the machine's word says of such an instruction; want of memory leaves what the transaction has done, and the commute that
+-- what the machine's word says of such an instruction; running out of memory leaves what the transaction has done, and the commute that
 -- is open, as they were
-abbrev pub Comes : Moved → List Value → Transaction → Work → Option Commute → Work → Option Commute → Effect → Type 0
+abbrev pub Comes : Moved → List Value → Transaction → PlainTxFrame → Option Commute → PlainTxFrame → Option Commute → Effect → Type 0
 Comes moved.On vs tx w kept was had e = e ≡ moves vs tx w kept
 Comes moved.Stays vs tx w kept was had e = e ≡ stays vs tx w kept
 Comes (moved.Asks p) vs tx w kept was had e = e ≡ waits p vs tx w kept
@@ -269,9 +269,9 @@ Comes (moved.Faults k) vs tx w kept was had e = e ≡ breaks k tx w kept
 Comes (moved.Falls f) vs tx w kept was had e = e ≡ falls f tx w kept
 Comes moved.Memory vs tx w kept was had e = (w ≡ was) × (kept ≡ had)
 
--- The same, in few words; a transaction that begins does so from here, with these values. Want of memory and what comes before it
+-- The same, in few words; a transaction that begins does so from here, with these values. Running out of memory and what comes before it
 -- leave what the transaction has done, and the commute that is open, as they were.
-abbrev pub ComesQuickly : Quick → Origin → List Value → Transaction → Work → Option Commute → Work → Option Commute → Effect → Type 0
+abbrev pub ComesQuickly : Quick → Savepoint → List Value → Transaction → PlainTxFrame → Option Commute → PlainTxFrame → Option Commute → Effect → Type 0
 ComesQuickly quick.On from vs tx w kept was had e = e ≡ moves vs tx w kept
 ComesQuickly (quick.Reads c) from vs tx w kept was had e = e ≡ waits (pending.Read c) vs tx w kept
 ComesQuickly (quick.Opens c n) from vs tx w kept was had e = e ≡ waits (pending.Open c n None) vs tx w kept
@@ -280,7 +280,7 @@ ComesQuickly quick.Commits from vs tx w kept was had e = e ≡ waits pending.Com
 ComesQuickly (quick.Faults k) from vs tx w kept was had e = e ≡ breaks k tx w kept
 ComesQuickly quick.Memory from vs tx w kept was had e = (w ≡ was) × (kept ≡ had)
 
--- what isn't told so: all but reads, sets, the opens and closes of `alter`, and the beginning and the end of a transaction with no
+-- what isn't said so: all but reads, sets, the opens and closes of `alter`, and the beginning and the end of a transaction with no
 -- commutes
 abbrev pub IsRare : Option Commute → Instr → Type 0
 IsRare kept (Look Deref) = ⊥

@@ -7,19 +7,19 @@ use Rattle.txs_machine_transaction.specs.declared.kept.Ending.TheVariants as end
 use Rattle.txs_machine_transaction.specs.declared.kept.Standing.{Standing}
 use Rattle.txs_machine_transaction.specs.declared.kept.Wanted.{Wanted}
 use Rattle.txs_machine_transaction.specs.declared.kept.Wanted.TheVariants as wanted
-use Rattle.txs_machine_transaction.specs.declared.state.Origin.{Origin}
+use Rattle.txs_machine_transaction.specs.declared.state.Savepoint.{Savepoint}
 use Rattle.txs_machine_transaction.specs.declared.state.Pending.{Pending}
 use Rattle.txs_machine_transaction.specs.declared.state.Pending.TheVariants as pending
 use Rattle.txs_machine_transaction.specs.declared.state.Transaction.{Transaction}
 use Rattle.txs_machine_transaction.specs.declared.state.Transaction.TheVariants.{Outside, Restarting, Running, Applying, Evaluating, Swapping}
 
 -- the transaction: one that runs, from where it began, or another, which is kept whole
-abbrev pub transaction_of : Option Standing → Origin → Transaction → Transaction
+abbrev pub transaction_of : Option Standing → Savepoint → Transaction → Transaction
 transaction_of None from other = other
 transaction_of (Some s) from other = Running s.left s.inner from
 
 -- what an unanswered ask is for: a transaction's beginning, or a swap's, here; something small; or another, which is kept whole
-abbrev pub pending_of : Wanted → Origin → Option Pending → Option Pending
+abbrev pub pending_of : Wanted → Savepoint → Option Pending → Option Pending
 pending_of wanted.Other from other = other
 pending_of (wanted.Begin left) from other = Some (pending.Begin left from)
 pending_of (wanted.Read c) from other = Some (pending.Read c)
@@ -29,16 +29,16 @@ pending_of (wanted.Swap c n) from other = Some (pending.Swap c n from)
 
 -- a transaction runs that isn't at its end
 abbrev pub RunsOn : Transaction → Type 0
-RunsOn tx = (left : ℕ) × (inner : ℕ) × (from : Origin) × (tx ≡ Running left inner from)
+RunsOn tx = (left : ℕ) × (inner : ℕ) × (from : Savepoint) × (tx ≡ Running left inner from)
 
--- what is told of an unanswered ask, where it is small
+-- what is known of an unanswered ask, where it is small
 abbrev pub IsWanted : Wanted → Option Pending → Type 0
 IsWanted wanted.Other p = Unit {0}
-IsWanted (wanted.Begin left) p = (from : Origin) × (p ≡ Some (pending.Begin left from))
+IsWanted (wanted.Begin left) p = (from : Savepoint) × (p ≡ Some (pending.Begin left from))
 IsWanted (wanted.Read c) p = p ≡ Some (pending.Read c)
 IsWanted (wanted.Open c n) p = p ≡ Some (pending.Open c n None)
 IsWanted wanted.Commit p = p ≡ Some pending.Commit
-IsWanted (wanted.Swap c n) p = (from : Origin) × (p ≡ Some (pending.Swap c n from))
+IsWanted (wanted.Swap c n) p = (from : Savepoint) × (p ≡ Some (pending.Swap c n from))
 
 -- a transaction begins, which may run again so many times, or joins the one that runs
 abbrev pub IsBegun : Option ℕ → Transaction → Transaction → Type 0
@@ -47,10 +47,10 @@ IsBegun (Some n) Outside new = (n ≡ reruns) × (new ≡ Outside)
 IsBegun (Some n) (Restarting left) new = (n ≡ left) × (new ≡ Restarting left)
 IsBegun _ _ new = ⊥
 
--- a transaction that runs is left by an inner one, or ends; of others nothing is told
+-- a transaction that runs is left by an inner one, or ends; of others nothing is said
 abbrev pub IsEnding : Ending → Transaction → Transaction → Type 0
-IsEnding ending.Inner tx new = (left : ℕ) × (inner : ℕ) × (from : Origin) × (tx ≡ Running left (suc inner) from) × (new ≡ Running left inner from)
-IsEnding ending.Commits tx new = (left : ℕ) × (from : Origin) × (tx ≡ Running left 0 from) × (new ≡ tx)
+IsEnding ending.Inner tx new = (left : ℕ) × (inner : ℕ) × (from : Savepoint) × (tx ≡ Running left (suc inner) from) × (new ≡ Running left inner from)
+IsEnding ending.Commits tx new = (left : ℕ) × (from : Savepoint) × (tx ≡ Running left 0 from) × (new ≡ tx)
 IsEnding ending.Other tx new = new ≡ tx
 
 -- what is asked for is a transaction's beginning
@@ -68,12 +68,12 @@ abbrev pub IsOpening : Option Pending → Type 0
 IsOpening (Some (pending.Swap c n from)) = Unit {0}
 IsOpening _ = ⊥
 
--- what is asked for is the value of a swap's atom, which goes below so many arguments, and the swap is in hand, opened at this index
+-- what is asked for is the value of a swap's atom, which goes below so many arguments, and the swap is applied, opened at this index
 abbrev pub HasOpened : Option Pending → ℕ → ℕ → Transaction → Type 0
 HasOpened (Some (pending.Swap c n from)) p m tx = (m ≡ n) × (tx ≡ Swapping c p from)
 HasOpened _ p m tx = ⊥
 
--- what is told of an unanswered ask, with what is kept whole
+-- what is known of an unanswered ask, with what is kept whole
 abbrev pub IsTold : Wanted → Option Pending → Option Pending → Type 0
 IsTold wanted.Other other p = p ≡ other
 IsTold (wanted.Begin left) other p = IsWanted (wanted.Begin left) p

@@ -2,7 +2,7 @@
 
 ghost use Rattle.std.specs.Prelude.{ℕ, ◌+◌, ◌++◌, ◌∷◌, [], List, ◌≡◌, ◌<◌, ◌≤◌, ◌^◌, length, true, Ok, None, Some, Option, IfOk, IfSome};
 ghost use Rattle.txs_world_protocol.specs.Ask.{buffered};
-ghost use Rattle.txs_frame.specs.Frame.{Work, commuted};
+ghost use Rattle.txs_frame.specs.Frame.{PlainTxFrame, commuted};
 ghost use Rattle.txs_frame.specs.Phase.{next_arguments};
 ghost use Rattle.txs_value_apply.specs.Core.{Answers, core, takes};
 ghost use Rattle.txs_frame.specs.declared.frame.Commute.{Commute as ACommute};
@@ -13,7 +13,7 @@ ghost use Rattle.txs_value_data.specs.declared.value.Value.{Value as AValue};
 ghost use Rattle.txs_value_cell.specs.declared.form.CellForm.TheVariants as form;
 ghost use Rattle.txs_value_cell.specs.declared.form.UpdateForm.TheVariants as update;
 ghost use Rattle.txs_machine_transaction.specs.Effect.{Comes, ComesQuickly, IsRare, CanMove, effect, reads, ensures, update_of, opens, sets, resets, sends, swaps, swapped, closes, begins, settles, applying, goes_through, ends, Operates, LeftApply, IsForRefs};
-ghost use Rattle.txs_machine_transaction.specs.declared.state.Origin.{Origin as AnOrigin};
+ghost use Rattle.txs_machine_transaction.specs.declared.state.Savepoint.{Savepoint as ASavepoint};
 ghost use Rattle.txs_machine_transaction.specs.declared.state.Transaction.{Transaction as ATransaction};
 ghost use Rattle.txs_machine_transaction.specs.Transaction.{is_running, depth_in, IsUnapplied, IsSwapping};
 ghost use Rattle.txs_machine_stack.specs.PlainFrame.{PlainStack};
@@ -21,7 +21,7 @@ ghost use Rattle.txs_machine_loop.specs.Values.{below, topmost};
 
 use crate::kept::{Ending, KeptTransaction};
 use crate::moved::{Moved, Quick};
-use crate::state::{Origin, Pending, Transaction};
+use crate::state::{Pending, Savepoint, Transaction};
 use std::alloc::{AllocError, Global};
 use std::mem;
 use txs_code_meaning::{Instr, OpenForm};
@@ -80,7 +80,7 @@ pub fn shut(commuting: &mut Option<Commute>)
 #[inline(always)]
 fn deref(stack: &mut Stack, tx: &KeptTransaction, frame: &TxFrame) -> Quick
     requires room { (0 < length stack.old.values) × (length stack.old.values ≤ stack.old.room) }
-    ensures comes { (from : AnOrigin) (k : Option ACommute) → ComesQuickly result from stack.new.values tx.now frame.now k frame.now k (reads (is_running tx.now) stack.old.values tx.now frame.now k) }
+    ensures comes { (from : ASavepoint) (k : Option ACommute) → ComesQuickly result from stack.new.values tx.now frame.now k frame.now k (reads (is_running tx.now) stack.old.values tx.now frame.now k) }
     ensures rest { stack.new ≡ record stack.old { values = stack.new.values } }
 {
     let inside = runs(tx);
@@ -184,7 +184,7 @@ fn open_to_alter(
     commuting: &mut Option<Commute>,
 ) -> Quick
     requires room { (n < length stack.old.values) × (length stack.old.values < stack.old.room) }
-    ensures comes { (from : AnOrigin) (tx : ATransaction) → ComesQuickly result from stack.new.values tx frame.now commuting.new frame.now commuting.old (opens (update_of None) n stack.old.values tx frame.now commuting.old) }
+    ensures comes { (from : ASavepoint) (tx : ATransaction) → ComesQuickly result from stack.new.values tx frame.now commuting.new frame.now commuting.old (opens (update_of None) n stack.old.values tx frame.now commuting.old) }
     ensures rest { stack.new ≡ record stack.old { values = stack.new.values } }
 {
     let cell = match CellForm::Update(UpdateForm::Alter).cell_of(true, stack.under(n as usize)) {
@@ -207,7 +207,7 @@ fn open_to_alter(
 fn set(form: CellForm, stack: &mut Stack, frame: &mut TxFrame) -> Quick
     requires refs { IsForRefs form }
     requires room { (1 < length stack.old.values) × (length stack.old.values ≤ stack.old.room) }
-    ensures comes { (from : AnOrigin) (tx : ATransaction) (k : Option ACommute) → ComesQuickly result from stack.new.values tx frame.new k frame.old k (sets form stack.old.values tx frame.old k) }
+    ensures comes { (from : ASavepoint) (tx : ATransaction) (k : Option ACommute) → ComesQuickly result from stack.new.values tx frame.new k frame.old k (sets form stack.old.values tx frame.old k) }
     ensures rest { stack.new ≡ record stack.old { values = stack.new.values } }
 {
     let cell = match form.cell_of(true, stack.under(1)) {
@@ -231,7 +231,7 @@ fn set(form: CellForm, stack: &mut Stack, frame: &mut TxFrame) -> Quick
 #[inline(never)]
 fn reset(stack: &Stack) -> Moved
     requires room { 1 < length stack.now.values }
-    ensures comes { (tx : ATransaction) (w : Work) (k : Option ACommute) → Comes result stack.now.values tx w k w k (resets stack.now.values tx w k) }
+    ensures comes { (tx : ATransaction) (w : PlainTxFrame) (k : Option ACommute) → Comes result stack.now.values tx w k w k (resets stack.now.values tx w k) }
 {
     let cell = match CellForm::Put(PutForm::Reset).cell_of(false, stack.under(1)) {
         Err(kind) => return Moved::Faults(kind),
@@ -336,7 +336,7 @@ fn keep(
 #[inline(always)]
 fn close(stack: &mut Stack, frame: &mut TxFrame, commuting: &Option<Commute>) -> Option<Quick>
     requires room { (1 < length stack.old.values) × (length stack.old.values ≤ stack.old.room) }
-    ensures comes { (from : AnOrigin) (tx : ATransaction) → IfSome result (λ q. ComesQuickly q from stack.new.values tx frame.new commuting.now frame.old commuting.now (closes stack.old.values tx frame.old commuting.now)) }
+    ensures comes { (from : ASavepoint) (tx : ATransaction) → IfSome result (λ q. ComesQuickly q from stack.new.values tx frame.new commuting.now frame.old commuting.now (closes stack.old.values tx frame.old commuting.now)) }
     ensures rest { stack.new ≡ record stack.old { values = stack.new.values } }
     ensures rare { result ≡ None → ((o : ACommute) × (commuting.now ≡ Some o)) × (stack.new ≡ stack.old) × (frame.new ≡ frame.old) }
 {
@@ -350,24 +350,24 @@ fn close(stack: &mut Stack, frame: &mut TxFrame, commuting: &Option<Commute>) ->
 #[inline(never)]
 fn open_swap(alloc: Global, n: u16, span: Span, stack: &Stack) -> Moved
     requires room { n < length stack.now.values }
-    ensures comes { (tx : ATransaction) (w : Work) (k : Option ACommute) → Comes result stack.now.values tx w k w k (swaps n (record { span = span; stack = stack.now }) stack.now.values tx w k) }
+    ensures comes { (tx : ATransaction) (w : PlainTxFrame) (k : Option ACommute) → Comes result stack.now.values tx w k w k (swaps n (record { span = span; stack = stack.now }) stack.now.values tx w k) }
 {
     let cell = match CellForm::Update(UpdateForm::Swap).cell_of(false, stack.under(n as usize)) {
         Err(kind) => return Moved::Faults(kind),
         Ok(cell) => cell,
     };
     match stack.copy(alloc) {
-        Ok(stack) => Moved::Asks(Pending::Swap(cell, n, Origin { span, stack })),
+        Ok(stack) => Moved::Asks(Pending::Swap(cell, n, Savepoint { span, stack })),
         Err(_) => Moved::Memory,
     }
 }
 
-/// The atom of the swap in hand is asked to get the last value, unless it has changed.
+/// The atom of the swap that is applied is asked to get the last value, unless it has changed.
 #[inline(never)]
 fn close_swap(stack: &Stack, tx: &Transaction) -> Moved
     requires value { 0 < length stack.now.values }
     requires swapping { IsSwapping tx.now }
-    ensures comes { (w : Work) (k : Option ACommute) → Comes result stack.now.values tx.now w k w k (swapped stack.now.values w k tx.now) }
+    ensures comes { (w : PlainTxFrame) (k : Option ACommute) → Comes result stack.now.values tx.now w k w k (swapped stack.now.values w k tx.now) }
 {
     let Transaction::Swapping { cell, at, .. } = tx else {
         unreachable!();
@@ -383,7 +383,7 @@ fn close_swap(stack: &Stack, tx: &Transaction) -> Moved
 fn begin(tx: &mut KeptTransaction) -> Quick
     requires counted { depth_in tx.old < 2 ^ 64 }
     requires unapplied { IsUnapplied tx.old }
-    ensures { (from : AnOrigin) (w : Work) (k : Option ACommute) → ComesQuickly result from from.stack.values tx.new w k w k (begins from from.stack.values w k tx.old) }
+    ensures { (from : ASavepoint) (w : PlainTxFrame) (k : Option ACommute) → ComesQuickly result from from.stack.values tx.new w k w k (begins from from.stack.values w k tx.old) }
 {
     match tx.begin() {
         None => Quick::On,
@@ -394,7 +394,7 @@ fn begin(tx: &mut KeptTransaction) -> Quick
 /// A transaction with no commutes ends, or leaves the one that runs.
 #[inline(always)]
 fn end_plainly(tx: &mut KeptTransaction, frame: &TxFrame) -> Option<Quick>
-    ensures comes { (from : AnOrigin) (vs : List AValue) (k : Option ACommute) → IfSome result (λ q. ComesQuickly q from vs tx.new frame.now k frame.now k (ends vs frame.now k tx.old)) }
+    ensures comes { (from : ASavepoint) (vs : List AValue) (k : Option ACommute) → IfSome result (λ q. ComesQuickly q from vs tx.new frame.now k frame.now k (ends vs frame.now k tx.old)) }
     ensures rare { result ≡ None → tx.new ≡ tx.old }
 {
     match tx.end() {
@@ -445,7 +445,7 @@ fn operate(alloc: Global, op: Op, phase: &Phase) -> Result<Value, Stop>
 #[inline(never)]
 fn go_through(alloc: Global, span: Span, phase: &mut Phase) -> Moved
     requires { Operates phase.old.work }
-    ensures { (left : ℕ) (stack : PlainStack) (vs : List AValue) (w : Work) (k : Option ACommute) → Comes result vs (applying left (record { span = span; stack = stack }) phase.new.work phase.new.values) w k w k (goes_through left (record { span = span; stack = stack }) vs w k phase.old.work phase.old.values) }
+    ensures { (left : ℕ) (stack : PlainStack) (vs : List AValue) (w : PlainTxFrame) (k : Option ACommute) → Comes result vs (applying left (record { span = span; stack = stack }) phase.new.work phase.new.values) w k w k (goes_through left (record { span = span; stack = stack }) vs w k phase.old.work phase.old.values) }
 {
     match phase.callee() {
         None => Moved::Asks(Pending::Commit),

@@ -7,7 +7,7 @@ ghost use Rattle.txs_machine_transaction.specs.Transaction.{IsUnapplied, depth_i
 ghost use Rattle.txs_machine_transaction.specs.declared.state.Pending.TheVariants as pending;
 ghost use Rattle.txs_machine_transaction.specs.declared.state.Transaction.TheVariants as tx;
 
-use crate::state::{Origin, Pending, Transaction};
+use crate::state::{Pending, Savepoint, Transaction};
 use std::alloc::{AllocError, Global};
 use std::marker::Model;
 use std::mem;
@@ -34,12 +34,12 @@ pub enum Ending {
     Other,
 }
 
-/// The transaction of an actor. Where one runs that isn't at its end, where it began stands in a place of its own.
+/// The transaction of an actor. Where one runs that isn't at its end, where it began is in a place of its own.
 #[derive(Drop)]
 pub struct KeptTransaction {
     alloc: Global,
     running: Option<Standing>,
-    from: Origin,
+    from: Savepoint,
     other: Transaction,
 }
 
@@ -70,16 +70,16 @@ pub enum Wanted {
     Open(CellId, u16),
     /// A transaction ends.
     Commit,
-    /// An atom's value goes between the atom and so many arguments, and a swap is in hand then.
+    /// An atom's value goes between the atom and so many arguments, and a swap is applied then.
     Swap(CellId, u16),
 }
 
-/// What an actor's unanswered ask is for, if there is one. Where a transaction or a swap would begin stands in a place of its own.
+/// What an actor's unanswered ask is for, if there is one. Where a transaction or a swap would begin is in a place of its own.
 #[derive(Drop)]
 pub struct KeptPending {
     alloc: Global,
     wanted: Wanted,
-    from: Origin,
+    from: Savepoint,
     other: Option<Pending>,
 }
 
@@ -99,8 +99,8 @@ impl Model for KeptPending {
 }
 
 /// Where nothing began.
-fn no_origin(alloc: Global) -> Origin {
-    Origin {
+fn no_origin(alloc: Global) -> Savepoint {
+    Savepoint {
         span: Span { from: 0, to: 0 },
         stack: Stack::empty(alloc),
     }
@@ -201,8 +201,8 @@ impl KeptTransaction {
         }
     }
 
-    /// A swap is in hand, whose atom was opened at this index of its book. Lists for where another begins are handed back.
-    pub fn swap(&mut self, cell: CellId, at: u32, from: &mut Origin)
+    /// A swap is applied, whose atom was opened at this index of its book. Lists for where another begins are handed back.
+    pub fn swap(&mut self, cell: CellId, at: u32, from: &mut Savepoint)
         ensures { self.new ≡ tx.Swapping cell at from.old }
     {
         let spare = mem::replace(&mut self.from, no_origin(self.alloc));
@@ -216,7 +216,7 @@ impl KeptTransaction {
         drop(mem::replace(&mut self.other, swapping));
     }
 
-    /// There is none. The lists of a swap that was in hand are kept for another.
+    /// There is none. The lists of a swap that was applied are kept for another.
     pub fn leave_swap(&mut self)
         ensures { self.new ≡ tx.Outside }
     {
@@ -229,7 +229,7 @@ impl KeptTransaction {
 
     /// It runs from here, with no inner ones.
     #[inline(always)]
-    pub fn run(&mut self, left: u16, from: &mut Origin)
+    pub fn run(&mut self, left: u16, from: &mut Savepoint)
         ensures { self.new ≡ tx.Running left 0 from.old }
     {
         mem::swap(&mut self.from, from);
@@ -404,7 +404,7 @@ impl KeptPending {
         Ok(())
     }
 
-    /// The swap that is asked for is in hand from now on, opened at this index, and nothing is asked for: how many arguments
+    /// The swap that is asked for is applied from now on, opened at this index, and nothing is asked for: how many arguments
     /// the value goes below. Nothing is done else.
     pub fn open_swap(&mut self, at: u32, tx: &mut KeptTransaction) -> Option<u16>
         ensures opened { IfSome result (λ n. HasOpened self.old at n tx.new × (self.new ≡ None)) }

@@ -14,4 +14,4 @@ pub use asks::{ask_for, ask_of_commit, ask_of_read};
 pub use instructions::{replace_over, runs, shut, transact, transact_rarely};
 pub use kept::{Ending, KeptPending, KeptTransaction, Standing, Wanted};
 pub use moved::{Moved, Quick};
-pub use state::{Origin, Pending, Transaction};
+pub use state::{Pending, Savepoint, Transaction};

@@ -6,9 +6,9 @@ use txs_value_base::{Fault, Span};
 use txs_value_cell::Action;
 use txs_value_data::{CellId, Listed, Value};
 
-/// Where a transaction or a swap began: its span, and the stack there, whose body goes on at its first instruction.
+/// Where a transaction or a swap began: its span, and the stack there, whose body continues at its first instruction.
 #[derive(Drop)]
-pub struct Origin {
+pub struct Savepoint {
     pub span: Span,
     pub stack: Stack,
 }
@@ -26,18 +26,18 @@ pub enum Transaction {
     Running {
         left: u16,
         inner: u64,
-        from: Origin,
+        from: Savepoint,
     },
     /// At its end its commutes are applied, and it may run again so many times from where it began.
     Applying {
         left: u16,
-        from: Origin,
+        from: Savepoint,
         phase: Phase,
     },
     /// The function of one of its commutes runs, in a stack of its own: that of the transaction is put aside.
     Evaluating {
         left: u16,
-        from: Origin,
+        from: Savepoint,
         phase: Phase,
         aside: Stack,
     },
@@ -46,7 +46,7 @@ pub enum Transaction {
     Swapping {
         cell: CellId,
         at: u32,
-        from: Origin,
+        from: Savepoint,
     },
 }
 
@@ -54,7 +54,7 @@ pub enum Transaction {
 #[derive(Drop)]
 pub enum Pending {
     /// A transaction begins, which may run again so many times from here.
-    Begin { left: u16, from: Origin },
+    Begin { left: u16, from: Savepoint },
     /// A cell's value takes the cell's place at the top of the stack.
     Read(CellId),
     /// A ref's value takes the ref's place at the top of the stack, and these refs are ensured then.
@@ -63,13 +63,13 @@ pub enum Pending {
     Open(CellId, u16, Option<Commute>),
     /// The refs that were commuted and not set are viewed, for this commute phase.
     View(Phase),
-    /// An atom gets this value, which stands at the top of the stack and takes the atom's place, too.
+    /// An atom gets this value, which is at the top of the stack and takes the atom's place, too.
     Reset(CellId, Value),
     /// An action is sent, and its agent takes the place of itself and so many arguments at the top of the stack.
     Send(Action, u16),
-    /// An atom's value goes between the atom and so many arguments, and a swap is in hand then, which goes again from here.
-    Swap(CellId, u16, Origin),
-    /// A swap ends: its atom, which was opened at this place, gets this value, which stands at the top of the stack and takes the
+    /// An atom's value goes between the atom and so many arguments, and a swap is applied then, which goes again from here.
+    Swap(CellId, u16, Savepoint),
+    /// A swap ends: its atom, which was opened at this place, gets this value, which is at the top of the stack and takes the
     /// atom's place, too.
     Close(CellId, u32, Value),
     /// A transaction ends.

@@ -3,7 +3,7 @@
 use Rattle.std.specs.Prelude.{◌≡◌, ◌<◌, ℕ, Bool, true, false, not, ◌&&◌, ◌||◌, List, [], ◌∷◌, ◌++◌, length, drop, Option, Some, None, is_some, if◌then◌else◌}
 use Rattle.txs_value_cell.specs.declared.action.Action.{Action}
 
--- a mailbox: the actions in order, whether the first is taken to be run, whether the agent has failed, and whether it goes on after a fault
+-- a mailbox: the actions in order, whether the first is taken to be run, whether the agent has failed, and whether it continues after a fault
 pub record PlainMailbox : Type 0 where
   pub actions : List Action
   pub is_taken : Bool
@@ -41,7 +41,7 @@ next m = if m.has_failed then None else first m.actions
 abbrev pub take : PlainMailbox → PlainMailbox
 take m = mailbox_of m.actions (is_some (next m)) m.has_failed m.goes_on
 
--- the action that was taken is over, and has gone: where it faulted the agent has failed, unless it goes on
+-- the action that was taken is over, and has gone: where it faulted the agent has failed, unless it continues
 abbrev pub finish : Bool → PlainMailbox → PlainMailbox
 finish faulted m = mailbox_of (drop 1 m.actions) false (m.has_failed || (faulted && not m.goes_on)) m.goes_on
 

@@ -1,4 +1,4 @@
-//! Laws of calls in a row. Each stands on a function of its own, which does nothing when it runs.
+//! Laws of calls in a row. Each is the contract of a function of its own, which does nothing when it runs.
 
 ghost use Rattle.txs_mail.specs.Calls.{EachOnceInOrder, FailedRunsNothing};
 

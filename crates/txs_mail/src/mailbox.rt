@@ -51,7 +51,7 @@ impl Model for Mailbox {
 }
 
 impl Mailbox {
-    /// The mailbox of a new agent, which goes on after a fault or doesn't. It takes no memory; `reserve` makes room.
+    /// The mailbox of a new agent, which continues after a fault or doesn't. It takes no memory; `reserve` makes room.
     pub fn new(alloc: Global, goes_on: bool) -> Mailbox
         ensures { result.plain ≡ empty goes_on }
     {
@@ -104,7 +104,7 @@ impl Mailbox {
         self.actions.front()
     }
 
-    /// Removes the action that was taken. Where it faulted the mailbox has failed, unless its agent goes on.
+    /// Removes the action that was taken. Where it faulted the mailbox has failed, unless its agent continues.
     pub fn finish(&mut self, failed: bool)
         requires { self.old.plain.is_taken ≡ true }
         ensures finished { self.new.plain ≡ finish failed self.old.plain }
@@ -140,7 +140,7 @@ impl Mailbox {
         self.is_taken
     }
 
-    /// Whether an action faulted and the agent doesn't go on.
+    /// Whether an action faulted and the agent doesn't continue.
     pub fn has_failed(&self) -> bool
         ensures { result ≡ self.now.plain.has_failed }
     {

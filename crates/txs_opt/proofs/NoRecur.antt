@@ -4,7 +4,7 @@ use Rattle.txs_world_protocol.specs.Ask.{same_writes, same_cell, same_value, sam
 use Rattle.txs_world_protocol.specs.SeenEvent.{SeenEvent, home}
 use Rattle.txs_world_protocol.specs.declared.event.EventKind.{EventKind}
 use Rattle.txs_world_protocol.specs.declared.event.EventKind.TheVariants.{Read, Commit, Retry, Fail, Refused, Send as Sent, SendRefused, Act, Swap as Swapped, Broke}
-use Rattle.txs_frame.specs.Frame.{Work, set_ref, commute_ref}
+use Rattle.txs_frame.specs.Frame.{PlainTxFrame, set_ref, commute_ref}
 use Rattle.txs_value_cell.specs.Cells.{World, validators_of}
 use Rattle.txs_value_cell.specs.Forms.{rule, cell_of, may_stand}
 use Rattle.txs_value_cell.specs.declared.action.Action.{Action}
@@ -47,7 +47,7 @@ on_cell_end form inside span v go s h = bind_end (result_of (cell_of (rule form)
 
 -- ---- a transaction on one world
 
-done_end : (r : Result Work FaultKind) (span : Span) (v : Value) (t : TxState) → IsEnd (done_as r span v t)
+done_end : (r : Result PlainTxFrame FaultKind) (span : Span) (v : Value) (t : TxState) → IsEnd (done_as r span v t)
 done_end r span v t = bind_end (result_of r span t) (λ w t1. Completes v (record t1 { done = w })) (λ w t1. tt)
 
 look_end : (R : World) (form : LookForm) (c : CellId) (t : TxState) → IsEnd (tx_look R form c t)

@@ -1,7 +1,7 @@
 -- What pure code and a transaction on one world make of the forms on cells is alike, where callees are.
 use Rattle.std.proofs.Common.{◌≡◌, ℕ, Bool, true, false, ◌||◌, ◌==◌, List, [], ◌∷◌, ◌++◌, Option, Some, None, Ok, Err, if◌then◌else◌, refl, subst}
 use Rattle.txs_world_protocol.specs.Ask.{Writes, buffered, with_write}
-use Rattle.txs_frame.specs.Frame.{Work, with_cell, is_commuted, set_ref, commute_ref, hold_send, commuted, set_writes, commutes_of, by_ref, phase_work}
+use Rattle.txs_frame.specs.Frame.{PlainTxFrame, with_cell, is_commuted, set_ref, commute_ref, hold_send, commuted, set_writes, commutes_of, by_ref, phase_work}
 use Rattle.txs_frame.specs.declared.frame.Commute.{Commute}
 use Rattle.txs_value_cell.specs.Cells.{World, Validators}
 use Rattle.txs_value_cell.specs.Forms.{rule, cell_of}
@@ -75,7 +75,7 @@ module _ (May : ℕ → Type 0) where
   fine_by_ref [] cs h = tt
   fine_by_ref (d ∷ ds) cs h = fine_append (commutes_of d.number cs) (by_ref ds cs) (fine_of d.number cs h) (fine_by_ref ds cs h)
 
-  pub fine_phase : (w : Work) → AllFine May w.commutes → AllFine May (phase_work w)
+  pub fine_phase : (w : PlainTxFrame) → AllFine May w.commutes → AllFine May (phase_work w)
   fine_phase w h = fine_by_ref (commuted w) w.commutes h
 
 -- equal states of a transaction, whose commutes have callees of a kind
@@ -114,7 +114,7 @@ module _ (May : ℕ → Type 0) where
   taken_fine : (R : World) (c : CellId) (s : TxState) → AllFine May s.done.commutes → EndsFine May (taken R c s)
   taken_fine R c s h = noted_fine c (own s.done c.number) s h
 
-  done_fine : (b : Bool) (k : FaultKind) (w : Work) (span : Span) (v : Value) (s : TxState) → AllFine May s.done.commutes → AllFine May w.commutes → EndsFine May (done_as (if b then Err k else Ok w) span v s)
+  done_fine : (b : Bool) (k : FaultKind) (w : PlainTxFrame) (span : Span) (v : Value) (s : TxState) → AllFine May s.done.commutes → AllFine May w.commutes → EndsFine May (done_as (if b then Err k else Ok w) span v s)
   done_fine true k w span v s h j = h
   done_fine false k w span v s h j = j
 
@@ -177,6 +177,6 @@ module _ (S : Type 0) (k : Likeness S) (May : ℕ → Type 0) (f g : Applies S) 
       let args : List Value = value_or (buffered ws c.cell.number) Nil ∷ c.args in
       bind_like S k (f c.callee args s) (g c.callee args t) (λ v s1. redone f cs (with_write ws c.cell v) s1) (λ v s1. redone g cs (with_write ws c.cell v) s1) (h c.callee args fine.0 s t r) (λ v s1 t1 r1. redone_like cs (with_write ws c.cell v) fine.1 s1 t1 r1)
 
-  pub final_like : (va : Validators) (span : Span) (w : Work) (C : World) → AllFine May w.commutes → PartsLike S k (final_writes f va span w C) (final_writes g va span w C)
+  pub final_like : (va : Validators) (span : Span) (w : PlainTxFrame) (C : World) → AllFine May w.commutes → PartsLike S k (final_writes f va span w C) (final_writes g va span w C)
   final_like va span w C fine s t r =
       bind_like S k (commute_writes f w C s) (commute_writes g w C t) (λ ws s1. Completes (merged (set_writes w) ws) s1) (λ ws s1. Completes (merged (set_writes w) ws) s1) (redone_like (phase_work w) (valued (commuted w) C) (fine_phase May w fine) s t r) (λ ws s1 t1 r1. (refl, r1))

@@ -23,7 +23,7 @@ abbrev pub constants : Trees → Option (List Value)
 constants none = Some []
 constants (more e rest) = with_value (value_of e) (constants rest)
 
--- the value that was found stands where the node stood; a fault stays in the program
+-- the value that was found is where the node was; a fault stays in the program
 abbrev pub settled : Result Value FaultKind → Mark → Tree → Tree
 settled (Ok v) m e = Const v m
 settled (Err k) m e = e

@@ -13,7 +13,7 @@ bound d j none = none
 bound d j (more e rest) = more (shifted d j e) (bound d (suc j) rest)
 
 abbrev mutual
-  -- whether a recur to the function whose body this is stands in it
+  -- whether there is in it a recur to the function whose body this is
   pub recurs : Tree → Bool
   recurs (Const v m) = false
   recurs (Local i m) = false
@@ -32,7 +32,7 @@ abbrev mutual
   recurs (Update form cell callee args m) = false
   recurs (Send cell callee args m) = false
 
-  -- whether one stands in the last of these
+  -- whether one is in the last of these
   pub last_recurs : Trees → Bool
   last_recurs none = false
   last_recurs (more e none) = recurs e

@@ -55,7 +55,7 @@ abbrev pub InlineKeepsPure : Type 0
 InlineKeepsPure = (n budget : ℕ) (fs : List PlainFunction) → SoundFunctions [] fs → (callee : Callee) (vs : List Value) → pure_meaning n (inlined_functions budget fs) callee vs ≡ pure_meaning n fs callee vs
 
 -- A transaction's body means the same on each world, where it calls functions before the one of the number d alone; also a body that
--- stands in a function, where the functions in front of that are inlined.
+-- is in a function, where the functions in front of that are inlined.
 abbrev pub InlineKeepsTx : Type 0
 InlineKeepsTx =
     (n budget left : ℕ) (fs front : List PlainFunction) → SoundFunctions [] fs → ((f : ℕ) (fun : PlainFunction) → nth front f ≡ Some fun → nth (inlined_functions budget fs) f ≡ Some fun)

@@ -9,7 +9,7 @@ abbrev pub optimised : ℕ → PlainProgram → PlainProgram
 optimised limit p = folded_program (inlined_program limit (folded_program p))
 
 abbrev mutual
-  -- whether a call stands in a tree
+  -- whether a call is in a tree
   pub calls : Tree → Bool
   calls (Const v m) = false
   calls (Local i m) = false
@@ -28,17 +28,17 @@ abbrev mutual
   calls (Update form cell callee args m) = calls cell || some_call args
   calls (Send cell callee args m) = calls cell || some_call args
 
-  -- whether one stands in some of these
+  -- whether one is in some of these
   pub some_call : Trees → Bool
   some_call none = false
   some_call (more e rest) = calls e || some_call rest
 
--- whether one stands in some function
+-- whether one is in some function
 abbrev pub functions_call : List PlainFunction → Bool
 functions_call [] = false
 functions_call (f ∷ fs) = calls f.body || functions_call fs
 
--- whether one stands in some thread
+-- whether one is in some thread
 abbrev pub threads_call : List PlainThread → Bool
 threads_call [] = false
 threads_call (t ∷ ts) = calls t.body || threads_call ts

@@ -12,7 +12,7 @@ use Rattle.txs_reader.specs.declared.form.Bracket.TheVariants.{Round, Square}
 use Rattle.txs_reader.specs.declared.error.ReadErrorKind.{ReadErrorKind}
 use Rattle.txs_reader.specs.Bytes.{is_white, is_line_end, is_left_out_byte, is_word_byte, begins_part, begins_with, IsRun, meaning}
 use Rattle.txs_reader.specs.Quoted.{Part, Plain, Short, Code, part_text, part_value, IsAtPart}
-use Rattle.txs_reader.specs.Tree.{Leaf, Tree}
+use Rattle.txs_reader.specs.Tree.{Leaf, PlainForm}
 use Rattle.txs_reader.specs.Script.{Open, sugar, Holds, Reads, StopsWithin, ReadStops, too_long, no_text, within, FitsLast, EndsWithDeref, HasAll, IsFull, opening_byte, closing_byte}
 use Rattle.txs_reader.specs.Completes.{Completes}
 use Rattle.txs_reader.specs.Escapes.{TextUpTo}
@@ -40,13 +40,13 @@ pub record Stops (bytes : List ℕ) : Type 0 where
 pub record Next (bytes : List ℕ) (at : ℕ) : Type 0 where
   pub to : ℕ
   pub openings : List Open
-  pub forms : List Tree
+  pub forms : List PlainForm
   pub later : at < to
   pub within : to ≤ length bytes
   pub holds : Holds bytes openings forms (drop to bytes)
 
 abbrev Ends : List ℕ → Type 0
-Ends bytes = ((forms : List Tree) × Holds bytes [] forms []) ⊎ Stops bytes
+Ends bytes = ((forms : List PlainForm) × Holds bytes [] forms []) ⊎ Stops bytes
 
 abbrev Turn : List ℕ → ℕ → Type 0
 Turn bytes at = Next bytes at ⊎ Stops bytes
@@ -64,14 +64,14 @@ fits_true (Some c) b h = ap some_bracket (same_true c b h)
 -- a form that has become whole finds its place
 pub record Settled (bytes rest : List ℕ) : Type 0 where
   pub openings : List Open
-  pub forms : List Tree
+  pub forms : List PlainForm
   pub holds : Holds bytes openings forms rest
 
 deref_or_not : (b : Option Bracket) → (b ≡ None) ⊎ ¬ (b ≡ None)
 deref_or_not None = inl refl
 deref_or_not (Some b) = inr (λ e. absurd cc)
 
-settle : (n : ℕ) (bytes : List ℕ) (os : List Open) (fs : List Tree) (t : Tree) (rest : List ℕ) → length os ≤ n → Completes bytes os fs t rest → Ended os → Settled bytes rest
+settle : (n : ℕ) (bytes : List ℕ) (os : List Open) (fs : List PlainForm) (t : PlainForm) (rest : List ℕ) → length os ≤ n → Completes bytes os fs t rest → Ended os → Settled bytes rest
 settle n bytes os fs t rest le c (empty e) =
     record { openings = os; forms = fs ++ t ∷ []; holds = completed bytes os fs t rest c (λ h. subst EndsWithDeref e h) }
 settle zero bytes os fs t rest le c (behind init o e) = absurd (omega (arith, le, ap length e, length-append init (o ∷ [])))
@@ -81,7 +81,7 @@ settle (suc n) bytes os fs t rest le c (behind init o e) =
       | inr isnt ↦ record { openings = os; forms = fs ++ t ∷ []; holds = completed bytes os fs t rest c (λ h. isnt (EndsWithDeref-last init o (subst EndsWithDeref e h))) }
     ]
 
-settled : (bytes : List ℕ) (os : List Open) (fs : List Tree) (t : Tree) (at to : ℕ) → Completes bytes os fs t (drop to bytes) → at < to → to ≤ length bytes → Turn bytes at
+settled : (bytes : List ℕ) (os : List Open) (fs : List PlainForm) (t : PlainForm) (at to : ℕ) → Completes bytes os fs t (drop to bytes) → at < to → to ≤ length bytes → Turn bytes at
 settled bytes os fs t at to c later inside =
     let s = settle (length os) bytes os fs t (drop to bytes) (omega arith) c (ended os) in
     inl (record { to = to; openings = s.openings; forms = s.forms; later = later; within = inside; holds = s.holds })
@@ -89,14 +89,14 @@ settled bytes os fs t at to c later inside =
 stopped : (bytes : List ℕ) (at : ℕ) (k : ReadErrorKind) (s : Span) → StopsWithin bytes k s → Turn bytes at
 stopped bytes at k s stop = inr (record { kind = k; span = s; stops = stop })
 
-opening : (bytes : List ℕ) (os : List Open) (fs : List Tree) (at : ℕ) (b : Option Bracket) → Holds bytes os fs (drop at bytes) → at < length bytes → get_or bytes at 0 ≡ opening_byte b → ¬ IsFull os fs → Turn bytes at
+opening : (bytes : List ℕ) (os : List Open) (fs : List PlainForm) (at : ℕ) (b : Option Bracket) → Holds bytes os fs (drop at bytes) → at < length bytes → get_or bytes at 0 ≡ opening_byte b → ¬ IsFull os fs → Turn bytes at
 opening bytes os fs at b h lt is room =
     elim (cases_lt (length os) 100) [
       | inl few ↦ inl (record { to = at + 1; openings = _; forms = _; later = omega arith; within = omega arith; holds = step_open bytes os fs at b h lt is few room })
       | inr many ↦ stopped bytes at _ _ (stop_deep bytes os fs at b h lt is many room)
     ]
 
-closing : (bytes : List ℕ) (os : List Open) (fs : List Tree) (at : ℕ) (b : Bracket) → Holds bytes os fs (drop at bytes) → at < length bytes → get_or bytes at 0 ≡ closing_byte b → Ended os → Turn bytes at
+closing : (bytes : List ℕ) (os : List Open) (fs : List PlainForm) (at : ℕ) (b : Bracket) → Holds bytes os fs (drop at bytes) → at < length bytes → get_or bytes at 0 ≡ closing_byte b → Ended os → Turn bytes at
 closing bytes os fs at b h lt is (empty e) = stopped bytes at _ _ (stop_unopened bytes os fs at b h lt is (λ f. subst (λ (ps : List Open). FitsLast ps b) e f))
 closing bytes os fs at b h lt is (behind init o e) =
     elim (cases_Bool (fits o.bracket b)) [
@@ -104,7 +104,7 @@ closing bytes os fs at b h lt is (behind init o e) =
       | inr f ↦ stopped bytes at _ _ (stop_unopened bytes os fs at b h lt is (λ h. different o.bracket b f (FitsLast-last init o b (subst (λ (ps : List Open). FitsLast ps b) e h))))
     ]
 
-wording : (bytes : List ℕ) (os : List Open) (fs : List Tree) (at n : ℕ) (r : Result Leaf ReadErrorKind) → Holds bytes os fs (drop at bytes) → at < length bytes → is_word_byte (get_or bytes at 0) ≡ true → IsRun is_word_byte (drop at bytes) n → 0 < n → meaning (take n (drop at bytes)) ≡ r → ¬ IsFull os fs → Turn bytes at
+wording : (bytes : List ℕ) (os : List Open) (fs : List PlainForm) (at n : ℕ) (r : Result Leaf ReadErrorKind) → Holds bytes os fs (drop at bytes) → at < length bytes → is_word_byte (get_or bytes at 0) ≡ true → IsRun is_word_byte (drop at bytes) n → 0 < n → meaning (take n (drop at bytes)) ≡ r → ¬ IsFull os fs → Turn bytes at
 wording bytes os fs at n (Ok x) h lt is run some e room = settled bytes os fs _ at (at + n) (step_word bytes os fs at n x h lt is run e room) (omega arith) (omega (arith, run.short, length-drop at bytes))
 wording bytes os fs at n (Err k) h lt is run some e room = stopped bytes at k _ (stop_word bytes os fs at n k h lt is run e room)
 
@@ -145,7 +145,7 @@ text_from (suc fuel) bytes at k out t lt enough =
       ]
     ]
 
-texting : (bytes : List ℕ) (os : List Open) (fs : List Tree) (at : ℕ) → Holds bytes os fs (drop at bytes) → at < length bytes → ¬ IsFull os fs → TextEnd bytes at → Turn bytes at
+texting : (bytes : List ℕ) (os : List Open) (fs : List PlainForm) (at : ℕ) → Holds bytes os fs (drop at bytes) → at < length bytes → ¬ IsFull os fs → TextEnd bytes at → Turn bytes at
 texting bytes os fs at h lt room (text_cut k out t is) = stopped bytes at _ _ (stop_text bytes os fs at _ _ h lt room (text_unclosed bytes at k out t is))
 texting bytes os fs at h lt room (text_bad k out t inside is no_part) = stopped bytes at _ _ (stop_text bytes os fs at _ _ h lt room (text_bad_escape bytes at k out t inside is no_part))
 texting bytes os fs at h lt room (text_closed k out t later inside is) =
@@ -156,7 +156,7 @@ texting bytes os fs at h lt room (text_closed k out t later inside is) =
 
 -- ---- by the byte that stands there
 
-by_part : (bytes : List ℕ) (os : List Open) (fs : List Tree) (at : ℕ) → Holds bytes os fs (drop at bytes) → at < length bytes → begins_part (get_or bytes at 0) ≡ true → ¬ IsFull os fs → Turn bytes at
+by_part : (bytes : List ℕ) (os : List Open) (fs : List PlainForm) (at : ℕ) → Holds bytes os fs (drop at bytes) → at < length bytes → begins_part (get_or bytes at 0) ≡ true → ¬ IsFull os fs → Turn bytes at
 by_part bytes os fs at h lt begins room =
     let b : ℕ = get_or bytes at 0 in
     elim (cases_Bool (is_left_out_byte b)) [
@@ -178,7 +178,7 @@ by_part bytes os fs at h lt begins room =
       ]
     ]
 
-all_or_not : (b : Option Bracket) (fs : List Tree) → HasAll b (length fs) ⊎ ¬ HasAll b (length fs)
+all_or_not : (b : Option Bracket) (fs : List PlainForm) → HasAll b (length fs) ⊎ ¬ HasAll b (length fs)
 all_or_not None fs = inr (λ h. h)
 all_or_not (Some b) fs =
     elim (cases_lt (length fs) 65535) [
@@ -186,7 +186,7 @@ all_or_not (Some b) fs =
       | inr ge ↦ inl ge
     ]
 
-full_or_not : (os : List Open) (fs : List Tree) → Ended os → IsFull os fs ⊎ ¬ IsFull os fs
+full_or_not : (os : List Open) (fs : List PlainForm) → Ended os → IsFull os fs ⊎ ¬ IsFull os fs
 full_or_not os fs (empty e) = inr (λ h. subst (λ (ps : List Open). IsFull ps fs) e h)
 full_or_not os fs (behind init o e) =
     elim (all_or_not o.bracket fs) [
@@ -194,7 +194,7 @@ full_or_not os fs (behind init o e) =
       | inr some ↦ inr (λ h. some (IsFull-last init o fs (subst (λ (ps : List Open). IsFull ps fs) e h)))
     ]
 
-by_mark : (bytes : List ℕ) (os : List Open) (fs : List Tree) (at : ℕ) → Holds bytes os fs (drop at bytes) → at < length bytes → is_white (get_or bytes at 0) ≡ false → Turn bytes at
+by_mark : (bytes : List ℕ) (os : List Open) (fs : List PlainForm) (at : ℕ) → Holds bytes os fs (drop at bytes) → at < length bytes → is_white (get_or bytes at 0) ≡ false → Turn bytes at
 by_mark bytes os fs at h lt not_white =
     let b : ℕ = get_or bytes at 0 in
     elim (cases_eq b 59) [
@@ -213,14 +213,14 @@ by_mark bytes os fs at h lt not_white =
       ]
     ]
 
-finish : (bytes : List ℕ) (os : List Open) (fs : List Tree) (at : ℕ) → Holds bytes os fs (drop at bytes) → at ≡ length bytes → Ended os → Ends bytes
+finish : (bytes : List ℕ) (os : List Open) (fs : List PlainForm) (at : ℕ) → Holds bytes os fs (drop at bytes) → at ≡ length bytes → Ended os → Ends bytes
 finish bytes os fs at h e (empty none_open) =
     let done : drop at bytes ≡ [] = ap (λ (n : ℕ). drop n bytes) e ∙ drop-length bytes in
     inl (fs, subst (λ (rest : List ℕ). Holds bytes [] fs rest) done (subst (λ (ps : List Open). Holds bytes ps fs (drop at bytes)) none_open h))
 finish bytes os fs at h e (behind init o some_open) =
     inr (record { kind = _; span = _; stops = stop_unclosed bytes init fs o (subst (λ (n : ℕ). Holds bytes (init ++ o ∷ []) fs (drop n bytes)) e (subst (λ (ps : List Open). Holds bytes ps fs (drop at bytes)) some_open h)) })
 
-turn : (bytes : List ℕ) (os : List Open) (fs : List Tree) (at : ℕ) → Holds bytes os fs (drop at bytes) → at < length bytes → Turn bytes at
+turn : (bytes : List ℕ) (os : List Open) (fs : List PlainForm) (at : ℕ) → Holds bytes os fs (drop at bytes) → at < length bytes → Turn bytes at
 turn bytes os fs at h lt =
     let b : ℕ = get_or bytes at 0 in
     elim (cases_Bool (is_white b)) [
@@ -228,7 +228,7 @@ turn bytes os fs at h lt =
       | inr not_white ↦ by_mark bytes os fs at h lt not_white
     ]
 
-go : (fuel : ℕ) (bytes : List ℕ) (os : List Open) (fs : List Tree) (at : ℕ) → Holds bytes os fs (drop at bytes) → at ≤ length bytes → length bytes ≤ at + fuel → Ends bytes
+go : (fuel : ℕ) (bytes : List ℕ) (os : List Open) (fs : List PlainForm) (at : ℕ) → Holds bytes os fs (drop at bytes) → at ≤ length bytes → length bytes ≤ at + fuel → Ends bytes
 go zero bytes os fs at h le enough = finish bytes os fs at h (omega arith) (ended os)
 go (suc fuel) bytes os fs at h le enough =
     elim (cases_lt at (length bytes)) [
@@ -290,7 +290,7 @@ utf8_or_not bytes =
       | inr whole ↦ inl (subst IsUtf8 (take_all f.len bytes whole) f.utf8)
     ]
 
-pub decided : (bytes : List ℕ) → ((forms : List Tree) × Reads bytes forms) ⊎ ((k : ReadErrorKind) × (s : Span) × ReadStops bytes k s)
+pub decided : (bytes : List ℕ) → ((forms : List PlainForm) × Reads bytes forms) ⊎ ((k : ReadErrorKind) × (s : Span) × ReadStops bytes k s)
 decided bytes =
     elim (cases_lt 1048576 (length bytes)) [
       | inl long ↦ inr (_, _, too_long long refl refl)

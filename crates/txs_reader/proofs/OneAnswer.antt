@@ -12,7 +12,7 @@ use Rattle.txs_reader.specs.declared.form.Bracket.TheVariants.{Round, Square}
 use Rattle.txs_reader.specs.declared.error.ReadErrorKind.{ReadErrorKind}
 use Rattle.txs_reader.specs.declared.error.ReadErrorKind.TheVariants.{TooLarge}
 use Rattle.txs_reader.specs.Bytes.{begins_part, is_word_byte, meaning}
-use Rattle.txs_reader.specs.Tree.{Leaf, Tree}
+use Rattle.txs_reader.specs.Tree.{Leaf, PlainForm}
 use Rattle.txs_reader.specs.Script.{Quoted, Piece, White, Comment, Opening, Closing, Word, closing_byte, written, IsWord, IsPiece, EndsAt, Splits, Token, between, token, tokens, Open, Holds, Reads, FitsLast, StandsLast, HasAll, IsFull, RefusesText, at_text_end, at_backslash, at_quote, Refuses, at_end, at_closing, at_full, at_opening, at_byte, at_text, at_word, StopsWithin, ReadStops, too_long, no_text, within}
 use Rattle.txs_reader.proofs.Running.{State, run, run_none, run-append, run-holds, onto, same, fits, has_room, has_room_in}
 use Rattle.txs_reader.proofs.Pieces.{class, class_of, rank, part_class, one_piece, one_run, piece_front, word_front, left_out_class, opening_class, quote_class, closing_class, closing_one}
@@ -59,7 +59,7 @@ abbrev start : Option State
 start = Some (record { openings = []; forms = [] })
 
 -- what the tokens up to the rest leave
-holds_runs : (bytes : List ℕ) (os : List Open) (fs : List Tree) (rest : List ℕ) (h : Holds bytes os fs rest) → run (tokens 0 h.pieces) start ≡ Some (record { openings = onto os []; forms = fs })
+holds_runs : (bytes : List ℕ) (os : List Open) (fs : List PlainForm) (rest : List ℕ) (h : Holds bytes os fs rest) → run (tokens 0 h.pieces) start ≡ Some (record { openings = onto os []; forms = fs })
 holds_runs bytes os fs rest h = ap (λ (ts : List Token). run ts start) h.spells ∙ run-holds os fs [] h.limits tt
 
 tokens-append : (at : ℕ) (ps qs : List Piece) → (n : ℕ) × (tokens at (ps ++ qs) ≡ tokens at ps ++ tokens n qs)
@@ -72,7 +72,7 @@ some_none : (x : State) (o : Option State) → Some x ≡ o → o ≡ None → �
 some_none x o e f = absurd cc
 
 -- a text that goes on is refused by no state that its next piece breaks
-broken : (bytes : List ℕ) (os : List Open) (fs : List Tree) (rest : List ℕ) (h : Holds bytes os fs rest) (os' : List Open) (fs' : List Tree) (rest' : List ℕ) (k : Holds bytes os' fs' rest') (g : GoesOn h.pieces rest k.pieces) → ((at : ℕ) → run (token at g.next) (Some (record { openings = onto os []; forms = fs })) ≡ None) → ⊥
+broken : (bytes : List ℕ) (os : List Open) (fs : List PlainForm) (rest : List ℕ) (h : Holds bytes os fs rest) (os' : List Open) (fs' : List PlainForm) (rest' : List ℕ) (k : Holds bytes os' fs' rest') (g : GoesOn h.pieces rest k.pieces) → ((at : ℕ) → run (token at g.next) (Some (record { openings = onto os []; forms = fs })) ≡ None) → ⊥
 broken bytes os fs rest h os' fs' rest' k g stuck =
     let split = tokens-append 0 h.pieces (g.next ∷ g.others) in
     let all : run (tokens 0 k.pieces) start ≡ None =
@@ -113,7 +113,7 @@ abbrev head_of : List ℕ → ℕ
 head_of [] = 0
 head_of (b ∷ bs) = b
 
-abbrev stop_rank : {os : List Open} {fs : List Tree} {rest : List ℕ} {at : ℕ} {k : ReadErrorKind} {s : Span} → Refuses os fs rest at k s → ℕ
+abbrev stop_rank : {os : List Open} {fs : List PlainForm} {rest : List ℕ} {at : ℕ} {k : ReadErrorKind} {s : Span} → Refuses os fs rest at k s → ℕ
 stop_rank (at_end from e q p r) = 9
 stop_rank (at_closing b more e p q r) = 4
 stop_rank (at_full b more e is p q r) = class b
@@ -122,7 +122,7 @@ stop_rank (at_byte b more e is p q r) = 1
 stop_rank (at_text ps more e is ends why p) = 6
 stop_rank (at_word w more e is ends p r full) = 5
 
-stop_class : (os : List Open) (fs : List Tree) (rest : List ℕ) (at : ℕ) (k : ReadErrorKind) (s : Span) (w : Refuses os fs rest at k s) → class_of rest ≡ stop_rank w
+stop_class : (os : List Open) (fs : List PlainForm) (rest : List ℕ) (at : ℕ) (k : ReadErrorKind) (s : Span) (w : Refuses os fs rest at k s) → class_of rest ≡ stop_rank w
 stop_class os fs rest at k s (at_end from e q p r) = ap class_of e
 stop_class os fs rest at k s (at_closing b more e p q r) = ap class_of e ∙ closing_class b
 stop_class os fs rest at k s (at_full b more e is p q r) = ap class_of e
@@ -157,7 +157,7 @@ same_text_stop ps rest at k l s t (at_quote more e long p q) (at_backslash more'
     differ f = omega (arith, ap head_of f)
 
 -- a full bracket refuses in one way
-full_one : (os : List Open) (fs : List Tree) (rest : List ℕ) (at b : ℕ) (l : ReadErrorKind) (t : Span) (w : Refuses os fs rest at l t) → begins_part b ≡ true → IsFull os fs → class b ≡ stop_rank w → (l ≡ TooLarge) × (t ≡ between at (at + 1))
+full_one : (os : List Open) (fs : List PlainForm) (rest : List ℕ) (at b : ℕ) (l : ReadErrorKind) (t : Span) (w : Refuses os fs rest at l t) → begins_part b ≡ true → IsFull os fs → class b ≡ stop_rank w → (l ≡ TooLarge) × (t ≡ between at (at + 1))
 full_one os fs rest at b l t (at_full c more e is f p q) begins full c_rank = (p, q)
 full_one os fs rest at b l t (at_end from e q p r) begins full c_rank = absurd ((part_class b begins).not_end c_rank)
 full_one os fs rest at b l t (at_closing c more e p q r) begins full c_rank = absurd ((part_class b begins).not_closing c_rank)
@@ -166,7 +166,7 @@ full_one os fs rest at b l t (at_byte c more e is p q r) begins full c_rank = ab
 full_one os fs rest at b l t (at_text ps more e is ends why p) begins full c_rank = absurd (p full)
 full_one os fs rest at b l t (at_word w more e is ends p r not_full) begins full c_rank = absurd (not_full full)
 
-same_stop : (os : List Open) (fs : List Tree) (rest : List ℕ) (at : ℕ) (k l : ReadErrorKind) (s t : Span) (v : Refuses os fs rest at k s) (w : Refuses os fs rest at l t) → stop_rank v ≡ stop_rank w → (k ≡ l) × (s ≡ t)
+same_stop : (os : List Open) (fs : List PlainForm) (rest : List ℕ) (at : ℕ) (k l : ReadErrorKind) (s t : Span) (v : Refuses os fs rest at k s) (w : Refuses os fs rest at l t) → stop_rank v ≡ stop_rank w → (k ≡ l) × (s ≡ t)
 same_stop os fs rest at k l s t (at_full b more e is f p q) w same_rank =
     let one = full_one os fs rest at b l t w is f same_rank in
     (p ∙ sym one.0, q ∙ sym one.1)
@@ -221,7 +221,7 @@ unfit_bracket (Some c) b h = not_true _ (λ t. h (ap some_bracket (same_true c b
     some_bracket : Bracket → Option Bracket
     some_bracket d = Some d
 
-closing_breaks : (os : List Open) (fs : List Tree) (b : Bracket) → ¬ FitsLast os b → Ended os → (at : ℕ) → run (token at (Closing b)) (Some (record { openings = onto os []; forms = fs })) ≡ None
+closing_breaks : (os : List Open) (fs : List PlainForm) (b : Bracket) → ¬ FitsLast os b → Ended os → (at : ℕ) → run (token at (Closing b)) (Some (record { openings = onto os []; forms = fs })) ≡ None
 closing_breaks os fs b unfit (empty e) at = ap (λ (ps : List Open). run (token at (Closing b)) (Some (record { openings = onto ps []; forms = fs }))) e
 closing_breaks os fs b unfit (behind init o e) at =
     let different : fits o.bracket b ≡ false = unfit_bracket o.bracket b (λ t. unfit (subst (λ (ps : List Open). FitsLast ps b) (sym e) (FitsLast-push init o b t))) in
@@ -233,17 +233,17 @@ if_room : (r : Bool) (s t : Option State) → t ≡ None → cond r t None ≡ N
 if_room true s t e = e
 if_room false s t e = refl
 
-opening_breaks : (os : List Open) (fs : List Tree) (b : Option Bracket) → 100 ≤ length os → (at : ℕ) → run (token at (Opening b)) (Some (record { openings = onto os []; forms = fs })) ≡ None
+opening_breaks : (os : List Open) (fs : List PlainForm) (b : Option Bracket) → 100 ≤ length os → (at : ℕ) → run (token at (Opening b)) (Some (record { openings = onto os []; forms = fs })) ≡ None
 opening_breaks os fs b many at =
     let len : length (onto os []) ≡ length os + 0 = length-onto os [] in
     let full : ltb (length (onto os [])) 100 ≡ false = grind (arith, nat_tests) in
     if_room (has_room (onto os []) fs) None _ (rw full refl)
 
-no_room_in : (c : Option Bracket) (fs : List Tree) → HasAll c (length fs) → has_room_in c fs ≡ false
+no_room_in : (c : Option Bracket) (fs : List PlainForm) → HasAll c (length fs) → has_room_in c fs ≡ false
 no_room_in None fs h = absurd h
 no_room_in (Some b) fs h = grind (arith, nat_tests)
 
-no_room : (os : List Open) (fs : List Tree) → IsFull os fs → Ended os → has_room (onto os []) fs ≡ false
+no_room : (os : List Open) (fs : List PlainForm) → IsFull os fs → Ended os → has_room (onto os []) fs ≡ false
 no_room os fs h (empty e) = absurd (subst (λ (ps : List Open). IsFull ps fs) e h)
 no_room os fs h (behind init o e) =
     ap (λ (ps : List Open). has_room (onto ps []) fs) e
@@ -251,10 +251,10 @@ no_room os fs h (behind init o e) =
     ∙ no_room_in o.bracket fs (IsFull-last init o fs (subst (λ (ps : List Open). IsFull ps fs) e h))
 
 -- the next piece after which no state is left
-abbrev Breaks : List Open → List Tree → Piece → Type 0
+abbrev Breaks : List Open → List PlainForm → Piece → Type 0
 Breaks os fs p = (at : ℕ) → run (token at p) (Some (record { openings = onto os []; forms = fs })) ≡ None
 
-full_breaks : (os : List Open) (fs : List Tree) (p : Piece) → IsFull os fs → (rank p ≡ 0 → ⊥) → (rank p ≡ 2 → ⊥) → (rank p ≡ 4 → ⊥) → Breaks os fs p
+full_breaks : (os : List Open) (fs : List PlainForm) (p : Piece) → IsFull os fs → (rank p ≡ 0 → ⊥) → (rank p ≡ 2 → ⊥) → (rank p ≡ 4 → ⊥) → Breaks os fs p
 full_breaks os fs (White b) full a c d = absurd (a refl)
 full_breaks os fs (Comment b) full a c d = absurd (c refl)
 full_breaks os fs (Closing b) full a c d = absurd (d refl)
@@ -286,7 +286,7 @@ no_whole_text ps qs rest more at k s (at_quote more' e long p q) same_parts quot
     let lengths : length (flat_map part_value ps) ≡ length (flat_map part_value qs) = ap (λ (rs : List Part). length (flat_map part_value rs)) same_parts in
     omega (arith, long, le)
 
-stuck_at : (os : List Open) (fs : List Tree) (rest : List ℕ) (n : ℕ) (k : ReadErrorKind) (s : Span) (w : Refuses os fs rest n k s) (p : Piece) (more : List ℕ) → stop_rank w ≡ rank p → rest ≡ written p ++ more → IsPiece p → EndsAt p more → Breaks os fs p
+stuck_at : (os : List Open) (fs : List PlainForm) (rest : List ℕ) (n : ℕ) (k : ReadErrorKind) (s : Span) (w : Refuses os fs rest n k s) (p : Piece) (more : List ℕ) → stop_rank w ≡ rank p → rest ≡ written p ++ more → IsPiece p → EndsAt p more → Breaks os fs p
 stuck_at os fs rest n k s (at_closing b more' e unfit q r) (Closing c) more same_rank front is ends =
     let bytes : closing_byte b ≡ closing_byte c = cc in
     let one : b ≡ c = closing_one b c bytes in
@@ -307,7 +307,7 @@ stuck_at os fs rest n k s (at_end from e q p' r) p more same_rank front is ends 
 stuck_at os fs rest n k s (at_byte b more' e left f q r) p more same_rank front is ends = absurd (rank_not_one p (sym same_rank))
 stuck_at os fs rest n k s w p more same_rank front is ends = absurd (omega (arith, same_rank))
 
-not_passed : (bytes : List ℕ) (os : List Open) (fs : List Tree) (rest : List ℕ) (h : Holds bytes os fs rest) (n : ℕ) (k : ReadErrorKind) (s : Span) → Refuses os fs rest n k s → (os' : List Open) (fs' : List Tree) (rest' : List ℕ) (h' : Holds bytes os' fs' rest') → GoesOn h.pieces rest h'.pieces → ⊥
+not_passed : (bytes : List ℕ) (os : List Open) (fs : List PlainForm) (rest : List ℕ) (h : Holds bytes os fs rest) (n : ℕ) (k : ReadErrorKind) (s : Span) → Refuses os fs rest n k s → (os' : List Open) (fs' : List PlainForm) (rest' : List ℕ) (h' : Holds bytes os' fs' rest') → GoesOn h.pieces rest h'.pieces → ⊥
 not_passed bytes os fs rest h n k s r os' fs' rest' h' g =
     broken bytes os fs rest h os' fs' rest' h' g
     (stuck_at os fs rest n k s r g.next g.more (sym (stop_class os fs rest n k s r) ∙ ap class_of g.front ∙ piece_front g.next g.more g.is) g.front g.is g.ends)
@@ -321,21 +321,21 @@ onto_back (o ∷ os) done more = onto_back os (o ∷ done) more
 onto_one : (os ps : List Open) → onto os [] ≡ onto ps [] → os ≡ ps
 onto_one os ps e = sym (append-nil os) ∙ sym (onto_back os [] []) ∙ ap (λ (x : List Open). onto x []) e ∙ onto_back ps [] [] ∙ append-nil ps
 
-abbrev made : List Open → List Tree → Option State
+abbrev made : List Open → List PlainForm → Option State
 made os fs = Some (record { openings = os; forms = fs })
 
 abbrev openings_of : Option State → List Open
 openings_of None = []
 openings_of (Some s) = s.openings
 
-abbrev forms_of : Option State → List Tree
+abbrev forms_of : Option State → List PlainForm
 forms_of None = []
 forms_of (Some s) = s.forms
 
-made_one : (os ps : List Open) (fs gs : List Tree) → made os fs ≡ made ps gs → (os ≡ ps) × (fs ≡ gs)
+made_one : (os ps : List Open) (fs gs : List PlainForm) → made os fs ≡ made ps gs → (os ≡ ps) × (fs ≡ gs)
 made_one os ps fs gs e = (ap openings_of e, ap forms_of e)
 
-one_state : (bytes : List ℕ) (os : List Open) (fs : List Tree) (rest : List ℕ) (h : Holds bytes os fs rest) (os' : List Open) (fs' : List Tree) (rest' : List ℕ) (k : Holds bytes os' fs' rest') → h.pieces ≡ k.pieces → (os ≡ os') × (fs ≡ fs')
+one_state : (bytes : List ℕ) (os : List Open) (fs : List PlainForm) (rest : List ℕ) (h : Holds bytes os fs rest) (os' : List Open) (fs' : List PlainForm) (rest' : List ℕ) (k : Holds bytes os' fs' rest') → h.pieces ≡ k.pieces → (os ≡ os') × (fs ≡ fs')
 one_state bytes os fs rest h os' fs' rest' k e =
     let same_runs = sym (holds_runs bytes os fs rest h) ∙ ap (λ (ps : List Piece). run (tokens 0 ps) start) e ∙ holds_runs bytes os' fs' rest' k in
     let one = made_one _ _ _ _ same_runs in
@@ -343,7 +343,7 @@ one_state bytes os fs rest h os' fs' rest' k e =
 
 -- ---- one answer
 
-nothing_open : (fs : List Tree) (n : ℕ) (k : ReadErrorKind) (s : Span) → Refuses [] fs [] n k s → ⊥
+nothing_open : (fs : List PlainForm) (n : ℕ) (k : ReadErrorKind) (s : Span) → Refuses [] fs [] n k s → ⊥
 nothing_open fs n k s (at_end from e q p r) = q
 nothing_open fs n k s (at_closing b more e p q r) = absurd cc
 nothing_open fs n k s (at_full b more e is f q r) = f
@@ -363,7 +363,7 @@ nothing_written (Word w x) more is e = empty_word w more is.0 e
 ends_here : (ps : List Piece) (qs : List Piece) → GoesOn ps [] qs → ⊥
 ends_here ps qs g = nothing_written g.next g.more g.is g.front
 
-one_reading_within : (bytes : List ℕ) (f g : List Tree) → Holds bytes [] f [] → Holds bytes [] g [] → f ≡ g
+one_reading_within : (bytes : List ℕ) (f g : List PlainForm) → Holds bytes [] f [] → Holds bytes [] g [] → f ≡ g
 one_reading_within bytes f g h k =
     elim (compare bytes h.pieces [] k.pieces [] h.splits k.splits) [
       | alike e r ↦ (one_state bytes [] f [] h [] g [] k e).1
@@ -372,10 +372,10 @@ one_reading_within bytes f g h k =
     ]
 
 -- a refusal, at what is the same state
-moved : (bytes : List ℕ) (k : ReadErrorKind) (s : Span) (os : List Open) (fs : List Tree) (rest : List ℕ) (u : StopsWithin bytes k s) → os ≡ u.open_forms → fs ≡ u.forms → rest ≡ u.rest → Refuses os fs rest (length bytes - length rest) k s
+moved : (bytes : List ℕ) (k : ReadErrorKind) (s : Span) (os : List Open) (fs : List PlainForm) (rest : List ℕ) (u : StopsWithin bytes k s) → os ≡ u.open_forms → fs ≡ u.forms → rest ≡ u.rest → Refuses os fs rest (length bytes - length rest) k s
 moved bytes k s os fs rest u e f g =
-    let R : List Open → List Tree → List ℕ → Type 0 = λ os fs rest. Refuses os fs rest (length bytes - length rest) k s in
-    subst (λ (os : List Open). R os fs rest) (sym e) (subst (λ (fs : List Tree). R u.open_forms fs rest) (sym f) (subst (λ (rest : List ℕ). R u.open_forms u.forms rest) (sym g) u.refuses))
+    let R : List Open → List PlainForm → List ℕ → Type 0 = λ os fs rest. Refuses os fs rest (length bytes - length rest) k s in
+    subst (λ (os : List Open). R os fs rest) (sym e) (subst (λ (fs : List PlainForm). R u.open_forms fs rest) (sym f) (subst (λ (rest : List ℕ). R u.open_forms u.forms rest) (sym g) u.refuses))
 
 one_stop_within : (bytes : List ℕ) (k l : ReadErrorKind) (s t : Span) → StopsWithin bytes k s → StopsWithin bytes l t → (k ≡ l) × (s ≡ t)
 one_stop_within bytes k l s t u v =
@@ -390,12 +390,12 @@ one_stop_within bytes k l s t u v =
     ]
 
 -- what is read to the end doesn't stop there
-read_whole : (bytes : List ℕ) (f : List Tree) (h : Holds bytes [] f []) (k : ReadErrorKind) (s : Span) (u : StopsWithin bytes k s) → h.pieces ≡ u.holds.pieces → [] ≡ u.rest → ⊥
+read_whole : (bytes : List ℕ) (f : List PlainForm) (h : Holds bytes [] f []) (k : ReadErrorKind) (s : Span) (u : StopsWithin bytes k s) → h.pieces ≡ u.holds.pieces → [] ≡ u.rest → ⊥
 read_whole bytes f h k s u e r =
     let one = one_state bytes [] f [] h u.open_forms u.forms u.rest u.holds e in
     nothing_open f _ k s (moved bytes k s [] f [] u one.0 one.1 r)
 
-not_both_within : (bytes : List ℕ) (f : List Tree) (k : ReadErrorKind) (s : Span) → Holds bytes [] f [] → StopsWithin bytes k s → ⊥
+not_both_within : (bytes : List ℕ) (f : List PlainForm) (k : ReadErrorKind) (s : Span) → Holds bytes [] f [] → StopsWithin bytes k s → ⊥
 not_both_within bytes f k s h u =
     elim (compare bytes h.pieces [] u.holds.pieces u.rest h.splits u.holds.splits) [
       | alike e r ↦ read_whole bytes f h k s u e r
@@ -405,7 +405,7 @@ not_both_within bytes f k s h u =
 
 -- ---- with the length and the characters
 
-pub one_reading : (bytes : List ℕ) (f g : List Tree) → Reads bytes f → Reads bytes g → f ≡ g
+pub one_reading : (bytes : List ℕ) (f g : List PlainForm) → Reads bytes f → Reads bytes g → f ≡ g
 one_reading bytes f g h k = one_reading_within bytes f g h.holds k.holds
 
 utf8_whole : (bytes : List ℕ) (n : ℕ) → IsUtf8 bytes → IsValidUpTo bytes n → ⊥
@@ -425,7 +425,7 @@ one_stop bytes k l s t (within a u w) (too_long b p' q') = absurd (omega arith)
 one_stop bytes k l s t (within a u w) (no_text n b v p' q') = absurd (utf8_whole bytes n u v)
 one_stop bytes k l s t (within a u w) (within b v x) = one_stop_within bytes k l s t w x
 
-pub not_both : (bytes : List ℕ) (f : List Tree) (k : ReadErrorKind) (s : Span) → Reads bytes f → ReadStops bytes k s → ⊥
+pub not_both : (bytes : List ℕ) (f : List PlainForm) (k : ReadErrorKind) (s : Span) → Reads bytes f → ReadStops bytes k s → ⊥
 not_both bytes f k s h (too_long a p q) = omega (arith, h.short)
 not_both bytes f k s h (no_text n a v p q) = utf8_whole bytes n h.utf8 v
 not_both bytes f k s h (within a u w) = not_both_within bytes f k s h.holds w

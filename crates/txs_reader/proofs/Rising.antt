@@ -8,7 +8,7 @@ use Rattle.std.specs.List.{flat_map}
 use Rattle.txs_value_base.specs.declared.fault.Span.{Span}
 use Rattle.txs_reader.specs.declared.form.Bracket.{Bracket}
 use Rattle.txs_reader.specs.declared.form.Bracket.TheVariants.{Round}
-use Rattle.txs_reader.specs.Tree.{Leaf, symbol, Tree, leaf, trees_of}
+use Rattle.txs_reader.specs.Tree.{Leaf, symbol, PlainForm, leaf, trees_of}
 use Rattle.txs_reader.specs.Script.{Piece, White, Comment, Opening, Closing, Quoted, Word, written, IsPiece, Splits, opens, stands_for, Token, between, token, tokens, spelled, is_sugar, Open, begun, Holds}
 
 abbrev Rising : ℕ → List Token → Type 0
@@ -44,10 +44,10 @@ apart n [] x y behind h = omega (arith, h.1.0)
 apart n (t ∷ before) x y behind h = apart (suc t.span.from) before x y behind h.1
 
 -- the first part of what is written with `@`
-record FirstPart (fs : List Tree) (from : ℕ) : Type 0 where
+record FirstPart (fs : List PlainForm) (from : ℕ) : Type 0 where
   name : List ℕ
   span : Span
-  others : List Tree
+  others : List PlainForm
   is : fs ≡ leaf (symbol name) span ∷ others
   begins : span.from ≡ from
 
@@ -62,25 +62,25 @@ and_right false b h = absurd (false≢true h)
 same_number : (m n : ℕ) → eqb m n ≡ true → m ≡ n
 same_number m n e = grind (arith, nat_tests)
 
-first_part : (b : Bracket) (fs : List Tree) (span : Span) → is_sugar b (trees_of fs) span ≡ true → FirstPart fs span.from
+first_part : (b : Bracket) (fs : List PlainForm) (span : Span) → is_sugar b (trees_of fs) span ≡ true → FirstPart fs span.from
 first_part Round (leaf (symbol s) at ∷ t ∷ []) span e =
     record { name = s; span = at; others = t ∷ []; is = refl; begins = same_number _ _ (and_right _ _ (and_left _ _ (and_left _ _ e))) }
 first_part b fs span e = absurd (false≢true e)
 
 -- what is spelled, with the opening and the first form behind it in sight
-in_sight : (os : List Open) (o : Open) (x : Leaf) (span : Span) (gs : List Tree) → flat_map begun (os ++ o ∷ []) ++ flat_map spelled (leaf x span ∷ gs) ≡ (flat_map begun os ++ flat_map spelled o.before) ++ record { sign = opens o.bracket; span = between o.from (o.from + 1) } ∷ record { sign = stands_for x; span = span } ∷ flat_map spelled gs
+in_sight : (os : List Open) (o : Open) (x : Leaf) (span : Span) (gs : List PlainForm) → flat_map begun (os ++ o ∷ []) ++ flat_map spelled (leaf x span ∷ gs) ≡ (flat_map begun os ++ flat_map spelled o.before) ++ record { sign = opens o.bracket; span = between o.from (o.from + 1) } ∷ record { sign = stands_for x; span = span } ∷ flat_map spelled gs
 in_sight os o x span gs =
     ap (λ (ts : List Token). ts ++ flat_map spelled (leaf x span ∷ gs)) (flat_map-append begun os (o ∷ []) ∙ ap (λ (ts : List Token). flat_map begun os ++ ts) (append-nil (begun o)))
     ∙ append_assoc (flat_map begun os) (begun o) _
     ∙ ap (λ (ts : List Token). flat_map begun os ++ ts) (append_assoc (flat_map spelled o.before) _ _)
     ∙ sym (append_assoc (flat_map begun os) (flat_map spelled o.before) _)
 
-pub no_sugar : (bytes : List ℕ) (os : List Open) (o : Open) (fs : List Tree) (rest : List ℕ) (b : Bracket) (to : ℕ) → Holds bytes (os ++ o ∷ []) fs rest → is_sugar b (trees_of fs) (between o.from to) ≡ false
+pub no_sugar : (bytes : List ℕ) (os : List Open) (o : Open) (fs : List PlainForm) (rest : List ℕ) (b : Bracket) (to : ℕ) → Holds bytes (os ++ o ∷ []) fs rest → is_sugar b (trees_of fs) (between o.from to) ≡ false
 no_sugar bytes os o fs rest b to h =
     elim (cases_Bool (is_sugar b (trees_of fs) (between o.from to))) [
       | inl t ↦
           let f = first_part b fs (between o.from to) t in
-          let spells = h.spells ∙ ap (λ (gs : List Tree). flat_map begun (os ++ o ∷ []) ++ flat_map spelled gs) f.is ∙ in_sight os o (symbol f.name) f.span f.others in
+          let spells = h.spells ∙ ap (λ (gs : List PlainForm). flat_map begun (os ++ o ∷ []) ++ flat_map spelled gs) f.is ∙ in_sight os o (symbol f.name) f.span f.others in
           let lt : o.from < f.span.from = apart 0 _ _ _ _ (subst (Rising 0) spells (rising-tokens bytes 0 h.pieces rest h.splits)) in
           absurd (omega (arith, lt, f.begins))
       | inr e ↦ e

@@ -4,7 +4,7 @@ use Rattle.std.proofs.lemmas.List.{map-append}
 use Rattle.txs_value_base.specs.declared.fault.Span.{Span}
 use Rattle.txs_reader.specs.declared.form.Bracket.{Bracket}
 use Rattle.txs_reader.specs.declared.form.Form.{Form, Nil, Truth, Number, Text, Keyword, Symbol, Group, the_lemmas}
-use Rattle.txs_reader.specs.Tree.{text, nil, truth, number, keyword, symbol, Tree, leaf, group, tree, trees, trees_of}
+use Rattle.txs_reader.specs.Tree.{text, nil, truth, number, keyword, symbol, PlainForm, leaf, group, tree, trees, trees_of}
 
 pub tree-Nil : (span : Span) → tree (Nil span) ≡ leaf nil span
 tree-Nil span = search (rules, the_lemmas)
@@ -27,7 +27,7 @@ tree-Group b v span = search (rules, the_lemmas)
 pub trees_sugar : (old mid new : List Form) (name : List ℕ) (span : Span) (form : Form) → trees old ≡ [] → mid ≡ old ++ Symbol name span ∷ [] → new ≡ mid ++ form ∷ [] → trees new ≡ leaf (symbol name) span ∷ tree form ∷ []
 trees_sugar old mid new name span form none p q =
     ap trees q ∙ map-append tree mid _
-    ∙ ap (λ (ts : List Tree). ts ++ tree form ∷ []) (ap trees p ∙ map-append tree old _ ∙ ap (λ (ts : List Tree). ts ++ tree (Symbol name span) ∷ []) none ∙ ap (λ (t : Tree). t ∷ []) (tree-Symbol name span))
+    ∙ ap (λ (ts : List PlainForm). ts ++ tree form ∷ []) (ap trees p ∙ map-append tree old _ ∙ ap (λ (ts : List PlainForm). ts ++ tree (Symbol name span) ∷ []) none ∙ ap (λ (t : PlainForm). t ∷ []) (tree-Symbol name span))
 
 pub tree-Text : (bytes : List ℕ) (span : Span) → tree (Text bytes span) ≡ leaf (text bytes) span
 tree-Text bytes span = search (rules, the_lemmas)

@@ -1,4 +1,4 @@
--- What stands at the front of a text's inside, and how far one has been read.
+-- What is at the front of a text's inside, and how far one has been read.
 use Rattle.std.specs.Prelude.{ℕ, ◌≡◌, ◌+◌, List, ◌∷◌, ◌++◌, length, drop, flat_map, encode_utf8}
 use Rattle.std.specs.List.{AllByRecursion}
 use Rattle.txs_value_base.specs.declared.fault.Span.{Span}
@@ -25,7 +25,7 @@ pub record TextUpTo (bytes : List ℕ) (at to : ℕ) (out : List ℕ) : Type 0 w
   pub value : flat_map part_value parts ≡ out
   pub size : at + 1 + length (flat_map part_text parts) ≡ to
 
--- the text whose quote stands at `at` is refused so
+-- the text whose quote is at `at` is refused so
 pub record TextStops (bytes : List ℕ) (at : ℕ) (kind : ReadErrorKind) (span : Span) : Type 0 where
   pub parts : List Part
   pub rest : List ℕ

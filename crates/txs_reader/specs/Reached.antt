@@ -4,7 +4,7 @@ use Rattle.txs_reader.specs.declared.open_forms.OpenForms.{OpenForms}
 use Rattle.txs_reader.specs.OpenForms.{opens, inner}
 use Rattle.txs_reader.specs.Script.{Holds, IsFull}
 
--- the open forms hold what stands before the offset
+-- the open forms hold what is before the offset
 abbrev pub Reached : List ℕ → OpenForms → ℕ → Type 0
 Reached bytes state at = Holds bytes (opens state) (inner state) (drop at bytes)
 

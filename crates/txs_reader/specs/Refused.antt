@@ -34,6 +34,6 @@ abbrev pub StopsAs : List ℕ → ReadErrorKind → Span → Type 0
 StopsAs bytes Memory at = at ≡ between 0 0
 StopsAs bytes kind at = StopsWithin bytes kind at
 
--- the error tells where the reading of these bytes stops
+-- the error says where the reading of these bytes stops
 abbrev pub IsRefusal : List ℕ → ReadError → Type 0
 IsRefusal bytes e = StopsAs bytes e.kind e.at

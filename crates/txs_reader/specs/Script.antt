@@ -10,19 +10,19 @@ use Rattle.txs_reader.specs.declared.error.ReadErrorKind.{ReadErrorKind}
 use Rattle.txs_reader.specs.declared.error.ReadErrorKind.TheVariants.{NotUtf8, Unclosed, Unopened, BadEscape, TooDeep, TooLarge, LeftOut}
 use Rattle.txs_reader.specs.Bytes.{is_white, is_line_end, is_left_out_byte, is_word_byte, begins_part, begins_with, meaning}
 use Rattle.txs_reader.specs.Quoted.{Part, part_text, IsPart, part_value, IsAtPart}
-use Rattle.txs_reader.specs.Tree.{Leaf, symbol, text, Tree, leaf, group, place, Trees, none, first, height_of_all, IsNarrow, deref}
+use Rattle.txs_reader.specs.Tree.{Leaf, symbol, text, PlainForm, leaf, group, place, PlainForms, none, first, height_of_all, IsNarrow, deref}
 
 -- ---- the text
 
 -- A script's text is pieces put end to end.
 pub data Piece : Type 0 where
   White : ℕ → Piece
-  -- what stands behind the semicolon
+  -- what is behind the semicolon
   Comment : List ℕ → Piece
   -- an opening bracket, or none for the sign `@`
   Opening : Option Bracket → Piece
   Closing : Bracket → Piece
-  -- what stands between two quotes
+  -- what is between two quotes
   Quoted : List Part → Piece
   Word : List ℕ → Leaf → Piece
 
@@ -81,7 +81,7 @@ pub data Sign : Type 0 where
   closes : Bracket → Sign
   stands_for : Leaf → Sign
 
--- a token, and the bytes where it stands
+-- a token, and the bytes where it is
 pub record Token : Type 0 where
   pub sign : Sign
   pub span : Span
@@ -99,23 +99,23 @@ token at (Closing b) = record { sign = closes b; span = between at (at + 1) } �
 token at (Quoted ps) = record { sign = stands_for (text (flat_map part_value ps)); span = between at (at + length (written (Quoted ps))) } ∷ []
 token at (Word w x) = record { sign = stands_for x; span = between at (at + length w) } ∷ []
 
--- the tokens of pieces, of which the first stands at this offset
+-- the tokens of pieces, of which the first is at this offset
 abbrev pub tokens : ℕ → List Piece → List Token
 tokens at [] = []
 tokens at (p ∷ ps) = token at p ++ tokens (at + length (written p)) ps
 
 -- The list was written with the sign `@`: its first part is the symbol of the sign, which begins where the list does, and it ends where its second does.
-abbrev pub is_sugar : Bracket → Trees → Span → Bool
+abbrev pub is_sugar : Bracket → PlainForms → Span → Bool
 is_sugar Round (first (leaf (symbol s) at) (first t none)) span = bytes_eq s deref && at.from == span.from && at.to == span.from + 1 && (place t).to == span.to
 is_sugar b ts span = false
 
 -- the form that the sign `@` at an offset and a form make
-abbrev pub sugar : ℕ → Tree → Tree
+abbrev pub sugar : ℕ → PlainForm → PlainForm
 sugar at t = group Round (first (leaf (symbol deref) (between at (at + 1))) (first t none)) (between at (place t).to)
 
 -- the tokens that a form is made of
 abbrev mutual
-  pub spelled : Tree → List Token
+  pub spelled : PlainForm → List Token
   spelled (leaf x span) = record { sign = stands_for x; span = span } ∷ []
   spelled (group b ts span) =
       -- the symbol that `@` stands for is no token of its own
@@ -123,20 +123,20 @@ abbrev mutual
       else record { sign = opens (Some b); span = between span.from (span.from + 1) } ∷ (spelled_within ts ++ record { sign = closes b; span = between (span.to - 1) span.to } ∷ [])
 
   -- the tokens of forms in a row
-  pub spelled_within : Trees → List Token
+  pub spelled_within : PlainForms → List Token
   spelled_within none = []
   spelled_within (first t ts) = spelled t ++ spelled_within ts
 
 -- ---- the script
 
--- An opening whose form isn't whole yet: where it stands, and the forms before it in what it stands in.
+-- An opening whose form isn't whole yet: where it is, and the forms before it in what it is in.
 pub record Open : Type 0 where
   pub bracket : Option Bracket
   pub from : ℕ
-  pub before : List Tree
+  pub before : List PlainForm
 
 -- what is opened behind these forms
-abbrev pub opened : Option Bracket → ℕ → List Tree → Open
+abbrev pub opened : Option Bracket → ℕ → List PlainForm → Open
 opened b at fs = record { bracket = b; from = at; before = fs }
 
 -- forms, and an opening behind them
@@ -144,11 +144,11 @@ abbrev pub begun : Open → List Token
 begun o = flat_map spelled o.before ++ record { sign = opens o.bracket; span = between o.from (o.from + 1) } ∷ []
 
 -- at this level each form is narrow, and none nests too deep
-abbrev pub FitAt : ℕ → List Tree → Type 0
+abbrev pub FitAt : ℕ → List PlainForm → Type 0
 FitAt level forms = (level + height_of_all forms ≤ most_nesting) × AllByRecursion IsNarrow forms
 
 -- how many forms are whole behind an opening, and how many begun
-abbrev pub whole : List Open → List Tree → ℕ
+abbrev pub whole : List Open → List PlainForm → ℕ
 whole [] forms = length forms
 whole (o ∷ os) forms = length o.before
 
@@ -163,19 +163,19 @@ MayHold None done more = done ≡ 0
 MayHold (Some b) done more = done + more ≤ most_items
 
 -- at this level and below, all fits
-abbrev pub WithinLimits : ℕ → List Open → List Tree → Type 0
+abbrev pub WithinLimits : ℕ → List Open → List PlainForm → Type 0
 WithinLimits level [] forms = FitAt level forms
 WithinLimits level (o ∷ os) forms = FitAt level o.before × MayHold o.bracket (whole os forms) (begun_behind os) × WithinLimits (level + 1) os forms
 
 -- The bytes up to the rest are whole forms, then an opening and whole forms, and so on, the innermost opening last.
-pub record Holds (bytes : List ℕ) (open_forms : List Open) (forms : List Tree) (rest : List ℕ) : Type 0 where
+pub record Holds (bytes : List ℕ) (open_forms : List Open) (forms : List PlainForm) (rest : List ℕ) : Type 0 where
   pub pieces : List Piece
   pub splits : Splits bytes pieces rest
   pub spells : tokens 0 pieces ≡ flat_map begun open_forms ++ flat_map spelled forms
   pub limits : WithinLimits 0 open_forms forms
 
 -- A script is a text of at most 1,048,576 bytes: white space, comments and these forms.
-pub record Reads (bytes : List ℕ) (forms : List Tree) : Type 0 where
+pub record Reads (bytes : List ℕ) (forms : List PlainForm) : Type 0 where
   pub short : length bytes ≤ most_script
   pub utf8 : IsUtf8 bytes
   pub holds : Holds bytes [] forms []
@@ -188,7 +188,7 @@ FitsLast [] b = ⊥
 FitsLast (o ∷ []) b = o.bracket ≡ Some b
 FitsLast (o ∷ p ∷ os) b = FitsLast (p ∷ os) b
 
--- the innermost opening stands at this offset
+-- the innermost opening is at this offset
 abbrev pub StandsLast : List Open → ℕ → Type 0
 StandsLast [] at = ⊥
 StandsLast (o ∷ []) at = o.from ≡ at
@@ -206,7 +206,7 @@ HasAll None parts = ⊥
 HasAll (Some b) parts = most_items ≤ parts
 
 -- the innermost opening is such a bracket
-abbrev pub IsFull : List Open → List Tree → Type 0
+abbrev pub IsFull : List Open → List PlainForm → Type 0
 IsFull [] forms = ⊥
 IsFull (o ∷ []) forms = HasAll o.bracket (length forms)
 IsFull (o ∷ p ∷ os) forms = IsFull (p ∷ os) forms
@@ -220,8 +220,8 @@ pub data RefusesText (ps : List Part) (rest : List ℕ) (at : ℕ) (kind : ReadE
   -- a text of too many bytes
   at_quote : (more : List ℕ) → rest ≡ 34 ∷ more → most_text < length (flat_map part_value ps) → kind ≡ TooLarge → span ≡ between at (at + length (written (Quoted ps))) → RefusesText ps rest at kind span
 
--- With these openings, what stands at this offset is refused so.
-pub data Refuses (os : List Open) (forms : List Tree) (rest : List ℕ) (at : ℕ) (kind : ReadErrorKind) (span : Span) : Type 0 where
+-- With these openings, what is at this offset is refused so.
+pub data Refuses (os : List Open) (forms : List PlainForm) (rest : List ℕ) (at : ℕ) (kind : ReadErrorKind) (span : Span) : Type 0 where
   -- the end, with something open
   at_end : (from : ℕ) → rest ≡ [] → StandsLast os from → kind ≡ Unclosed → span ≡ between from (from + 1) → Refuses os forms rest at kind span
   -- a closing byte that doesn't fit
@@ -237,10 +237,10 @@ pub data Refuses (os : List Open) (forms : List Tree) (rest : List ℕ) (at : �
   -- a whole word that is refused
   at_word : (w more : List ℕ) → rest ≡ w ++ more → IsWord w → begins_with is_word_byte more ≡ false → meaning w ≡ Err kind → span ≡ between at (at + length w) → ¬ IsFull os forms → Refuses os forms rest at kind span
 
--- Up to somewhere all is well, and what stands there is refused.
+-- Up to somewhere all is well, and what is there is refused.
 pub record StopsWithin (bytes : List ℕ) (kind : ReadErrorKind) (span : Span) : Type 0 where
   pub open_forms : List Open
-  pub forms : List Tree
+  pub forms : List PlainForm
   pub rest : List ℕ
   pub holds : Holds bytes open_forms forms rest
   pub refuses : Refuses open_forms forms rest (length bytes - length rest) kind span

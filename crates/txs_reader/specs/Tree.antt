@@ -17,22 +17,22 @@ pub data Leaf : Type 0 where
 
 mutual
   -- A form as plain data: one without parts, or a list or vector, each with its span.
-  pub data Tree : Type 0 where
-    leaf : Leaf → Span → Tree
-    group : Bracket → Trees → Span → Tree
+  pub data PlainForm : Type 0 where
+    leaf : Leaf → Span → PlainForm
+    group : Bracket → PlainForms → Span → PlainForm
 
   -- forms in a row
-  pub data Trees : Type 0 where
-    none : Trees
-    first : Tree → Trees → Trees
+  pub data PlainForms : Type 0 where
+    none : PlainForms
+    first : PlainForm → PlainForms → PlainForms
 
 -- the forms of a list in a row
-abbrev pub trees_of : List Tree → Trees
+abbrev pub trees_of : List PlainForm → PlainForms
 trees_of [] = none
 trees_of (t ∷ ts) = first t (trees_of ts)
 
 -- one level, with each form inside already seen as its tree
-abbrev pub tree_step : Form-F Tree → Tree
+abbrev pub tree_step : Form-F PlainForm → PlainForm
 tree_step (Form-F.Nil span) = leaf nil span
 tree_step (Form-F.Truth b span) = leaf (truth b) span
 tree_step (Form-F.Number z span) = leaf (number z) span
@@ -42,47 +42,47 @@ tree_step (Form-F.Symbol s span) = leaf (symbol s) span
 tree_step (Form-F.Group b v span) = group b (trees_of v.items) span
 
 -- the tree of a form
-abbrev pub tree : Form → Tree
-tree = fold-Form Tree tree_step
+abbrev pub tree : Form → PlainForm
+tree = fold-Form PlainForm tree_step
 
 -- the trees of forms
-abbrev pub trees : List Form → List Tree
+abbrev pub trees : List Form → List PlainForm
 trees = map tree
 
--- where a form stands
-abbrev pub place : Tree → Span
+-- where a form is
+abbrev pub place : PlainForm → Span
 place (leaf x span) = span
 place (group b ts span) = span
 
--- how many brackets stand in one another, a `@` being one too
+-- how many brackets are in one another, a `@` being one too
 abbrev mutual
-  pub height : Tree → ℕ
+  pub height : PlainForm → ℕ
   height (leaf x span) = 0
   height (group b ts span) = suc (height_within ts)
 
   -- the most brackets in one another, in these forms
-  pub height_within : Trees → ℕ
+  pub height_within : PlainForms → ℕ
   height_within none = 0
   height_within (first t ts) = max (height t) (height_within ts)
 
 -- the same of a list of forms
-abbrev pub height_of_all : List Tree → ℕ
+abbrev pub height_of_all : List PlainForm → ℕ
 height_of_all [] = 0
 height_of_all (t ∷ ts) = max (height t) (height_of_all ts)
 
 -- how many parts a list or vector has
-abbrev pub parts : Trees → ℕ
+abbrev pub parts : PlainForms → ℕ
 parts none = 0
 parts (first t ts) = suc (parts ts)
 
 -- each list and vector in it has at most 65,535 parts
 abbrev mutual
-  pub IsNarrow : Tree → Type 0
+  pub IsNarrow : PlainForm → Type 0
   IsNarrow (leaf x span) = Unit {0}
   IsNarrow (group b ts span) = (parts ts ≤ most_items) × AreNarrow ts
 
   -- each of these is narrow
-  pub AreNarrow : Trees → Type 0
+  pub AreNarrow : PlainForms → Type 0
   AreNarrow none = Unit {0}
   AreNarrow (first t ts) = IsNarrow t × AreNarrow ts
 

@@ -36,7 +36,7 @@ pub fn is_word_byte(b: u8) -> bool
     !(is_white(b) || is_left_out_byte(b) || is_mark(b))
 }
 
-/// How many bytes of a word stand at the front.
+/// How many bytes of a word are at the front.
 pub fn word_len(bytes: &[u8]) -> usize
     ensures { IsRun is_word_byte bytes.now result }
 {
@@ -48,7 +48,7 @@ pub fn word_len(bytes: &[u8]) -> usize
     bytes.len()
 }
 
-/// How many bytes stand before the end of the line.
+/// How many bytes are before the end of the line.
 pub fn line_len(bytes: &[u8]) -> usize
     ensures { IsRun (λ b. not (is_line_end b)) bytes.now result }
 {
@@ -58,7 +58,7 @@ pub fn line_len(bytes: &[u8]) -> usize
     }
 }
 
-/// How many bytes stand before the first quote or backslash, if there is one.
+/// How many bytes are before the first quote or backslash, if there is one.
 pub fn plain_len(bytes: &[u8]) -> Option<usize>
     ensures some { IfSome result (λ n. IsRun is_plain bytes.now n × (n < length bytes.now)) }
     ensures none { IfNone result (list_all is_plain bytes.now ≡ true) }

@@ -82,7 +82,7 @@ impl Display for ReadErrorKind {
     }
 }
 
-/// Why a script isn't read, and the bytes of it that are the reason; 0..0 for want of memory.
+/// Why a script isn't read, and the bytes of it that are the reason; 0..0 where memory ran out.
 #[derive(Clone, Copy, Debug, PartialEq, Eq)]
 pub struct ReadError {
     pub kind: ReadErrorKind,

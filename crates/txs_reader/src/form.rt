@@ -1,4 +1,4 @@
-//! Forms: what the text of a script is made of, each with the place where it stands.
+//! Forms: what the text of a script is made of, each with the place where it is.
 
 ghost use Rattle.std.specs.Prelude.{◌≡◌};
 ghost use Rattle.txs_reader.specs.Tree.{tree, place};
@@ -6,7 +6,7 @@ ghost use Rattle.txs_reader.specs.Tree.{tree, place};
 use txs_value_base::Span;
 use txs_value_data::{Name, Text};
 
-/// The two kinds of brackets: a list stands in round ones, a vector in square ones.
+/// The two kinds of brackets: a list is in round ones, a vector in square ones.
 #[derive(Clone, Copy, PartialEq, Eq)]
 pub enum Bracket {
     Round,
@@ -28,7 +28,7 @@ pub enum Form {
 }
 
 impl Form {
-    /// Where the form stands, its brackets and quotes included.
+    /// Where the form is, its brackets and quotes included.
     pub fn span(&self) -> Span
         ensures { result ≡ place (tree self.now) }
     {

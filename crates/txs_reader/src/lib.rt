@@ -6,7 +6,7 @@
 ghost use Rattle.std.specs.Prelude.{◌≡◌, ◌⊎◌, List, ℕ};
 ghost use Rattle.txs_value_base.specs.declared.fault.Span.{Span};
 ghost use Rattle.txs_reader.specs.declared.error.ReadErrorKind.{ReadErrorKind};
-ghost use Rattle.txs_reader.specs.Tree.{Tree};
+ghost use Rattle.txs_reader.specs.Tree.{PlainForm};
 ghost use Rattle.txs_reader.specs.Script.{Reads, ReadStops};
 
 mod bytes;
@@ -25,8 +25,8 @@ pub use reader::read_script;
 
 /// A script has one reading, or its reading stops at one place for one reason.
 pub fn one_answer()
-    ensures decided { (bytes : List ℕ) → ((forms : List Tree) × Reads bytes forms) ⊎ ((kind : ReadErrorKind) × (span : Span) × ReadStops bytes kind span) }
-    ensures one_reading { (bytes : List ℕ) (f g : List Tree) → Reads bytes f → Reads bytes g → f ≡ g }
+    ensures decided { (bytes : List ℕ) → ((forms : List PlainForm) × Reads bytes forms) ⊎ ((kind : ReadErrorKind) × (span : Span) × ReadStops bytes kind span) }
+    ensures one_reading { (bytes : List ℕ) (f g : List PlainForm) → Reads bytes f → Reads bytes g → f ≡ g }
     ensures one_stop { (bytes : List ℕ) (k l : ReadErrorKind) (s t : Span) → ReadStops bytes k s → ReadStops bytes l t → (k ≡ l) × (s ≡ t) }
-    ensures not_both { (bytes : List ℕ) (f : List Tree) (k : ReadErrorKind) (s : Span) → Reads bytes f → ReadStops bytes k s → ⊥ }
+    ensures not_both { (bytes : List ℕ) (f : List PlainForm) (k : ReadErrorKind) (s : Span) → Reads bytes f → ReadStops bytes k s → ⊥ }
 {}

@@ -11,7 +11,7 @@ pub struct OpenForm {
     pub bracket: Option<Bracket>,
     /// The offset of the opening byte.
     pub from: u32,
-    /// How many forms stand before it in what it stands in.
+    /// How many forms are before it in what it is in.
     pub before: usize,
     ghost small: { from + 1 < 2 ^ 32 },
 }

@@ -20,7 +20,7 @@ use txs_value_data::limits::MOST_ITEMS;
 pub struct OpenForms {
     pub open: Vec<OpenForm>,
     pub forms: Vec<Form>,
-    /// How many forms of the row stand before the innermost opening.
+    /// How many forms of the row are before the innermost opening.
     pub start: usize,
     ghost counted: { start ≡ before_all open.items },
     ghost within: { start ≤ length forms.items },

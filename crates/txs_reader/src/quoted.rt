@@ -1,4 +1,4 @@
-//! Texts: what stands between two quotes.
+//! Texts: what is between two quotes.
 
 ghost use Rattle.std.specs.Prelude.{◌≡◌, ◌++◌, ◌+◌, ◌^◌, ◌<◌, ◌≤◌, ◌-◌, [], length, drop, take, slice_index, string_bytes, IfOk, IfErr};
 ghost use Rattle.txs_reader.specs.Escapes.{TextUpTo, IsTextRefusal};
@@ -19,8 +19,8 @@ fn push_between(out: &mut String, script: &str, from: usize, to: usize) -> Resul
     out.push_str(&script[from + 1..to])
 }
 
-/// Reads the text whose first quote stands at an offset into an empty string, its escapes replaced, and says where its
-/// second quote stands.
+/// Reads the text whose first quote is at an offset into an empty string, its escapes replaced, and says where its
+/// second quote is.
 pub fn read_quoted(text: &mut String, script: &str, at: usize) -> Result<usize, ReadError>
     requires empty { string_bytes text.old ≡ [] }
     requires inside { at < length script.now }

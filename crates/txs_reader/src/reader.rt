@@ -144,7 +144,7 @@ fn part(alloc: Global, state: &mut OpenForms, script: &str, at: usize) -> Result
     }
 }
 
-/// Reads what stands at an offset, and says where to go on.
+/// Reads what is at an offset, and says where to continue.
 fn step(alloc: Global, state: &mut OpenForms, script: &str, at: usize) -> Result<usize, ReadError>
     requires inside { at < length script.now }
     requires small { length script.now < 2 ^ 32 }

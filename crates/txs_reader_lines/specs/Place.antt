@@ -6,7 +6,7 @@ use Rattle.std.specs.List.{count_by, before_first, after_last}
 abbrev pub is_newline : ℕ → Bool
 is_newline b = b == 10
 
--- A byte begins a character unless it is one that goes on with a character of UTF-8, 0x80 to 0xBF.
+-- A byte begins a character unless it is one that continues a character of UTF-8, 0x80 to 0xBF.
 abbrev pub begins_character : ℕ → Bool
 begins_character b = nat_lt b 128 || nat_le 192 b
 
@@ -14,11 +14,11 @@ begins_character b = nat_lt b 128 || nat_le 192 b
 abbrev pub characters : List ℕ → ℕ
 characters bytes = count_by begins_character bytes
 
--- What stands in the line before the offset: the bytes between the last newline, or the text's start, and it.
+-- What is in the line before the offset: the bytes between the last newline, or the text's start, and it.
 abbrev pub line_before : List ℕ → ℕ → List ℕ
 line_before text offset = after_last is_newline (take offset text)
 
--- What stands in the line from the offset on: the bytes up to the next newline, or the text's end.
+-- What is in the line from the offset on: the bytes up to the next newline, or the text's end.
 abbrev pub line_behind : List ℕ → ℕ → List ℕ
 line_behind text offset = before_first is_newline (drop offset text)
 

@@ -4,7 +4,7 @@ ghost use Rattle.std.specs.Prelude.{◌≡◌};
 ghost use Rattle.std.specs.List.{count_by};
 ghost use Rattle.txs_reader_lines.specs.Place.{is_newline, begins_character, characters};
 
-/// Whether a character begins with this byte: any but 0x80 to 0xBF, which go on with one in UTF-8.
+/// Whether a character begins with this byte: any but 0x80 to 0xBF, which continue one in UTF-8.
 pub(crate) fn begins_character(byte: u8) -> bool
     ensures { result ≡ begins_character byte }
 {

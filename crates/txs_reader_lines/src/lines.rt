@@ -4,7 +4,7 @@ ghost use Rattle.std.specs.Prelude.{◌≡◌, ◌≤◌, take, drop, length};
 ghost use Rattle.std.specs.List.{before_first, after_last};
 ghost use Rattle.txs_reader_lines.specs.Place.{is_newline, line_before, line_behind, line_around};
 
-/// What stands before the offset; the whole text where the offset is past its end.
+/// What is before the offset; the whole text where the offset is past its end.
 pub(crate) fn before(text: &[u8], offset: usize) -> &[u8]
     ensures { result.now ≡ take offset text.now }
 {
@@ -18,7 +18,7 @@ pub(crate) fn behind(text: &[u8], offset: usize) -> &[u8]
     &text[offset.min(text.len())..]
 }
 
-/// What stands behind the last newline.
+/// What is behind the last newline.
 pub(crate) fn last_line(bytes: &[u8]) -> &[u8]
     ensures { result.now ≡ after_last is_newline bytes.now }
 {
@@ -29,7 +29,7 @@ pub(crate) fn last_line(bytes: &[u8]) -> &[u8]
     &bytes[from..]
 }
 
-/// What stands before the first newline.
+/// What is before the first newline.
 pub(crate) fn first_line(bytes: &[u8]) -> &[u8]
     ensures { result.now ≡ before_first is_newline bytes.now }
 {

@@ -68,7 +68,7 @@ fn append_pointed(
 
 /// Appends two lines that show a span of a text, from the byte `start` up to the byte `end`, which isn't
 /// part of it: the line in which the span begins, and below it a caret under each of its characters that
-/// lie in that line, one caret at least. A tab before them stays a tab, so that the carets stand where they
+/// lie in that line, one caret at least. A tab before them stays a tab, so that the carets are where they
 /// belong. After an error nothing is appended.
 pub fn write_pointed(
     text: &[u8],

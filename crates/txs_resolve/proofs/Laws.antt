@@ -1,6 +1,6 @@
 -- Forms are one program, or they are refused for one reason.
 use Rattle.std.proofs.Common.{◌≡◌, ◌⊎◌, inl, inr, List, Ok, Err, refl, sym, ap, ◌∙◌, subst}
-use Rattle.txs_reader.specs.Tree.{Tree as Form}
+use Rattle.txs_reader.specs.Tree.{PlainForm as Form}
 use Rattle.txs_tree_meaning.specs.Tree.{PlainProgram}
 use Rattle.txs_resolve_expand.specs.Expressions.{Answer}
 use Rattle.txs_resolve.specs.Names.{named_script, Resolves, ResolveStops}

@@ -4,7 +4,7 @@ use Rattle.txs_value_base.specs.declared.fault.Span.{Span}
 use Rattle.txs_resolve_scope.specs.declared.names.FormName.{FormName}
 use Rattle.txs_reader.specs.declared.form.Bracket.TheVariants.{Round}
 use Rattle.txs_reader.specs.declared.form.Form.{Form, Nil, Truth, Number, Text, Keyword, Symbol}
-use Rattle.txs_reader.specs.Tree.{Tree, Leaf, nil, truth, number, text, keyword, symbol, leaf, group, tree}
+use Rattle.txs_reader.specs.Tree.{PlainForm, Leaf, nil, truth, number, text, keyword, symbol, leaf, group, tree}
 use Rattle.txs_reader.proofs.Trees.{tree-Nil, tree-Truth, tree-Number, tree-Text, tree-Keyword, tree-Symbol}
 use Rattle.txs_resolve_expand.specs.declared.error.ResolveErrorKind.TheVariants.{BadForm}
 use Rattle.txs_resolve_expand.specs.declared.error.ResolveError.{ResolveError}
@@ -52,7 +52,7 @@ listed s span forms head parts o e f = ap (λ x. top_level x s span (plain parts
 
 -- ---- a script
 
-module _ (forms : List Tree) (start : State) (rest : List Tree) (begun : start ≡ nothing) (behind : rest ≡ behind_namespace forms) where
+module _ (forms : List PlainForm) (start : State) (rest : List PlainForm) (begun : start ≡ nothing) (behind : rest ≡ behind_namespace forms) where
   pub script_as : (a : Answer State) → steps start rest ≡ a → named_script forms ≡ (a >>= λ s. Ok (program s))
   script_as a e =
       ap (λ (x : Answer State). x >>= λ s. Ok (program s)) (ap (λ (s : State). steps s (behind_namespace forms)) (sym begun) ∙ ap (steps start) (sym behind) ∙ e)

@@ -9,7 +9,7 @@ use Rattle.txs_value_base.specs.declared.op.Callee.TheVariants.{Core as CoreOp, 
 use Rattle.txs_value_data.specs.declared.value.CellId.{CellId}
 use Rattle.txs_value_data.specs.declared.value.Value.{Value}
 use Rattle.txs_reader.specs.declared.form.Bracket.TheVariants.{Round, Square}
-use Rattle.txs_reader.specs.Tree.{Tree as Form, Trees as Forms, leaf, group, first, number, symbol, nil, truth, text, keyword}
+use Rattle.txs_reader.specs.Tree.{PlainForm as Form, PlainForms as Forms, leaf, group, first, number, symbol, nil, truth, text, keyword}
 use Rattle.txs_reader.specs.Tree.{none as no_forms}
 use Rattle.txs_tree_meaning.specs.Known.{Known, callee_levels, levels, levels_in, levels_of, known, known_from, known_of}
 use Rattle.txs_tree_meaning.specs.Scoped.{Scoped, ScopedCallee, ScopedTree, ScopedAll, ScopedLet, ScopedFunction, ScopedFunctions, ScopedThread, ScopedThreads}

@@ -5,7 +5,7 @@ use Rattle.txs_value_cell.specs.declared.cell.CellDefinition.{CellDefinition}
 use Rattle.txs_value_base.specs.declared.fault.Span.{Span}
 use Rattle.txs_value_data.specs.declared.value.Value.{Value}
 use Rattle.txs_reader.specs.declared.form.Bracket.TheVariants.{Round}
-use Rattle.txs_reader.specs.Tree.{Tree as Form, Trees as Forms, group, first}
+use Rattle.txs_reader.specs.Tree.{PlainForm as Form, PlainForms as Forms, group, first}
 use Rattle.txs_resolve_scope.specs.declared.names.FormName.{FormName}
 use Rattle.txs_resolve_scope.specs.declared.names.FormName.TheVariants as kind
 use Rattle.txs_resolve.specs.declared.definition.CellSort.{CellSort}

@@ -10,13 +10,13 @@ abbrev pub GivesLocals : Result (Unit {0}) ResolveError → List (List ℕ) → 
 GivesLocals (Ok u) names wanted = wanted ≡ Ok names
 GivesLocals (Err e) names wanted = wanted ≡ Err e
 
--- the definition's answer is what stands here now, unless memory ran out
+-- the definition's answer is what is here now, unless memory ran out
 abbrev pub Ends : {A : Type 0} → Result (Unit {0}) Stop → A → Answer A → Type 0
 Ends (Ok u) now wanted = wanted ≡ Ok now
 Ends (Err (Refused e)) now wanted = wanted ≡ Err e
 Ends (Err Memory) now wanted = Unit {0}
 
--- the same of one form: where it is refused, that is the answer, and never want of memory
+-- the same of one form: where it is refused, that is the answer, and never running out of memory
 abbrev pub Leaves : {A : Type 0} → Result (Unit {0}) Stop → A → Answer A → Type 0
 Leaves (Ok u) now wanted = wanted ≡ Ok now
 Leaves (Err (Refused e)) now wanted = wanted ≡ Err e

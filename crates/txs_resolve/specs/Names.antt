@@ -8,7 +8,7 @@ use Rattle.txs_value_data.specs.declared.value.CellKind.{CellKind}
 use Rattle.txs_value_data.specs.declared.value.CellKind.TheVariants.{Ref, Atom, Agent}
 use Rattle.txs_value_data.specs.declared.value.Value.{Value}
 use Rattle.txs_reader.specs.declared.form.Bracket.TheVariants.{Round, Square}
-use Rattle.txs_reader.specs.Tree.{Tree as Form, Trees as Forms, leaf, group, first, keyword, place, symbol, text}
+use Rattle.txs_reader.specs.Tree.{PlainForm as Form, PlainForms as Forms, leaf, group, first, keyword, place, symbol, text}
 use Rattle.txs_reader.specs.Tree.{none as no_forms}
 use Rattle.txs_tree_meaning.specs.Known.{levels, known}
 use Rattle.txs_tree_meaning.specs.Tree.{Tree, PlainFunction, PlainThread, PlainProgram}
@@ -27,7 +27,7 @@ use Rattle.txs_resolve_expand.specs.Answers.{◌>>=◌, refuse}
 use Rattle.txs_resolve_expand.specs.Namespace.{behind_namespace}
 use Rattle.txs_resolve_scope.specs.Scope.{Entry, definition_of, with_name, operations, may_bind, is_none}
 
--- what a script has defined so far: names; cells; functions; threads; and how often `def` stood
+-- what a script has defined so far: names; cells; functions; threads; and how many `def` there were
 pub record State : Type 0 where
   pub defined : List Entry
   pub cells : List CellDefinition
@@ -81,7 +81,7 @@ abbrev pub is_error_mode : Form → Bool
 is_error_mode (leaf (keyword name) at) = bytes_eq name (codes "error-mode")
 is_error_mode form = false
 
--- what stands behind a cell's opening value: nothing, or of an agent `:error-mode :fail` or `:error-mode :continue`. Without one
+-- what is behind a cell's opening value: nothing, or of an agent `:error-mode :fail` or `:error-mode :continue`. Without one
 -- an agent fails (clojure.org/reference/agents).
 abbrev pub mode_behind : CellKind → Forms → Option ErrorMode
 mode_behind k no_forms = Some Fail
@@ -253,7 +253,7 @@ future s span forms =
 
 -- ---- scripts
 
--- a list by the form at its head: a definition, a function or a thread; nothing else stands there
+-- a list by the form at its head: a definition, a function or a thread; nothing else is there
 abbrev pub top_level : Option FormName → State → Span → Forms → Answer State
 top_level (Some kind.Def) s span parts = define s span parts
 top_level (Some kind.Defn) s span parts = function s span (written parts)

@@ -2,7 +2,7 @@
 use Rattle.std.specs.Prelude.{◌≡◌, ◌≤◌, ℕ, List, [], ◌∷◌, length, map, true, Option, Some, None, Ok}
 use Rattle.std.specs.Borrow.{Bor}
 use Rattle.txs_reader.specs.declared.form.Form.{Form as AForm}
-use Rattle.txs_reader.specs.Tree.{Trees as Forms, tree, trees, trees_of}
+use Rattle.txs_reader.specs.Tree.{PlainForms as Forms, tree, trees, trees_of}
 use Rattle.txs_tree_meaning.specs.Known.{Known, known}
 use Rattle.txs_tree_meaning.specs.Scoped.{ScopedFunctions, ScopedThreads}
 use Rattle.txs_tree_meaning.specs.View.{functions_of, threads_of}

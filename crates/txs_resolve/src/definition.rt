@@ -102,7 +102,7 @@ fn is_error_mode(form: &Form) -> bool
     }
 }
 
-/// The error mode that stands behind the opening value of a cell.
+/// The error mode that is behind the opening value of a cell.
 fn mode_behind(kind: CellKind, behind: &[Form]) -> Option<ErrorMode>
     ensures { result ≡ mode_behind kind (trees_of (trees behind.now)) }
 {

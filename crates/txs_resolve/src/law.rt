@@ -1,10 +1,10 @@
-//! Laws of the resolution of names. Each stands on a function that does nothing when it runs.
+//! Laws of the resolution of names. Each is the contract of a function that does nothing when it runs.
 
 ghost use Rattle.std.specs.Prelude.{◌≡◌, ◌≢◌, ◌⊎◌, ℕ, suc, Bool, true, false, List, map, None, Ok, Some};
 ghost use Rattle.txs_resolve_scope.specs.Nearest.{IsNearest, NoneNamed};
 ghost use Rattle.txs_resolve_scope.specs.Scope.{Scope, definition_of, is_current, may_bind, operations, with_name};
 ghost use Rattle.txs_resolve_scope.specs.declared.scope.Definition.TheVariants.{Constant, Cell as ACell};
-ghost use Rattle.txs_reader.specs.Tree.{Tree as Form, leaf, symbol};
+ghost use Rattle.txs_reader.specs.Tree.{PlainForm as Form, leaf, symbol};
 ghost use Rattle.txs_tree_meaning.specs.Marked.{Exactly, ProgramMarkedBy};
 ghost use Rattle.txs_tree_meaning.specs.Scoped.{Scoped};
 ghost use Rattle.txs_tree_meaning.specs.Tree.{Const, Local, PlainFunction, PlainProgram, PlainThread};
@@ -33,7 +33,7 @@ pub fn resolved_is_marked()
     ensures { (forms : List Form) (p : PlainProgram) → Resolves forms p → ProgramMarkedBy Exactly p }
 {}
 
-/// Forms are one program, or they are refused for one reason at one place, which is no want of memory.
+/// Forms are one program, or they are refused for one reason at one place, which is no running out of memory.
 pub fn one_answer()
     ensures decided { (forms : List Form) → ((p : PlainProgram) × Resolves forms p) ⊎ ((e : ResolveError) × ResolveStops forms e) }
     ensures one_program { (forms : List Form) (p q : PlainProgram) → Resolves forms p → Resolves forms q → p ≡ q }
@@ -42,7 +42,7 @@ pub fn one_answer()
     ensures no_want { (forms : List Form) (e : ResolveError) → ResolveStops forms e → e.kind ≢ Memory }
 {}
 
-/// The cells of the program are those that the script's forms define, and its functions and threads stand where
+/// The cells of the program are those that the script's forms define, and its functions and threads are where
 /// they do, each in script order. No name is defined twice.
 pub fn defined_in_order()
     ensures cells { (forms : List Form) (p : PlainProgram) → Resolves forms p → p.cells ≡ (define_all (behind_namespace forms)).cells }

@@ -31,7 +31,7 @@ use txs_value_data::limits::{
 use txs_value_data::{CellId, Name, Value};
 
 /// What a script has defined so far: names, cells, functions and threads, the levels of the functions by their
-/// numbers, and how often `def` stood.
+/// numbers, and how many `def` there were.
 #[derive(Drop)]
 pub struct Script<'a> {
     pub scope: Scope<'a>,
@@ -59,7 +59,7 @@ impl<'a> Script<'a> {
     }
 }
 
-/// A function as it is written: its name and where it stands, its parameters and its body.
+/// A function as it is written: its name and where it is, its parameters and its body.
 #[derive(Clone, Copy)]
 pub struct Signature<'a> {
     pub name: &'a Name,

@@ -2,7 +2,7 @@
 use Rattle.std.specs.Prelude.{OnOk}
 use Rattle.std.proofs.Common.{Result, ◌≡◌, ◌<◌, ◌≤◌, ◌+◌, ◌-◌, ℕ, suc, Bool, true, List, [], ◌∷◌, ◌++◌, Ok, Err, length, map, drop, get_or, append_assoc, append-nil, refl, sym, ap, ◌∙◌, arith}
 use Rattle.txs_reader.specs.declared.form.Form.{Form}
-use Rattle.txs_reader.specs.Tree.{tree, first, place, Trees as Forms}
+use Rattle.txs_reader.specs.Tree.{tree, first, place, PlainForms as Forms}
 use Rattle.txs_tree_meaning.specs.Tree.{Tree, Trees, more, none}
 use Rattle.txs_tree_meaning.specs.View.{tree_of}
 use Rattle.txs_resolve_body.specs.Given.{row, Puts}

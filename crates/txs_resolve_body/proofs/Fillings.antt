@@ -4,7 +4,7 @@ use Rattle.std.proofs.lemmas.Bool.Decides.{nat_tests}
 use Rattle.txs_value_base.specs.declared.fault.Span.{Span}
 use Rattle.txs_value_base.specs.declared.op.Callee.{Callee}
 use Rattle.txs_reader.specs.declared.form.Form.{Form}
-use Rattle.txs_reader.specs.Tree.{Tree as FormTree, first, place, tree, parts}
+use Rattle.txs_reader.specs.Tree.{PlainForm as FormTree, first, place, tree, parts}
 use Rattle.txs_reader.specs.Tree.{none as no_forms}
 use Rattle.txs_tree_meaning.specs.Tree.{Tree, Trees, Mark, Let, Put, more, none, Core as CoreNode}
 use Rattle.txs_tree_meaning.specs.View.{tree_of}

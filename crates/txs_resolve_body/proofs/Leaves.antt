@@ -1,6 +1,6 @@
 -- What a form without parts is, by whether there is room for its node.
 use Rattle.std.proofs.Common.{◌≡◌, Ok, Err, refl}
-use Rattle.txs_reader.specs.Tree.{Tree as Form, Leaf, leaf, group, symbol, number, nil, truth, text, keyword}
+use Rattle.txs_reader.specs.Tree.{PlainForm as Form, Leaf, leaf, group, symbol, number, nil, truth, text, keyword}
 use Rattle.txs_tree_meaning.specs.Tree.{Tree, Const, Local}
 use Rattle.txs_value_data.specs.declared.value.Value.TheVariants.{Cell}
 use Rattle.txs_resolve_scope.specs.Scope.{Scope, Meaning, a_form, dotted, a_local, the_current, defined_as, operation, unknown, meaning}

@@ -4,7 +4,7 @@ use Rattle.txs_value_data.specs.Limits.{most_items}
 use Rattle.txs_value_data.specs.declared.value.Value.{Value}
 use Rattle.txs_value_data.specs.declared.value.Value.TheVariants.{Cell}
 use Rattle.txs_value_base.specs.declared.op.Callee.{Callee}
-use Rattle.txs_reader.specs.Tree.{Tree as Form, Trees as Forms, Leaf, first, place, number, symbol, nil, truth, text, keyword, parts}
+use Rattle.txs_reader.specs.Tree.{PlainForm as Form, PlainForms as Forms, Leaf, first, place, number, symbol, nil, truth, text, keyword, parts}
 use Rattle.txs_reader.specs.Tree.{none as no_forms}
 use Rattle.txs_tree_meaning.specs.Marked.{Exactly, MarkedBy, AllMarkedBy, DoMarkedBy}
 use Rattle.txs_tree_meaning.specs.Tree.{Tree, Trees, Mark, Const, Local, Put, none, more}

@@ -1,4 +1,4 @@
--- How many nodes stand in one another, where the levels of functions are known by their numbers.
+-- How many nodes are in one another, where the levels of functions are known by their numbers.
 use Rattle.std.specs.Prelude.{ℕ, zero, suc, max, List, [], ◌∷◌}
 use Rattle.txs_value_base.specs.declared.op.Callee.{Callee}
 use Rattle.txs_value_base.specs.declared.op.Callee.TheVariants.{Core as CoreOp, Function}
@@ -16,7 +16,7 @@ callee_depth ls (CoreOp op) = 0
 callee_depth ls (Function f) = at_place ls f
 
 abbrev mutual
-  -- how many nodes stand in one another, a call or callee counted with the function's levels
+  -- how many nodes are in one another, a call or callee counted with the function's levels
   pub depths : List ℕ → Tree → ℕ
   depths ls (Const v m) = 1
   depths ls (Local i m) = 1
@@ -35,7 +35,7 @@ abbrev mutual
   depths ls (Update form cell callee args m) = suc (max (callee_depth ls callee) (max (depths ls cell) (depths_in ls args)))
   depths ls (Send cell callee args m) = suc (max (callee_depth ls callee) (max (depths ls cell) (depths_in ls args)))
 
-  -- the most of these, which stand beside one another
+  -- the most of these, which are beside one another
   pub depths_in : List ℕ → Trees → ℕ
   depths_in ls none = 0
   depths_in ls (more e rest) = max (depths ls e) (depths_in ls rest)

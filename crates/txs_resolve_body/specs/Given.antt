@@ -1,4 +1,4 @@
--- What an answer says that may be want of memory, and what nodes are that may be lost for it.
+-- What an answer says that may be running out of memory, and what nodes are that may be lost for it.
 use Rattle.std.specs.Prelude.{◌≡◌, false, List, [], ◌∷◌, ◌++◌, map, Option, Some, None, Result, Ok, Err}
 use Rattle.txs_tree_meaning.specs.Tree.{Tree, Trees, more, none}
 use Rattle.txs_tree_meaning.specs.declared.node.Node.{Node}
@@ -33,11 +33,11 @@ Shows nodes ts = nodes.lost ≡ false → map tree_of nodes.items.items ≡ ts
 abbrev pub Puts : Nodes → Nodes → List Tree → Type 0
 Puts before now ts = now.lost ≡ false → (before.lost ≡ false) × (map tree_of now.items.items ≡ map tree_of before.items.items ++ ts)
 
--- one more node stands behind these, of this tree
+-- one more node is behind these, of this tree
 abbrev pub IsBehind : List Node → List Node → Tree → Type 0
 IsBehind before now t = (n : Node) × (now ≡ before ++ n ∷ []) × (tree_of n ≡ t)
 
--- one more node stands behind these, of the definition's tree, unless they are lost; or the form is refused, as the definition says
+-- one more node is behind these, of the definition's tree, unless they are lost; or the form is refused, as the definition says
 abbrev pub Pushes : Result (Unit {0}) ResolveError → Nodes → Nodes → Answer Tree → Type 0
 Pushes (Ok u) before now wanted = (t : Tree) × (wanted ≡ Ok t) × Puts before now (t ∷ [])
 Pushes (Err e) before now wanted = wanted ≡ Err e

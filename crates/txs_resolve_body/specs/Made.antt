@@ -1,6 +1,6 @@
 -- What nodes are put together to.
 use Rattle.std.specs.Prelude.{◌≡◌, true, false, List, [], ◌∷◌, ◌++◌, Ok}
-use Rattle.txs_reader.specs.Tree.{Tree as Form, leaf, group, symbol, tree}
+use Rattle.txs_reader.specs.Tree.{PlainForm as Form, leaf, group, symbol, tree}
 use Rattle.txs_value_data.specs.declared.value.Value.{Value}
 use Rattle.txs_value_data.specs.declared.value.Value.TheVariants.{Nil, Truth, Cell}
 use Rattle.txs_tree_meaning.specs.Tree.{Tree, Mark, Const, Local, Core as CoreNode, Put, more, none}

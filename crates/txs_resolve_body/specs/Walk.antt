@@ -22,7 +22,7 @@ Becomes (Ok n) wanted = wanted ≡ Ok (tree_of n)
 Becomes (Err (Refused e)) wanted = wanted ≡ Err e
 Becomes (Err Memory) wanted = IsOk wanted
 
--- more nodes stand behind these, of the definition's trees, unless they are lost; or it refuses
+-- more nodes are behind these, of the definition's trees, unless they are lost; or it refuses
 abbrev pub PushesAll : Result (Unit {0}) ResolveError → Nodes → Nodes → Answer Trees → Type 0
 PushesAll (Ok u) before now wanted = (ts : List Tree) × (wanted ≡ Ok (row ts)) × Puts before now ts
 PushesAll (Err e) before now wanted = wanted ≡ Err e

@@ -1,4 +1,4 @@
-//! What stands below a form: the spots of its parts, whether their results are wanted, and the names that it binds.
+//! What is below a form: the spots of its parts, whether their results are wanted, and the names that it binds.
 
 ghost use Rattle.std.specs.Prelude.{◌≡◌, ◌<◌, ◌≤◌, ◌+◌, ◌-◌, ◌||◌, length, drop, OnOk};
 ghost use Rattle.txs_resolve_expand.specs.Expressions.{are_wanted, bound_name, flag, is_wanted, spot_at};
@@ -52,7 +52,7 @@ pub fn part_wanted(single: Single, wanted: bool) -> bool
     }
 }
 
-/// The flag of the form at this index, by whether forms stand behind it.
+/// The flag of the form at this index, by whether forms are behind it.
 pub fn flag_at(inner: bool, last: bool, forms: &[Form], i: usize) -> bool
     requires { i < length forms.now }
     ensures { result ≡ flag inner last (trees_of (trees (drop (i + 1) forms.now))) }

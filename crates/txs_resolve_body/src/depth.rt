@@ -54,7 +54,7 @@ fn parts<'a>(known: &[u16], node: &'a Node) -> (usize, &'a [Node], &'a [Node], &
     }
 }
 
-/// How many nodes stand in one another at most, with those of the functions that are called, whose levels are known.
+/// How many nodes are in one another at most, with those of the functions that are called, whose levels are known.
 #[cycle(levels)]
 pub fn levels(known: &[u16], node: &Node) -> usize
     requires { depths known.now (tree_of node.now) ≤ most_levels }

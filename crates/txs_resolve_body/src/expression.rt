@@ -221,7 +221,7 @@ fn items<'a>(
 /// may have as many levels as there is room at the spot, whose span is that of the form that the body is of.
 ///
 /// # Errors
-/// The first refusal met in source order; want of memory only where nothing is refused.
+/// The first refusal met in source order; running out of memory only where nothing is refused.
 pub fn body<'a>(
     alloc: Global,
     scope: &mut Scope<'a>,

@@ -23,7 +23,7 @@ use txs_value_base::Callee;
 use txs_value_data::{CellId, Name, Value, copy_value};
 
 /// Nodes in a row. Where memory was wanted for one of them they are lost, and no more is made of them. The walk over the
-/// forms goes on all the same to what may be refused: so a form that is refused is never answered by want of memory.
+/// forms continues all the same to what may be refused: so a form that is refused is never answered by running out of memory.
 #[derive(Drop)]
 pub struct Nodes {
     pub items: Vec<Node>,

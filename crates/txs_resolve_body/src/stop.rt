@@ -7,7 +7,7 @@ use std::alloc::{AllocError, AllocFailed};
 use txs_resolve_expand::{ResolveError, ResolveErrorKind};
 use txs_value_base::Span;
 
-/// Why the resolver stops: a refusal of the forms, or want of memory.
+/// Why the resolver stops: a refusal of the forms, or out of memory.
 #[derive(Clone, Copy)]
 pub enum Stop {
     Refused(ResolveError),

@@ -3,7 +3,7 @@ use Rattle.std.proofs.Common.{◌≡◌, Bool, true, false, List, [], ◌∷◌,
 use Rattle.txs_value_base.specs.declared.fault.Span.{Span}
 use Rattle.txs_reader.specs.declared.form.Bracket.TheVariants.{Round}
 use Rattle.txs_reader.specs.declared.form.Form.{Form}
-use Rattle.txs_reader.specs.Tree.{Tree as FormTree, group, tree, first}
+use Rattle.txs_reader.specs.Tree.{PlainForm as FormTree, group, tree, first}
 use Rattle.txs_reader.specs.Tree.{none as no_forms}
 use Rattle.txs_resolve_scope.specs.declared.names.FormName.{FormName}
 use Rattle.txs_resolve_expand.specs.Expansions.{alone, form_at, is_alone, list}

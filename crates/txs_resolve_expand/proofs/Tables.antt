@@ -8,7 +8,7 @@ use Rattle.txs_value_cell.specs.declared.form.PutForm.{PutForm}
 use Rattle.txs_value_base.specs.declared.op.Op.{Op}
 use Rattle.txs_reader.specs.declared.form.Bracket.TheVariants.{Round}
 use Rattle.txs_reader.specs.declared.form.Form.{Form}
-use Rattle.txs_reader.specs.Tree.{Tree as FormTree, Trees as Forms, leaf, group, first, tree, symbol}
+use Rattle.txs_reader.specs.Tree.{PlainForm as FormTree, PlainForms as Forms, leaf, group, first, tree, symbol}
 use Rattle.txs_reader.specs.Tree.{none as no_forms}
 use Rattle.txs_resolve_scope.specs.declared.names.FormName.{FormName}
 use Rattle.txs_resolve_scope.specs.declared.names.FormName.TheVariants as kind

@@ -2,7 +2,7 @@
 use Rattle.std.specs.Prelude.{ℕ, zero, suc, ◌%◌, Bool, true, false, [], Option, Some, None, if◌then◌else◌}
 use Rattle.txs_value_base.specs.declared.fault.Span.{Span}
 use Rattle.txs_reader.specs.declared.form.Bracket.TheVariants.{Round, Square}
-use Rattle.txs_reader.specs.Tree.{Tree as Form, Trees as Forms, leaf, group, first, symbol, nil, truth, parts}
+use Rattle.txs_reader.specs.Tree.{PlainForm as Form, PlainForms as Forms, leaf, group, first, symbol, nil, truth, parts}
 use Rattle.txs_reader.specs.Tree.{none as no_forms}
 use Rattle.txs_resolve_scope.specs.declared.names.FormName.{FormName}
 use Rattle.txs_resolve_scope.specs.declared.names.FormName.TheVariants as kind
@@ -59,7 +59,7 @@ expansion kind.And (first e (first f rest)) at = Some (let_hidden e (list kind.I
 -- (or) is nil; (or e f ..) is (let [h e] (if h h (or f ..)))
 expansion kind.Or no_forms at = Some (leaf nil at)
 expansion kind.Or (first e (first f rest)) at = Some (let_hidden e (list kind.If (three (hidden at) (hidden at) (list kind.Or (first f rest) at)) at) at)
--- (cond) is nil; (cond c e ..) is (if c e (cond ..)), where tests and branches stand in turn
+-- (cond) is nil; (cond c e ..) is (if c e (cond ..)), where tests and branches are in turn
 expansion kind.Cond no_forms at = Some (leaf nil at)
 expansion kind.Cond (first c (first e rest)) at = if is_even (parts rest) then Some (list kind.If (three c e (list kind.Cond rest at)) at) else None
 -- (do) is nil
@@ -76,7 +76,7 @@ abbrev pub expansion_by : Option FormName → Forms → Span → Option Form
 expansion_by (Some f) args at = expansion f args at
 expansion_by None args at = None
 
--- a form, expanded once where it stands for another: then a special form stands at its head
+-- a form, expanded once where it stands for another: then a special form is at its head
 abbrev pub expand_once : Form → Form
 expand_once (group Round (first head args) at) = or_same (expansion_by (form_at head) args at) (group Round (first head args) at)
 expand_once form = form

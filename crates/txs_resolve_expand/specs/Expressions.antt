@@ -15,7 +15,7 @@ use Rattle.txs_value_cell.specs.declared.form.UpdateForm.TheVariants.{Alter, Com
 use Rattle.txs_value_data.specs.declared.value.Value.{Value}
 use Rattle.txs_value_data.specs.declared.value.Value.TheVariants.{Nil, Truth, Int, Text, Key, Cell}
 use Rattle.txs_reader.specs.declared.form.Bracket.TheVariants.{Round, Square}
-use Rattle.txs_reader.specs.Tree.{Tree as Form, Trees as Forms, Leaf, leaf, group, first, place, number, symbol, nil, truth, text, keyword, parts}
+use Rattle.txs_reader.specs.Tree.{PlainForm as Form, PlainForms as Forms, Leaf, leaf, group, first, place, number, symbol, nil, truth, text, keyword, parts}
 use Rattle.txs_reader.specs.Tree.{none as no_forms}
 use Rattle.txs_tree_meaning.specs.Tree.{Tree, Trees, Mark, Const, Local, If, Do, Let, Loop, Recur, Core as CoreNode, Call, VectorOf, Println, Dosync, Look, Put, Update, Send, none, more}
 use Rattle.txs_tree_meaning.specs.View.{mark_of}
@@ -39,7 +39,7 @@ use Rattle.txs_resolve_scope.specs.Scope.{Scope, with_local, may_bind, meaning, 
 abbrev pub Answer : Type 0 → Type 0
 Answer A = Result A ResolveError
 
--- where a node stands: how many levels it may have, its span, and whether its result is wanted
+-- where a node is: how many levels it may have, its span, and whether its result is wanted
 abbrev pub spot_at : ℕ → Span → Bool → Spot
 spot_at room span wanted = record { room = room; span = span; wanted = wanted }
 
@@ -90,7 +90,7 @@ leaf_node scope x s = in_room s (Ok (Const (leaf_value x) (spot_mark s)))
 
 -- ---- what is called
 
--- what a name is in the place of a function, for a form at this spot. A function's body stands below the call.
+-- what a name is in the place of a function, for a form at this spot. A function's body is below the call.
 abbrev pub callee_at : Meaning → Spot → Span → Answer Callee
 callee_at (a_form f) s at = refuse NotCallable at
 callee_at dotted s at = refuse BadForm at
@@ -108,7 +108,7 @@ callee_of scope s form = refuse NotCallable (place form)
 
 -- ---- nodes of what is resolved
 
--- the flag of an item, by what stands behind it
+-- the flag of an item, by what is behind it
 abbrev pub flag : Bool → Bool → Forms → Bool
 flag inner last no_forms = last
 flag inner last (first e rest) = inner
@@ -255,7 +255,7 @@ abbrev pub applied : Callee → Form → Forms → Span → Core
 applied (CoreOp op) head args at = parted (row (sequence.Core op) (operands op head args at))
 applied (TheFunction n) head args at = parted (row (sequence.Call n) args)
 
--- a list, by the form whose name stands at its head, else by what is called
+-- a list, by the form whose name is at its head, else by what is called
 abbrev pub list_core : Option FormName → Scope → Spot → Form → Forms → Answer Core
 list_core (Some f) scope s head args = special f s args
 list_core None scope s head args = in_room s (callee_of scope s head >>= λ callee. Ok (applied callee head args s.span))
@@ -292,7 +292,7 @@ bound_name scope (leaf (symbol name) at) =
     if may_bind name then (if nat_lt (length scope.locals) most_locals then Ok name else refuse TooMany at) else refuse BadForm at
 bound_name scope form = refuse BadForm (place form)
 
--- names and values in turn, of which each value sees the names before it, and stands before its own
+-- names and values in turn, of which each value sees the names before it, and is before its own
 abbrev pub named_bindings : Resolver → Scope → Forms → Answer Bound
 named_bindings deeper scope no_forms = Ok (record { values = none; scope = scope })
 named_bindings deeper scope (first binder no_forms) = refuse BadForm (place binder)

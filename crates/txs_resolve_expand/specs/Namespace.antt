@@ -2,7 +2,7 @@
 -- From Clojure's reference on namespaces: https://clojure.org/reference/namespaces
 use Rattle.std.specs.Prelude.{Bool, false, List, [], ◌∷◌, Option, Some, if◌then◌else◌}
 use Rattle.txs_reader.specs.declared.form.Bracket.TheVariants.{Round}
-use Rattle.txs_reader.specs.Tree.{Tree as Form, Trees as Forms, group, first}
+use Rattle.txs_reader.specs.Tree.{PlainForm as Form, PlainForms as Forms, group, first}
 use Rattle.txs_reader.specs.Tree.{none as no_forms}
 use Rattle.txs_resolve_scope.specs.declared.names.FormName.{FormName}
 use Rattle.txs_resolve_scope.specs.declared.names.FormName.TheVariants as kind

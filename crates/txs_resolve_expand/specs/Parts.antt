@@ -3,7 +3,7 @@ use Rattle.std.specs.Prelude.{◌≡◌, Bool, true, false, List, [], Option, So
 use Rattle.txs_value_base.specs.declared.fault.Span.{Span}
 use Rattle.txs_reader.specs.declared.form.Bracket.TheVariants.{Round}
 use Rattle.txs_reader.specs.declared.form.Form.{Form as AForm}
-use Rattle.txs_reader.specs.Tree.{Tree as Form, Trees as Forms, Leaf, leaf, group, first, place, symbol, nil, truth, tree, trees, trees_of}
+use Rattle.txs_reader.specs.Tree.{PlainForm as Form, PlainForms as Forms, Leaf, leaf, group, first, place, symbol, nil, truth, tree, trees, trees_of}
 use Rattle.txs_reader.specs.Tree.{none as no_forms}
 use Rattle.txs_resolve_scope.specs.declared.names.FormName.{FormName}
 use Rattle.txs_resolve_scope.specs.declared.names.FormName.TheVariants as kind
@@ -38,7 +38,7 @@ abbrev pub hidden_choice : Bool → Forms → Span → Form
 hidden_choice false rest at = list kind.If (three (hidden at) (list kind.And rest at) (hidden at)) at
 hidden_choice true rest at = list kind.If (three (hidden at) (hidden at) (list kind.Or rest at)) at
 
--- the form of a part; what an expansion makes stands at this place
+-- the form of a part; what an expansion makes is at this place
 abbrev pub part_form : Span → Part → Form
 part_form at (part.Written f) = tree f.now
 part_form at (part.List name fs) = list name (plain fs.now) at
@@ -75,7 +75,7 @@ whole_leaf whole.Nil = nil
 whole_leaf whole.Truth = truth true
 whole_leaf (whole.Hidden n) = symbol []
 
--- it can be told so: a literal has no parts, and a hidden local is the nearest one without a name
+-- it can be said so: a literal has no parts, and a hidden local is the nearest one without a name
 abbrev pub WholeFits : Scope → Whole → Type 0
 WholeFits scope (whole.Name name) = Unit {0}
 WholeFits scope (whole.Literal f) = IsQuoted (tree f.now)
@@ -83,7 +83,7 @@ WholeFits scope whole.Nil = Unit {0}
 WholeFits scope whole.Truth = Unit {0}
 WholeFits scope (whole.Hidden n) = local_number [] scope ≡ Some n
 
--- a special form and its parts, as the definition sees them; what an expansion makes stands at this place
+-- a special form and its parts, as the definition sees them; what an expansion makes is at this place
 abbrev pub special_form : Span → Special → spec.Special
 special_form at (special.Row k fs) = spec.row k (plain fs.now)
 special_form at (special.Single k p) = spec.one_part k (part_form at p)
@@ -93,7 +93,7 @@ special_form at (special.Choice turned c a b) = spec.choice turned (part_form at
 special_form at (special.Binding is_loop pairs fs) = spec.binding is_loop (plain pairs.now) (body (plain fs.now) at)
 special_form at (special.Hidden is_or f rest) = spec.binding false (two (hidden at) (tree f.now)) (body (first (hidden_choice is_or (plain rest.now) at) no_forms) at)
 
--- a special form can be told so: each part of it that an expansion made can
+-- a special form can be said so: each part of it that an expansion made can
 abbrev pub SpecialFits : Scope → Special → Type 0
 SpecialFits scope (special.Row k fs) = Unit {0}
 SpecialFits scope (special.Single k p) = PartFits scope p
@@ -108,7 +108,7 @@ core_form at (core.Whole w) = spec.whole (whole_leaf w)
 core_form at (core.Parted s) = spec.parted (special_form at s)
 core_form at (core.Changing k r f fs) = spec.parted (spec.changing k (tree r.now) (tree f.now) (plain fs.now))
 
--- it can be told so
+-- it can be said so
 abbrev pub CoreFits : Scope → Core → Type 0
 CoreFits scope (core.Whole w) = WholeFits scope w
 CoreFits scope (core.Parted s) = SpecialFits scope s

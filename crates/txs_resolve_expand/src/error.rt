@@ -16,9 +16,9 @@ pub enum ResolveErrorKind {
     Redefined,
     /// What reads, and is no form of the language in this place.
     BadForm,
-    /// What is no function stands where one is called.
+    /// What is no function is where one is called.
     NotCallable,
-    /// A local stands where a function is called.
+    /// A local is where a function is called.
     LocalCalled,
     /// A function calls itself.
     SelfCall,
@@ -29,7 +29,7 @@ pub enum ResolveErrorKind {
 }
 
 impl ResolveErrorKind {
-    /// The number under which the reason is reported, from 11 to 17, and 0 for want of memory.
+    /// The number under which the reason is reported, from 11 to 17, and 0 where memory ran out.
     pub fn number(self) -> u8
         ensures { result ≡ report_number self }
     {
@@ -78,7 +78,7 @@ impl Display for ResolveErrorKind {
     }
 }
 
-/// Why forms are no program, and the place of the form or symbol that is the reason: 0..0 for want of memory.
+/// Why forms are no program, and the place of the form or symbol that is the reason: 0..0 where memory ran out.
 #[derive(Clone, Copy, Debug, PartialEq, Eq)]
 pub struct ResolveError {
     pub kind: ResolveErrorKind,

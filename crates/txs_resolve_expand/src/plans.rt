@@ -112,7 +112,7 @@ fn binding(is_loop: bool, args: &[Form]) -> Option<Core<'_>>
     Some(Core::Parted(Special::Binding(is_loop, pairs, forms)))
 }
 
-/// A form that reads this cell, behind which nothing stands.
+/// A form that reads this cell, behind which nothing is.
 fn reading<'a>(form: LookForm, cell: &'a Form, behind: &'a [Form]) -> Option<Core<'a>>
     ensures core { (s : ASpot) → told s result ≡ of_family (Some (Look form)) s.span (first (tree cell.now) (plain behind.now)) }
     ensures fits { (scope : AScope) → IfSome result (CoreFits scope) }
@@ -135,7 +135,7 @@ fn putting<'a>(form: PutForm, cell: &'a Form, behind: &'a [Form]) -> Option<Core
     Some(Core::Parted(Special::Pair(Couple::Put(form), Part::Written(cell), value)))
 }
 
-/// A form on this cell that calls what stands behind it.
+/// A form on this cell that calls what is behind it.
 fn changing<'a>(change: Change, cell: &'a Form, behind: &'a [Form]) -> Option<Core<'a>>
     ensures core { (s : ASpot) → told s result ≡ of_family (Some (change_form change)) s.span (first (tree cell.now) (plain behind.now)) }
     ensures fits { (scope : AScope) → IfSome result (CoreFits scope) }
@@ -176,7 +176,7 @@ fn on_cell(name: FormName, args: &[Form]) -> Option<Core<'_>>
     }
 }
 
-/// What a list is at whose head the name of a form stands.
+/// What a list is at whose head the name of a form is.
 fn special(name: FormName, args: &[Form]) -> Option<Core<'_>>
     ensures core { (scope : AScope) (s : ASpot) → told s result ≡ table name scope s (plain args.now) }
     ensures fits { (scope : AScope) → IfSome result (CoreFits scope) }
@@ -202,7 +202,7 @@ fn special(name: FormName, args: &[Form]) -> Option<Core<'_>>
     }
 }
 
-/// What a list is at whose head the name of a form stands, for a form at this spot.
+/// What a list is at whose head the name of a form is, for a form at this spot.
 fn shaped<'a>(spot: Spot, name: FormName, args: &'a [Form]) -> Result<Core<'a>, ResolveError>
     ensures core { (scope : AScope) → seen (core_form spot.span) result ≡ table name scope spot (plain args.now) }
     ensures fits { (scope : AScope) → IfOk result (CoreFits scope) }
@@ -228,7 +228,7 @@ fn operation<'a>(op: Op, head: &Form, forms: &'a [Form], args: &'a [Form]) -> Co
     Core::Parted(Special::Pair(Couple::Core(op), Part::Prefix(prefix), last))
 }
 
-/// What a list is, by the form whose name stands at its head, else by what is called.
+/// What a list is, by the form whose name is at its head, else by what is called.
 fn list<'a>(scope: &Scope<'_>, spot: Spot, forms: &'a [Form]) -> Result<Core<'a>, ResolveError>
     ensures core { seen (core_form spot.span) result ≡ core_of scope.now spot (expand_once (group Round (plain forms.now) spot.span)) }
     ensures fits { IfOk result (CoreFits scope.now) }
@@ -289,7 +289,7 @@ fn plan<'a>(scope: &Scope<'_>, spot: Spot, part: Part<'a>) -> Result<Core<'a>, R
     }
 }
 
-/// Where a part stands: what an expansion makes has the place of the written form.
+/// Where a part is: what an expansion makes has the place of the written form.
 fn place_of(part: Part<'_>, made: Span) -> Span
     ensures { result ≡ place (part_form made part.entry) }
 {

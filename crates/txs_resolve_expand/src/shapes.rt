@@ -11,7 +11,7 @@ use txs_resolve_scope::{Definition, Found, Scope};
 use txs_value_base::{Callee, Op, Span};
 use txs_value_cell::{LookForm, PutForm, UpdateForm};
 
-/// Where a node stands: how many levels it may have, its span, and whether its result is wanted.
+/// Where a node is: how many levels it may have, its span, and whether its result is wanted.
 #[derive(Clone, Copy)]
 pub struct Spot {
     pub room: usize,

@@ -109,7 +109,7 @@ is_none (Some x) = false
 unfoldable pub may_bind : List ℕ → Bool
 may_bind name = is_none (with_name form_name name form_names) && not (list_any is_dot name)
 
--- what a name may stand for
+-- what a name may be for
 pub data Meaning : Type 0 where
   a_form : FormName → Meaning
   dotted : Meaning

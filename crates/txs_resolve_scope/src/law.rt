@@ -1,4 +1,4 @@
-//! Laws of names in scope. Each stands on a function that does nothing when it runs.
+//! Laws of names in scope. Each is the contract of a function that does nothing when it runs.
 
 ghost use Rattle.std.specs.Prelude.{◌≡◌, ℕ, List, Some, None};
 ghost use Rattle.txs_resolve_scope.specs.Nearest.{IsNearest, NoneNamed};

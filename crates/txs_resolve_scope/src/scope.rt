@@ -24,7 +24,7 @@ pub enum Definition {
     Function(u16, u16),
 }
 
-/// What a name may stand for.
+/// What a name may be for.
 #[derive(Clone, Copy)]
 pub enum Found<'s> {
     /// A form.

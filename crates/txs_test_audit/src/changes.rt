@@ -3,7 +3,7 @@ use std::alloc::{AllocError, Global};
 use txs_value_base::{Callee, Fault, FaultKind, Op, Span};
 use txs_value_cell::Action;
 use txs_value_data::{CellId, CellKind, Listed, Value};
-use txs_world_protocol::{Event, EventKind, Outcome, Place, Ran, Report};
+use txs_world_protocol::{ActorReport, Event, EventKind, Outcome, Place, Report};
 
 /// What is changed of a report.
 #[derive(Clone, Copy)]
@@ -139,7 +139,7 @@ fn set_cell(report: &mut Report, number: usize, value: i64) {
 }
 
 /// Changes what an actor printed, or how it ended.
-fn change_end(ran: &mut Ran, change: Change) -> Result<(), AllocError> {
+fn change_end(ran: &mut ActorReport, change: Change) -> Result<(), AllocError> {
     match change {
         Change::Printed => {
             if let Some(byte) = ran.printed.first_mut() {
@@ -175,7 +175,7 @@ fn change_trace(trace: &mut Vec<Place>, change: Change) -> Result<(), AllocError
 }
 
 /// Changes the entry of the thread or of the agent.
-fn change_entry(rans: &mut [Ran], change: Change) -> Result<(), AllocError> {
+fn change_entry(rans: &mut [ActorReport], change: Change) -> Result<(), AllocError> {
     let Some(ran) = rans.first_mut() else {
         return Ok(());
     };

@@ -1,15 +1,12 @@
 // The program over streams of bytes, with workers and without.
-ghost use Rattle.std.specs.Thread.{IsSync};
-ghost use Rattle.txs_cli.specs.Runner.{IsRunnable, RunsLawfully};
 ghost use Rattle.txs_cli_audit.specs.Audit.{IsRight};
 
 use std::alloc::{AllocError, Global};
 use std::sync::Wait;
 use std::thread::Threads;
-use txs_cli::{Answer, NoAnswer, Request, parse_words, play, play_with};
-use txs_code::Verified;
-use txs_machine::{Entries, Report, RunError, SharedState};
-use txs_threads::{Gathered, OpenGate, run_threads};
+use txs_cli::{AuditError, Request, Verdict, parse_words, play};
+use txs_machine::Report;
+use txs_program::play_by_workers;
 use txs_tree::Program;
 
 // The arguments between spaces.
@@ -59,27 +56,15 @@ fn written<T: Threads + Wait + Sync>(
     errors: &mut Vec<u8>,
 ) -> u8 {
     let mut reader = SCRIPT;
-    play_with(
+    play_by_workers(
+        threads,
         alloc,
-        &|alloc: Global, code: &Verified, workers: usize, steps: u64| -> Result<
-            (SharedState, Entries),
-            RunError,
-        >
-            requires sync { IsSync T.row }
-            requires few { IsRunnable code.now }
-            ensures { RunsLawfully code.now steps result }
-        {
-            let Gathered { shared, report } = run_threads(
-                threads, alloc, code, workers, steps, &OpenGate,
-            )?;
-            Ok((shared, report))
-        },
         &|_alloc: Global, program: &Program, report: &Report, turns: u32, _workers: usize| -> Result<
-            Answer,
-            NoAnswer,
+            Verdict,
+            AuditError,
         >
             ensures { IsRight program.now report.now turns result }
-        { Err(NoAnswer::NoThread) },
+        { Err(AuditError::NoThread) },
         request,
         &mut reader,
         output,

@@ -5,7 +5,8 @@ ghost use Rattle.txs_theorem_runs.specs.Shared.{untouched};
 ghost use Rattle.txs_world_shared.specs.SharedState.{shared_of};
 
 use std::alloc::{AllocError, Global};
-use txs_cli_audit::{Answer, Audited, EventAt, add_answer};
+use txs_audit_answer::Verdict;
+use txs_cli_audit::{Audited, add_answer};
 use txs_cli_report::explain::Script;
 use txs_cli_report::told::{Told, answer};
 use txs_code_meaning::Verified;
@@ -58,7 +59,7 @@ fn run(alloc: Global) -> Result<(Program, Report), CompileError> {
 }
 
 // What is told of this answer, where lines are explained.
-fn told_of(alloc: Global, answered: Answer) -> Result<Told, CompileError> {
+fn told_of(alloc: Global, answered: Verdict) -> Result<Told, CompileError> {
     let (program, report) = run(alloc)?;
     let audited = Audited {
         program: &program,
@@ -74,7 +75,7 @@ fn told_of(alloc: Global, answered: Answer) -> Result<Told, CompileError> {
 }
 
 // Whether this is told of the answer.
-fn tells(alloc: Global, answered: Answer, line: &str, errors: &str, status: u8) -> bool {
+fn tells(alloc: Global, answered: Verdict, line: &str, errors: &str, status: u8) -> bool {
     match told_of(alloc, answered) {
         Ok(told) => {
             told.output.as_slice() == line.as_bytes()
@@ -101,28 +102,12 @@ What agent g did at its event 0 (index 1 of the journal, act) needs more turns o
 
 #[test]
 fn an_audit_may_differ(rt: HostRuntime) {
-    let at = EventAt { actor: 0, event: 0 };
-    assert!(rt;
-        tells(
-            rt.alloc(),
-            Answer::Differs(at),
-            "audit differs 0 0\n",
-            COMMIT,
-            4
-        )
-    );
+    let differs = Verdict::Differs { actor: 0, event: 0 };
+    assert!(rt; tells(rt.alloc(), differs, "audit differs 0 0\n", COMMIT, 4));
 }
 
 #[test]
 fn an_audit_may_be_undecided(rt: HostRuntime) {
-    let at = EventAt { actor: 2, event: 0 };
-    assert!(rt;
-        tells(
-            rt.alloc(),
-            Answer::Undecided(at),
-            "audit undecided 2 0\n",
-            ACT,
-            0
-        )
-    );
+    let undecided = Verdict::Undecided { actor: 2, event: 0 };
+    assert!(rt; tells(rt.alloc(), undecided, "audit undecided 2 0\n", ACT, 0));
 }

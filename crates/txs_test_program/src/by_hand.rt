@@ -5,7 +5,7 @@ use crate::seen::{code_of, has_left};
 use std::alloc::Global;
 use std::mem;
 use txs_code_meaning::Verified;
-use txs_machine::Ran;
+use txs_machine::ActorReport;
 use txs_machine_actor::{Actor, Turn};
 use txs_threads::{Gathered, Played, RunError, gather};
 use txs_threads_gather::sent_functions;

@@ -6,7 +6,7 @@ use std::sync::Wait;
 use std::thread::Threads;
 use txs_code_meaning::Verified;
 use txs_compile::compile;
-use txs_machine::Ran;
+use txs_machine::ActorReport;
 use txs_threads::{Gate, Gathered, RunError, run_threads};
 use txs_value_data::{CellId, write_text};
 use txs_world_protocol::Outcome;
@@ -39,7 +39,7 @@ pub fn ran<R: Threads + Wait + Sync, G: Gate>(
 }
 
 /// Adds what each of them printed, and behind it a word for how it ended: `spent` where it made as many steps as it may, and `idle` where it goes on.
-fn add_ends(out: &mut Vec<u8>, reports: &[Ran], max_steps: u64) -> Result<(), AllocError> {
+fn add_ends(out: &mut Vec<u8>, reports: &[ActorReport], max_steps: u64) -> Result<(), AllocError> {
     for report in reports {
         out.extend_from_slice(report.printed.as_slice())?;
         let word = match report.outcome {

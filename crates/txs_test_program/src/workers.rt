@@ -1,19 +1,14 @@
-// The program, where workers run what it is told to run: as `main` does it, with `run_threads` handed in. Nobody audits.
-ghost use Rattle.std.specs.Thread.{IsSync};
-ghost use Rattle.txs_cli.specs.Runner.{IsRunnable, RunsLawfully};
+// The program, where workers run what it is told to run, as `main` does it. Nobody audits.
 ghost use Rattle.txs_cli_audit.specs.Audit.{IsRight};
 
 use std::alloc::Global;
 use std::sync::Wait;
 use std::thread::Threads;
-use txs_cli::{Answer, NoAnswer, play_with};
+use txs_audit_answer::{AuditError, Verdict};
 use txs_cli_request::{Input, Request, RunOptions};
-use txs_code_meaning::Verified;
-use txs_machine::{Entries, RunError};
-use txs_threads::{Gathered, OpenGate, run_threads};
+use txs_program::play_by_workers;
 use txs_tree_meaning::Program;
 use txs_world_protocol::Report;
-use txs_world_shared::SharedState;
 
 /// Writes what the program does for these words and this input, and to the standard error: its status.
 fn written<T: Threads + Wait + Sync>(
@@ -25,27 +20,15 @@ fn written<T: Threads + Wait + Sync>(
     errors: &mut Vec<u8>,
 ) -> u8 {
     let mut reader = input;
-    play_with(
+    play_by_workers(
+        threads,
         alloc,
-        &|alloc: Global, code: &Verified, workers: usize, steps: u64| -> Result<
-            (SharedState, Entries),
-            RunError,
-        >
-            requires sync { IsSync T.row }
-            requires few { IsRunnable code.now }
-            ensures { RunsLawfully code.now steps result }
-        {
-            let Gathered { shared, report } = run_threads(
-                threads, alloc, code, workers, steps, &OpenGate,
-            )?;
-            Ok((shared, report))
-        },
         &|_alloc: Global, program: &Program, report: &Report, turns: u32, _workers: usize| -> Result<
-            Answer,
-            NoAnswer,
+            Verdict,
+            AuditError,
         >
             ensures { IsRight program.now report.now turns result }
-        { Err(NoAnswer::NoThread) },
+        { Err(AuditError::NoThread) },
         request,
         &mut reader,
         output,

@@ -2,8 +2,9 @@
 use crate::asks::{next_word, number_of};
 use std::slice;
 use std::str::SplitWhitespace;
+use txs_cli_plays::events::name_of;
 use txs_value_data::Value;
-use txs_world_protocol::{Event, EventKind, Reply};
+use txs_world_protocol::{Event, Reply};
 
 // A reply as a row tells it: its name, the place or the number in it, and its values.
 fn parts_of(reply: &Reply) -> (&'static str, Option<u32>, &[Value]) {
@@ -43,27 +44,11 @@ pub fn is_reply(reply: &Reply, words: &mut SplitWhitespace<'_>) -> bool {
     words.next().is_none()
 }
 
-// The name of an event.
-fn name_of(event: &Event) -> &'static str {
-    match &event.kind {
-        EventKind::Read { .. } => "read",
-        EventKind::Commit { .. } => "commit",
-        EventKind::Retry { .. } => "retry",
-        EventKind::Fail { .. } => "fail",
-        EventKind::Refused { .. } => "refused",
-        EventKind::Send { .. } => "send",
-        EventKind::SendRefused { .. } => "send-refused",
-        EventKind::Act { .. } => "act",
-        EventKind::Swap { .. } => "swap",
-        EventKind::Broke { .. } => "broke",
-    }
-}
-
 /// Whether the next words tell just these events: of each its actor and its name.
 pub fn are_events(events: &[Event], words: &mut SplitWhitespace<'_>) -> bool {
     for event in events {
         let actor = number_of(next_word(words));
-        if actor != u32::from(event.actor) || words.next() != Some(name_of(event)) {
+        if actor != u32::from(event.actor) || words.next() != Some(name_of(&event.kind)) {
             return false;
         }
     }

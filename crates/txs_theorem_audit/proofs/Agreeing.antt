@@ -51,7 +51,7 @@ use Rattle.txs_theorem_runs.specs.Told.{Place, TraceHolds, places_in, places_by,
 use Rattle.txs_theorem_runs.specs.Transactions.{SaidAt, SaidIf, SaidOf, undisturbed}
 use Rattle.txs_theorem_serial.proofs.Noting.{threads_note}
 use Rattle.txs_theorem_serial.specs.Serial.{RunOf, RunsOf, Noted, EndsNoted}
-use Rattle.txs_theorem_audit.specs.Audited.{PlainRan, PlainReport, book_or_none, books_of, entry_of, Finding, Fine, Off, Short, and_then, check}
+use Rattle.txs_theorem_audit.specs.Audited.{PlainActorReport, PlainReport, book_or_none, books_of, entry_of, Finding, Fine, Off, Short, and_then, check}
 use Rattle.txs_theorem_audit.specs.Explained.{Sized, Begins, Stopped, EndsAs, events_of, meaning_of, AtomExplained, ActPure, ActsPure, AgentExplained}
 use Rattle.txs_theorem_audit.specs.Laws.{AgreesIsExplained}
 use Rattle.txs_theorem_audit.specs.Verdict.{atoms_from, fits_sizes, begins, same_numbers, runs_right, names_all, in_books, trace_found, traces_found, is_legal_kind, is_legal_swap, book_found, has_values, same_failure, has_failed, store_found, atom_found, atoms_found, is_value, length_if, index_if, is_untouched, is_first_failed, is_calm, is_end, with_run, calm_at, calm_found, is_stopped, is_done, has_faulted, least_printed, printed_part, end_found, noted_by, thread_found, threads_found, is_pure_known, is_pure_call, act_means, act_found, act_kind, act_at, acts_found, agents_found, are_serial, found}
@@ -95,13 +95,13 @@ trace_holds r a trace h n =
     (λ le. outside_books count n trace parts.0 le ∙ ap (places_by a 0) (sym (no_book r n le)))
     (cases_lt n count)
 
-pub traces_hold : (r : PlainReport) (a : ℕ) (rans : List PlainRan) → traces_found (books_of r) (suc (length r.atom_books)) a rans ≡ Fine → (i : ℕ) (ran : PlainRan) → nth rans i ≡ Some ran → TraceHolds (books_of r) (a + i) ran.trace
+pub traces_hold : (r : PlainReport) (a : ℕ) (rans : List PlainActorReport) → traces_found (books_of r) (suc (length r.atom_books)) a rans ≡ Fine → (i : ℕ) (ran : PlainActorReport) → nth rans i ≡ Some ran → TraceHolds (books_of r) (a + i) ran.trace
 traces_hold r a [] h i ran there = not_there there
 traces_hold r a (x ∷ xs) h zero ran there =
     let parts = and_fine (trace_found (books_of r) (suc (length r.atom_books)) a x.trace) (traces_found (books_of r) (suc (length r.atom_books)) (suc a) xs) h in
     let same : x ≡ ran = cc in
     let z : a ≡ a + 0 = omega arith in
-    subst (λ b. TraceHolds (books_of r) b ran.trace) z (subst (λ (y : PlainRan). TraceHolds (books_of r) a y.trace) same (trace_holds r a x.trace parts.0))
+    subst (λ b. TraceHolds (books_of r) b ran.trace) z (subst (λ (y : PlainActorReport). TraceHolds (books_of r) a y.trace) same (trace_holds r a x.trace parts.0))
 traces_hold r a (x ∷ xs) h (suc i) ran there =
     let parts = and_fine (trace_found (books_of r) (suc (length r.atom_books)) a x.trace) (traces_found (books_of r) (suc (length r.atom_books)) (suc a) xs) h in
     let z : suc a + i ≡ a + suc i = omega arith in
@@ -275,7 +275,7 @@ store_left p r h =
     let parts = and_fine (book_found test (λ a k. index_if 0 k (entry_of r a)) [] r.book) (check left 0 (length_if (entry_of r 0))) h in
     both (has_values p.cells r 0 p.cells r.cells) (has_failed cells r.book (agents_from 0 p.cells) r.failed) (check_fine left 0 (length_if (entry_of r 0)) parts.1)
 
-module _ (p : ThreadSource) (n a : ℕ) (es : List SeenEvent) (ran : PlainRan) where
+module _ (p : ThreadSource) (n a : ℕ) (es : List SeenEvent) (ran : PlainActorReport) where
   -- whether the entry has printed so much and no more
   abbrev part : List ℕ → Bool
   part whole = printed_part p n es ran.printed whole
@@ -469,13 +469,13 @@ marked_thread (u ∷ ts) zero t h there = let same : u ≡ t = cc in subst (λ (
 marked_thread (u ∷ ts) (suc i) t h there = marked_thread ts i t h.1 there
 
 -- a thread of a sound program, of which nothing is found
-pub record ThreadParts (p : PlainProgram) (r : PlainReport) (n : ℕ) (t : PlainThread) (ran : PlainRan) : Type 0 where
+pub record ThreadParts (p : PlainProgram) (r : PlainReport) (n : ℕ) (t : PlainThread) (ran : PlainActorReport) : Type 0 where
   pub ends : EndsAs ran.outcome ran.printed (meaning_of p r t ran n)
   pub least : Stopped ran.outcome → Begins ran.printed (least_printed (source_of p t) n (events_of p r ran))
   pub runs : RunsOf p.functions (validators_of p.cells) n (events_of p r ran) (txs_of (meaning_of p r t ran n))
   pub calm : SaidOf (undisturbed p.cells (books_of r)) (books_of r) ran.trace (txs_of (meaning_of p r t ran n))
 
-pub thread_parts : (p : PlainProgram) (r : PlainReport) → Sound p → MarkedProgram p → (n a i : ℕ) (t : PlainThread) (ran : PlainRan) → nth p.threads i ≡ Some t → thread_found p r n a t ran ≡ Fine → ThreadParts p r n t ran
+pub thread_parts : (p : PlainProgram) (r : PlainReport) → Sound p → MarkedProgram p → (n a i : ℕ) (t : PlainThread) (ran : PlainActorReport) → nth p.threads i ≡ Some t → thread_found p r n a t ran ≡ Fine → ThreadParts p r n t ran
 thread_parts p r sound marks n a i t ran there h =
     let s = source_of p t in
     let es = events_of p r ran in
@@ -493,14 +493,14 @@ thread_parts p r sound marks n a i t ran there h =
     }
 
 -- so it is of each thread
-pub each_fine : (p : PlainProgram) (r : PlainReport) (n a : ℕ) (ts : List PlainThread) (rans : List PlainRan) → threads_found p r n a ts rans ≡ Fine → (i : ℕ) (t : PlainThread) (ran : PlainRan) → nth ts i ≡ Some t → nth rans i ≡ Some ran → (b : ℕ) × (thread_found p r n b t ran ≡ Fine)
+pub each_fine : (p : PlainProgram) (r : PlainReport) (n a : ℕ) (ts : List PlainThread) (rans : List PlainActorReport) → threads_found p r n a ts rans ≡ Fine → (i : ℕ) (t : PlainThread) (ran : PlainActorReport) → nth ts i ≡ Some t → nth rans i ≡ Some ran → (b : ℕ) × (thread_found p r n b t ran ≡ Fine)
 each_fine p r n a [] rans h i t ran there here = not_there there
 each_fine p r n a (u ∷ ts) [] h i t ran there here = not_there here
 each_fine p r n a (u ∷ ts) (x ∷ xs) h zero t ran there here =
     let y = and_fine (thread_found p r n a u x) (threads_found p r n (suc a) ts xs) h in
     let one : u ≡ t = cc in
     let two : x ≡ ran = cc in
-    (a, subst (λ (z : PlainRan). thread_found p r n a t z ≡ Fine) two (subst (λ (z : PlainThread). thread_found p r n a z x ≡ Fine) one y.0))
+    (a, subst (λ (z : PlainActorReport). thread_found p r n a t z ≡ Fine) two (subst (λ (z : PlainThread). thread_found p r n a z x ≡ Fine) one y.0))
 each_fine p r n a (u ∷ ts) (x ∷ xs) h (suc i) t ran there here =
     each_fine p r n (suc a) ts xs (and_fine (thread_found p r n a u x) (threads_found p r n (suc a) ts xs) h).1 i t ran there here
 
@@ -570,12 +570,12 @@ module _ (p : PlainProgram) (n a : ℕ) where
       home_book false e h l rest = rest l
 
 -- what is found of an agent's entry
-record AgentFine (p : PlainProgram) (r : PlainReport) (n : ℕ) (ran : PlainRan) : Type 0 where
+record AgentFine (p : PlainProgram) (r : PlainReport) (n : ℕ) (ran : PlainActorReport) : Type 0 where
   actor : ℕ
   acts : acts_found p r n actor 0 ran.trace ≡ Fine
   last : (is_stopped ran.outcome && length ran.printed == 0) ≡ true
 
-agents_fine : (p : PlainProgram) (r : PlainReport) (n a : ℕ) (rans : List PlainRan) → agents_found p r n a rans ≡ Fine → (i : ℕ) (ran : PlainRan) → nth rans i ≡ Some ran → AgentFine p r n ran
+agents_fine : (p : PlainProgram) (r : PlainReport) (n a : ℕ) (rans : List PlainActorReport) → agents_found p r n a rans ≡ Fine → (i : ℕ) (ran : PlainActorReport) → nth rans i ≡ Some ran → AgentFine p r n ran
 agents_fine p r n a [] h i ran there = not_there there
 agents_fine p r n a (x ∷ xs) h zero ran there =
     let last = is_stopped x.outcome && length x.printed == 0 in
@@ -597,13 +597,13 @@ stopped_of (Some StepsSpent) h = tt
 stopped_of (Some JournalFull) h = tt
 stopped_of (Some Memory) h = tt
 
-agent_means : (p : PlainProgram) (r : PlainReport) (n : ℕ) (ran : PlainRan) → AgentFine p r n ran → AgentExplained ran
+agent_means : (p : PlainProgram) (r : PlainReport) (n : ℕ) (ran : PlainActorReport) → AgentFine p r n ran → AgentExplained ran
 agent_means p r n ran f = let w = both (is_stopped ran.outcome) (length ran.printed == 0) f.last in record { silent = empty ran.printed w.1; unended = stopped_of ran.outcome w.0 }
 
 -- each action of the book is looked at, since its agent's trace names it
 module _ (p : PlainProgram) (r : PlainReport) (n : ℕ) (sized : Sized p r) (legal : Legal (cells_of p.cells) (length p.threads) r.book)
-    (traced : (a : ℕ) (ran : PlainRan) → nth (r.threads ++ r.agents) a ≡ Some ran → TraceHolds (books_of r) a ran.trace)
-    (fine : (i : ℕ) (ran : PlainRan) → nth r.agents i ≡ Some ran → AgentFine p r n ran) where
+    (traced : (a : ℕ) (ran : PlainActorReport) → nth (r.threads ++ r.agents) a ≡ Some ran → TraceHolds (books_of r) a ran.trace)
+    (fine : (i : ℕ) (ran : PlainActorReport) → nth r.agents i ≡ Some ran → AgentFine p r n ran) where
   -- so nothing is found of it
   act_fine : (k : ℕ) (e : Event) → nth r.book k ≡ Some e → (g : CellId) (m : ℕ) (new : Result Value Fault) (sends : List Action) → e.kind ≡ Act g m new sends → (b j : ℕ) × (act_kind p n b j (take k r.book) (Act g m new sends) ≡ Fine)
   act_fine k e there g m new sends is =
@@ -675,10 +675,10 @@ agrees_is_explained p r n serial sound marks h =
     let w = and_fine atoms (and_then threads agents) z.1 in
     let v = and_fine threads agents w.1 in
     let sized = sized_of p r (check_fine (fits_sizes p r) 0 0 x.0) in
-    let traced : (a : ℕ) (ran : PlainRan) → nth (r.threads ++ r.agents) a ≡ Some ran → TraceHolds (books_of r) a ran.trace =
+    let traced : (a : ℕ) (ran : PlainActorReport) → nth (r.threads ++ r.agents) a ≡ Some ran → TraceHolds (books_of r) a ran.trace =
     λ a ran there. (let q : 0 + a ≡ a = omega arith in subst (λ b. TraceHolds (books_of r) b ran.trace) q (traces_hold r 0 (r.threads ++ r.agents) y.0 a ran there)) in
     let legal = store_legal p r z.0 in
-    let fine : (i : ℕ) (ran : PlainRan) → nth r.agents i ≡ Some ran → AgentFine p r n ran = λ i ran there. agents_fine p r n (length p.threads) r.agents v.1 i ran there in
+    let fine : (i : ℕ) (ran : PlainActorReport) → nth r.agents i ≡ Some ran → AgentFine p r n ran = λ i ran there. agents_fine p r n (length p.threads) r.agents v.1 i ran there in
     record {
       sized = sized;
       traced = traced;

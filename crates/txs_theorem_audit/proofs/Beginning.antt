@@ -15,7 +15,7 @@ use Rattle.txs_value_cell.specs.declared.form.PutForm.{PutForm}
 use Rattle.txs_value_cell.specs.declared.form.PutForm.TheVariants.{RefSet, Reset}
 use Rattle.txs_value_cell.specs.declared.form.UpdateForm.{UpdateForm}
 use Rattle.txs_value_cell.specs.declared.form.UpdateForm.TheVariants.{Alter, Commute, Swap}
-use Rattle.txs_frame.specs.Frame.{Work, commuted, phase_work, set_writes}
+use Rattle.txs_frame.specs.Frame.{PlainTxFrame, commuted, phase_work, set_writes}
 use Rattle.txs_frame.specs.declared.frame.Commute.{Commute as CommuteOf}
 use Rattle.txs_value_base.specs.Places.{fault_at}
 use Rattle.txs_value_base.specs.declared.fault.Fault.{Fault}
@@ -146,7 +146,7 @@ module _ (fs : List SeenEvent) where
         bind_related ThreadState ThreadState k (f c.callee us s) (g c.callee us (longer s)) (λ v s1. redone f cs (with_write ws c.cell v) s1) (λ v s1. redone g cs (with_write ws c.cell v) s1) (a c.callee us s (longer s) refl)
         (λ v s1 t1 r1. from (redone f cs (with_write ws c.cell v) s1) (λ u. redone g cs (with_write ws c.cell v) u) s1 t1 r1 (redone_cut cs (with_write ws c.cell v) s1))
 
-    final_cut : (vs : Validators) (span : Span) (w : Work) (C : World) (s : ThreadState) → Related k (final_writes f vs span w C s) (final_writes g vs span w C (longer s))
+    final_cut : (vs : Validators) (span : Span) (w : PlainTxFrame) (C : World) (s : ThreadState) → Related k (final_writes f vs span w C s) (final_writes g vs span w C (longer s))
     final_cut vs span w C s =
         let now : Writes → ThreadState → Completion ThreadState Writes = λ ws t1. Completes (merged (set_writes w) ws) t1 in
         bind_related ThreadState ThreadState k (commute_writes f w C s) (commute_writes g w C (longer s)) now now (redone_cut (phase_work w) (valued (commuted w) C) s) (λ ws s1 t1 r1. (refl, r1))

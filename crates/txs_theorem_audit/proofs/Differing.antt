@@ -46,7 +46,7 @@ use Rattle.txs_theorem_threads.specs.RepliesFit.{HasEatenAll}
 use Rattle.txs_theorem_runs.specs.Agents.{ActMeans}
 use Rattle.txs_theorem_runs.specs.Told.{Place, TraceHolds, places_in, places_by}
 use Rattle.txs_theorem_runs.specs.Transactions.{SaidAt, SaidIf, SaidOf, undisturbed}
-use Rattle.txs_theorem_audit.specs.Audited.{PlainRan, PlainReport, book_or_none, books_of, entry_of, Verdict, Agrees, Differs, Undecided, Finding, Fine, Off, Short, and_then, check, answer}
+use Rattle.txs_theorem_audit.specs.Audited.{PlainActorReport, PlainReport, book_or_none, books_of, entry_of, Verdict, Agrees, Differs, Undecided, Finding, Fine, Off, Short, and_then, check, answer}
 use Rattle.txs_theorem_audit.specs.Explained.{Sized, Begins, Stopped, EndsAs, events_of, meaning_of, ThreadExplained, AtomExplained, ActPure, AgentExplained, IsExplained}
 use Rattle.txs_theorem_audit.specs.Laws.{DiffersIsNotExplained}
 use Rattle.txs_theorem_audit.specs.Verdict.{atoms_from, fits_sizes, begins, same_numbers, runs_right, names_all, in_books, trace_found, traces_found, is_legal_kind, is_legal_swap, book_found, has_values, same_failure, has_failed, store_found, atom_found, atoms_found, is_value, length_if, index_if, printed_by, but_last, is_untouched, is_first_failed, is_calm, is_end, with_run, calm_at, calm_found, is_stopped, is_done, has_faulted, least_printed, printed_part, end_found, noted_by, thread_found, threads_found, is_pure_known, is_pure_call, act_means, act_found, act_kind, act_at, acts_found, agents_found, are_serial, found}
@@ -174,7 +174,7 @@ module _ (r : PlainReport) (a : ℕ) where
       check_not (in_books count trace && names_all (books_of r) a trace count) a (runs_right (books_of r) a [] trace)
       (and_true (in_books count trace) (names_all (books_of r) a trace count) (in_true count trace (λ n le. h n ∙ ap (places_by a 0) (no_book n le))) (names_true trace h count))
 
-traces_not : (r : PlainReport) (a : ℕ) (rans : List PlainRan) → ((i : ℕ) (ran : PlainRan) → nth rans i ≡ Some ran → TraceHolds (books_of r) (a + i) ran.trace) → NotOff (traces_found (books_of r) (suc (length r.atom_books)) a rans)
+traces_not : (r : PlainReport) (a : ℕ) (rans : List PlainActorReport) → ((i : ℕ) (ran : PlainActorReport) → nth rans i ≡ Some ran → TraceHolds (books_of r) (a + i) ran.trace) → NotOff (traces_found (books_of r) (suc (length r.atom_books)) a rans)
 traces_not r a [] h = tt
 traces_not r a (x ∷ xs) h =
     let z : a + 0 ≡ a = omega arith in
@@ -425,7 +425,7 @@ value_at v t = Completes v t
 abbrev fault_of : Fault → ThreadState → Completion ThreadState Value
 fault_of f t = Faults f t
 
-module _ (s : ThreadSource) (n a : ℕ) (es : List SeenEvent) (ran : PlainRan) where
+module _ (s : ThreadSource) (n a : ℕ) (es : List SeenEvent) (ran : PlainActorReport) where
   abbrev part : List ℕ → Bool
   part whole = printed_part s n es ran.printed whole
 
@@ -624,7 +624,7 @@ judged s sound o out n m es h =
     (λ lt. (let le : n ≤ m = omega (arith, lt) in fewer o out (thread_meaning s n es) (thread_meaning s m es) (thread_leads s sound n m le es).1 h))
     (λ le. further_on o out (thread_meaning s n es) (thread_meaning s m es) (thread_leads s sound m n le es).1 h) (cases_lt n m)
 
-thread_not : (p : PlainProgram) (r : PlainReport) → Sound p → (n a i : ℕ) (t : PlainThread) (ran : PlainRan) → nth p.threads i ≡ Some t → ThreadExplained p r t ran → NotOff (thread_found p r n a t ran)
+thread_not : (p : PlainProgram) (r : PlainReport) → Sound p → (n a i : ℕ) (t : PlainThread) (ran : PlainActorReport) → nth p.threads i ≡ Some t → ThreadExplained p r t ran → NotOff (thread_found p r n a t ran)
 thread_not p r sound n a i t ran there x =
     let s = source_of p t in
     let es = events_of p r ran in
@@ -645,7 +645,7 @@ thread_not p r sound n a i t ran there x =
     (and_not (on e.0.txs) (end_found s n a es ran (OutOfTurns e.0)) (calm_not p.cells (books_of r) a 0 ran.trace e.0.txs (txs_of z) x.calm e.2) (short_not s n a es ran e.0)))
     (judged s source_sound ran.outcome ran.printed n x.turns es x.ends)
 
-threads_not : (p : PlainProgram) (r : PlainReport) (n a : ℕ) (ts : List PlainThread) (rans : List PlainRan) → ((b i : ℕ) (t : PlainThread) (ran : PlainRan) → nth ts i ≡ Some t → nth rans i ≡ Some ran → NotOff (thread_found p r n b t ran)) → NotOff (threads_found p r n a ts rans)
+threads_not : (p : PlainProgram) (r : PlainReport) (n a : ℕ) (ts : List PlainThread) (rans : List PlainActorReport) → ((b i : ℕ) (t : PlainThread) (ran : PlainActorReport) → nth ts i ≡ Some t → nth rans i ≡ Some ran → NotOff (thread_found p r n b t ran)) → NotOff (threads_found p r n a ts rans)
 threads_not p r n a [] rans h = tt
 threads_not p r n a (t ∷ ts) [] h = tt
 threads_not p r n a (t ∷ ts) (x ∷ xs) h = and_not (thread_found p r n a t x) (threads_found p r n (suc a) ts xs) (h a 0 t x refl refl) (threads_not p r n (suc a) ts xs (λ b i u ran there here. h b (suc i) u ran there here))
@@ -753,7 +753,7 @@ stopped_true (Some StepsSpent) h = refl
 stopped_true (Some JournalFull) h = refl
 stopped_true (Some Memory) h = refl
 
-agents_not : (p : PlainProgram) (r : PlainReport) → SoundFunctions [] p.functions → IsExplained p r → (n a : ℕ) (rans : List PlainRan) → ((i : ℕ) (ran : PlainRan) → nth rans i ≡ Some ran → AgentExplained ran) → NotOff (agents_found p r n a rans)
+agents_not : (p : PlainProgram) (r : PlainReport) → SoundFunctions [] p.functions → IsExplained p r → (n a : ℕ) (rans : List PlainActorReport) → ((i : ℕ) (ran : PlainActorReport) → nth rans i ≡ Some ran → AgentExplained ran) → NotOff (agents_found p r n a rans)
 agents_not p r sound x n a [] h = tt
 agents_not p r sound x n a (ran ∷ rans) h =
     let last = is_stopped ran.outcome && length ran.printed == 0 in

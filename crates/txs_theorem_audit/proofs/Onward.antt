@@ -17,7 +17,7 @@ use Rattle.txs_value_cell.specs.declared.form.PutForm.{PutForm}
 use Rattle.txs_value_cell.specs.declared.form.PutForm.TheVariants.{RefSet, Reset}
 use Rattle.txs_value_cell.specs.declared.form.UpdateForm.{UpdateForm}
 use Rattle.txs_value_cell.specs.declared.form.UpdateForm.TheVariants.{Alter, Commute, Swap}
-use Rattle.txs_frame.specs.Frame.{Work, with_cell, is_commuted, set_ref, commute_ref, set_writes, commuted, phase_work}
+use Rattle.txs_frame.specs.Frame.{PlainTxFrame, with_cell, is_commuted, set_ref, commute_ref, set_writes, commuted, phase_work}
 use Rattle.txs_value_apply.specs.Core.{core, vector_of}
 use Rattle.txs_value_apply.specs.Truth.{choose}
 use Rattle.txs_value_base.specs.Places.{nth, fault_at}
@@ -471,7 +471,7 @@ module _ (functions : List PlainFunction) (sound : SoundFunctions [] functions) 
   set_suits : (c : CellId) (v : Value) (span : Span) (w : Value) (t : TxState) → Suited t → Related suit (done_as (set_ref c v t.done) span w t) (done_as (set_ref c v t.done) span w t)
   set_suits c v span w t h = test (is_commuted t.done c.number)
     where
-      set : Work
+      set : PlainTxFrame
       set = record t.done { values = with_write t.done.values c v; sets = with_cell t.done.sets c }
 
       test : (b : Bool) → Related suit (done_as (if b then Err SetAfterCommute else Ok set) span w t) (done_as (if b then Err SetAfterCommute else Ok set) span w t)
@@ -622,24 +622,24 @@ module _ (p : ThreadSource) (sound : SoundSource p) (nl nr : ℕ) (le : nl ≤ n
     abbrev q : ℕ → Applies (Unit {0})
     q n = quietly n p.functions b m.span
 
-    abbrev writes_in : {S : Type 0} → Applies S → Work → World → S → Completion S Writes
+    abbrev writes_in : {S : Type 0} → Applies S → PlainTxFrame → World → S → Completion S Writes
     writes_in g w C s = final_writes g (validators_of p.cells) m.span w C s
 
     -- the final writes leave the state as it was
-    finals : (n : ℕ) (w : Work) → AllCommutes (IsPure ks) w.commutes → (C : World) (t : ThreadState) → writes_in (f n) w C t ≡ carried t (writes_in (q n) w C tt)
+    finals : (n : ℕ) (w : PlainTxFrame) → AllCommutes (IsPure ks) w.commutes → (C : World) (t : ThreadState) → writes_in (f n) w C t ≡ carried t (writes_in (q n) w C tt)
     finals n w suits C t =
         let P : Callee → Type 0 = IsPure ks in
         ap (λ z. bind z (λ ws s1. Completes (merged (set_writes w) ws) s1))
         (redone_carried P t (f n) (q n) (λ c us pure. callee_carried (on_events (around p n)) n true p.functions sound.functions b m.span c us t pure) (phase_work w) (phase_some P w suits) (valued (commuted w) C)).0
         ∙ bound t (redone (q n) (phase_work w) (valued (commuted w) C) tt) (λ ws. merged (set_writes w) ws)
 
-    finals_more : (w : Work) (C : World) → Related (same_link (Unit {0})) (writes_in (q nl) w C tt) (writes_in (q nr) w C tt)
+    finals_more : (w : PlainTxFrame) (C : World) → Related (same_link (Unit {0})) (writes_in (q nl) w C tt) (writes_in (q nr) w C tt)
     finals_more w C =
         let now : Writes → Unit {0} → Completion (Unit {0}) Writes = λ ws t1. Completes (merged (set_writes w) ws) t1 in
         bind_related (Unit {0}) (Unit {0}) (same_link (Unit {0})) (commute_writes (q nl) w C tt) (commute_writes (q nr) w C tt) now now
         (redone_alike (Unit {0}) (q nl) (q nr) (pure_more p.functions sound.functions nl nr le b m.span) (phase_work w) (valued (commuted w) C) tt) (λ ws s1 t1 r1. from_same (Unit {0}) (now ws) s1 t1 r1)
 
-    finals_at : (w : Work) → AllCommutes (IsPure ks) w.commutes → (C : World) (t : ThreadState) (F : Completion ThreadState Writes → Completion ThreadState Value) → ((u : Unit {0}) → F (OutOfTurns t) ≡ OutOfTurns t) → ((z : Completion (Unit {0}) Writes) → Inside t (F (carried t z))) → At t (F (writes_in (f nl) w C t)) (F (writes_in (f nr) w C t))
+    finals_at : (w : PlainTxFrame) → AllCommutes (IsPure ks) w.commutes → (C : World) (t : ThreadState) (F : Completion ThreadState Writes → Completion ThreadState Value) → ((u : Unit {0}) → F (OutOfTurns t) ≡ OutOfTurns t) → ((z : Completion (Unit {0}) Writes) → Inside t (F (carried t z))) → At t (F (writes_in (f nl) w C t)) (F (writes_in (f nr) w C t))
     finals_at w suits C t F short each =
         both_pure t (writes_in (f nl) w C t) (writes_in (f nr) w C t) (writes_in (q nl) w C tt) (writes_in (q nr) w C tt) F (finals nl w suits C t) (finals nr w suits C t)
         (pure_at t (λ z. F (carried t z)) (writes_in (q nl) w C tt) (writes_in (q nr) w C tt) (finals_more w C) short each)

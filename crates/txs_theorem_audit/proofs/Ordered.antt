@@ -22,7 +22,7 @@ use Rattle.txs_theorem_runs.specs.Transactions.{SaidAt, SaidIf, SaidOf}
 use Rattle.txs_theorem_serial.proofs.Together.{runs_are_serial}
 use Rattle.txs_theorem_serial.specs.Serial.{is_covered, RunOf, RunsOf}
 use Rattle.txs_theorem_serial.specs.Whole.{all_covered, ThreadDid, OneByOne}
-use Rattle.txs_theorem_audit.specs.Audited.{PlainRan, PlainReport, books_of, Agrees, Finding, Fine, and_then, check}
+use Rattle.txs_theorem_audit.specs.Audited.{PlainActorReport, PlainReport, books_of, Agrees, Finding, Fine, and_then, check}
 use Rattle.txs_theorem_audit.specs.Explained.{meaning_of}
 use Rattle.txs_theorem_audit.specs.Laws.{SerialIsOneByOne}
 use Rattle.txs_theorem_audit.specs.Verdict.{atoms_from, fits_sizes, traces_found, store_found, atoms_found, threads_found, agents_found, is_end, is_commit, covered_if, covered_all, are_serial, found, verdict}
@@ -73,7 +73,7 @@ module _ (functions : List PlainFunction) (n : ℕ) (cells : List CellDefinition
       go (Some e) s v next = covered_step p ps e e.kind refl (seen_in cells p.book (books p.book) p.at e.kind).R (seen_in cells p.book (books p.book) p.at e.kind).Q (seen_in cells p.book (books p.book) p.at e.kind).C next xs s v
 
 -- each commit of these threads is covered
-covered_each : (p : PlainProgram) (r : PlainReport) (n : ℕ) (ts : List PlainThread) (rans : List PlainRan) → are_serial p r n ts rans ≡ true → (i : ℕ) (t : PlainThread) (ran : PlainRan) → nth ts i ≡ Some t → nth rans i ≡ Some ran
+covered_each : (p : PlainProgram) (r : PlainReport) (n : ℕ) (ts : List PlainThread) (rans : List PlainActorReport) → are_serial p r n ts rans ≡ true → (i : ℕ) (t : PlainThread) (ran : PlainActorReport) → nth ts i ≡ Some t → nth rans i ≡ Some ran
     → covered_all (books_of r) ran.trace (txs_of (meaning_of p r t ran n)) ≡ true
 covered_each p r n [] rans s i t ran there here = not_there there
 covered_each p r n (u ∷ ts) [] s i t ran there here = not_there here
@@ -81,18 +81,18 @@ covered_each p r n (u ∷ ts) (x ∷ xs) s zero t ran there here =
     let c = both (covered_all (books_of r) x.trace (txs_of (meaning_of p r u x n))) (are_serial p r n ts xs) s in
     let one : u ≡ t = cc in
     let two : x ≡ ran = cc in
-    subst (λ (w : PlainRan). covered_all (books_of r) w.trace (txs_of (meaning_of p r t w n)) ≡ true) two (subst (λ (v : PlainThread). covered_all (books_of r) x.trace (txs_of (meaning_of p r v x n)) ≡ true) one c.0)
+    subst (λ (w : PlainActorReport). covered_all (books_of r) w.trace (txs_of (meaning_of p r t w n)) ≡ true) two (subst (λ (v : PlainThread). covered_all (books_of r) x.trace (txs_of (meaning_of p r v x n)) ≡ true) one c.0)
 covered_each p r n (u ∷ ts) (x ∷ xs) s (suc i) t ran there here =
     covered_each p r n ts xs (both (covered_all (books_of r) x.trace (txs_of (meaning_of p r u x n))) (are_serial p r n ts xs) s).1 i t ran there here
 
 -- ---- all threads
 
 -- the trace of a thread, and its transactions
-trace_at : Option PlainRan → List Place
+trace_at : Option PlainActorReport → List Place
 trace_at None = []
 trace_at (Some ran) = ran.trace
 
-runs_at : PlainProgram → PlainReport → ℕ → Option PlainThread → Option PlainRan → List TxRun
+runs_at : PlainProgram → PlainReport → ℕ → Option PlainThread → Option PlainActorReport → List TxRun
 runs_at p r n None o = []
 runs_at p r n (Some t) None = []
 runs_at p r n (Some t) (Some ran) = txs_of (meaning_of p r t ran n)
@@ -134,7 +134,7 @@ module _ (p : PlainProgram) (r : PlainReport) (n : ℕ) (sound : Sound p) (marks
   abbrev Did : ℕ → List Place → List TxRun → Type 0
   Did a ps xs = ThreadDid p.functions n p.cells (books_of r) a ps xs × SaidOf all_covered (books_of r) ps xs
 
-  did_one : (a : ℕ) (t : PlainThread) (ran : PlainRan) → nth p.threads a ≡ Some t → nth r.threads a ≡ Some ran → Did a ran.trace (txs_of (meaning_of p r t ran n))
+  did_one : (a : ℕ) (t : PlainThread) (ran : PlainActorReport) → nth p.threads a ≡ Some t → nth r.threads a ≡ Some ran → Did a ran.trace (txs_of (meaning_of p r t ran n))
   did_one a t ran there here =
       let f = each_fine p r n 0 p.threads r.threads threads_fine a t ran there here in
       let parts = thread_parts p r sound marks n f.0 a t ran there f.1 in

@@ -4,7 +4,7 @@ use Rattle.txs_value_base.specs.Places.{nth}
 use Rattle.txs_tree_meaning.specs.Tree.{PlainProgram, PlainThread}
 use Rattle.txs_theorem_threads.specs.Noted.{txs_of}
 use Rattle.txs_theorem_runs.specs.Told.{Place}
-use Rattle.txs_theorem_audit.specs.Audited.{PlainRan, PlainReport, books_of, Finding, Fine, Off, Short, and_then, check, answer}
+use Rattle.txs_theorem_audit.specs.Audited.{PlainActorReport, PlainReport, books_of, Finding, Fine, Off, Short, and_then, check, answer}
 use Rattle.txs_theorem_audit.specs.Explained.{meaning_of}
 use Rattle.txs_theorem_audit.specs.Pieces.{Piece, OfEnd, thread_finding, thread_serial, act_finding, act_finding_in, end_finding, piece_finding, piece_serial, pieces_finding, pieces_serial, thread_pieces, act_pieces, agent_pieces, pieces_of, HalvesAreWhole, PiecesAreAll}
 use Rattle.txs_theorem_audit.specs.Verdict.{atoms_from, traces_found, store_found, atoms_found, thread_found, threads_found, act_at, acts_found, agents_found, covered_all, are_serial}
@@ -36,7 +36,7 @@ module _ (p : PlainProgram) (r : PlainReport) (n : ℕ) where
   here_of : {A : Type 0} (xs : List A) (a : ℕ) (y : A) (ys : List A) → ((i : ℕ) → nth xs (a + i) ≡ nth (y ∷ ys) i) → nth xs a ≡ Some y
   here_of xs a y ys h = let z : a ≡ a + 0 = omega arith in ap (nth xs) z ∙ h 0
 
-  threads_whole : (a : ℕ) (ts : List PlainThread) (rans : List PlainRan) → length rans ≡ length ts → ((i : ℕ) → nth p.threads (a + i) ≡ nth ts i) → ((i : ℕ) → nth r.threads (a + i) ≡ nth rans i)
+  threads_whole : (a : ℕ) (ts : List PlainThread) (rans : List PlainActorReport) → length rans ≡ length ts → ((i : ℕ) → nth p.threads (a + i) ≡ nth ts i) → ((i : ℕ) → nth r.threads (a + i) ≡ nth rans i)
       → (pieces_finding p r n (thread_pieces a rans) ≡ threads_found p r n a ts rans) × (pieces_serial p r n (thread_pieces a rans) ≡ are_serial p r n ts rans)
   threads_whole a [] [] many h g = (refl, refl)
   threads_whole a [] (x ∷ xs) many h g = absurd (omega (arith, many))
@@ -54,7 +54,7 @@ module _ (p : PlainProgram) (r : PlainReport) (n : ℕ) where
 
   -- ---- agents
 
-  acts_whole : (i : ℕ) (ran : PlainRan) → nth r.agents i ≡ Some ran → (j : ℕ) (qs : List Place) → ((k : ℕ) → nth ran.trace (j + k) ≡ nth qs k) → pieces_finding p r n (act_pieces i j qs) ≡ acts_found p r n (length p.threads + i) j qs
+  acts_whole : (i : ℕ) (ran : PlainActorReport) → nth r.agents i ≡ Some ran → (j : ℕ) (qs : List Place) → ((k : ℕ) → nth ran.trace (j + k) ≡ nth qs k) → pieces_finding p r n (act_pieces i j qs) ≡ acts_found p r n (length p.threads + i) j qs
   acts_whole i ran e j [] h = refl
   acts_whole i ran e j (q ∷ qs) h =
       let a = length p.threads + i in
@@ -66,7 +66,7 @@ module _ (p : PlainProgram) (r : PlainReport) (n : ℕ) where
   acts_serial i j [] = refl
   acts_serial i j (q ∷ qs) = acts_serial i (suc j) qs
 
-  agents_whole : (i : ℕ) (rans : List PlainRan) → ((k : ℕ) → nth r.agents (i + k) ≡ nth rans k) → pieces_finding p r n (agent_pieces i rans) ≡ agents_found p r n (length p.threads + i) rans
+  agents_whole : (i : ℕ) (rans : List PlainActorReport) → ((k : ℕ) → nth r.agents (i + k) ≡ nth rans k) → pieces_finding p r n (agent_pieces i rans) ≡ agents_found p r n (length p.threads + i) rans
   agents_whole i [] h = refl
   agents_whole i (x ∷ xs) h =
       let a = length p.threads + i in
@@ -78,7 +78,7 @@ module _ (p : PlainProgram) (r : PlainReport) (n : ℕ) where
       ∙ ap (λ o. and_then (acts_found p r n a 0 x.trace) (and_then (end_finding a o) (pieces_finding p r n (agent_pieces (suc i) xs)))) e
       ∙ ap (λ f. and_then (acts_found p r n a 0 x.trace) (and_then (end_finding a (Some x)) f)) rest
 
-  agents_serial : (i : ℕ) (rans : List PlainRan) → pieces_serial p r n (agent_pieces i rans) ≡ true
+  agents_serial : (i : ℕ) (rans : List PlainActorReport) → pieces_serial p r n (agent_pieces i rans) ≡ true
   agents_serial i [] = refl
   agents_serial i (x ∷ xs) =
       serial_both (act_pieces i 0 x.trace) (OfEnd i ∷ agent_pieces (suc i) xs) ∙ ap (λ b. b && pieces_serial p r n (agent_pieces (suc i) xs)) (acts_serial i 0 x.trace) ∙ agents_serial (suc i) xs

@@ -6,12 +6,12 @@ use Rattle.txs_value_data.specs.declared.value.Value.{Value}
 use Rattle.txs_world_protocol.specs.declared.event.Event.{Event}
 use Rattle.txs_world_protocol.specs.declared.event.Outcome.{Outcome}
 use Rattle.txs_world_protocol.specs.declared.event.Place as event
-use Rattle.txs_world_protocol.specs.declared.report.Ran.{Ran}
+use Rattle.txs_world_protocol.specs.declared.report.ActorReport.{ActorReport}
 use Rattle.txs_world_protocol.specs.declared.report.Report.{Report}
 use Rattle.txs_theorem_runs.specs.Told.{Place}
 
 -- what a report says of one actor: how it ended if it has, what it printed, and where its events are, in order
-pub record PlainRan : Type 0 where
+pub record PlainActorReport : Type 0 where
   pub outcome : Option Outcome
   pub printed : List ℕ
   pub trace : List Place
@@ -19,8 +19,8 @@ pub record PlainRan : Type 0 where
 -- A report: the threads and the agents; the store's book and those of the atoms, in the order of their cells; the values of cells by
 -- number; and the fault of each agent that has failed.
 pub record PlainReport : Type 0 where
-  pub threads : List PlainRan
-  pub agents : List PlainRan
+  pub threads : List PlainActorReport
+  pub agents : List PlainActorReport
   pub book : List Event
   pub atom_books : List (List Event)
   pub cells : List Value
@@ -33,7 +33,7 @@ abbrev pub place_of : event.Place → Place
 place_of p = record { book = p.book; at = p.at }
 
 -- an entry as plain data; how many steps the actor made isn't audited
-abbrev pub ran_as : Ran → PlainRan
+abbrev pub ran_as : ActorReport → PlainActorReport
 ran_as x = record { outcome = x.outcome; printed = x.printed.items; trace = map place_of x.trace.items }
 
 -- a report as plain data
@@ -66,7 +66,7 @@ nth_behind (x ∷ xs) ys zero = Some x
 nth_behind (x ∷ xs) ys (suc a) = nth_behind xs ys a
 
 -- the entry of an actor: threads come first, and behind them the agents
-abbrev pub entry_of : PlainReport → ℕ → Option PlainRan
+abbrev pub entry_of : PlainReport → ℕ → Option PlainActorReport
 entry_of r a = nth_behind r.threads r.agents a
 
 -- ---- what an audit answers

@@ -23,7 +23,7 @@ use Rattle.txs_value_data.specs.declared.value.CellId.{CellId}
 use Rattle.txs_value_data.specs.declared.value.CellKind.{CellKind}
 use Rattle.txs_value_data.specs.declared.value.CellKind.TheVariants.{Agent, Atom, Ref}
 use Rattle.txs_value_cell.specs.declared.action.Action.{Action}
-use Rattle.txs_theorem_audit.specs.Audited.{PlainRan, PlainReport, Agrees, Differs, Undecided}
+use Rattle.txs_theorem_audit.specs.Audited.{PlainActorReport, PlainReport, Agrees, Differs, Undecided}
 use Rattle.txs_theorem_audit.specs.Verdict.{verdict}
 
 -- marks of no span
@@ -76,7 +76,7 @@ abbrev wrote : ℕ → ℕ → ℕ → Event
 wrote a at v = record { actor = a; kind = Commit at at ((a_ref, Int (pos v)) ∷ []) [] }
 
 -- a thread that is done, with these entries of its trace
-abbrev ended : List Place → PlainRan
+abbrev ended : List Place → PlainActorReport
 ended ps = record { outcome = Some Done; printed = []; trace = ps }
 
 -- the report of both, with these events and this last value
@@ -224,11 +224,11 @@ abbrev swap_at : Place
 swap_at = record { book = 1; at = 0 }
 
 -- the thread's entry
-abbrev thread_ran : Option Outcome → List ℕ → List Place → PlainRan
+abbrev thread_ran : Option Outcome → List ℕ → List Place → PlainActorReport
 thread_ran o out ps = record { outcome = o; printed = out; trace = ps }
 
 -- a report with this entry of the thread, this book, these values of ref and agent, and this fault of the agent
-abbrev report_of_kinds : PlainRan → List Event → ℕ → ℕ → Option Fault → PlainReport
+abbrev report_of_kinds : PlainActorReport → List Event → ℕ → ℕ → Option Fault → PlainReport
 report_of_kinds ran es r g f = record {
   threads = ran ∷ [];
   agents = record { outcome = None; printed = []; trace = home_at 1 ∷ [] } ∷ [];
@@ -239,7 +239,7 @@ report_of_kinds ran es r g f = record {
 }
 
 -- the thread's entry as it is right
-abbrev right_ran : PlainRan
+abbrev right_ran : PlainActorReport
 right_ran = thread_ran (Some Done) (49 ∷ 10 ∷ []) (home_at 0 ∷ swap_at ∷ [])
 
 -- the store's book as it is right
@@ -251,7 +251,7 @@ abbrev a_fault : Fault
 a_fault = record { kind = NotANumber; span = record { from = 0; to = 0 } }
 
 -- A report with this entry of the thread and this book, and right values.
-abbrev pub with_these : PlainRan → List Event → PlainReport
+abbrev pub with_these : PlainActorReport → List Event → PlainReport
 with_these ran es = report_of_kinds ran es 1 1 None
 
 -- The right report agrees. One with an event changed differs at it: the value written, its actor, its read point, what it sends; and the

@@ -31,7 +31,7 @@ use Rattle.txs_theorem_runs.specs.Explains.{AreThreads}
 use Rattle.txs_theorem_runs.specs.Shared.{has_atom}
 use Rattle.txs_theorem_runs.specs.Told.{TraceHolds, seen_of}
 use Rattle.txs_theorem_runs.specs.Transactions.{SaidOf, undisturbed}
-use Rattle.txs_theorem_audit.specs.Audited.{PlainRan, PlainReport, books_of}
+use Rattle.txs_theorem_audit.specs.Audited.{PlainActorReport, PlainReport, books_of}
 use Rattle.txs_theorem_audit.specs.Verdict.{atoms_from, least_printed}
 
 -- there is one entry for each thread, agent, atom, cell and agent
@@ -68,17 +68,17 @@ EndsAs (Some JournalFull) out m = (rest : List ℕ) × HasEatenAll (out ++ rest)
 EndsAs (Some Memory) out m = (rest : List ℕ) × HasEatenAll (out ++ rest) m
 
 -- the events that an entry's trace names, with their worlds
-abbrev pub events_of : PlainProgram → PlainReport → PlainRan → List SeenEvent
+abbrev pub events_of : PlainProgram → PlainReport → PlainActorReport → List SeenEvent
 events_of p r ran = seen_of p.cells (books_of r) ran.trace
 
 -- what a thread means on the events of its entry, where each loop makes at most n turns
-abbrev pub meaning_of : PlainProgram → PlainReport → PlainThread → PlainRan → ℕ → Completion ThreadState Value
+abbrev pub meaning_of : PlainProgram → PlainReport → PlainThread → PlainActorReport → ℕ → Completion ThreadState Value
 meaning_of p r t ran n = thread_meaning (source_of p t) n (events_of p r ran)
 
 -- The program explains a thread's entry, for some bound on loops: its meaning eats the entry's events and ended so; one that was stopped
 -- has printed no less than the meaning on all events but the last; and its transactions, one for each commit and each refusal, were
 -- undisturbed.
-pub record ThreadExplained (p : PlainProgram) (r : PlainReport) (t : PlainThread) (ran : PlainRan) : Type 0 where
+pub record ThreadExplained (p : PlainProgram) (r : PlainReport) (t : PlainThread) (ran : PlainActorReport) : Type 0 where
   pub turns : ℕ
   pub ends : EndsAs ran.outcome ran.printed (meaning_of p r t ran turns)
   pub least : Stopped ran.outcome → Begins ran.printed (least_printed (source_of p t) turns (events_of p r ran))
@@ -102,7 +102,7 @@ abbrev pub ActsPure : PlainProgram → List Event → Type 0
 ActsPure p book = Each (λ done e. ActPure p done e.kind) [] book
 
 -- an agent's actor printed nothing and never ended
-pub record AgentExplained (ran : PlainRan) : Type 0 where
+pub record AgentExplained (ran : PlainActorReport) : Type 0 where
   pub silent : ran.printed ≡ []
   pub unended : Stopped ran.outcome
 
@@ -113,12 +113,12 @@ pub record AgentExplained (ran : PlainRan) : Type 0 where
 -- they mean.
 pub record IsExplained (p : PlainProgram) (r : PlainReport) : Type 0 where
   pub sized : Sized p r
-  pub traced : (a : ℕ) (ran : PlainRan) → nth (r.threads ++ r.agents) a ≡ Some ran → TraceHolds (books_of r) a ran.trace
+  pub traced : (a : ℕ) (ran : PlainActorReport) → nth (r.threads ++ r.agents) a ≡ Some ran → TraceHolds (books_of r) a ran.trace
   pub legal : Legal (cells_of p.cells) (length p.threads) r.book
   pub values : (k : ℕ) (d : CellDefinition) → nth p.cells k ≡ Some d → same_kind d.kind Atom ≡ false → nth r.cells k ≡ Some (newest (opening (cells_of p.cells)) r.book k)
   pub failures : (i : ℕ) (g : CellId) → nth (agents_from 0 p.cells) i ≡ Some g → nth r.failed i ≡ Some (mail_after (cells_of p.cells) r.book g.number).fault
   pub atoms : (c : CellId) → has_atom p.cells c ≡ true → AtomExplained p r c
-  pub threads : (a : ℕ) (t : PlainThread) (ran : PlainRan) → nth p.threads a ≡ Some t → nth r.threads a ≡ Some ran → ThreadExplained p r t ran
+  pub threads : (a : ℕ) (t : PlainThread) (ran : PlainActorReport) → nth p.threads a ≡ Some t → nth r.threads a ≡ Some ran → ThreadExplained p r t ran
   pub acts : ActsMean p.functions p.cells r.book
   pub pure : ActsPure p r.book
-  pub agents : (i : ℕ) (ran : PlainRan) → nth r.agents i ≡ Some ran → AgentExplained ran
+  pub agents : (i : ℕ) (ran : PlainActorReport) → nth r.agents i ≡ Some ran → AgentExplained ran

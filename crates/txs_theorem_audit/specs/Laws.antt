@@ -13,7 +13,7 @@ use Rattle.txs_theorem_threads.specs.Noted.{txs_of}
 use Rattle.txs_theorem_runs.specs.Transactions.{SaidOf}
 use Rattle.txs_theorem_serial.specs.Whole.{serial_if_covered, OneByOne}
 use Rattle.txs_value_base.specs.Places.{nth}
-use Rattle.txs_theorem_audit.specs.Audited.{PlainRan, PlainReport, books_of, Agrees, Differs}
+use Rattle.txs_theorem_audit.specs.Audited.{PlainActorReport, PlainReport, books_of, Agrees, Differs}
 use Rattle.txs_theorem_audit.specs.Explained.{meaning_of, IsExplained}
 use Rattle.txs_theorem_audit.specs.Verdict.{verdict}
 
@@ -26,7 +26,7 @@ AgreesIsExplained = (p : PlainProgram) (r : PlainReport) (n : ℕ) (serial : Boo
 abbrev pub ExplainedIsSerial : Type 0
 ExplainedIsSerial =
     (p : PlainProgram) (r : PlainReport) → Sound p → MarkedProgram p → (x : IsExplained p r)
-    → (a : ℕ) (t : PlainThread) (ran : PlainRan) (there : nth p.threads a ≡ Some t) (here : nth r.threads a ≡ Some ran)
+    → (a : ℕ) (t : PlainThread) (ran : PlainActorReport) (there : nth p.threads a ≡ Some t) (here : nth r.threads a ≡ Some ran)
     → SaidOf (serial_if_covered p.functions (x.threads a t ran there here).turns p.cells (books_of r)) (books_of r) ran.trace (txs_of (meaning_of p r t ran (x.threads a t ran there here).turns))
 
 -- Where an audit agrees, and says that all commits are covered, the commits of the store's book are as if the threads' transactions had

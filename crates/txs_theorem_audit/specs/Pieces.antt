@@ -4,7 +4,7 @@ use Rattle.txs_value_base.specs.Places.{nth}
 use Rattle.txs_tree_meaning.specs.Tree.{PlainProgram, PlainThread}
 use Rattle.txs_theorem_threads.specs.Noted.{txs_of}
 use Rattle.txs_theorem_runs.specs.Told.{Place}
-use Rattle.txs_theorem_audit.specs.Audited.{PlainRan, PlainReport, books_of, Finding, Fine, and_then, check, answer}
+use Rattle.txs_theorem_audit.specs.Audited.{PlainActorReport, PlainReport, books_of, Finding, Fine, and_then, check, answer}
 use Rattle.txs_theorem_audit.specs.Explained.{meaning_of}
 use Rattle.txs_theorem_audit.specs.Verdict.{atoms_from, fits_sizes, traces_found, store_found, atoms_found, thread_found, act_at, is_stopped, covered_all, verdict}
 
@@ -17,12 +17,12 @@ pub data Piece : Type 0 where
 -- ---- what is found of a piece, and whether its commits are covered
 
 -- of a thread
-abbrev pub thread_finding : PlainProgram → PlainReport → ℕ → ℕ → Option PlainThread → Option PlainRan → Finding
+abbrev pub thread_finding : PlainProgram → PlainReport → ℕ → ℕ → Option PlainThread → Option PlainActorReport → Finding
 thread_finding p r n a None o = Fine
 thread_finding p r n a (Some t) None = Fine
 thread_finding p r n a (Some t) (Some ran) = thread_found p r n a t ran
 
-abbrev pub thread_serial : PlainProgram → PlainReport → ℕ → Option PlainThread → Option PlainRan → Bool
+abbrev pub thread_serial : PlainProgram → PlainReport → ℕ → Option PlainThread → Option PlainActorReport → Bool
 thread_serial p r n None o = true
 thread_serial p r n (Some t) None = true
 thread_serial p r n (Some t) (Some ran) = covered_all (books_of r) ran.trace (txs_of (meaning_of p r t ran n))
@@ -32,12 +32,12 @@ abbrev pub act_finding : PlainProgram → PlainReport → ℕ → ℕ → ℕ �
 act_finding p r n a j None = Fine
 act_finding p r n a j (Some q) = act_at p n a j (take q.at (books_of r q.book)) (nth (books_of r q.book) q.at)
 
-abbrev pub act_finding_in : PlainProgram → PlainReport → ℕ → ℕ → ℕ → Option PlainRan → Finding
+abbrev pub act_finding_in : PlainProgram → PlainReport → ℕ → ℕ → ℕ → Option PlainActorReport → Finding
 act_finding_in p r n a j None = Fine
 act_finding_in p r n a j (Some ran) = act_finding p r n a j (nth ran.trace j)
 
 -- of its end
-abbrev pub end_finding : ℕ → Option PlainRan → Finding
+abbrev pub end_finding : ℕ → Option PlainActorReport → Finding
 end_finding a None = Fine
 end_finding a (Some ran) = check (is_stopped ran.outcome && length ran.printed == 0) a (length ran.trace)
 
@@ -63,7 +63,7 @@ pieces_serial p r n (x ∷ xs) = piece_serial p r n x && pieces_serial p r n xs
 -- ---- all pieces
 
 -- the threads, from this one on
-abbrev pub thread_pieces : ℕ → List PlainRan → List Piece
+abbrev pub thread_pieces : ℕ → List PlainActorReport → List Piece
 thread_pieces a [] = []
 thread_pieces a (ran ∷ rans) = OfThread a ∷ thread_pieces (suc a) rans
 
@@ -73,7 +73,7 @@ act_pieces i j [] = []
 act_pieces i j (q ∷ qs) = OfAct i j ∷ act_pieces i (suc j) qs
 
 -- the agents, from this one on
-abbrev pub agent_pieces : ℕ → List PlainRan → List Piece
+abbrev pub agent_pieces : ℕ → List PlainActorReport → List Piece
 agent_pieces i [] = []
 agent_pieces i (ran ∷ rans) = act_pieces i 0 ran.trace ++ OfEnd i ∷ agent_pieces (suc i) rans
 

@@ -35,7 +35,7 @@ use Rattle.txs_theorem_threads.specs.FollowsAll.{source_of}
 use Rattle.txs_theorem_threads.specs.Noted.{txs_of}
 use Rattle.txs_theorem_runs.specs.Told.{Place, places_in, places_by, seen_of}
 use Rattle.txs_theorem_serial.specs.Serial.{is_covered}
-use Rattle.txs_theorem_audit.specs.Audited.{PlainRan, PlainReport, books_of, entry_of, Verdict, Finding, Fine, Off, Short, and_then, check, answer}
+use Rattle.txs_theorem_audit.specs.Audited.{PlainActorReport, PlainReport, books_of, entry_of, Verdict, Finding, Fine, Off, Short, and_then, check, answer}
 
 -- ---- cells and indices
 
@@ -50,12 +50,12 @@ index_in book at [] = 0
 index_in book at (p ∷ ps) = if p.book == book && p.at == at then 0 else suc (index_in book at ps)
 
 -- the same in the trace of an entry, 0 where there is no entry
-abbrev pub index_if : ℕ → ℕ → Option PlainRan → ℕ
+abbrev pub index_if : ℕ → ℕ → Option PlainActorReport → ℕ
 index_if book at None = 0
 index_if book at (Some ran) = index_in book at ran.trace
 
 -- the length of the trace of an entry, 0 where there is no entry
-abbrev pub length_if : Option PlainRan → ℕ
+abbrev pub length_if : Option PlainActorReport → ℕ
 length_if None = 0
 length_if (Some ran) = length ran.trace
 
@@ -104,7 +104,7 @@ abbrev pub trace_found : (ℕ → List Event) → ℕ → ℕ → List Place →
 trace_found books count a trace = check (in_books count trace && names_all books a trace count) a (runs_right books a [] trace)
 
 -- the traces of actors, from this one on
-abbrev pub traces_found : (ℕ → List Event) → ℕ → ℕ → List PlainRan → Finding
+abbrev pub traces_found : (ℕ → List Event) → ℕ → ℕ → List PlainActorReport → Finding
 traces_found books count a [] = Fine
 traces_found books count a (ran ∷ rans) = and_then (trace_found books count a ran.trace) (traces_found books count (suc a) rans)
 
@@ -290,7 +290,7 @@ abbrev pub printed_part : ThreadSource → ℕ → List SeenEvent → List ℕ �
 printed_part p n es out whole = begins out whole && begins (least_printed p n es) out
 
 -- the end of a thread whose meaning on its events is this
-abbrev pub end_found : ThreadSource → ℕ → ℕ → List SeenEvent → PlainRan → Completion ThreadState Value → Finding
+abbrev pub end_found : ThreadSource → ℕ → ℕ → List SeenEvent → PlainActorReport → Completion ThreadState Value → Finding
 end_found p n a es ran (Completes v t) =
     and_then (check (length t.todo == 0) a (length es - length t.todo))
     (check (if is_done ran.outcome then same_numbers ran.printed t.printed else is_stopped ran.outcome && printed_part p n es ran.printed t.printed) a (length es))
@@ -310,13 +310,13 @@ abbrev pub noted_by : ThreadSource → ℕ → List SeenEvent → Completion Thr
 noted_by p n es m = if is_wrong m then txs_of (right_meaning p n es) else txs_of m
 
 -- a thread: its transactions, and then its end
-abbrev pub thread_found : PlainProgram → PlainReport → ℕ → ℕ → PlainThread → PlainRan → Finding
+abbrev pub thread_found : PlainProgram → PlainReport → ℕ → ℕ → PlainThread → PlainActorReport → Finding
 thread_found p r n a t ran =
     and_then (calm_found (cells_of p.cells) (books_of r) a 0 ran.trace (noted_by (source_of p t) n (seen_of p.cells (books_of r) ran.trace) (thread_meaning (source_of p t) n (seen_of p.cells (books_of r) ran.trace))))
     (end_found (source_of p t) n a (seen_of p.cells (books_of r) ran.trace) ran (thread_meaning (source_of p t) n (seen_of p.cells (books_of r) ran.trace)))
 
 -- the threads, from this one on
-abbrev pub threads_found : PlainProgram → PlainReport → ℕ → ℕ → List PlainThread → List PlainRan → Finding
+abbrev pub threads_found : PlainProgram → PlainReport → ℕ → ℕ → List PlainThread → List PlainActorReport → Finding
 threads_found p r n a [] rans = Fine
 threads_found p r n a (t ∷ ts) [] = Fine
 threads_found p r n a (t ∷ ts) (ran ∷ rans) = and_then (thread_found p r n a t ran) (threads_found p r n (suc a) ts rans)
@@ -367,7 +367,7 @@ acts_found p r n a i [] = Fine
 acts_found p r n a i (q ∷ qs) = and_then (act_at p n a i (take q.at (books_of r q.book)) (nth (books_of r q.book) q.at)) (acts_found p r n a (suc i) qs)
 
 -- the agents, from this actor on: their actions, and that they printed nothing and never ended
-abbrev pub agents_found : PlainProgram → PlainReport → ℕ → ℕ → List PlainRan → Finding
+abbrev pub agents_found : PlainProgram → PlainReport → ℕ → ℕ → List PlainActorReport → Finding
 agents_found p r n a [] = Fine
 agents_found p r n a (ran ∷ rans) =
     and_then (acts_found p r n a 0 ran.trace) (and_then (check (is_stopped ran.outcome && length ran.printed == 0) a (length ran.trace)) (agents_found p r n (suc a) rans))
@@ -386,7 +386,7 @@ covered_all books [] xs = true
 covered_all books (p ∷ ps) xs = covered_if (nth (books p.book) p.at) (λ ys. covered_all books ps ys) xs
 
 -- whether every commit of these threads is covered
-abbrev pub are_serial : PlainProgram → PlainReport → ℕ → List PlainThread → List PlainRan → Bool
+abbrev pub are_serial : PlainProgram → PlainReport → ℕ → List PlainThread → List PlainActorReport → Bool
 are_serial p r n [] rans = true
 are_serial p r n (t ∷ ts) [] = true
 are_serial p r n (t ∷ ts) (ran ∷ rans) =

@@ -33,7 +33,7 @@ use Rattle.txs_tree_eval.specs.declared.meaning.ThreadMeaning.{ThreadMeaning}
 use Rattle.txs_theorem_threads.proofs.Meant.{Any}
 use Rattle.txs_theorem_threads.specs.Noted.{txs_of}
 use Rattle.txs_theorem_serial.specs.Serial.{is_covered}
-use Rattle.txs_theorem_audit.specs.Audited.{PlainRan, Finding, Fine, Off, Short, and_then, check}
+use Rattle.txs_theorem_audit.specs.Audited.{PlainActorReport, Finding, Fine, Off, Short, and_then, check}
 use Rattle.txs_theorem_audit.specs.Verdict.{begins, same_numbers, is_calm, is_end, is_commit, with_run, calm_at, calm_found, covered_if, covered_all, is_stopped, is_done, has_faulted, least_printed, printed_by, printed_part, noted_by, end_found, act_means}
 use Rattle.txs_theorem_audit.proofs.Onward.{Onward, From, thread_leads}
 use Rattle.txs_theorem_audit_eval.specs.Evaluated.{calm_by, with_first, calm_at_by, calm_found_by, covered_if_by, covered_all_by, same_end, end_by, least_by, act_by, ActBy, CalmBy, CoveredBy, NotedBy, EndBy, LeastBy}
@@ -144,7 +144,7 @@ fault_same f (Some StepsSpent) = refl
 fault_same f (Some JournalFull) = refl
 fault_same f (Some Memory) = refl
 
-module _ (s : ThreadSource) (n a : ℕ) (es : List SeenEvent) (ran : PlainRan) (m : ThreadMeaning) where
+module _ (s : ThreadSource) (n a : ℕ) (es : List SeenEvent) (ran : PlainActorReport) (m : ThreadMeaning) where
   abbrev k : ℕ
   k = length es
 

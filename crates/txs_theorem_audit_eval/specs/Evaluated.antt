@@ -31,7 +31,7 @@ use Rattle.txs_tree_eval.specs.declared.meaning.ThreadMeaning.{ThreadMeaning}
 use Rattle.txs_tree_eval.specs.declared.transaction.TxMeaning.{TxMeaning}
 use Rattle.txs_theorem_runs.specs.Told.{Place}
 use Rattle.txs_theorem_serial.specs.Serial.{is_covered}
-use Rattle.txs_theorem_audit.specs.Audited.{PlainRan, Finding, Fine, Off, Short, and_then, check}
+use Rattle.txs_theorem_audit.specs.Audited.{PlainActorReport, Finding, Fine, Off, Short, and_then, check}
 use Rattle.txs_theorem_audit.specs.Verdict.{begins, same_numbers, is_untouched, is_first_failed, is_end, is_commit, calm_found, covered_all, is_stopped, least_printed, printed_by, noted_by, end_found, act_means}
 
 -- ---- transactions
@@ -130,7 +130,7 @@ NotedBy = (s : ThreadSource) (n : ℕ) (es : List SeenEvent) (m : ThreadMeaning)
 -- the end that is found of a sound thread
 abbrev pub EndBy : Type 0
 EndBy =
-    (s : ThreadSource) (n a : ℕ) (es : List SeenEvent) (ran : PlainRan) (m : ThreadMeaning)
+    (s : ThreadSource) (n a : ℕ) (es : List SeenEvent) (ran : PlainActorReport) (m : ThreadMeaning)
     → SoundSource s → Tells m s n es → end_found s n a es ran (thread_meaning s n es) ≡ end_by a (length es) ran.outcome ran.printed (least_printed s n es) m.needs m.outcome m.printed m.eaten
 
 -- what was printed at least

@@ -19,7 +19,7 @@ use Rattle.txs_world_protocol.specs.declared.event.Event.{Event}
 use Rattle.txs_world_protocol.specs.declared.event.Outcome.{Outcome}
 use Rattle.txs_world_protocol.specs.declared.event.Outcome.TheVariants as outcome
 use Rattle.txs_world_protocol.specs.declared.event.Place as event
-use Rattle.txs_world_protocol.specs.declared.report.Ran.{Ran}
+use Rattle.txs_world_protocol.specs.declared.report.ActorReport.{ActorReport}
 use Rattle.txs_world_protocol.specs.declared.report.Report.{Report}
 use Rattle.txs_world_book.specs.Atom.{LegalAtom, atom_after}
 use Rattle.txs_world_book.specs.Book.{Legal, has_cell, is_of_kind, mail_after, newest, opening}
@@ -42,9 +42,10 @@ use Rattle.txs_theorem_runs.specs.Told.{Place, TraceHolds, seen_of}
 use Rattle.txs_theorem_runs.specs.Transactions.{SaidOf, undisturbed}
 use Rattle.txs_world_shared.specs.Parts.{values_from, with_fault, faults_from}
 use Rattle.txs_world_shared.specs.SharedState.{PlainShared, shared_of}
+use Rattle.txs_machine.specs.Reported.{IsReportOf}
 use Rattle.txs_machine.specs.RunOver.{places_of}
 use Rattle.txs_machine.specs.RunTheorem.{meant_by, ExplainsSo, HasPrintedLeast, NeverEnds, ExplainsAll}
-use Rattle.txs_theorem_audit.specs.Audited.{PlainRan, PlainReport, place_of, ran_as, report_as, book_or_none, books_of}
+use Rattle.txs_theorem_audit.specs.Audited.{PlainActorReport, PlainReport, place_of, ran_as, report_as, book_or_none, books_of}
 use Rattle.txs_theorem_audit.specs.Explained.{Begins, Stopped, EndsAs, ThreadExplained, AtomExplained, ActPure, ActsPure, AgentExplained, IsExplained}
 use Rattle.txs_theorem_audit.specs.Verdict.{atoms_from, printed_by, but_last, least_printed}
 use Rattle.txs_theorem_audit.proofs.Agreeing.{sound_thread}
@@ -52,7 +53,7 @@ use Rattle.txs_theorem_audit.proofs.Beginning.{cut}
 use Rattle.txs_theorem_audit.proofs.Differing.{HasEatenUp, ends_up, waits_front, settles, differs_is_not_explained}
 use Rattle.txs_theorem_audit.proofs.Findings.{not_there}
 use Rattle.txs_theorem_audit.proofs.Listing.{there_is, within, all_each, each_one}
-use Rattle.txs_theorem_audit_runs.specs.Runs.{IsReportOf, RunsAreExplained, RunsNeverDiffer}
+use Rattle.txs_theorem_audit_runs.specs.Runs.{RunsAreExplained, RunsNeverDiffer}
 
 -- ---- lists
 
@@ -123,6 +124,15 @@ many_faults fault n (d ∷ ds) = go d.kind (many_faults fault (suc n) ds)
     go Ref h = h
     go Atom h = h
     go Agent h = ap suc h
+
+many_atoms : (n : ℕ) (ds : List CellDefinition) → atoms_below ds (length ds) ≡ length (atoms_from n ds)
+many_atoms n [] = refl
+many_atoms n (d ∷ ds) = go (same_kind d.kind Atom) (many_atoms (suc n) ds)
+  where
+    go : (b : Bool) → atoms_below ds (length ds) ≡ length (atoms_from (suc n) ds)
+        → (if b then suc (atoms_below ds (length ds)) else atoms_below ds (length ds)) ≡ length (if b then record { kind = Atom; number = n } ∷ atoms_from (suc n) ds else atoms_from (suc n) ds)
+    go true h = ap suc h
+    go false h = h
 
 -- the definition of a cell that is there
 cell_there : (ds : List CellDefinition) (k : CellKind) (j : ℕ) → is_of_kind k (nth (cells_of ds) j) ≡ true → (d : CellDefinition) × (nth ds j ≡ Some d) × (same_kind k d.kind ≡ true)
@@ -209,7 +219,7 @@ module _ (p : PlainProgram) (s : PlainShared) (r : Report) (sound : Sound p) (ce
 
   -- ---- threads and agents
 
-  thread_is : (a : ℕ) (t : PlainThread) (ran : Ran) → nth p.threads a ≡ Some t → nth r.threads.items a ≡ Some ran → ThreadExplained p rep t (ran_as ran)
+  thread_is : (a : ℕ) (t : PlainThread) (ran : ActorReport) → nth p.threads a ≡ Some t → nth r.threads.items a ≡ Some ran → ThreadExplained p rep t (ran_as ran)
   thread_is a t ran there here =
       let e = x.by_threads.each a t ran there here in
       let src = source_of p t in
@@ -231,24 +241,24 @@ module _ (p : PlainProgram) (s : PlainShared) (r : Report) (sound : Sound p) (ce
             (subst (λ ps. SaidOf (undisturbed p.cells N) N ps (txs_of (thread_meaning src n (on N ps)))) tr e.calm);
       }
 
-  trace_is : (a : ℕ) (ran : Ran) → TraceHolds N a (places_of ran.trace.items) → TraceHolds (books_of rep) a (map place_of ran.trace.items)
+  trace_is : (a : ℕ) (ran : ActorReport) → TraceHolds N a (places_of ran.trace.items) → TraceHolds (books_of rep) a (map place_of ran.trace.items)
   trace_is a ran h = subst (λ b. TraceHolds b a (map place_of ran.trace.items)) same_books (subst (λ ps. TraceHolds N a ps) (places_same ran.trace.items) h)
 
-  thread_traced : (a : ℕ) (ran : PlainRan) → nth rep.threads a ≡ Some ran → TraceHolds (books_of rep) a ran.trace
+  thread_traced : (a : ℕ) (ran : PlainActorReport) → nth rep.threads a ≡ Some ran → TraceHolds (books_of rep) a ran.trace
   thread_traced a ran h =
       let m = mapped ran_as r.threads.items a ran h in
       let lt = within r.threads.items a m.0 m.1 in
       let same = x.by_threads.one_each in
       let t = there_is p.threads a (omega (arith, lt, same)) in
-      subst (λ (z : PlainRan). TraceHolds (books_of rep) a z.trace) m.2 (trace_is a m.0 (x.by_threads.each a t.0 m.0 t.1 m.1).traced)
+      subst (λ (z : PlainActorReport). TraceHolds (books_of rep) a z.trace) m.2 (trace_is a m.0 (x.by_threads.each a t.0 m.0 t.1 m.1).traced)
 
-  agent_traced : (a i : ℕ) (ran : PlainRan) → a ≡ length rep.threads + i → nth rep.agents i ≡ Some ran → TraceHolds (books_of rep) a ran.trace
+  agent_traced : (a i : ℕ) (ran : PlainActorReport) → a ≡ length rep.threads + i → nth rep.agents i ≡ Some ran → TraceHolds (books_of rep) a ran.trace
   agent_traced a i ran e h =
       let m = mapped ran_as r.agents.items i ran h in
       let one = many ran_as r.threads.items in
       let same = x.by_threads.one_each in
       let z : length p.threads + i ≡ a = omega (arith, e, one, same) in
-      subst (λ b. TraceHolds (books_of rep) b ran.trace) z (subst (λ (y : PlainRan). TraceHolds (books_of rep) (length p.threads + i) y.trace) m.2 (trace_is (length p.threads + i) m.0 (x.each i m.0 m.1).traced))
+      subst (λ b. TraceHolds (books_of rep) b ran.trace) z (subst (λ (y : PlainActorReport). TraceHolds (books_of rep) (length p.threads + i) y.trace) m.2 (trace_is (length p.threads + i) m.0 (x.each i m.0 m.1).traced))
 
   -- ---- cells
 
@@ -314,7 +324,7 @@ module _ (p : PlainProgram) (s : PlainShared) (r : Report) (sound : Sound p) (ce
     sized = record {
       threads = many ran_as r.threads.items ∙ x.by_threads.one_each;
       agents = many ran_as r.agents.items ∙ x.one_each;
-      atoms = of.atoms ∙ ap (λ ds. length (atoms_from 0 ds)) cells;
+      atoms = of.atoms ∙ many_atoms 0 s.cells ∙ ap (λ ds. length (atoms_from 0 ds)) cells;
       cells = ap length values_same ∙ many_values value 0 p.cells;
       failed = ap length faults_same ∙ many_faults fault 0 p.cells;
     };

@@ -14,7 +14,7 @@ use Rattle.txs_reader.specs.declared.form.Bracket.TheVariants.{Round, Square}
 use Rattle.txs_reader.specs.Bytes.{is_white, is_line_end, begins_with}
 use Rattle.txs_reader.specs.Quoted.{part_text}
 use Rattle.txs_reader.specs.Script.{Piece, White, Comment, Opening, Closing, Quoted, Word, written, IsPiece, EndsAt, Splits, Sign, opens, closes, stands_for, Token, between, token, tokens, is_sugar, spelled, spelled_within}
-use Rattle.txs_reader.specs.Tree.{symbol, Tree, leaf, group, Trees, none, first, place, deref}
+use Rattle.txs_reader.specs.Tree.{symbol, PlainForm, leaf, group, PlainForms, none, first, place, deref}
 use Rattle.txs_code_meaning.specs.Spans.{IsOrdered}
 use Rattle.txs_theorem_byte_form.specs.ReadForms.{IsSymbol, LeafIsRead, IsRead, AreRead, FormsAreRead}
 use Rattle.txs_theorem_byte_form.proofs.Utf8.{cut_behind, one_byte, behind_ascii, text_utf8}
@@ -153,7 +153,7 @@ same_number : (m n : ℕ) → eqb m n ≡ true → m ≡ n
 same_number m n e = grind (arith, nat_tests)
 
 -- a form stands at a place or behind it, and is such as the reader reads
-record StandsRead (n : ℕ) (t : Tree) : Type 0 where
+record StandsRead (n : ℕ) (t : PlainForm) : Type 0 where
   from : n ≤ (place t).from
   span : IsOrdered (place t)
   read : IsRead IsSymbol t
@@ -162,7 +162,7 @@ abbrev opening_of : Option Bracket → Span → Token
 opening_of b span = record { sign = opens b; span = between span.from (span.from + 1) }
 
 module _ (most : ℕ) (short : most ≤ most_script) where
-  group_read : (n : ℕ) (b : Bracket) (ts : Trees) (span : Span)
+  group_read : (n : ℕ) (b : Bracket) (ts : PlainForms) (span : Span)
       → ((m : ℕ) → Rising m (spelled_within ts) → AreTokens most (spelled_within ts) → AreRead IsSymbol ts)
       → (is_sugar b ts span ≡ true → Rising n (opening_of None span ∷ drop 1 (spelled_within ts)) → AreTokens most (opening_of None span ∷ drop 1 (spelled_within ts)) → StandsRead n (group b ts span))
       → (s : Bool) → is_sugar b ts span ≡ s
@@ -182,12 +182,12 @@ module _ (most : ℕ) (short : most ≤ most_script) where
       }
 
   mutual
-    form_read : (n : ℕ) (t : Tree) → Rising n (spelled t) → AreTokens most (spelled t) → StandsRead n t
+    form_read : (n : ℕ) (t : PlainForm) → Rising n (spelled t) → AreTokens most (spelled t) → StandsRead n t
     form_read n (leaf x span) rising are = let order : IsOrdered span = (omega (arith, are.0.1), omega (arith, are.0.2, short)) in record { from = rising.0; span = order; read = (are.0.0, order) }
     form_read n (group b ts span) rising are =
         group_read n b ts span (λ m r a. forms_read m ts r a) (λ e r a. sugar_read n b ts span e r a) (is_sugar b ts span) refl rising are
 
-    sugar_read : (n : ℕ) (b : Bracket) (ts : Trees) (span : Span) → is_sugar b ts span ≡ true → Rising n (opening_of None span ∷ drop 1 (spelled_within ts)) → AreTokens most (opening_of None span ∷ drop 1 (spelled_within ts)) → StandsRead n (group b ts span)
+    sugar_read : (n : ℕ) (b : Bracket) (ts : PlainForms) (span : Span) → is_sugar b ts span ≡ true → Rising n (opening_of None span ∷ drop 1 (spelled_within ts)) → AreTokens most (opening_of None span ∷ drop 1 (spelled_within ts)) → StandsRead n (group b ts span)
     sugar_read n Round (first (leaf (symbol s) at) (first t none)) span e rising are =
         let one : (bytes_eq s deref && eqb at.from span.from && eqb at.to (span.from + 1)) ≡ true = and_left (bytes_eq s deref && eqb at.from span.from && eqb at.to (span.from + 1)) (eqb (place t).to span.to) e in
         let two : (bytes_eq s deref && eqb at.from span.from) ≡ true = and_left (bytes_eq s deref && eqb at.from span.from) (eqb at.to (span.from + 1)) one in
@@ -205,14 +205,14 @@ module _ (most : ℕ) (short : most ≤ most_script) where
         }
     sugar_read n b ts span e rising are = absurd (false≢true e)
 
-    forms_read : (n : ℕ) (ts : Trees) → Rising n (spelled_within ts) → AreTokens most (spelled_within ts) → AreRead IsSymbol ts
+    forms_read : (n : ℕ) (ts : PlainForms) → Rising n (spelled_within ts) → AreTokens most (spelled_within ts) → AreRead IsSymbol ts
     forms_read n none rising are = tt
     forms_read n (first t ts) rising are = (
       (form_read n t (rising_ahead n (spelled t) (spelled_within ts) rising) (ahead most (spelled t) (spelled_within ts) are)).read,
       forms_read n ts (rising_behind n (spelled t) (spelled_within ts) rising) (behind most (spelled t) (spelled_within ts) are),
     )
 
-  all_read : (n : ℕ) (ts : List Tree) → Rising n (flat_map spelled ts) → AreTokens most (flat_map spelled ts) → AllByRecursion (IsRead IsSymbol) ts
+  all_read : (n : ℕ) (ts : List PlainForm) → Rising n (flat_map spelled ts) → AreTokens most (flat_map spelled ts) → AllByRecursion (IsRead IsSymbol) ts
   all_read n [] rising are = tt
   all_read n (t ∷ ts) rising are = (
     (form_read n t (rising_ahead n (spelled t) (flat_map spelled ts) rising) (ahead most (spelled t) (flat_map spelled ts) are)).read,

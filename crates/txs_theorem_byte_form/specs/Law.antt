@@ -1,7 +1,7 @@
 -- The code of a script has a byte form.
 use Rattle.std.specs.Prelude.{ℕ, List}
 use Rattle.txs_reader.specs.Script.{Reads}
-use Rattle.txs_reader.specs.Tree.{Tree as Form}
+use Rattle.txs_reader.specs.Tree.{PlainForm as Form}
 use Rattle.txs_resolve.specs.Names.{Resolves}
 use Rattle.txs_tree_meaning.specs.Sound.{Sound}
 use Rattle.txs_tree_meaning.specs.Tree.{PlainProgram}

@@ -2,7 +2,7 @@
 use Rattle.std.proofs.Common.{◌≡◌, ℕ, suc, ◌<◌, ◌≤◌, inl, inr, List, [], ◌∷◌, ◌++◌, length, Ok, Err, sym, ap, subst, arith}
 use Rattle.txs_value_base.specs.declared.fault.Span.{Span}
 use Rattle.txs_reader.specs.Script.{Reads}
-use Rattle.txs_reader.specs.Tree.{Tree as Form, place, trees_of}
+use Rattle.txs_reader.specs.Tree.{PlainForm as Form, place, trees_of}
 use Rattle.txs_tree_meaning.specs.Tree.{PlainFunction, PlainThread, PlainProgram}
 use Rattle.txs_resolve_expand.specs.Answers.{◌>>=◌}
 use Rattle.txs_resolve_expand.specs.Expressions.{Answer}

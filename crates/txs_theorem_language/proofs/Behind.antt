@@ -1,6 +1,6 @@
 -- In a scope of a script each function that is defined has its levels.
 use Rattle.std.proofs.Common.{◌<◌, ◌≤◌, ◌+◌, ℕ, Bool, List, [], ◌∷◌, Ok, Err, sym, ap, subst, ◌∙◌}
-use Rattle.txs_reader.specs.Tree.{Tree as Form}
+use Rattle.txs_reader.specs.Tree.{PlainForm as Form}
 use Rattle.txs_tree_meaning.specs.Known.{Known, known, levels, levels_of}
 use Rattle.txs_tree_meaning.specs.Tree.{Tree}
 use Rattle.txs_resolve_scope.specs.declared.scope.Definition.{Definition}

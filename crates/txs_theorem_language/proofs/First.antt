@@ -1,7 +1,7 @@
 -- The refusal of a script's program is the first in its text.
 use Rattle.std.proofs.Common.{◌≡◌, ℕ, ◌≤◌, List, length}
 use Rattle.txs_reader.specs.Script.{Reads}
-use Rattle.txs_reader.specs.Tree.{Tree as Form}
+use Rattle.txs_reader.specs.Tree.{PlainForm as Form}
 use Rattle.txs_tree_meaning.specs.Known.{known}
 use Rattle.txs_tree_meaning.specs.Tree.{PlainProgram}
 use Rattle.txs_check.specs.Faulty.{FaultIn, IsBody}

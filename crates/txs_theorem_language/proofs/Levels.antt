@@ -5,7 +5,7 @@ use Rattle.txs_value_base.specs.declared.fault.Span.{Span}
 use Rattle.txs_value_base.specs.declared.op.Callee.{Callee}
 use Rattle.txs_value_base.specs.declared.op.Callee.TheVariants.{Function as TheFunction}
 use Rattle.txs_reader.specs.declared.form.Bracket.TheVariants.{Round, Square}
-use Rattle.txs_reader.specs.Tree.{Leaf, Tree as Form, Trees as Forms, leaf, group, first, place, number, symbol, nil, truth, text, keyword, parts}
+use Rattle.txs_reader.specs.Tree.{Leaf, PlainForm as Form, PlainForms as Forms, leaf, group, first, place, number, symbol, nil, truth, text, keyword, parts}
 use Rattle.txs_reader.specs.Tree.{none as no_forms}
 use Rattle.txs_tree_meaning.specs.Tree.{Tree, Trees, Put, more}
 use Rattle.txs_resolve_scope.specs.declared.names.FormName.{FormName}

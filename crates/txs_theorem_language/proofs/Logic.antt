@@ -6,7 +6,7 @@ use Rattle.txs_value_base.specs.Places.{nth}
 use Rattle.txs_value_base.specs.declared.fault.Span.{Span}
 use Rattle.txs_value_data.specs.declared.value.Value.{Value}
 use Rattle.txs_value_data.specs.declared.value.Value.TheVariants.{Truth, Nil}
-use Rattle.txs_reader.specs.Tree.{Tree as Form, Trees as Forms, leaf, group, first, place, symbol}
+use Rattle.txs_reader.specs.Tree.{PlainForm as Form, PlainForms as Forms, leaf, group, first, place, symbol}
 use Rattle.txs_reader.specs.Tree.{none as no_forms}
 use Rattle.txs_tree_meaning.specs.Meaning.{Completion, Completes, Recurs, Faults, Retries, Waits, OutOfTurns, Invalid, bind, give, Effects, eval}
 use Rattle.txs_tree_meaning.specs.Tree.{Tree, Mark, Const, Local, If, Let, Trees, none, more}

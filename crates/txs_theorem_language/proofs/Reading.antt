@@ -8,7 +8,7 @@ use Rattle.std.specs.Prelude.{bytes_eq, ◌==◌, drop}
 use Rattle.txs_value_base.specs.declared.fault.Span.{Span}
 use Rattle.txs_reader.specs.declared.form.Bracket.{Bracket}
 use Rattle.txs_reader.specs.declared.form.Bracket.TheVariants.{Round, Square}
-use Rattle.txs_reader.specs.Tree.{Leaf, symbol, Tree as Form, Trees as Forms, leaf, group, first, place, trees_of, deref}
+use Rattle.txs_reader.specs.Tree.{Leaf, symbol, PlainForm as Form, PlainForms as Forms, leaf, group, first, place, trees_of, deref}
 use Rattle.txs_reader.specs.Tree.{none as no_forms}
 use Rattle.txs_reader.specs.Script.{Piece, White, Comment, Opening, Closing, Quoted, Word, written, IsPiece, Splits, opens, closes, stands_for, Token, between, token, tokens, spelled, spelled_within, is_sugar, Holds, Reads}
 use Rattle.txs_theorem_language.specs.TextOrder.{Nests, NestIn}

@@ -5,7 +5,7 @@ use Rattle.txs_value_base.specs.declared.fault.Span.{Span}
 use Rattle.txs_value_base.specs.Operations.{op_name}
 use Rattle.txs_value_base.specs.declared.op.Op.{Op}
 use Rattle.txs_reader.specs.declared.form.Bracket.TheVariants.{Round, Square}
-use Rattle.txs_reader.specs.Tree.{Tree as Form, Trees as Forms, leaf, group, first, place, symbol, parts}
+use Rattle.txs_reader.specs.Tree.{PlainForm as Form, PlainForms as Forms, leaf, group, first, place, symbol, parts}
 use Rattle.txs_reader.specs.Tree.{none as no_forms}
 use Rattle.txs_resolve_scope.specs.declared.names.FormName.{FormName}
 use Rattle.txs_resolve_scope.specs.declared.names.FormName.TheVariants as kind
@@ -22,7 +22,7 @@ use Rattle.txs_theorem_language.specs.Standing.{IsOne, StandsIn}
 
 -- ---- what a form is lawfully
 
--- The shapes of the forms of expressions: what stands behind the name at the head, as their docstrings in clojure.core say. Those of
+-- The shapes of the forms of expressions: what is behind the name at the head, as their docstrings in clojure.core say. Those of
 -- the top level (`ns`, `def`, `defn`, `future`), and those that make cells, have none in an expression.
 abbrev pub has_shape : FormName → Forms → Bool
 has_shape kind.If (first c (first a no_forms)) = true
@@ -77,13 +77,13 @@ applies kind.Swap = true
 applies kind.Send = true
 applies _ = false
 
--- it stands in the place of the function: at the head of a list, where no form's name stands, or behind the cell that it is applied to
+-- it is in the place of the function: at the head of a list, where no form's name is, or behind the cell that it is applied to
 pub data IsCalled (function : Form) : Form → Type 0 where
   at_head : (args : Forms) (at : Span) → form_at function ≡ None → IsCalled function (group Round (first function args) at)
   behind_cell : (head cell : Form) (f : FormName) (args : Forms) (at : Span) → form_at head ≡ Some f → applies f ≡ true
       → IsCalled function (group Round (first head (first cell (first function args))) at)
 
--- among names and values in turn it is a name, and so many names stand before it
+-- among names and values in turn it is a name, and so many names are before it
 pub data IsBound (name : Form) : ℕ → Forms → Type 0 where
   bound_now : (value : Form) (rest : Forms) → IsBound name 0 (first name (first value rest))
   bound_later : (i : ℕ) (other value : Form) (rest : Forms) → IsBound name i rest → IsBound name (suc i) (first other (first value rest))
@@ -99,7 +99,7 @@ hides_local kind.And = true
 hides_local kind.Or = true
 hides_local _ = false
 
--- the forms whose parts all stand in one row
+-- the forms whose parts all are in one row
 abbrev pub is_row : FormName → Bool
 is_row kind.Do = true
 is_row kind.Recur = true
@@ -120,7 +120,7 @@ pub data Counts (scope : Scope) : ℕ → Form → Type 0 where
 
 -- ---- which fault a form has
 
--- A form that may have so many levels has the fault of this kind, at this place, where it stands in this scope.
+-- A form that may have so many levels has the fault of this kind, at this place, where it is in this scope.
 pub data HasFault (room : ℕ) (scope : Scope) : ResolveErrorKind → Span → Form → Type 0 where
   -- a name that stands for nothing here, as a value or as a function
   is_unknown : (name : List ℕ) (at : Span) → meaning name scope ≡ unknown → HasFault room scope UnknownName at (leaf (symbol name) at)
@@ -149,7 +149,7 @@ pub data HasFault (room : ℕ) (scope : Scope) : ResolveErrorKind → Span → F
   -- more than 65,535 parts
   is_too_wide : (n : ℕ) (form : Form) → Counts scope n form → most_items < n → HasFault room scope TooMany (place form) form
 
--- A form that stands in this one has the fault, at the refusal's place. Of `(do e)`, `(and e)` and `(or e)`, which are e, it is that of e.
+-- A form that is in this one has the fault, at the refusal's place. Of `(do e)`, `(and e)` and `(or e)`, which are e, it is that of e.
 pub record FaultInForm (k : ℕ) (outer : Scope) (form : Form) (e : ResolveError) : Type 0 where
   pub room : ℕ
   pub scope : Scope
@@ -175,7 +175,7 @@ is_top_level _ = false
 abbrev pub is_free : State → List ℕ → Bool
 is_free s name = is_none (with_name op_name name operations) && is_none (definition_of name s.defined)
 
--- a `def` or a `defn` of this name, which stands there
+-- a `def` or a `defn` of this name, which is there
 pub data Defines : List ℕ → Span → Form → Type 0 where
   by_def : (head : Form) (es : Forms) (at : Span) (f : NamedForm) → form_at head ≡ Some kind.Def → named_form es ≡ Some f → Defines f.name f.at (group Round (first head es) at)
   by_defn : (head : Form) (es : Forms) (at : Span) (w : Written) → form_at head ≡ Some kind.Defn → written es ≡ Some w → Defines w.name w.at (group Round (first head es) at)
@@ -186,7 +186,7 @@ pub data IsTooMuch : ℕ → Span → Form → Type 0 where
   is_too_long : (room : ℕ) (es : Forms) (at : Span) → most_items < parts es → IsTooMuch room at (group Square es at)
   has_too_much : (room : ℕ) (es : Forms) (at there : Span) (e : Form) → IsOne e es → IsTooMuch room there e → IsTooMuch (suc room) there (group Square es at)
 
--- it is one of these, and so many stand before it
+-- it is one of these, and so many are before it
 pub data IsNth (form : Form) : ℕ → Forms → Type 0 where
   nth_now : (rest : Forms) → IsNth form 0 (first form rest)
   nth_later : (i : ℕ) (other : Form) (rest : Forms) → IsNth form i rest → IsNth form (suc i) (first other rest)
@@ -214,7 +214,7 @@ pub data HasTopFault (s : State) : ResolveErrorKind → Span → Form → Type 0
   defines_too_much : (head : Form) (es : Forms) (at there : Span) (f : NamedForm) (d : Defining) → form_at head ≡ Some kind.Def → named_form es ≡ Some f → defining_of f.form ≡ Some d → IsTooMuch most_depth there d.value
       → HasTopFault s TooMany there (group Round (first head es) at)
 
--- The fault of a top-level form is its own, or that of a form that stands in the body of its function or of its thread.
+-- The fault of a top-level form is its own, or that of a form that is in the body of its function or of its thread.
 pub data FaultAtTop (s : State) (e : ResolveError) : Form → Type 0 where
   of_itself : (form : Form) → HasTopFault s e.kind e.at form → FaultAtTop s e form
   of_body : (head : Form) (es : Forms) (at : Span) (w : Written) (locals : List (List ℕ)) → form_at head ≡ Some kind.Defn → written es ≡ Some w → parameters [] w.parameters ≡ Ok locals

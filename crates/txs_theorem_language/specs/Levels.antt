@@ -1,7 +1,7 @@
 -- What the limit of levels refuses.
 use Rattle.std.specs.Prelude.{◌≡◌, List, Ok, Err}
 use Rattle.txs_value_base.specs.declared.fault.Span.{Span}
-use Rattle.txs_reader.specs.Tree.{Tree as Form}
+use Rattle.txs_reader.specs.Tree.{PlainForm as Form}
 use Rattle.txs_resolve_scope.specs.Scope.{Scope}
 use Rattle.txs_resolve_expand.specs.declared.error.ResolveErrorKind.TheVariants.{TooMany}
 use Rattle.txs_resolve_expand.specs.Answers.{refuse}

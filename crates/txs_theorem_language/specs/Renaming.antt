@@ -3,7 +3,7 @@ use Rattle.std.specs.Prelude.{◌≡◌, ◌≢◌, ℕ, Bool, true, false, ◌|
 use Rattle.txs_value_base.specs.declared.fault.Span.{Span}
 use Rattle.txs_reader.specs.declared.form.Bracket.{Bracket}
 use Rattle.txs_reader.specs.declared.form.Bracket.TheVariants.{Round, Square}
-use Rattle.txs_reader.specs.Tree.{Leaf, Tree as Form, Trees as Forms, leaf, group, first, number, symbol, nil, truth, text, keyword}
+use Rattle.txs_reader.specs.Tree.{Leaf, PlainForm as Form, PlainForms as Forms, leaf, group, first, number, symbol, nil, truth, text, keyword}
 use Rattle.txs_reader.specs.Tree.{none as no_forms}
 use Rattle.txs_resolve_scope.specs.declared.names.FormName.{FormName}
 use Rattle.txs_resolve_scope.specs.declared.names.FormName.TheVariants as kind
@@ -28,7 +28,7 @@ abbrev pub is_named : List ℕ → Form → Bool
 is_named name (leaf (symbol n) at) = bytes_eq n name
 is_named name _ = false
 
--- whether one of these names and values binds this name: what stands behind them means that local, and none further out
+-- whether one of these names and values binds this name: what is behind them means that local, and none further out
 abbrev pub binds : List ℕ → Forms → Bool
 binds name no_forms = false
 binds name (first binder no_forms) = false
@@ -67,7 +67,7 @@ abbrev mutual
   all_renamed old new no_forms = no_forms
   all_renamed old new (first e rest) = first (renamed old new e) (all_renamed old new rest)
 
-  -- what stands behind `let` or `loop`: the vector, and the body, which sees all its names
+  -- what is behind `let` or `loop`: the vector, and the body, which sees all its names
   pub scope_renamed : List ℕ → List ℕ → Forms → Forms
   scope_renamed old new no_forms = no_forms
   scope_renamed old new (first vector forms) = first (vector_renamed old new vector) (if hides old vector then forms else all_renamed old new forms)
@@ -92,13 +92,13 @@ LeafLacks name (number z) = Unit {0}
 LeafLacks name (text bytes) = Unit {0}
 LeafLacks name (keyword k) = Unit {0}
 
--- the symbol of this name stands nowhere in a form
+-- the symbol of this name is nowhere in a form
 abbrev mutual
   pub Lacks : List ℕ → Form → Type 0
   Lacks name (leaf x at) = LeafLacks name x
   Lacks name (group b forms at) = AllLack name forms
 
-  -- it stands in none of these
+  -- it is in none of these
   pub AllLack : List ℕ → Forms → Type 0
   AllLack name no_forms = Unit {0}
   AllLack name (first e rest) = Lacks name e × AllLack name rest
@@ -124,7 +124,7 @@ abbrev pub has_parameter : List ℕ → Forms → Bool
 has_parameter name no_forms = false
 has_parameter name (first p rest) = is_named name p || has_parameter name rest
 
--- a text that tells of a function, and where it stands
+-- a text that tells of a function, and where it is
 pub record About : Type 0 where
   pub words : List ℕ
   pub at : Span

@@ -1,7 +1,7 @@
--- In which scope, and with how many levels, a form stands in another one.
+-- In which scope, and with how many levels, a form is in another one.
 use Rattle.std.specs.Prelude.{◌≡◌, ℕ, suc, Bool, List, Ok}
 use Rattle.txs_value_cell.specs.declared.form.PutForm.{PutForm}
-use Rattle.txs_reader.specs.Tree.{Tree as Form, Trees as Forms, first, place}
+use Rattle.txs_reader.specs.Tree.{PlainForm as Form, PlainForms as Forms, first, place}
 use Rattle.txs_reader.specs.Tree.{none as no_forms}
 use Rattle.txs_tree_meaning.specs.Tree.{Tree}
 use Rattle.txs_resolve_scope.specs.Scope.{Scope, with_local}
@@ -28,7 +28,7 @@ pub data IsBehind (inner : Scope) : Scope → Forms → Type 0 where
   behind_one : (scope : Scope) (binder value : Form) (rest : Forms) (name : List ℕ) → bound_name scope binder ≡ Ok name → IsBehind inner (with_local name scope) rest
       → IsBehind inner scope (first binder (first value rest))
 
--- a form is a part of a special form that stands in that scope, and itself stands in this one
+-- a form is a part of a special form that is in that scope, and itself is in this one
 pub data IsPart (form : Form) (inner : Scope) : Scope → Special → Type 0 where
   in_row : (k : Sequence) (forms : Forms) → IsOne form forms → IsPart form inner inner (row k forms)
   in_one : (k : Single) → IsPart form inner inner (one_part k form)
@@ -42,7 +42,7 @@ pub data IsPart (form : Form) (inner : Scope) : Scope → Special → Type 0 whe
   in_cell : (k : Change) (f : Form) (args : Forms) → IsPart form inner inner (changing k form f args)
   in_argument : (k : Change) (r f : Form) (args : Forms) → IsOne form args → IsPart form inner inner (changing k r f args)
 
--- A form stands in this one, or is it: with so many levels, in this scope. What stands for another form has the parts of that one.
+-- A form is in this one, or is it: with so many levels, in this scope. What stands for another form has the parts of that one.
 pub data StandsIn (room : ℕ) (scope : Scope) (form : Form) : ℕ → Scope → Form → Type 0 where
   is_whole : StandsIn room scope form room scope form
   in_part : (k : ℕ) (outer inner : Scope) (whole part : Form) (special : Special)

@@ -1,10 +1,10 @@
--- How forms stand in a text, and the forms of a program in it.
+-- How forms are in a text, and the forms of a program in it.
 use Rattle.std.specs.Prelude.{ℕ, ◌<◌, ◌≤◌}
 use Rattle.txs_value_base.specs.declared.fault.Span.{Span}
-use Rattle.txs_reader.specs.Tree.{Tree as Form, Trees as Forms, leaf, group, first, place}
+use Rattle.txs_reader.specs.Tree.{PlainForm as Form, PlainForms as Forms, leaf, group, first, place}
 use Rattle.txs_reader.specs.Tree.{none as no_forms}
 
--- a form has bytes of its own, and its parts stand inside it, one behind the other
+-- a form has bytes of its own, and its parts are inside it, one behind the other
 abbrev mutual
   pub Nests : Form → Type 0
   Nests (leaf x at) = at.from < at.to
@@ -15,6 +15,6 @@ abbrev mutual
   NestIn from to no_forms = from ≤ to
   NestIn from to (first form forms) = (from ≤ (place form).from) × Nests form × NestIn (place form).to to forms
 
--- one stands inside the other, or where it does
+-- one is inside the other, or where it is
 abbrev pub IsInside : Span → Span → Type 0
 IsInside inner outer = (outer.from ≤ inner.from) × (inner.to ≤ outer.to)

@@ -10,7 +10,7 @@ ghost use Rattle.txs_resolve_scope.specs.Scope.{Scope, a_local, defined_as, oper
 ghost use Rattle.txs_resolve_scope.specs.declared.names.FormName.TheVariants.{And, Let, Loop, Or};
 ghost use Rattle.txs_resolve_scope.specs.declared.scope.Definition.{Definition};
 ghost use Rattle.txs_reader.specs.Script.{Reads};
-ghost use Rattle.txs_reader.specs.Tree.{Tree as Form, Trees as Forms, first, leaf, place, symbol, trees_of};
+ghost use Rattle.txs_reader.specs.Tree.{PlainForm as Form, PlainForms as Forms, first, leaf, place, symbol, trees_of};
 ghost use Rattle.txs_reader.specs.Tree.{none as no_forms};
 ghost use Rattle.txs_resolve_expand.specs.Expansions.{body, list};
 ghost use Rattle.txs_resolve_expand.specs.Expressions.{are_pairs, named};
@@ -34,7 +34,7 @@ ghost use Rattle.txs_theorem_language.specs.Renaming.{About, AllLack, MayRename,
 ghost use Rattle.txs_theorem_language.specs.Standing.{HasTree, StandsIn};
 ghost use Rattle.txs_theorem_language.specs.TextOrder.{NestIn, Nests};
 
-/// The forms of a text stand in it one behind the other, and so do the parts of each form inside it.
+/// The forms of a text are in it one behind the other, and so are the parts of each form inside it.
 pub fn forms_stand_in_order()
     ensures { (bytes : List ℕ) (forms : List Form) → Reads bytes forms → NestIn 0 (length bytes) (trees_of forms) }
 {}
@@ -44,13 +44,13 @@ pub fn bodies_stand_in_order()
     ensures { (bytes : List ℕ) (forms : List Form) (p : PlainProgram) → Reads bytes forms → Resolves forms p → Ascend (in_order p.functions p.threads) }
 {}
 
-/// The resolution of names stops at the first form that is refused: those before it are resolved, and what stands behind it is of no account.
+/// The resolution of names stops at the first form that is refused: those before it are resolved, and what is behind it is of no account.
 pub fn names_refuse_the_first_form()
     ensures { (forms : List Form) (e : ResolveError) → ResolveStops forms e → StopsAt forms e }
 {}
 
-/// What ends before the place of a refusal was resolved, in its scope and with its levels: so no fault stands in it. Of a written form,
-/// whose parts stand in order, and of the body of a function or of a future.
+/// What ends before the place of a refusal was resolved, in its scope and with its levels: so no fault is in it. Of a written form,
+/// whose parts are in order, and of the body of a function or of a future.
 pub fn what_ends_before_a_refusal_is_resolved()
     ensures written { (room k : ℕ) (scope outer : Scope) (wanted : Bool) (part form : Form) (e : ResolveError) → Nests form → named k outer wanted form ≡ Err e
         → StandsIn room scope part k outer form → (place part).to ≤ e.at.from → HasTree room scope part }
@@ -71,8 +71,8 @@ pub fn what_has_a_fault_is_refused()
     ensures at_top { (s : State) (form : Form) (e : ResolveError) → FaultAtTop s e form → (t : State) → step s form ≢ Ok t }
 {}
 
-/// No fault stands before a refusal of names: in what ends before its place no form has one. Of a written form, whose parts stand in order,
-/// and of the body of a function or of a future; and of a script's forms none has one that stands before the first that is refused.
+/// No fault is before a refusal of names: in what ends before its place no form has one. Of a written form, whose parts are in order,
+/// and of the body of a function or of a future; and of a script's forms none has one that is before the first that is refused.
 pub fn no_fault_stands_before_a_refusal()
     ensures written { (room k : ℕ) (scope outer : Scope) (wanted : Bool) (part form : Form) (e : ResolveError) → Nests form → named k outer wanted form ≡ Err e
         → StandsIn room scope part k outer form → (place part).to ≤ e.at.from → (d : ResolveError) → FaultInForm room scope part d → ⊥ }
@@ -94,7 +94,7 @@ pub fn a_binding_hides_its_name()
     ensures others { (name other : List ℕ) (scope : Scope) → other ≢ name → meaning other (with_local name scope) ≡ meaning other scope }
 {}
 
-/// Which name a local has is of no account: with a name in its place that stands nowhere where it is seen, a `let`, a `loop` or a function
+/// Which name a local has is of no account: with a name in its place that is nowhere where it is seen, a `let`, a `loop` or a function
 /// has the same tree, with the same spans, or is refused for the same reason at the same form.
 pub fn a_local_may_be_renamed()
     ensures in_let { (old new : List ℕ) → MayRename old new → (room : ℕ) (scope : Scope) (wanted : Bool) (before : Forms) (here : Span) (e : Form) (behind : Forms) (there : Span) (forms : Forms) (at : Span)

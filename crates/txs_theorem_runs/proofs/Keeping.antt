@@ -4,7 +4,7 @@ use Rattle.txs_world_protocol.specs.Ask.{Writes, buffered, with_write, Exchange,
 use Rattle.txs_world_protocol.specs.declared.ask.Ask.{Ask}
 use Rattle.txs_world_protocol.specs.declared.ask.Ask.TheVariants as ask
 use Rattle.txs_world_protocol.specs.declared.ask.Reply.{Reply}
-use Rattle.txs_frame.specs.Frame.{Work, no_work, is_commuted, commuted, with_cell, set_writes, ensure_ref, commute_ref, hold_send}
+use Rattle.txs_frame.specs.Frame.{PlainTxFrame, empty_frame, is_commuted, commuted, with_cell, set_writes, ensure_ref, commute_ref, hold_send}
 use Rattle.txs_frame.specs.declared.frame.Commute.{Commute}
 use Rattle.txs_value_apply.specs.Core.{core, vector_of}
 use Rattle.txs_value_cell.specs.Forms.{rule, cell_of}
@@ -45,8 +45,8 @@ SendsSuch P i = (f : Callee) (n : ℕ) (span : Span) → i ≡ Some (SendOf f n 
 -- A property of an actor's state that replies, transactions, actions and waiting keep, where such actions alone are sent.
 pub record IsKept (P : Action → Type 0) (A : ActorState → Type 0) : Type 0 where
   pub on_reply : (s : ActorState) (x : Exchange) (xs : List Exchange) → s.todo ≡ x ∷ xs → A s → A (record s { todo = xs })
-  pub on_begin : (s : ActorState) (p : ℕ) → A s → A (record s { at = p; view = p; done = no_work; commuting = None })
-  pub on_work : (s : ActorState) (view : ℕ) (w : Work) (o : Option Commute) → w.sends ≡ s.done.sends → A s → A (record s { view = view; done = w; commuting = o })
+  pub on_begin : (s : ActorState) (p : ℕ) → A s → A (record s { at = p; view = p; done = empty_frame; commuting = None })
+  pub on_work : (s : ActorState) (view : ℕ) (w : PlainTxFrame) (o : Option Commute) → w.sends ≡ s.done.sends → A s → A (record s { view = view; done = w; commuting = o })
   pub on_hold : (s : ActorState) (x : Action) → P x → A s → A (record s { done = hold_send x s.done })
   pub on_acting : (s : ActorState) (o : Option InHand) → A s → A (record s { acting = o })
   pub on_wait : (s : ActorState) (q : Ask) → SendsOwn P s q → A s → A (record s { wants = Some q })

@@ -9,7 +9,7 @@ use Rattle.txs_world_protocol.specs.declared.ask.Ask.TheVariants as ask
 use Rattle.txs_world_protocol.specs.declared.ask.Reply.{Reply}
 use Rattle.txs_world_protocol.specs.declared.ask.Reply.TheVariants as reply
 use Rattle.txs_world_protocol.specs.declared.event.Event.{Event}
-use Rattle.txs_frame.specs.Frame.{Work, commuted}
+use Rattle.txs_frame.specs.Frame.{PlainTxFrame, commuted}
 use Rattle.txs_value_data.proofs.SameLemmas.{numbers, number-itself}
 use Rattle.txs_value_cell.specs.declared.action.Action.{Action}
 use Rattle.txs_value_cell.specs.declared.cell.CellDefinition.{CellDefinition}
@@ -98,7 +98,7 @@ module _ (cells : List CellDefinition) where
   ends_ask code c (Applying left from work values) i e h = absurd h
   ends_ask code c (Swapping swap from) i e h = absurd h
 
-  redo_ends : (doing : Activity) (i : Option PlainInstr) (w : Work) → RedoIn cells doing i w → IsEnd cells i
+  redo_ends : (doing : Activity) (i : Option PlainInstr) (w : PlainTxFrame) → RedoIn cells doing i w → IsEnd cells i
   redo_ends (Running left zero from) i w h = h.0
   redo_ends (Running left (suc inner) from) i w h = absurd h
   redo_ends Outside i w h = absurd h

@@ -7,7 +7,7 @@ use Rattle.txs_world_protocol.specs.declared.ask.Ask.{Ask}
 use Rattle.txs_world_protocol.specs.declared.ask.Ask.TheVariants as ask
 use Rattle.txs_world_protocol.specs.declared.ask.Reply.{Reply}
 use Rattle.txs_world_protocol.specs.declared.ask.Reply.TheVariants as reply
-use Rattle.txs_frame.specs.Frame.{Work, no_work, with_cell, with_cells, has_number, outside_of, writes_to, refs_of, is_commuted, commuted, set_writes, ensure_ref, commutes_of, by_ref, phase_work}
+use Rattle.txs_frame.specs.Frame.{PlainTxFrame, empty_frame, with_cell, with_cells, has_number, outside_of, writes_to, refs_of, is_commuted, commuted, set_writes, ensure_ref, commutes_of, by_ref, phase_work}
 use Rattle.txs_frame.specs.declared.frame.Commute.{Commute}
 use Rattle.txs_value_apply.specs.Core.{core, vector_of}
 use Rattle.txs_value_data.proofs.SameLemmas.{numbers}
@@ -83,7 +83,7 @@ module _ (cells : List CellDefinition) where
   SendsKnown (x ∷ xs) = ActionKnown x × SendsKnown xs
 
   -- what a transaction has done
-  pub record WorkKnown (w : Work) : Type 0 where
+  pub record WorkKnown (w : PlainTxFrame) : Type 0 where
     pub values : WritesKnown w.values
     pub ensures : has_refs store w.ensures ≡ true
     pub commutes : CommutesKnown w.commutes
@@ -130,11 +130,11 @@ module _ (cells : List CellDefinition) where
   ActivityKnown (Swapping swap from) = (has_atom cells swap.cell ≡ true) × SavepointKnown from
 
   -- none of these refs was set
-  abbrev pub AllUnset : Work → List CellId → Type 0
+  abbrev pub AllUnset : PlainTxFrame → List CellId → Type 0
   AllUnset w [] = Unit {0}
   AllUnset w (c ∷ cs) = (has_number w.sets c.number ≡ false) × AllUnset w cs
 
-  abbrev pub WorkUnset : Work → List Commute → Type 0
+  abbrev pub WorkUnset : PlainTxFrame → List Commute → Type 0
   WorkUnset w [] = Unit {0}
   WorkUnset w (k ∷ ks) = (has_number w.sets k.cell.number ≡ false) × WorkUnset w ks
 
@@ -254,7 +254,7 @@ module _ (cells : List CellDefinition) where
           joined (has_ref store c) (nat_le n c.number && are_refs store (suc c.number) (outside_of ds cs)) a.0
           (joined (nat_le n c.number) (are_refs store (suc c.number) (outside_of ds cs)) b.0 r)
 
-  commuted_known : (w : Work) → WorkKnown w → are_refs store 0 (commuted w) ≡ true
+  commuted_known : (w : PlainTxFrame) → WorkKnown w → are_refs store 0 (commuted w) ≡ true
   commuted_known w h = refs_outside w.sets 0 (refs_of w.commutes) (refs_collected [] w.commutes h.commutes refl)
 
   ensured_with : (ds : List CellId) (c : CellId) → has_ref store c ≡ true → has_refs store ds ≡ true → has_refs store (with_cell ds c) ≡ true
@@ -289,12 +289,12 @@ module _ (cells : List CellDefinition) where
   phase_known [] ks h = tt
   phase_known (d ∷ ds) ks h = commutes_append (commutes_of d.number ks) (by_ref ds ks) (commutes_among d.number ks h) (phase_known ds ks h)
 
-  set_known : (w : Work) → WorkKnown w → WritesKnown (set_writes w)
+  set_known : (w : PlainTxFrame) → WorkKnown w → WritesKnown (set_writes w)
   set_known w h = (refs_among w.sets 0 w.values h.values.0, values_among w.sets w.values h.values.1)
 
   -- ---- refs that weren't set
 
-  outside_unset : (w : Work) (cs : List CellId) → AllUnset w (outside_of w.sets cs)
+  outside_unset : (w : PlainTxFrame) (cs : List CellId) → AllUnset w (outside_of w.sets cs)
   outside_unset w [] = tt
   outside_unset w (c ∷ cs) = go (outside_unset w cs) (has_number w.sets c.number) refl
     where
@@ -302,11 +302,11 @@ module _ (cells : List CellDefinition) where
       go r true e = r
       go r false e = (e, r)
 
-  unset_append : (w : Work) (ks js : List Commute) → WorkUnset w ks → WorkUnset w js → WorkUnset w (ks ++ js)
+  unset_append : (w : PlainTxFrame) (ks js : List Commute) → WorkUnset w ks → WorkUnset w js → WorkUnset w (ks ++ js)
   unset_append w [] js h g = g
   unset_append w (k ∷ ks) js h g = (h.0, unset_append w ks js h.1 g)
 
-  unset_of : (w : Work) (n : ℕ) (ks : List Commute) → has_number w.sets n ≡ false → WorkUnset w (commutes_of n ks)
+  unset_of : (w : PlainTxFrame) (n : ℕ) (ks : List Commute) → has_number w.sets n ≡ false → WorkUnset w (commutes_of n ks)
   unset_of w n [] h = tt
   unset_of w n (k ∷ ks) h = go (unset_of w n ks h) (k.cell.number == n) refl
     where
@@ -314,11 +314,11 @@ module _ (cells : List CellDefinition) where
       go r true e = (subst (λ i. has_number w.sets i ≡ false) (sym (numbers k.cell.number n e)) h, r)
       go r false e = r
 
-  phase_unset : (w : Work) (ds : List CellId) (ks : List Commute) → AllUnset w ds → WorkUnset w (by_ref ds ks)
+  phase_unset : (w : PlainTxFrame) (ds : List CellId) (ks : List Commute) → AllUnset w ds → WorkUnset w (by_ref ds ks)
   phase_unset w [] ks h = tt
   phase_unset w (d ∷ ds) ks h = unset_append w (commutes_of d.number ks) (by_ref ds ks) (unset_of w d.number ks h.0) (phase_unset w ds ks h.1)
 
-  unset_put : (w : Work) (ws : Writes) (c : CellId) (v : Value) → AllUnset w (cells_in ws) → has_number w.sets c.number ≡ false → AllUnset w (cells_in (with_write ws c v))
+  unset_put : (w : PlainTxFrame) (ws : Writes) (c : CellId) (v : Value) → AllUnset w (cells_in ws) → has_number w.sets c.number ≡ false → AllUnset w (cells_in (with_write ws c v))
   unset_put w [] c v h g = (g, tt)
   unset_put w (x ∷ xs) c v h g = go (unset_put w xs c v h.1 g) (x.0.number == c.number) (nat_lt c.number x.0.number)
     where
@@ -340,7 +340,7 @@ module _ (cells : List CellDefinition) where
       go r true e = ap (λ b. b || is_among k (cells_in (writes_to ds ws))) (differs (w.0.number == k) e refl) ∙ r
       go r false e = r
 
-  apart_of : (w : Work) (cs : List CellId) → AllUnset w cs → are_apart cs (cells_in (set_writes w)) ≡ true
+  apart_of : (w : PlainTxFrame) (cs : List CellId) → AllUnset w cs → are_apart cs (cells_in (set_writes w)) ≡ true
   apart_of w [] h = refl
   apart_of w (c ∷ cs) h =
       joined (not (is_among c.number (cells_in (set_writes w)))) (are_apart cs (cells_in (set_writes w))) (ap not (not_among w.sets c.number w.values h.0)) (apart_of w cs h.1)
@@ -367,7 +367,7 @@ module _ (cells : List CellDefinition) where
   AreSome (c ∷ cs) = Unit {0}
 
   -- in a commute phase, no ref that is viewed or still to be commuted was set, and some refs were commuted and not set
-  abbrev pub ApartIn : Activity → Work → Type 0
+  abbrev pub ApartIn : Activity → PlainTxFrame → Type 0
   ApartIn Outside w = Unit {0}
   ApartIn (Restarting left) w = Unit {0}
   ApartIn (Running left inner from) w = Unit {0}
@@ -387,7 +387,7 @@ module _ (cells : List CellDefinition) where
   IsEnd _ = ⊥
 
   -- or it is at its end, where its commute phase has to begin again
-  abbrev pub RedoIn : Activity → Option PlainInstr → Work → Type 0
+  abbrev pub RedoIn : Activity → Option PlainInstr → PlainTxFrame → Type 0
   RedoIn Outside i w = ⊥
   RedoIn (Restarting left) i w = ⊥
   RedoIn (Running left zero from) i w = IsEnd i × AreSome (commuted w)
@@ -437,7 +437,7 @@ module _ (cells : List CellDefinition) where
     known_of : (s : ActorState) → MidKnown s → StateKnown s
     known_of s h = (h.0, h.1, h.2, h.4)
 
-    free_apart : (doing : Activity) (w : Work) → (Tidy → IsFree doing) → Tidy → ApartIn doing w
+    free_apart : (doing : Activity) (w : PlainTxFrame) → (Tidy → IsFree doing) → Tidy → ApartIn doing w
     free_apart Outside w h t = tt
     free_apart (Restarting left) w h t = tt
     free_apart (Running left inner from) w h t = tt
@@ -722,7 +722,7 @@ module _ (cells : List CellDefinition) where
     says_handed reply.Full h = tt
     says_handed reply.Memory h = tt
 
-    pub nothing_known : WorkKnown no_work
+    pub nothing_known : WorkKnown empty_frame
     nothing_known = record { values = (refl, tt); ensures = refl; commutes = tt; sends = tt }
 
     fail_known : (s : ActorState) → MidKnown s → StepKnown Anything (fail s)
@@ -806,7 +806,7 @@ module _ (cells : List CellDefinition) where
     abbrev AgentThere : CellId → Type 0
     AgentThere c = has_agent store c ≡ true
 
-    ensured_known : (d : CellId) (w : Work) → has_ref store d ≡ true → WorkKnown w → WorkKnown (ensure_ref d w)
+    ensured_known : (d : CellId) (w : PlainTxFrame) → has_ref store d ≡ true → WorkKnown w → WorkKnown (ensure_ref d w)
     ensured_known d w r h = record { values = h.values; ensures = ensured_with w.ensures d r h.ensures; commutes = h.commutes; sends = h.sends }
 
     read_form_known : (f : LookForm) (inside : Bool) (span : Span) (v : Value) (s : ActorState) → IsKnown cells v → MidKnown s → StepKnown (IsKnown cells) (read f inside span v s)
@@ -1188,7 +1188,7 @@ module _ (cells : List CellDefinition) where
       applied_known v (Applying left from (w ∷ work) values) k g = (g.0, g.1.1, writes_put values w.cell v g.1.0.0 k g.2)
       applied_known v (Swapping swap from) k g = g
 
-      applied_apart : (v : Value) (doing : Activity) (w : Work) → ApartIn doing w → ApartIn (applied v doing) w
+      applied_apart : (v : Value) (doing : Activity) (w : PlainTxFrame) → ApartIn doing w → ApartIn (applied v doing) w
       applied_apart v Outside w u = u
       applied_apart v (Restarting left) w u = u
       applied_apart v (Running left inner from) w u = u

@@ -43,7 +43,7 @@ HasConsumed (Asking s) = s.todo ≡ []
 HasConsumed (Unfinished c) = c.state.todo ≡ []
 HasConsumed Stuck = Unit {0}
 
--- a turn that asks for an action, or hands one in, goes on with any reply, and has consumed it
+-- a turn that asks for an action, or hands one in, continues with any reply, and has consumed it
 abbrev pub ConsumesActions : Type 0
 ConsumesActions =
     (code : ThreadCode) (c : Configuration) (s : ActorState) (q : Ask) (r : Reply)
@@ -79,11 +79,11 @@ AllSound functions book = Each (λ done e. SendsSound functions e.kind) [] book
 
 -- ---- an agent
 
--- an agent told and was told that it took actions and finished them, one after another
+-- an agent asked and was answered that it took actions and finished them, one after another
 abbrev pub HasFinished : List PlainFunction → CellId → List Entry → Type 0
 HasFinished functions g es = AgentFits functions g (map exchange_of es)
 
--- An agent has an action in hand: the first in its mail, with the agent's state; it took it after it had finished all others.
+-- An agent runs an action: the first in its mail, with the agent's state; it took it after it had finished all others.
 pub record HasTaken (cells : List CellDefinition) (code : Library) (functions : List PlainFunction) (book : List Event) (g : CellId) (es : List Entry) : Type 0 where
   pub done : List Entry
   pub number : ℕ
@@ -98,8 +98,8 @@ pub record HasTaken (cells : List CellDefinition) (code : Library) (functions : 
   -- where the action has a meaning, the agent's code comes to hand it in
   pub comes : (n : ℕ) (new : Result Value Fault) → action_meaning n functions action state ≡ Some new → (j : ℕ) × AsksNext (ask.Finish g new []) (agent_target code g j (map exchange_of es))
 
--- An agent is explained: it is where its code comes to on what it was told, and has consumed it; it hasn't ended, and has printed nothing; what it took
--- it has finished, but for one action at most, which it has in hand.
+-- An agent is explained: it is where its code comes to on what it was answered, and has consumed it; it hasn't ended, and has printed nothing; what it took
+-- it has finished, but for one action at most, which it runs.
 pub record AgentExplained (cells : List CellDefinition) (code : Library) (functions : List PlainFunction) (book : List Event) (g : CellId) (x : Actor) : Type 0 where
   pub ran : run (agent_code code g) x.turns (opening (agent_code code g) (map exchange_of x.entries)) ≡ x.at
   pub consumed : HasConsumed x.at

@@ -43,7 +43,7 @@ abbrev pub CommitsUndisturbed : (ℕ → List Event) → List Entry → Type 0
 CommitsUndisturbed books [] = Unit {0}
 CommitsUndisturbed books (e ∷ es) = CommitUndisturbed (take e.at (books 0)) e.ask e.reply × CommitsUndisturbed books es
 
--- An actor is explained by the books: it is where its code comes to on what it was told, this is what it did, its trace names its own events and
+-- An actor is explained by the books: it is where its code comes to on what it was answered, this is what it did, its trace names its own events and
 -- no others, its commits were undisturbed, and each source that the code follows means just these events, with what was printed and how the actor ended;
 -- its transactions are those of the actor's commits.
 pub record ActorExplained (cells : List CellDefinition) (code : ThreadCode) (books : ℕ → List Event) (a : ℕ) (x : Actor) : Type 0 where

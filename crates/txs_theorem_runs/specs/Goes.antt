@@ -23,7 +23,7 @@ WalksTo code (suc n) at there = (c : Configuration) × (at ≡ Unfinished c) × 
 abbrev pub AsksAt : ThreadCode → Configuration → Ask → Type 0
 AsksAt code c q = (s : ActorState) × (turn code c ≡ Asking s) × (s.wants ≡ Some q)
 
--- From one place the code asks for these entries, one after another and each after some instructions that ask nothing, goes on with the reply of each, and
+-- From one place the code asks for these entries, one after another and each after some instructions that ask nothing, continues with the reply of each, and
 -- comes to another place.
 abbrev pub GoesTo : ThreadCode → Turned Configuration → List Entry → Turned Configuration → Type 0
 GoesTo code at [] there = (n : ℕ) × WalksTo code n at there

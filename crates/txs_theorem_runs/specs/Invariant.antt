@@ -15,14 +15,14 @@ use Rattle.txs_theorem_runs.specs.Staged.{StagedCode, IsStaged}
 use Rattle.txs_theorem_runs.specs.Explains.{AreThreads, RunHolds}
 use Rattle.txs_theorem_runs.specs.Run.{Actor, State, Play, opens, play}
 
--- An actor is where its code comes to on what it was told, which are the books' words, and it has consumed it.
+-- An actor is where its code comes to on what it was answered, which is what the books say, and it has consumed it.
 pub record ActorInvariant (cells : List CellDefinition) (threads : ℕ) (code : ThreadCode) (books : ℕ → List Event) (a : ℕ) (x : Actor) : Type 0 where
   pub stage : Stage
   pub ran : run code x.turns (opening code (map exchange_of x.entries)) ≡ x.at
   pub told : ToldBy cells threads books a x.entries stage
   pub staged : IsStaged stage x.at
 
--- what is shared stands: the store's book is legal and its commits undisturbed, actions that are taken wait, and the atoms' books are legal, with
+-- what is shared is legal: the store's book is legal and its commits undisturbed, actions that are taken wait, and the atoms' books are legal, with
 -- events of threads alone
 pub record SharedStands (cells : List CellDefinition) (threads : ℕ) (sh : Shared) : Type 0 where
   pub store : StoreStands (store_of cells threads sh)

@@ -45,7 +45,7 @@ CodeIsKnown cells code = (b at : ℕ) (v : Value) → fetch code b at ≡ Some (
 abbrev pub OpeningIsKnown : List CellDefinition → Type 0
 OpeningIsKnown cells = (k : ℕ) → IsKnown cells (opening (cells_of cells) k)
 
--- what a thread's next instruction asks, it may ask, where its code's instructions stand where they may
+-- what a thread's next instruction asks, it may ask, where its code's instructions are where they may be
 abbrev pub AsksAreLawful : List CellDefinition → ℕ → (ℕ → ThreadCode) → State → Type 0
 AsksAreLawful cells threads codes st =
     (a : ℕ) (c : Configuration) (s : ActorState) (q : Ask)
@@ -60,7 +60,7 @@ RunAsksLawful =
     → OpeningIsKnown cells → ((a : ℕ) → CodeIsKnown cells (codes a))
     → AsksAreLawful cells threads codes (plays cells threads codes ys)
 
--- the instructions of each thread of well-typed code stand where they may
+-- the instructions of each thread of well-typed code are where they may be
 abbrev pub TypedStands : Type 0
 TypedStands =
     (code : PlainCode) (function_rooms thread_rooms : List ℕ) (i : ℕ) (b : CodeBody) → WellTyped code function_rooms thread_rooms → nth code.threads i ≡ Some b → StandingCode (thread_code code b)

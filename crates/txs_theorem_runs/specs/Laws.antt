@@ -13,7 +13,7 @@ use Rattle.txs_theorem_runs.specs.Stages.{Stage, AsksIn, stage_after, phase_of}
 use Rattle.txs_theorem_runs.specs.Told.{Entry, exchange_of, IsExchanged, ToldBy, history_of}
 use Rattle.txs_theorem_runs.specs.Run.{entry}
 
--- what an actor was told fits what it did, up to its stage's phase
+-- what an actor was answered fits what it did, up to its stage's phase
 abbrev pub ToldFits : Type 0
 ToldFits =
     (cells : List CellDefinition) (threads : ℕ) (books : ℕ → List Event) (a : ℕ) (es : List Entry) (st : Stage) → ToldBy cells threads books a es st
@@ -23,7 +23,7 @@ ToldFits =
 abbrev pub with_book : ℕ → List Event → (ℕ → List Event) → ℕ → List Event
 with_book k book books n = if n == k then book else books n
 
--- an ask in its stage, answered from the books: the entries with this one more are told by the books after it
+-- an ask in its stage, answered from the books: the entries with this one more agree with the books after it
 abbrev pub ServedIsTold : Type 0
 ServedIsTold =
     (cells : List CellDefinition) (threads : ℕ) (books : ℕ → List Event) (taken : List Bool) (a : ℕ) (q : Ask) (es : List Entry) (st : Stage)
@@ -31,7 +31,7 @@ ServedIsTold =
     → ToldBy cells threads (with_book (book_for cells q) (serve_on cells a q (books (book_for cells q))).book books) a
     (es ++ entry q (serve_on cells a q (books (book_for cells q))).reply (length (books (book_for cells q))) ∷ []) (stage_after st q (serve_on cells a q (books (book_for cells q))).reply)
 
--- another actor's event in one of the books leaves what an actor was told
+-- another actor's event in one of the books leaves what an actor was answered
 abbrev pub OthersLeaveTold : Type 0
 OthersLeaveTold =
     (cells : List CellDefinition) (threads : ℕ) (books : ℕ → List Event) (k a : ℕ) (e : Event) (es : List Entry) (st : Stage) → (e.actor ≡ a → ⊥) → ToldBy cells threads books a es st
@@ -42,7 +42,7 @@ abbrev pub alone : List Event → ℕ → List Event
 alone book zero = book
 alone book (suc n) = []
 
--- of an actor that was told by the store's book alone, what it did is what the book says of it
+-- of an actor that was answered by the store's book alone, what it did is what the book says of it
 abbrev pub AloneHistory : Type 0
 AloneHistory =
     (cells : List CellDefinition) (threads : ℕ) (book : List Event) (a : ℕ) (es : List Entry) (st : Stage) → Legal (cells_of cells) threads book → ToldBy cells threads (alone book) a es st

@@ -1,4 +1,4 @@
--- What it is that a program explains what actors did, told by the books alone: by what each was told at its place of a book, in no order of the actors.
+-- What it is that a program explains what actors did, said of the books alone: by what each was answered at its index of a book, in no order of the actors.
 use Rattle.std.specs.Prelude.{◌≡◌, ℕ, true, List, [], ◌∷◌, length, map, Result}
 use Rattle.txs_world_protocol.specs.declared.ask.Ask.TheVariants as ask
 use Rattle.txs_world_protocol.specs.declared.event.Event.{Event}
@@ -21,20 +21,20 @@ use Rattle.txs_theorem_runs.specs.Run.{Actor, State}
 use Rattle.txs_theorem_runs.specs.Told.{Entry, exchange_of}
 
 -- An agent takes an action and hands it in, one after another, and what it was handed out was so where it handed the action in, as its place says; one that
--- it has in hand was so at this end.
+-- it runs was so at this end.
 abbrev pub TakesInTurn : CellId → ℕ → List Entry → Type 0
 TakesInTurn g end [] = Unit {0}
 TakesInTurn g end (e ∷ []) = (e.ask ≡ ask.Take g) × (e.at ≡ end)
 TakesInTurn g end (e ∷ f ∷ es) = (e.ask ≡ ask.Take g) × (e.at ≡ f.at) × (new : Result Value Fault) × (f.ask ≡ ask.Finish g new []) × TakesInTurn g end es
 
--- An actor is where its code comes to on what it was told, for which it asked one after another; each reply is the one at its place of the books, and the
+-- An actor is where its code comes to on what it was answered, for which it asked one after another; each reply is the one at its place of the books, and the
 -- events that its asks added are its own in each book, in order.
 pub record ActorPlaced (cells : List CellDefinition) (threads : ℕ) (code : ThreadCode) (books : ℕ → List Event) (a : ℕ) (x : Actor) : Type 0 where
   pub ran : run code x.turns (opening code (map exchange_of x.entries)) ≡ x.at
   pub goes : GoesTo code (Unfinished (opening code [])) x.entries x.at
   pub traced : ActorTraced cells threads books a x
 
--- The books stand, each actor was told what they say, and each agent took its actions in turn. Nothing is said of an order of what several actors did,
+-- The books are legal, each actor was answered what they say, and each agent took its actions in turn. Nothing is said of an order of what several actors did,
 -- nor of what one did in several books.
 pub record RunPlaced (cells : List CellDefinition) (threads : ℕ) (codes : ℕ → ThreadCode) (st : State) : Type 0 where
   pub books : BooksStand cells threads st.shared

@@ -20,7 +20,7 @@ use Rattle.txs_theorem_runs.specs.Staged.{StagedCode}
 use Rattle.txs_theorem_runs.specs.Told.{AllHold, trace_of, TraceHolds, history_of}
 use Rattle.txs_theorem_runs.specs.Transactions.{SaidOf, undisturbed}
 
--- An actor was told what the books say: each of its entries holds, and its trace names its own events and no others.
+-- An actor was answered what the books say: each of its entries holds, and its trace names its own events and no others.
 pub record ActorTraced (cells : List CellDefinition) (threads : ℕ) (books : ℕ → List Event) (a : ℕ) (x : Actor) : Type 0 where
   pub hold : AllHold cells threads books a x.entries
   pub traced : TraceHolds books a (trace_of cells books a x.entries)

@@ -23,7 +23,7 @@ pub data Stop : Type 0 where
   -- it asked what it may not ask
   Unlawful : Stop
 
--- an actor of a run: where it is, what it was told so far, how many instructions it has run, and why it was stopped there, if it was
+-- an actor of a run: where it is, what it was answered so far, how many instructions it has run, and why it was stopped there, if it was
 pub record Actor : Type 0 where
   pub at : Turned Configuration
   pub entries : List Entry
@@ -60,7 +60,7 @@ abbrev pub hears : ThreadCode → Configuration → Ask → Reply → ℕ → Ac
 hears code c q r k x =
     record x { at = turn code (given (exchange q r ∷ []) c); entries = x.entries ++ entry q r k ∷ []; turns = suc x.turns }
 
--- the reply is taken; one that tells of a full book or of no memory stops the actor before the instruction, and an agent without an action stays where it is
+-- the reply is taken; one that says that the book is full, or that memory ran out, stops the actor before the instruction, and an agent without an action stays where it is
 abbrev pub replied : ThreadCode → Configuration → Ask → Reply → ℕ → Actor → Actor
 replied code c q (reply.At p) k x = hears code c q (reply.At p) k x
 replied code c q (reply.Is v) k x = hears code c q (reply.Is v) k x
@@ -115,7 +115,7 @@ stops_from why (Unfinished c) None x = stop why x
 stops_from why (Unfinished c) (Some w) x = x
 stops_from why Stuck o x = x
 
--- one play: an actor takes a turn, or is stopped where it is, as for want of memory
+-- one play: an actor takes a turn, or is stopped where it is, as when memory ran out
 pub data Play : Type 0 where
   TakesTurn : (actor : ℕ) → Play
   IsStopped : (actor : ℕ) (why : Stop) → Play

@@ -22,7 +22,7 @@ stage_in (machine.Swapping swap from) s = Swapping swap.cell swap.at
 abbrev pub stage_of : Configuration → Stage
 stage_of c = stage_in c.doing c.state
 
--- a turn whose replies are all consumed, in this stage where it goes on
+-- a turn whose replies are all consumed, in this stage where it continues
 abbrev pub IsStaged : Stage → Turned Configuration → Type 0
 IsStaged st (Ended s) = s.todo ≡ []
 IsStaged st (Failed f s) = s.todo ≡ []
@@ -42,6 +42,6 @@ StagedFrom st Stuck go = Unit {0}
 abbrev pub TurnIsStaged : ThreadCode → Configuration → Type 0
 TurnIsStaged code c = StagedFrom (stage_of c) (turn code c) (λ q r. turn code (given (exchange q r ∷ []) c))
 
--- code whose turns ask in their stages, wherever it comes to, whatever it is told
+-- code whose turns ask in their stages, wherever it comes to, whatever it is answered
 abbrev pub StagedCode : ThreadCode → Type 0
 StagedCode code = (m : ℕ) (xs : List Exchange) (c : Configuration) → run code m (opening code xs) ≡ Unfinished c → c.state.todo ≡ [] → TurnIsStaged code c

@@ -12,7 +12,7 @@ use Rattle.txs_theorem_threads.specs.RepliesFit.{Phase, Out, In, Viewed, WithSwa
 use Rattle.txs_theorem_runs.specs.Shared.{world_of}
 
 -- where a thread is with the shared state: outside every transaction, in one with this read point, in its commute phase with this
--- view, or with a swap in hand that was opened at this place
+-- view, or while a swap is applied that was opened at this index
 pub data Stage : Type 0 where
   Idle : Stage
   Open : (at : ℕ) → Stage

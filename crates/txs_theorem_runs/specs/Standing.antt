@@ -1,4 +1,4 @@
--- Where the instructions of a thread may stand.
+-- Where the instructions of a thread may be.
 use Rattle.std.specs.Prelude.{◌≡◌, ℕ, List, Option, Some, None}
 use Rattle.txs_world_protocol.specs.Ask.{Exchange}
 use Rattle.txs_code_meaning.specs.Machine.{PlainInstr, LookOf, PutOf, OpenOf, CloseOf, SendOf, TakeOf, RunOf, FinishOf, ThreadCode, fetch, Activity, Applying, Swapping, Configuration, Unfinished, run}
@@ -6,7 +6,7 @@ use Rattle.txs_code_meaning.specs.Opening.{opening}
 use Rattle.txs_theorem_runs.specs.Staged.{StagedCode}
 use Rattle.txs_code_meaning.specs.ActorState.{InHand}
 
--- A form on a cell stands outside every transaction or in one, and in no commute phase and no swap, whose callees are pure; and
+-- A form on a cell is outside every transaction or in one, and in no commute phase and no swap, whose callees are pure; and
 -- an agent's own instructions are none of a thread's.
 abbrev pub MayStandIn : Activity → PlainInstr → Type 0
 MayStandIn doing (TakeOf g) = ⊥
@@ -23,7 +23,7 @@ MayStandIn (Swapping swap from) (OpenOf f n span) = ⊥
 MayStandIn (Swapping swap from) (SendOf f n span) = ⊥
 MayStandIn doing i = Unit {0}
 
--- the instruction at hand may stand here
+-- the next instruction may be here
 abbrev pub MayStandHere : Activity → Option PlainInstr → Type 0
 MayStandHere doing None = Unit {0}
 MayStandHere doing (Some i) = MayStandIn doing i
@@ -33,7 +33,7 @@ abbrev pub IsThreads : Option InHand → Type 0
 IsThreads None = Unit {0}
 IsThreads (Some h) = ⊥
 
--- code whose instructions stand where they may, wherever it comes to, whatever it is told
+-- code whose instructions are where they may be, wherever it comes to, whatever it is answered
 abbrev pub StandingCode : ThreadCode → Type 0
 StandingCode code = (m : ℕ) (xs : List Exchange) (c : Configuration) → run code m (opening code xs) ≡ Unfinished c → MayStandHere c.doing (fetch code c.body c.place) × IsThreads c.state.acting
 

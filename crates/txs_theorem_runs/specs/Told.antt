@@ -1,4 +1,4 @@
--- What the shared state told an actor: asks with their replies, and the places of the books that they were served at.
+-- What the shared state answered an actor: requests with their replies, and the indexes of the books that they were served at.
 use Rattle.std.specs.Prelude.{◌≡◌, ◌≤◌, ℕ, suc, Bool, true, ◌==◌, nat_lt, List, [], ◌∷◌, length, take, Option, Some, None, if◌then◌else◌}
 use Rattle.txs_world_protocol.specs.Ask.{Exchange}
 use Rattle.txs_world_protocol.specs.SeenEvent.{SeenEvent}
@@ -27,7 +27,7 @@ pub record Place : Type 0 where
   pub book : ℕ
   pub at : ℕ
 
--- a reply that an actor goes on with; the others stop it at its ask, or are none of a thread's
+-- a reply that an actor continues with; the others stop it at its ask, or are none of a thread's
 abbrev pub IsExchanged : Reply → Type 0
 IsExchanged (reply.At p) = Unit {0}
 IsExchanged (reply.Is v) = Unit {0}
@@ -50,7 +50,7 @@ before_entry cells books e = take e.at (books (book_for cells e.ask))
 abbrev pub served_at : List CellDefinition → (ℕ → List Event) → ℕ → Entry → Served
 served_at cells books a e = serve_on cells a e.ask (before_entry cells books e)
 
--- An entry holds: its ask might be asked at its place, its reply is what is answered there, and the events that the book had after it stand in the book.
+-- An entry holds: its ask might be asked at its place, its reply is what is answered there, and the events that the book had after it are in the book.
 pub record EntryHolds (cells : List CellDefinition) (threads : ℕ) (books : ℕ → List Event) (a : ℕ) (e : Entry) : Type 0 where
   pub within : e.at ≤ length (books (book_for cells e.ask))
   pub asked : (taken : List Bool) × (may_ask cells threads taken a e.ask (before_entry cells books e) ≡ true)
@@ -101,7 +101,7 @@ abbrev pub seen_of : List CellDefinition → (ℕ → List Event) → List Place
 seen_of cells books [] = []
 seen_of cells books (p ∷ ps) = seen_before cells books p (nth (books p.book) p.at) (seen_of cells books ps)
 
--- An actor was told these entries by these books, up to a stage: each holds, each ask comes in its stage, and the events that they added are the actor's, each once and in order.
+-- These books answered an actor these entries, up to a stage: each holds, each ask comes in its stage, and the events that they added are the actor's, each once and in order.
 pub record ToldBy (cells : List CellDefinition) (threads : ℕ) (books : ℕ → List Event) (a : ℕ) (es : List Entry) (stage : Stage) : Type 0 where
   pub hold : AllHold cells threads books a es
   pub staged : AreStaged Idle es stage

@@ -1,4 +1,4 @@
-//! What the sources of threads say of runs over what they share. Each law stands on a function of its own, which does nothing when it
+//! What the sources of threads say of runs over what they share. Each law is the contract of a function of its own, which does nothing when it
 //! runs.
 
 ghost use Rattle.txs_theorem_runs.specs.Agents.{ConsumesActions, RunActsMean};
@@ -49,19 +49,19 @@ pub fn every_actor_has_printed()
 }
 
 /// Where the constants of all code and the opening values name defined cells alone, every ask of a thread
-/// whose instructions stand where they may is lawful: so it is not stopped for what it asks.
+/// whose instructions are where they may be is lawful: so it is not stopped for what it asks.
 pub fn every_ask_is_lawful()
     ensures { RunAsksLawful }
 {
     serve_keeps();
 }
 
-/// Code whose instructions stand where they may asks at most once a turn, and each ask comes in its stage.
+/// Code whose instructions are where they may be asks at most once a turn, and each ask comes in its stage.
 pub fn standing_is_staged()
     ensures { StandingIsStaged }
 {}
 
-/// The instructions of each thread of well-typed code stand where they may.
+/// The instructions of each thread of well-typed code are where they may be.
 pub fn typed_stands()
     ensures { TypedStands }
 {}
@@ -97,19 +97,19 @@ pub fn invariant_explains()
     replies_fit();
 }
 
-/// What an actor was told fits what it did.
+/// What an actor was answered fits what it did.
 pub fn told_fits()
     ensures { ToldFits }
 {
     unwritten_stays();
 }
 
-/// An ask in its stage, answered by what is shared: with this entry behind them, the actor's entries are told by the books after it.
+/// An ask in its stage, answered by what is shared: with this entry behind them, the actor's entries agree with the books after it.
 pub fn served_is_told()
     ensures { ServedIsTold }
 {}
 
-/// What another actor adds to the books leaves what an actor was told.
+/// What another actor adds to the books leaves what an actor was answered.
 pub fn others_leave_told()
     ensures { OthersLeaveTold }
 {}
@@ -121,7 +121,7 @@ pub fn alone_history()
     history_of_whole();
 }
 
-/// A turn that asks for an action, or hands one in, goes on with any reply, and has consumed it.
+/// A turn that asks for an action, or hands one in, continues with any reply, and has consumed it.
 pub fn actions_are_consumed()
     ensures { ConsumesActions }
 {}
@@ -145,7 +145,7 @@ pub fn every_refusal_is_undisturbed()
     serve_keeps();
 }
 
-/// What each actor was told, the books say, and its trace names its own events and no others, whatever its code asks.
+/// What each actor was answered, the books say, and its trace names its own events and no others, whatever its code asks.
 pub fn every_trace_holds()
     ensures { RunTraced }
 {
@@ -164,7 +164,7 @@ pub fn every_report_is_explained()
     replies_fit();
 }
 
-/// A program explains all that actors did, where each was told what the books say at its places, whatever the order of the actors.
+/// A program explains all that actors did, where each was answered what the books say at its indexes, whatever the order of the actors.
 pub fn every_placed_report_is_explained()
     ensures { PlacedReported }
 {

@@ -5,7 +5,7 @@ use Rattle.std.proofs.lemmas.Bool.{eqb-true, false≢true}
 use Rattle.txs_world_protocol.specs.Ask.{Writes}
 use Rattle.txs_value_cell.specs.Cells.{World, Validators}
 use Rattle.txs_value_cell.specs.declared.action.Action.{Action}
-use Rattle.txs_frame.specs.Frame.{Work, has_number}
+use Rattle.txs_frame.specs.Frame.{PlainTxFrame, has_number}
 use Rattle.txs_value_base.specs.declared.op.Callee.{Callee}
 use Rattle.txs_tree_meaning.specs.Known.{known}
 use Rattle.txs_tree_meaning.specs.Meaning.{Completion, Completes, Recurs, Faults, Retries, Waits, OutOfTurns, Invalid, bind, closed, Applies, eval}
@@ -28,7 +28,7 @@ use Rattle.txs_theorem_serial.proofs.Nearly.{loose, set_tight, alike_sets}
 use Rattle.txs_theorem_serial.proofs.Remakes.{remakes}
 
 -- what is read is held
-held_at : (w : Work) (cs : List CellId) (k : ℕ) → are_held w cs ≡ true → has_number cs k ≡ true → is_held w k ≡ true
+held_at : (w : PlainTxFrame) (cs : List CellId) (k : ℕ) → are_held w cs ≡ true → has_number cs k ≡ true → is_held w k ≡ true
 held_at w [] k h there = absurd (false≢true there)
 held_at w (c ∷ cs) k h there =
     let parts = both (is_held w c.number) (are_held w cs) h in

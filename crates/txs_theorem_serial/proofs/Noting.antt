@@ -21,7 +21,7 @@ use Rattle.txs_value_cell.specs.declared.form.PutForm.TheVariants.{RefSet, Reset
 use Rattle.txs_value_cell.specs.declared.form.UpdateForm.{UpdateForm}
 use Rattle.txs_value_cell.specs.declared.form.UpdateForm.TheVariants.{Alter, Commute, Swap}
 use Rattle.txs_frame.specs.declared.frame.Commute.{Commute as CommuteOf}
-use Rattle.txs_frame.specs.Frame.{Work, set_writes, commuted, phase_work}
+use Rattle.txs_frame.specs.Frame.{PlainTxFrame, set_writes, commuted, phase_work}
 use Rattle.txs_value_apply.specs.Core.{core, vector_of}
 use Rattle.txs_value_apply.specs.Truth.{choose}
 use Rattle.txs_value_base.specs.Places.{nth, fault_at}
@@ -301,14 +301,14 @@ module _ (cells : List CellDefinition) (functions : List PlainFunction) (n : ℕ
         quiet_bound Invalid go h = tt
 
         -- the final writes leave the state as it was
-        finals : (w : Work) → AllCommutes (IsPure (known functions)) w.commutes → (C : World) (t : ThreadState) → final_writes f validators m.span w C t ≡ carried t (final_writes q validators m.span w C tt)
+        finals : (w : PlainTxFrame) → AllCommutes (IsPure (known functions)) w.commutes → (C : World) (t : ThreadState) → final_writes f validators m.span w C t ≡ carried t (final_writes q validators m.span w C tt)
         finals w suits C t =
             let P : Callee → Type 0 = IsPure (known functions) in
             ap (λ z. bind z (λ ws s1. Completes (merged (set_writes w) ws) s1))
             (redone_carried P t f q (λ c us p. callee_carried (on_events x) n true functions sound b m.span c us t p) (phase_work w) (phase_some P w suits) (valued (commuted w) C)).0
             ∙ bound t (redone q (phase_work w) (valued (commuted w) C) tt) (λ ws. merged (set_writes w) ws)
 
-        quiet_finals : (w : Work) → AllCommutes (IsPure (known functions)) w.commutes → (C : World) (t : ThreadState) → IsQuiet (final_writes q validators m.span w C tt)
+        quiet_finals : (w : PlainTxFrame) → AllCommutes (IsPure (known functions)) w.commutes → (C : World) (t : ThreadState) → IsQuiet (final_writes q validators m.span w C tt)
         quiet_finals w suits C t =
             let P : Callee → Type 0 = IsPure (known functions) in
             quiet_bound (redone q (phase_work w) (valued (commuted w) C) tt) (λ ws. merged (set_writes w) ws)
@@ -323,7 +323,7 @@ module _ (cells : List CellDefinition) (functions : List PlainFunction) (n : ℕ
             ap (λ z. bind z (λ v s1. redone (purely n functions) cs (with_write ws c.cell v) s1)) (quiet_deeper n functions sound b (length functions) le m.span nowhere c.callee us r.0 r.2)
             ∙ redone_deeper cs (with_write ws c.cell r.0) xs r.3
 
-        finals_deeper : (w : Work) (C : World) (ws : Writes) → final_writes q validators m.span w C tt ≡ Completes ws tt → final_writes (purely n functions) validators nowhere w C tt ≡ Completes ws tt
+        finals_deeper : (w : PlainTxFrame) (C : World) (ws : Writes) → final_writes q validators m.span w C tt ≡ Completes ws tt → final_writes (purely n functions) validators nowhere w C tt ≡ Completes ws tt
         finals_deeper w C ws h =
             let r = splits (redone q (phase_work w) (valued (commuted w) C) tt) (λ vs s1. Completes (merged (set_writes w) vs) s1) ws tt h in
             ap (λ z. bind z (λ vs s1. Completes (merged (set_writes w) vs) s1)) (redone_deeper (phase_work w) (valued (commuted w) C) r.0 r.2) ∙ r.3

@@ -14,7 +14,7 @@ use Rattle.txs_world_book.proofs.Older.{after_unwritten, named, ends}
 use Rattle.txs_value_cell.specs.Cells.{World, validators_of}
 use Rattle.txs_value_cell.specs.declared.action.Action.{Action}
 use Rattle.txs_value_cell.specs.declared.cell.CellDefinition.{CellDefinition}
-use Rattle.txs_frame.specs.Frame.{Work, has_number}
+use Rattle.txs_frame.specs.Frame.{PlainTxFrame, has_number}
 use Rattle.txs_value_base.specs.Places.{nth}
 use Rattle.txs_tree_meaning.specs.Sound.{SoundFunctions}
 use Rattle.txs_tree_meaning.specs.Thread.{TxRun}
@@ -68,7 +68,7 @@ untouched_at done p (c ∷ cs) k h there = test (c.number == k) refl there (unto
     test true e g rest = ap (λ j. written j p done) (sym (eqb-true c.number k e)) ∙ h.0
     test false e g rest = rest g
 
-held_untouched : (done : List Event) (p : ℕ) (w : Work) (k : ℕ) → Untouched done p w.sets → Untouched done p w.ensures → is_held w k ≡ true → written k p done ≡ false
+held_untouched : (done : List Event) (p : ℕ) (w : PlainTxFrame) (k : ℕ) → Untouched done p w.sets → Untouched done p w.ensures → is_held w k ≡ true → written k p done ≡ false
 held_untouched done p w k sets ensures held = test (has_number w.sets k) refl held
   where
     test : (b : Bool) → has_number w.sets k ≡ b → (b || has_number w.ensures k) ≡ true → written k p done ≡ false
@@ -76,7 +76,7 @@ held_untouched done p w k sets ensures held = test (has_number w.sets k) refl he
     test false e g = untouched_at done p w.ensures k ensures g
 
 -- the worlds of a read point and of a place agree on what wasn't written between them
-worlds_agree : (W : World) (book : List Event) (at k : ℕ) (e : Event) (w : Work) → nth book k ≡ Some e → at ≤ k → Untouched (take k book) at w.sets → Untouched (take k book) at w.ensures → AgreeOn w (after W book at) (after W book k)
+worlds_agree : (W : World) (book : List Event) (at k : ℕ) (e : Event) (w : PlainTxFrame) → nth book k ≡ Some e → at ≤ k → Untouched (take k book) at w.sets → Untouched (take k book) at w.ensures → AgreeOn w (after W book at) (after W book k)
 worlds_agree W book at k e w there le sets ensures j held =
     let done = take k book in
     let rest = drop k book in

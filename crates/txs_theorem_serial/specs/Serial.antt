@@ -6,7 +6,7 @@ use Rattle.txs_world_protocol.specs.declared.event.EventKind.{EventKind}
 use Rattle.txs_world_protocol.specs.declared.event.EventKind.TheVariants.{Read, Commit, Retry, Fail, Refused, Send, SendRefused, Act, Swap, Broke}
 use Rattle.txs_value_cell.specs.Cells.{World, Validators}
 use Rattle.txs_value_cell.specs.declared.action.Action.{Action}
-use Rattle.txs_frame.specs.Frame.{Work, has_number}
+use Rattle.txs_frame.specs.Frame.{PlainTxFrame, has_number}
 use Rattle.txs_theorem_threads.specs.Noted.{IsNone, Front}
 use Rattle.txs_tree_meaning.specs.Known.{known}
 use Rattle.txs_tree_meaning.specs.Meaning.{Completion, Completes, Recurs, Faults, Retries, Waits, OutOfTurns, Invalid, Applies}
@@ -20,11 +20,11 @@ use Rattle.txs_value_data.specs.declared.value.Value.{Value}
 use Rattle.txs_tree_meaning.specs.Marked.{Marked}
 
 -- whether a transaction set or ensured the ref with this number
-abbrev pub is_held : Work → ℕ → Bool
+abbrev pub is_held : PlainTxFrame → ℕ → Bool
 is_held w k = has_number w.sets k || has_number w.ensures k
 
 -- whether it set or ensured each of these
-abbrev pub are_held : Work → List CellId → Bool
+abbrev pub are_held : PlainTxFrame → List CellId → Bool
 are_held w [] = true
 are_held w (c ∷ cs) = is_held w c.number && are_held w cs
 
@@ -46,7 +46,7 @@ pub record IsSerial (functions : List PlainFunction) (validators : Validators) (
   pub sends_same : state.done.sends ≡ sends
   pub result_same : x.wanted ≡ true → result ≡ x.result
 
--- A transaction came to its end on a world: its body stands in a sound program, whose marks are right, and means what it did there.
+-- A transaction came to its end on a world: its body is in a sound program, whose marks are right, and means what it did there.
 pub record Met (functions : List PlainFunction) (n : ℕ) (x : TxRun) (R : World) : Type 0 where
   pub body_sound : SoundTree (known functions) in_dosync (length x.locals) None x.body
   pub body_marked : Marked x.wanted x.body
@@ -65,7 +65,7 @@ pub record Declined (functions : List PlainFunction) (validators : Validators) (
   pub writes_there : final_writes (purely n functions) validators nowhere x.state.done Q tt ≡ Completes writes tt
 
 -- two worlds agree on what a transaction set or ensured
-abbrev pub AgreeOn : Work → World → World → Type 0
+abbrev pub AgreeOn : PlainTxFrame → World → World → Type 0
 AgreeOn w R C = (k : ℕ) → is_held w k ≡ true → R k ≡ C k
 
 -- ---- the transactions of a thread

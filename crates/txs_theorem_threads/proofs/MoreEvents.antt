@@ -5,7 +5,7 @@ use Rattle.txs_world_protocol.specs.Ask.{Writes, same_writes, same_value, same_a
 use Rattle.txs_world_protocol.specs.SeenEvent.{SeenEvent, home}
 use Rattle.txs_world_protocol.specs.declared.event.EventKind.{EventKind}
 use Rattle.txs_world_protocol.specs.declared.event.EventKind.TheVariants as event
-use Rattle.txs_frame.specs.Frame.{Work, set_ref, commuted, commute_ref, set_writes, phase_work}
+use Rattle.txs_frame.specs.Frame.{PlainTxFrame, set_ref, commuted, commute_ref, set_writes, phase_work}
 use Rattle.txs_value_cell.specs.Cells.{World, Validators, validators_of}
 use Rattle.txs_value_cell.specs.Forms.{rule, cell_of}
 use Rattle.txs_value_data.specs.Limits.{reruns}
@@ -117,7 +117,7 @@ over_alike t (OutOfTurns x) y f g broke h k = tt
 over_alike t Invalid Invalid f g broke h k = refl
 over_alike t Invalid _ f g broke h k = absurd (false≢true h)
 
-final_alike : (validators : Validators) (span : Span) (f g : Applies ThreadState) → Applied ThreadState ThreadState (same_link ThreadState) f g → (w : Work) (C : World) (t : ThreadState) → Related (same_link ThreadState) (final_writes f validators span w C t) (final_writes g validators span w C t)
+final_alike : (validators : Validators) (span : Span) (f g : Applies ThreadState) → Applied ThreadState ThreadState (same_link ThreadState) f g → (w : PlainTxFrame) (C : World) (t : ThreadState) → Related (same_link ThreadState) (final_writes f validators span w C t) (final_writes g validators span w C t)
 final_alike validators span f g a w C t =
     let now : Writes → ThreadState → Completion ThreadState Writes = λ ws t1. Completes (merged (set_writes w) ws) t1 in
     bind_related ThreadState ThreadState (same_link ThreadState) (commute_writes f w C t) (commute_writes g w C t) now now (redone_alike ThreadState f g a (phase_work w) (valued (commuted w) C) t) (λ ws s1 t1 r1. from_same ThreadState (now ws) s1 t1 r1)

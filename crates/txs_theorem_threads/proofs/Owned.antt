@@ -3,7 +3,7 @@ use Rattle.std.proofs.Common.{◌≡◌, ℕ, Bool, true, false, ◌||◌, ◌==
 use Rattle.std.specs.Prelude.{nat_lt}
 use Rattle.std.proofs.lemmas.Bool.{eq-eqb, eqb-true, false≢true}
 use Rattle.txs_world_protocol.specs.Ask.{Writes, buffered, with_write}
-use Rattle.txs_frame.specs.Frame.{Work, no_work, with_cell, has_number, writes_to, set_writes, commute_ref}
+use Rattle.txs_frame.specs.Frame.{PlainTxFrame, empty_frame, with_cell, has_number, writes_to, set_writes, commute_ref}
 use Rattle.txs_value_base.specs.declared.op.Callee.{Callee}
 use Rattle.txs_value_data.specs.declared.value.CellId.{CellId}
 use Rattle.txs_value_data.specs.declared.value.Value.{Value}
@@ -83,10 +83,10 @@ others (d ∷ ds) c k e = test (d.number == c.number) (nat_lt c.number d.number)
 -- ---- what a transaction set
 
 -- each ref that was set has a value
-abbrev pub Owned : Work → Type 0
+abbrev pub Owned : PlainTxFrame → Type 0
 Owned w = (k : ℕ) → has_number w.sets k ≡ true → is_some (buffered w.values k) ≡ true
 
-pub owned_none : Owned no_work
+pub owned_none : Owned empty_frame
 owned_none k h = absurd (false≢true h)
 
 -- a ref that gets a value leaves the others theirs
@@ -94,18 +94,18 @@ still_owned : (ws : Writes) (c : CellId) (v : Value) (k : ℕ) (b : Bool) → (c
 still_owned ws c v k true e h = subst (λ n. is_some (buffered (with_write ws c v) n) ≡ true) (eqb-true c.number k e) (ap is_some (own_found ws c v))
 still_owned ws c v k false e h = ap is_some (other_found ws c v k e) ∙ h refl
 
-pub owned_set : (c : CellId) (v : Value) (w : Work) → Owned w → Owned (record w { values = with_write w.values c v; sets = with_cell w.sets c })
+pub owned_set : (c : CellId) (v : Value) (w : PlainTxFrame) → Owned w → Owned (record w { values = with_write w.values c v; sets = with_cell w.sets c })
 owned_set c v w own k h = test (c.number == k) refl
   where
     test : (b : Bool) → (c.number == k) ≡ b → is_some (buffered (with_write w.values c v) k) ≡ true
     test true e = still_owned w.values c v k true e (λ f. absurd (false≢true (sym f)))
     test false e = still_owned w.values c v k false e (λ f. own k (sym (others w.sets c k e) ∙ h))
 
-pub owned_commute : (c : CellId) (callee : Callee) (vs : List Value) (v : Value) (w : Work) → Owned w → Owned (commute_ref c callee vs v w)
+pub owned_commute : (c : CellId) (callee : Callee) (vs : List Value) (v : Value) (w : PlainTxFrame) → Owned w → Owned (commute_ref c callee vs v w)
 owned_commute c callee vs v w own k h = still_owned w.values c v k (c.number == k) refl (λ f. own k h)
 
 -- each ref that was set is among the writes of the commit
-pub are_written : (w : Work) → Owned w → AreWritten w.sets (set_writes w)
+pub are_written : (w : PlainTxFrame) → Owned w → AreWritten w.sets (set_writes w)
 are_written w own = go w.sets (λ k h. h)
   where
     value_there : (o : Option Value) → is_some o ≡ true → (v : Value) × (o ≡ Some v)

@@ -1,7 +1,7 @@
 -- Pure callees: they mean the same whatever surrounds them, and leave the state as it was. So do commutes that are redone.
 use Rattle.std.proofs.Common.{◌≡◌, ℕ, Bool, true, false, List, [], ◌∷◌, ◌++◌, Result, Ok, Err, refl, ap, ◌∙◌, if◌then◌else◌, ◌==◌}
 use Rattle.txs_world_protocol.specs.Ask.{Writes, buffered, with_write}
-use Rattle.txs_frame.specs.Frame.{Work, commuted, commutes_of, by_ref, phase_work}
+use Rattle.txs_frame.specs.Frame.{PlainTxFrame, commuted, commutes_of, by_ref, phase_work}
 use Rattle.txs_frame.specs.declared.frame.Commute.{Commute}
 use Rattle.txs_value_apply.specs.Core.{core}
 use Rattle.txs_value_base.specs.declared.fault.FaultKind.{FaultKind}
@@ -106,7 +106,7 @@ each_by_ref P [] cs h = tt
 each_by_ref P (d ∷ ds) cs h = each_both P (commutes_of d.number cs) (by_ref ds cs) (each_of P d.number cs h) (each_by_ref P ds cs h)
 
 -- then it holds of each commute of the phase
-pub each_phase : (P : Commute → Type 0) (w : Work) → Each P w.commutes → Each P (phase_work w)
+pub each_phase : (P : Commute → Type 0) (w : PlainTxFrame) → Each P w.commutes → Each P (phase_work w)
 each_phase P w h = each_by_ref P (commuted w) w.commutes h
 
 -- each commute has such a callee
@@ -117,7 +117,7 @@ pub commutes_both : (P : Callee → Type 0) (xs ys : List Commute) → AllCommut
 commutes_both P xs ys h k = each_both (λ c. P c.callee) xs ys h k
 
 -- so has each commute of the phase
-pub phase_some : (P : Callee → Type 0) (w : Work) → AllCommutes P w.commutes → AllCommutes P (phase_work w)
+pub phase_some : (P : Callee → Type 0) (w : PlainTxFrame) → AllCommutes P w.commutes → AllCommutes P (phase_work w)
 phase_some P w h = each_phase (λ c. P c.callee) w h
 
 -- commutes with pure callees, redone

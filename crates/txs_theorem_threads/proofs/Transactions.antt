@@ -1,7 +1,7 @@
 -- A sound transaction's body on one world: no answer is invalid.
 use Rattle.std.proofs.Common.{suc, Bool, true, false, List, ◌∷◌, ◌||◌, None, Result, Ok, Err, refl, sym, subst, length, ◌≡◌}
 use Rattle.std.proofs.lemmas.Bool.{false≢true}
-use Rattle.txs_frame.specs.Frame.{Work, set_ref, commute_ref, hold_send}
+use Rattle.txs_frame.specs.Frame.{PlainTxFrame, set_ref, commute_ref, hold_send}
 use Rattle.txs_value_cell.specs.Cells.{World}
 use Rattle.txs_value_cell.specs.Forms.{rule, cell_of}
 use Rattle.txs_value_base.specs.declared.fault.FaultKind.{FaultKind}
@@ -40,7 +40,7 @@ on_cell_meant (Ok c) span go t h = h c
 on_cell_meant (Err k) span go t h = refl
 
 -- what was done, or a fault
-done_meant : (r : Result Work FaultKind) (span : Span) (v : Value) (t : TxState) → FormMeant (done_as r span v t)
+done_meant : (r : Result PlainTxFrame FaultKind) (span : Span) (v : Value) (t : TxState) → FormMeant (done_as r span v t)
 done_meant (Ok w) span v t = (tt, refl)
 done_meant (Err k) span v t = refl
 

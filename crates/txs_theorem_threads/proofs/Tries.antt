@@ -9,7 +9,7 @@ use Rattle.txs_world_protocol.specs.declared.ask.Reply.TheVariants as reply
 use Rattle.txs_world_protocol.specs.declared.ask.Reply.{Reply}
 use Rattle.txs_world_protocol.specs.declared.event.EventKind.TheVariants as event
 use Rattle.txs_world_protocol.specs.declared.event.EventKind.{EventKind}
-use Rattle.txs_frame.specs.Frame.{Work, no_work, commuted, set_writes, by_ref, phase_work}
+use Rattle.txs_frame.specs.Frame.{PlainTxFrame, empty_frame, commuted, set_writes, by_ref, phase_work}
 use Rattle.txs_frame.specs.declared.frame.Commute.{Commute}
 use Rattle.txs_value_data.proofs.SameLemmas.{numbers}
 use Rattle.txs_value_cell.specs.Cells.{World, Validators}
@@ -154,7 +154,7 @@ over_short (Waits x) t go broke h = absurd h
 over_short Invalid t go broke h = absurd h
 
 -- the final writes of a transaction that commuted nothing
-final_none : (f : Applies ThreadState) (validators : Validators) (span : Span) (w : Work) (C : World) (t : ThreadState) → commuted w ≡ [] → final_writes f validators span w C t ≡ Completes (set_writes w) t
+final_none : (f : Applies ThreadState) (validators : Validators) (span : Span) (w : PlainTxFrame) (C : World) (t : ThreadState) → commuted w ≡ [] → final_writes f validators span w C t ≡ Completes (set_writes w) t
 final_none f validators span w C t e = ap (λ cs. bind (redone f (by_ref cs w.commutes) (valued cs C) t) (λ ws t1. Completes (merged (set_writes w) ws) t1)) e
 
 -- ---- tries
@@ -172,17 +172,17 @@ module _ (cells : List CellDefinition) (a : Account cells) (P : Callee → Type 
   Follow k = (from : Start) (s : ActorState) (es : List SeenEvent) (t : ThreadState) → IsBeside s t → StartFits cells a P d t.txs from s es → Related (account_link cells a) (tries d.validators k d.mark.span body f from s) (eats_tx k d g (es ++ a.tail) t)
 
   -- the final writes, where the commutes on a world made these
-  final_made : (w : Work) (C : World) (t : ThreadState) (xs : Writes) (u : Unit {0}) → AllCommutes P w.commutes → redone q (phase_work w) (valued (commuted w) C) tt ≡ Completes xs u → final_writes g d.validators d.mark.span w C t ≡ Completes (merged (set_writes w) xs) t
+  final_made : (w : PlainTxFrame) (C : World) (t : ThreadState) (xs : Writes) (u : Unit {0}) → AllCommutes P w.commutes → redone q (phase_work w) (valued (commuted w) C) tt ≡ Completes xs u → final_writes g d.validators d.mark.span w C t ≡ Completes (merged (set_writes w) xs) t
   final_made w C t xs u all e =
       ap (λ y. bind y (λ ws t1. Completes (merged (set_writes w) ws) t1)) ((redone_carried P t g q (λ c vs p. right c vs t p) (phase_work w) (phase_some P w all) (valued (commuted w) C)).0 ∙ ap (carried t) e)
 
   -- or faulted
-  final_broke : (w : Work) (C : World) (t : ThreadState) (e : Fault) (u : Unit {0}) → AllCommutes P w.commutes → redone q (phase_work w) (valued (commuted w) C) tt ≡ Faults e u → final_writes g d.validators d.mark.span w C t ≡ Faults e t
+  final_broke : (w : PlainTxFrame) (C : World) (t : ThreadState) (e : Fault) (u : Unit {0}) → AllCommutes P w.commutes → redone q (phase_work w) (valued (commuted w) C) tt ≡ Faults e u → final_writes g d.validators d.mark.span w C t ≡ Faults e t
   final_broke w C t e u all eq =
       ap (λ y. bind y (λ ws t1. Completes (merged (set_writes w) ws) t1)) ((redone_carried P t g q (λ c vs p. right c vs t p) (phase_work w) (phase_some P w all) (valued (commuted w) C)).0 ∙ ap (carried t) eq)
 
   -- or needed turns
-  final_short : (w : Work) (C : World) (t : ThreadState) (u : Unit {0}) → AllCommutes P w.commutes → redone q (phase_work w) (valued (commuted w) C) tt ≡ OutOfTurns u → final_writes g d.validators d.mark.span w C t ≡ OutOfTurns t
+  final_short : (w : PlainTxFrame) (C : World) (t : ThreadState) (u : Unit {0}) → AllCommutes P w.commutes → redone q (phase_work w) (valued (commuted w) C) tt ≡ OutOfTurns u → final_writes g d.validators d.mark.span w C t ≡ OutOfTurns t
   final_short w C t u all eq =
       ap (λ y. bind y (λ ws t1. Completes (merged (set_writes w) ws) t1)) ((redone_carried P t g q (λ c vs p. right c vs t p) (phase_work w) (phase_some P w all) (valued (commuted w) C)).0 ∙ ap (carried t) eq)
 
@@ -291,7 +291,7 @@ module _ (cells : List CellDefinition) (a : Account cells) (P : Callee → Type 
 
       module _ (Q : World) where
         -- what the commutes make of the refs' values
-        abbrev phase : Work → World → Completion (Unit {0}) Writes
+        abbrev phase : PlainTxFrame → World → Completion (Unit {0}) Writes
         phase w W = redone q (phase_work w) (valued (commuted w) W) tt
 
         final_there : (s : ActorState) (W : World) (t : ThreadState) (ws : Writes) (u : Unit {0}) → Made s → phase s.done W ≡ Completes ws u → final_writes g d.validators d.mark.span x.done W t ≡ Completes (merged (set_writes s.done) ws) t
@@ -446,7 +446,7 @@ module _ (cells : List CellDefinition) (a : Account cells) (P : Callee → Type 
 
     -- ---- the begin
 
-    module _ (body_related : (txs : List TxRun) (R : World) (s : ActorState) (es : List SeenEvent) → s.done ≡ no_work → a.fits txs (In R) s.todo es → Related (tx_link P (a.fits txs) R es s.printed (held_in s.acting)) (body s) (d.on R)) where
+    module _ (body_related : (txs : List TxRun) (R : World) (s : ActorState) (es : List SeenEvent) → s.done ≡ empty_frame → a.fits txs (In R) s.todo es → Related (tx_link P (a.fits txs) R es s.printed (held_in s.acting)) (body s) (d.on R)) where
       -- what comes after the begin
       abbrev after_begin : Unit {0} → ActorState → Completion ActorState Value
       after_begin u s1 = telling fail (body s1) after_body
@@ -454,7 +454,7 @@ module _ (cells : List CellDefinition) (a : Account cells) (P : Callee → Type 
       begin_answered : (s : ActorState) (es : List SeenEvent) (t : ThreadState) (r : Reply) (xs : List Exchange) → IsBeside s t → ReplyFits cells Out ask.Begin r (λ ph1 es1. a.fits t.txs ph1 xs es1) es
           → Comes (bind (res (on_step (heard read_point (Replied r (record s { todo = xs }))) begun)) after_begin) es t
       begin_answered s es t (reply.At p) xs pr m =
-          let s1 : ActorState = record s { todo = xs; at = p; view = p; done = no_work; commuting = None } in
+          let s1 : ActorState = record s { todo = xs; at = p; view = p; done = empty_frame; commuting = None } in
           body_comes m.0 (body s1) es t s.printed (held_in s.acting) pr (body_related t.txs m.0 s1 es refl m.1)
       begin_answered s es t _ xs pr m = tt
 
@@ -474,6 +474,6 @@ module _ (cells : List CellDefinition) (a : Account cells) (P : Callee → Type 
   start_fits txs (Behind v) s es fits = (In fits.0, fits.5)
 
   -- tries whose body is the transaction on each world
-  pub tries_related : (body_related : (txs : List TxRun) (R : World) (s : ActorState) (es : List SeenEvent) → s.done ≡ no_work → a.fits txs (In R) s.todo es → Related (tx_link P (a.fits txs) R es s.printed (held_in s.acting)) (body s) (d.on R)) → (k : ℕ) → Follow k
+  pub tries_related : (body_related : (txs : List TxRun) (R : World) (s : ActorState) (es : List SeenEvent) → s.done ≡ empty_frame → a.fits txs (In R) s.todo es → Related (tx_link P (a.fits txs) R es s.printed (held_in s.acting)) (body s) (d.on R)) → (k : ℕ) → Follow k
   tries_related br zero from s es t pr fits = let f : (ph : Phase) × a.fits t.txs ph s.todo es = start_fits t.txs from s es fits in (refl, (pr.0, f.0, es, refl, f.1))
   tries_related br (suc k) from s es t pr fits = attempt_comes k (tries_related br k) br from s es t pr fits

@@ -10,7 +10,7 @@ use Rattle.txs_world_protocol.specs.declared.ask.Reply.TheVariants as reply
 use Rattle.txs_world_protocol.specs.declared.ask.Reply.{Reply}
 use Rattle.txs_world_protocol.specs.declared.event.EventKind.{EventKind}
 use Rattle.txs_world_protocol.specs.declared.event.EventKind.TheVariants as event
-use Rattle.txs_frame.specs.Frame.{Work, no_work, with_cell, is_commuted, set_ref, ensure_ref, commute_ref, hold_send}
+use Rattle.txs_frame.specs.Frame.{PlainTxFrame, empty_frame, with_cell, is_commuted, set_ref, ensure_ref, commute_ref, hold_send}
 use Rattle.txs_frame.specs.declared.frame.Commute.{Commute}
 use Rattle.txs_value_cell.specs.Cells.{World, Validators, validators_of}
 use Rattle.txs_value_cell.specs.Forms.{rule, may_stand, same_kind, cell_if, cell_of_kind, cell_of}
@@ -148,7 +148,7 @@ cell_is r inside (Text bs) c e = absurd (subst IsOk (sym e) tt)
 cell_is r inside (Vector vs) c e = absurd (subst IsOk (sym e) tt)
 
 -- what a transaction did so far: each commute is of such a callee, and each ref that it set has a value
-abbrev pub Kept : (Callee → Type 0) → Work → Type 0
+abbrev pub Kept : (Callee → Type 0) → PlainTxFrame → Type 0
 Kept P w = AllCommutes P w.commutes × Owned w
 
 -- in a try on this world the first exchange fits, where it is a look
@@ -208,7 +208,7 @@ module _ (cells : List CellDefinition) (F : Fitting) (looks : LooksFit cells F) 
 
   look_now : (c : CellId) (s : ActorState) (t t1 : TxState) → s.done ≡ t.done → k.rel s t1 → Related k (res (look c s)) (Completes (current R t.done c) t1)
   look_now c s t t1 e r =
-      let value_in : Work → Value = λ w. current R w c in
+      let value_in : PlainTxFrame → Value = λ w. current R w c in
       subst (λ v. Related k (res (look c s)) (Completes v t1)) (ap value_in e) (look_at c s t1 r)
 
   noted_rel : (c : CellId) (s : ActorState) (t : TxState) (o : Option Value) → k.rel s t → k.rel s (noted c o t)
@@ -220,30 +220,30 @@ module _ (cells : List CellDefinition) (F : Fitting) (looks : LooksFit cells F) 
 
   -- ---- what a ref gets
 
-  abbrev OkSome : Result Work FaultKind → Type 0
+  abbrev OkSome : Result PlainTxFrame FaultKind → Type 0
   OkSome (Ok w) = Kept P w
   OkSome (Err e) = Unit {0}
 
-  set_some : (c : CellId) (v : Value) (w : Work) → Kept P w → OkSome (set_ref c v w)
+  set_some : (c : CellId) (v : Value) (w : PlainTxFrame) → Kept P w → OkSome (set_ref c v w)
   set_some c v w h = test (is_commuted w c.number)
     where
       test : (b : Bool) → OkSome (if b then Err SetAfterCommute else Ok (record w { values = with_write w.values c v; sets = with_cell w.sets c }))
       test true = tt
       test false = (h.0, owned_set c v w h.1)
 
-  done_related : (rw : Result Work FaultKind) (span : Span) (v : Value) (s : ActorState) (t : TxState) → OkSome rw → k.rel s t → Related k (res (on_step (step_of rw span s) (λ w s1. Continue v (record s1 { done = w })))) (done_as rw span v t)
+  done_related : (rw : Result PlainTxFrame FaultKind) (span : Span) (v : Value) (s : ActorState) (t : TxState) → OkSome rw → k.rel s t → Related k (res (on_step (step_of rw span s) (λ w s1. Continue v (record s1 { done = w })))) (done_as rw span v t)
   done_related (Ok w) span v s t h r = (refl, (refl, h, r.2, r.3))
   done_related (Err e) span v s t h r = (refl, (r.2, r.3))
 
   set_related : (c : CellId) (span : Span) (v : Value) (s : ActorState) (t : TxState) → k.rel s t → Related k (res (set_own span v c s)) (done_as (set_ref c v t.done) span v t)
   set_related c span v s t r =
-      let set : Work → Result Work FaultKind = λ w. set_ref c v w in
+      let set : PlainTxFrame → Result PlainTxFrame FaultKind = λ w. set_ref c v w in
       subst (λ rw. Related k (res (set_own span v c s)) (done_as rw span v t)) (ap set r.0) (done_related (set_ref c v s.done) span v s t (set_some c v s.done r.1) r)
 
   commute_related : (c : CellId) (callee : Callee) (vs : List Value) (span : Span) (w : Value) (s : ActorState) (t : TxState) (used : Bool) → P callee → k.rel s t
       → Related k (res (close_own (Some (record { cell = c; callee = callee; args = vs })) span w c s)) (Completes w (record t { done = commute_ref c callee vs w t.done; used = used }))
   commute_related c callee vs span w s t used p r =
-      let now : Work → Work = λ x. commute_ref c callee vs w x in
+      let now : PlainTxFrame → PlainTxFrame = λ x. commute_ref c callee vs w x in
       (refl, (ap now r.0, (commutes_both P s.done.commutes (record { cell = c; callee = callee; args = vs } ∷ []) r.1.0 (p, tt), owned_commute c callee vs w s.done r.1.1), r.2, r.3))
 
   -- ---- the forms, whose callees are pure
@@ -292,7 +292,7 @@ module _ (cells : List CellDefinition) (F : Fitting) (looks : LooksFit cells F) 
   ensure_related : (c : CellId) (s : ActorState) (t : TxState) → k.rel s t → Related k (res (read_cell Ensure true c s)) (tx_look R Ensure c t)
   ensure_related c s t r =
       let go : Value → ActorState → StepResult Value = λ v s1. Continue v (record s1 { done = ensure_ref c s1.done }) in
-      let kept : Work → Work = λ w. ensure_ref c w in
+      let kept : PlainTxFrame → PlainTxFrame = λ w. ensure_ref c w in
       subst (λ x. Related k x (tx_look R Ensure c t)) (sym (res_step (look c s) go))
       (bind_related ActorState TxState k (res (look c s)) (taken R c t) (λ v s1. res (go v s1)) (λ v t1. Completes v (record t1 { done = ensure_ref c t1.done })) (taken_related c s t r)
       (λ v s1 t1 r1. (refl, (ap kept r1.0, r1.1, r1.2, r1.3))))
@@ -306,7 +306,7 @@ module _ (cells : List CellDefinition) (F : Fitting) (looks : LooksFit cells F) 
   held_related m v callee vs s t r =
       let act : CellId → Action = λ c. record { agent = c; callee = callee; args = vs; span = m.span } in
       on_cell_related TxState k (cell_of (rule form_of.Send) true v) m.span (λ c s1. send_action true (act c) s1) (λ c t1. Completes v (record t1 { done = hold_send (act c) t1.done })) s t r
-      (λ c e. let held : Work → Work = λ w. hold_send (act c) w in (sym (cell_is (rule form_of.Send) true v c e), (ap held r.0, r.1, r.2, r.3)))
+      (λ c e. let held : PlainTxFrame → PlainTxFrame = λ w. hold_send (act c) w in (sym (cell_is (rule form_of.Send) true v c e), (ap held r.0, r.1, r.2, r.3)))
 
 -- the forms of a try, on replies and on its world, where functions are sound
 module _ (cells : List CellDefinition) (F : Fitting) (looks : LooksFit cells F) (R : World) (out : List ℕ) (sends : Option (List Action)) (es : List SeenEvent) (n : ℕ) (functions : List PlainFunction) (sound : SoundFunctions [] functions) where
@@ -374,7 +374,7 @@ module _ (cells : List CellDefinition) (F : Fitting) (looks : LooksFit cells F) 
       tx_dosync false m e env s t i p h a r = absurd (false≢true i)
 
   -- a try on replies of one world is the transaction on that world
-  pub tx_related : (d : ℕ) (e : Tree) (env : List Value) (s : ActorState) → Keeps (placed (known functions)) true e → s.done ≡ no_work → F (In R) s.todo es → HasPrinted out sends s → Related tries_link (closed (eval (on_replies validators) (call_at (λ x. on_replies validators) n functions d) n true e env s)) (tx_meaning n functions d e env R)
+  pub tx_related : (d : ℕ) (e : Tree) (env : List Value) (s : ActorState) → Keeps (placed (known functions)) true e → s.done ≡ empty_frame → F (In R) s.todo es → HasPrinted out sends s → Related tries_link (closed (eval (on_replies validators) (call_at (λ x. on_replies validators) n functions d) n true e env s)) (tx_meaning n functions d e env R)
   tx_related d e env s p own fits pr =
       let cf = call_at (λ x. on_replies validators) n functions d in
       let cg = call_at (λ x. in_transaction R) n functions d in

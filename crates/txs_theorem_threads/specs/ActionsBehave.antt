@@ -18,11 +18,11 @@ abbrev pub acting : CellId → Action → ℕ → List Value → ActorState → 
 acting g a place stack s =
     record { body = 0; place = place; stack = stack; locals = []; frames = []; doing = Outside; state = record s { acting = Some (record { agent = g; action = a; sends = [] }) } }
 
--- from here turns come to this, and the machine goes on from there for any number of turns
+-- from here turns come to this, and the machine continues from there for any number of turns
 abbrev pub ComesTo : ThreadCode → Configuration → Turned Configuration → Type 0
 ComesTo code c t = (k : ℕ) → (j : ℕ) × (k ≤ j) × (exec code j c ≡ and_then t (exec code k))
 
--- What a call comes to where a pure function means this: its caller goes on with the value; the fault is raised where the call was
+-- What a call comes to where a pure function means this: its caller continues with the value; the fault is raised where the call was
 -- made; where loops of n turns don't suffice, n turns of the machine don't. Nothing has changed of the actor's state.
 abbrev pub CallComes : ThreadCode → ℕ → Configuration → (Value → Configuration) → Completion (Unit {0}) Value → Type 0
 CallComes code n c back (Completes v u) = ComesTo code c (Unfinished (back v))

@@ -35,7 +35,7 @@ HasSettled (Waits t) = Unit {0}
 HasSettled (OutOfTurns t) = ⊥
 HasSettled Invalid = ⊥
 
--- An end of what is in hand, on its worlds: it makes the thread's meaning run the body, the commutes or the swap's callee there. In a
+-- An end of what runs, on its worlds: it makes the thread's meaning run the body, the commutes or the swap's callee there. In a
 -- try that has viewed nothing yet, Q is what its commutes would view.
 abbrev pub in_hand : List CellDefinition → World → Phase → List SeenEvent
 in_hand cells Q Out = []
@@ -44,7 +44,7 @@ in_hand cells Q (Viewed R V) = record { book = 0; kind = Fail 0 0; R = R; Q = V;
 in_hand cells Q (WithSwap c W) = record { book = home cells c; kind = Broke 0; R = W; Q = W; C = W } ∷ []
 
 -- Where the thread's meaning has an outcome or needs an event on these events, for some bound on its loops, the code ends so or
--- asks for that event, once it has consumed the replies; unless what is in hand needs turns on its worlds for every bound, whatever
+-- asks for that event, once it has consumed the replies; unless what runs needs turns on its worlds for every bound, whatever
 -- its commutes would view.
 abbrev pub EndsSo : ThreadCode → ThreadSource → Type 0
 EndsSo code p = (todo : List Exchange) (es : List SeenEvent) (end : Phase) (Q : World) (m n k : ℕ) → RepliesFitTo p.cells Out todo es end → Consumed (target code m todo) → HasSettled (thread_meaning p n es) → (NeedsTurns (thread_meaning p k (es ++ in_hand p.cells Q end)) → ⊥) → (j : ℕ) × IsOver (target code j todo) × Explained (target code j todo) (thread_meaning p n es)

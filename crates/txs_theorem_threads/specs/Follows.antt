@@ -29,11 +29,11 @@ pub record Follows (code : ThreadCode) (p : ThreadSource) : Type 0 where
   pub noted : (todo : List Exchange) (es : List SeenEvent) (m : ℕ) → RepliesFit p.cells Out todo es → Consumed (target code m todo) → AreNoted todo (txs_of (thread_meaning p m es))
   -- where the tree on these replies ends for some bound on its loops, the code ends so, and the thread with any greater bound agrees
   pub reaches : (todo : List Exchange) (es : List SeenEvent) (n k : ℕ) → RepliesFit p.cells Out todo es → HasEnded (source p n todo) → n ≤ k → ((m : ℕ) × (target code m todo ≡ outcome_of (source p n todo))) × Agrees p.cells (source p n todo) (thread_meaning p k es)
-  -- where the tree on these replies needs more turns of a loop than the bound, the code goes on and has, after as many turns or more, printed all that the tree printed
+  -- where the tree on these replies needs more turns of a loop than the bound, the code continues and has, after as many turns or more, printed all that the tree printed
   pub goes_on : (todo : List Exchange) (n : ℕ) (s : ActorState) → source p n todo ≡ OutOfTurns s → (m : ℕ) × (n ≤ m) × (target code m todo ≡ Unfinished s)
-  -- where the thread's meaning has eaten the events and needs another, or more turns of a loop, the code prints all that the meaning printed, whatever is in hand
+  -- where the thread's meaning has eaten the events and needs another, or more turns of a loop, the code prints all that the meaning printed, whatever runs
   pub prints_so : PrintsSo code p
-  -- where the thread's meaning ends on the events for some bound on its loops, the code ends so, unless what is in hand needs turns for every bound
+  -- where the thread's meaning ends on the events for some bound on its loops, the code ends so, unless what runs needs turns for every bound
   pub ends_so : EndsSo code p
 
 -- no answer of a tree on replies that fit is invalid

@@ -28,7 +28,7 @@ new_of (OutOfTurns s) = None
 new_of Invalid = None
 
 -- The action's meaning on the agent's state: its callee on the state and the arguments (Clojure's docstring of `send`), where each
--- loop makes at most n turns. An operation faults where the send stands.
+-- loop makes at most n turns. An operation faults where the send is.
 abbrev pub action_meaning : ℕ → List PlainFunction → Action → Value → Option (Result Value Fault)
 action_meaning n functions a v = new_of (apply (pure_calls n functions (length functions) false) a.span a.callee (v ∷ a.args) tt)
 
@@ -41,14 +41,14 @@ abbrev pub HandsOut : List PlainFunction → Reply → Type 0
 HandsOut functions (reply.Action number a v) = SoundAction functions a
 HandsOut functions _ = ⊥
 
--- finished actions, as they are told to an agent
+-- finished actions, as an agent was answered
 abbrev pub AgentFits : List PlainFunction → CellId → List Exchange → Type 0
 AgentFits functions g [] = Unit {0}
 AgentFits functions g (x ∷ []) = ⊥
 AgentFits functions g (x ∷ y ∷ xs) =
     (x.ask ≡ Take g) × HandsOut functions x.reply × (new : Result Value Fault) × (y.ask ≡ Finish g new []) × (y.reply ≡ reply.Done) × AgentFits functions g xs
 
--- what an agent was told: that it took actions and finished them, one after another, and maybe that it took one more, which it has in hand
+-- what an agent was answered: that it took actions and finished them, one after another, and maybe that it took one more, which it runs
 abbrev pub AgentTold : List PlainFunction → CellId → List Exchange → Type 0
 AgentTold functions g [] = Unit {0}
 AgentTold functions g (x ∷ []) = (x.ask ≡ Take g) × HandsOut functions x.reply
@@ -67,7 +67,7 @@ AsksNext a (Asking s) = (s.todo ≡ []) × (s.wants ≡ Some a)
 AsksNext a (Unfinished s) = ⊥
 AsksNext a Stuck = ⊥
 
--- the machine has consumed all exchanges and goes on
+-- the machine has consumed all exchanges and continues
 abbrev pub IsRunning : Outcome → Type 0
 IsRunning (Ended s) = ⊥
 IsRunning (Failed f s) = ⊥
@@ -75,7 +75,7 @@ IsRunning (Asking s) = ⊥
 IsRunning (Unfinished s) = s.todo ≡ []
 IsRunning Stuck = ⊥
 
--- the machine goes on, or asks, and has printed nothing
+-- the machine continues, or asks, and has printed nothing
 abbrev pub GoesOn : Outcome → Type 0
 GoesOn (Ended s) = ⊥
 GoesOn (Failed f s) = ⊥

@@ -25,7 +25,7 @@ res (Redo s) = Retries s
 res (Await s) = Waits s
 res Malformed = Invalid
 
--- where a part faults, this is asked before the fault goes on; a value goes on
+-- where a part faults, this is asked before the fault is passed on; a value is passed on
 abbrev pub telling : {A : Type 0} → (ActorState → StepResult (Unit {0})) → Completion ActorState A → (A → ActorState → Completion ActorState Value) → Completion ActorState Value
 telling ask (Completes a s) go = go a s
 telling ask (Recurs vs s) go = Invalid

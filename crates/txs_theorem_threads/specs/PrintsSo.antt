@@ -8,7 +8,7 @@ use Rattle.txs_code_meaning.specs.Machine.{ThreadCode, Outcome, Ended, Failed, A
 use Rattle.txs_code_meaning.specs.Opening.{target}
 use Rattle.txs_theorem_threads.specs.RepliesFit.{Out, RepliesFit, Consumed, halted, HasEaten}
 
--- the machine has consumed all exchanges and printed this, and asks or goes on
+-- the machine has consumed all exchanges and printed this, and asks or continues
 abbrev pub HasPrintedSo : List ℕ → Outcome → Type 0
 HasPrintedSo out (Ended s) = ⊥
 HasPrintedSo out (Failed f s) = ⊥

@@ -22,7 +22,7 @@ use Rattle.txs_code_meaning.specs.ActorState.{ActorState}
 use Rattle.txs_code_meaning.specs.Machine.{Outcome, Ended, Failed, Asking, Unfinished, Stuck}
 use Rattle.txs_theorem_threads.specs.Behaves.{source}
 
--- outside a transaction, in a try on one world, in a commute phase on the world that was viewed, or with a swap in hand on the
+-- outside a transaction, in a try on one world, in a commute phase on the world that was viewed, or while a swap is applied on the
 -- world that was opened
 pub data Phase : Type 0 where
   Out : Phase
@@ -32,12 +32,12 @@ pub data Phase : Type 0 where
 
 -- ---- what an event says
 
--- the next event is of this book and meets this, and the rest goes on
+-- the next event is of this book and meets this, and the rest continues
 abbrev pub OnEvent : ℕ → (SeenEvent → Type 0) → (List SeenEvent → Type 0) → List SeenEvent → Type 0
 OnEvent book P next [] = ⊥
 OnEvent book P next (e ∷ es) = (e.book ≡ book) × P e × next es
 
--- a transaction had to run again, or where told so its commutes alone had to
+-- a transaction had to run again, or where this says so its commutes alone had to
 abbrev pub SaysRetry : Bool → EventKind → Type 0
 SaysRetry b (event.Retry since c commute) = commute ≡ b
 SaysRetry b _ = ⊥
@@ -95,7 +95,7 @@ AgreeOn (w ∷ ws) Q C = (Q w.0.number ≡ C w.0.number) × AgreeOn ws Q C
 
 -- ---- asks with their replies, phase by phase
 
--- what goes on after a reply, in the phase after it
+-- what continues after a reply, in the phase after it
 abbrev pub Goes : Type 1
 Goes = Phase → List SeenEvent → Type 0
 
@@ -140,7 +140,7 @@ ViewedFits R Q (ask.Commit p ws rs q cs sends) (reply.AgentIsFailed g) next es =
 ViewedFits R Q (ask.Fail p q) reply.Done next es = OnEvent 0 (λ e. (R ≡ e.R) × (Q ≡ e.Q) × SaysFail e.kind) (next Out) es
 ViewedFits R Q _ _ next es = ⊥
 
--- the asks of a swap in hand, which are of its atom
+-- the requests of a swap that is applied, which are of its atom
 abbrev pub SwapFits : List CellDefinition → CellId → World → Ask → Reply → Goes → List SeenEvent → Type 0
 -- the atom has at the event's place the value that was opened
 SwapFits cells c W (ask.CloseAt d (Some p) v) reply.Done next es =
@@ -198,7 +198,7 @@ RepliesFit cells ph (x ∷ xs) es = ReplyFits cells ph x.ask x.reply (λ ph1 es1
 
 -- ---- ends
 
--- whether a part goes on, or needs an event, turns, or another try
+-- whether a part continues, or needs an event, turns, or another try
 pub data Halt (S : Type 0) : Type 0 where
   Going : Halt S
   Stopped Short Rerun : (s : S) → Halt S

@@ -8,7 +8,7 @@ use Rattle.txs_tree_meaning.specs.Sound.{SoundCallee}
 use Rattle.txs_tree_meaning.specs.Tree.{PlainFunction}
 use Rattle.txs_code_meaning.specs.Machine.{SendOf, ThreadCode, fetch}
 
--- Each send of the code, wherever it stands, names a callee that is pure and takes the agent's state and the arguments (Clojure's docstring of `send`).
+-- Each send of the code, wherever it is, names a callee that is pure and takes the agent's state and the arguments (Clojure's docstring of `send`).
 abbrev pub CodeSendsSound : List PlainFunction → ThreadCode → Type 0
 CodeSendsSound functions code = (b at n : ℕ) (f : Callee) (span : Span) → fetch code b at ≡ Some (SendOf f n span) → SoundCallee (known functions) f (suc n)
 

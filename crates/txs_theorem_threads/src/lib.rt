@@ -1,8 +1,8 @@
 //! What it is that code follows a program: after any number of turns, on replies that fit a thread's
 //! events, the thread's meaning eats those events with what the code printed, and ends as the code has;
 //! and all that the meaning prints the code prints, also where neither ends.
-//! An agent's code hands in what an action means, and goes on running one that never ends.
-//! Each law stands on a function of its own, which does nothing when it runs.
+//! An agent's code hands in what an action means, and continues to run one that never ends.
+//! Each law is the contract of a function of its own, which does nothing when it runs.
 #![tactic(auto)]
 
 ghost use Rattle.txs_theorem_threads.specs.ActionsBehave.{SoundFollowsAgents};

@@ -1,20 +1,16 @@
 -- The agents of a code, in the order of its cells, and what the workers left of them.
-use Rattle.std.proofs.Common.{◌≡◌, ◌≤◌, ◌<◌, ◌+◌, ℕ, zero, suc, true, List, [], ◌∷◌, length, get_or, Option, Some, None, sym, ap, subst, ◌∙◌, arith}
+use Rattle.std.proofs.Common.{◌≡◌, ◌<◌, ◌+◌, ℕ, zero, suc, true, List, [], ◌∷◌, length, get_or, Option, Some, None, sym, ap, subst, ◌∙◌, arith}
 use Rattle.txs_value_base.specs.Places.{nth}
-use Rattle.txs_value_cell.specs.declared.cell.CellDefinition.{CellDefinition}
 use Rattle.txs_value_data.specs.declared.value.CellId.{CellId}
-use Rattle.txs_value_data.specs.declared.value.CellKind.{CellKind}
-use Rattle.txs_value_data.specs.declared.value.CellKind.TheVariants.{Ref, Atom, Agent}
 use Rattle.txs_code_meaning.specs.PlainCode.{PlainCode}
 use Rattle.txs_machine_actor.specs.PlainActor.{IsActorOf}
-use Rattle.txs_value_cell.specs.Agents.{agents_from, with_agent}
 use Rattle.txs_world_book.specs.Book.{has_agent}
 use Rattle.txs_world_book.specs.Served.{cells_of}
 use Rattle.txs_world.specs.Store.{next_action}
 use Rattle.txs_world_shared.specs.SharedState.{PlainShared, shared_of}
 use Rattle.txs_machine.specs.Agents.{agents_of, AreDrained}
 use Rattle.txs_machine.specs.RunOver.{IsStateOf}
-use Rattle.txs_world_protocol.specs.declared.report.Ran.{Ran}
+use Rattle.txs_world_protocol.specs.declared.report.ActorReport.{ActorReport}
 use Rattle.txs_machine.proofs.Together.{agent_at}
 use Rattle.txs_threads_gather.specs.ByPlace.{AgreesByPlace}
 use Rattle.txs_threads_gather.specs.Played.{PlainPlayed}
@@ -29,16 +25,6 @@ or_else d None = d
 or_else d (Some x) = x
 
 -- ---- which agents there are
-
-with_few : (k : CellKind) (n m : ℕ) (gs : List CellId) → length gs ≤ m → length (with_agent k n gs) ≤ suc m
-with_few Ref n m gs h = omega (arith, h)
-with_few Atom n m gs h = omega (arith, h)
-with_few Agent n m gs h = omega (arith, h)
-
--- there are no more agents than cells
-pub agents_few : (n : ℕ) (ds : List CellDefinition) → length (agents_from n ds) ≤ length ds
-agents_few n [] = omega arith
-agents_few n (d ∷ ds) = with_few d.kind n (length ds) (agents_from (suc n) ds) (agents_few (suc n) ds)
 
 pub nth_at : (gs : List CellId) (i : ℕ) (g : CellId) → i < length gs → g ≡ get_or gs i g → nth gs i ≡ Some g
 nth_at [] i g l e = absurd (omega (arith, l))
@@ -65,13 +51,13 @@ are_agents code s gs of all i g e =
 
 -- ---- what is left of them
 
-drained_at : (s : PlainShared) (gs : List CellId) (rs : List Ran) (i : ℕ) (g : CellId) (r : Ran) → AllDrained s gs rs → nth gs i ≡ Some g → nth rs i ≡ Some r → IsDrained s g r
+drained_at : (s : PlainShared) (gs : List CellId) (rs : List ActorReport) (i : ℕ) (g : CellId) (r : ActorReport) → AllDrained s gs rs → nth gs i ≡ Some g → nth rs i ≡ Some r → IsDrained s g r
 drained_at s [] rs i g r h e f = absurd (subst is_some (sym e) tt)
 drained_at s (x ∷ gs) [] i g r h e f = absurd (subst is_some (sym f) tt)
 drained_at s (x ∷ gs) (y ∷ rs) zero g r h e f = subst (λ z. IsDrained s z r) (ap (or_else g) e) (subst (IsDrained s x) (ap (or_else r) f) h.0)
 drained_at s (x ∷ gs) (y ∷ rs) (suc i) g r h e f = drained_at s gs rs i g r h.1 e f
 
 -- what is tested of the agents of a code
-pub are_drained : (code : PlainCode) (s : PlainShared) (gs : List CellId) (rs : List Ran) → IsStateOf code s → gs ≡ agents_of code → AllDrained s gs rs → AreDrained code (shared_of s) rs
+pub are_drained : (code : PlainCode) (s : PlainShared) (gs : List CellId) (rs : List ActorReport) → IsStateOf code s → gs ≡ agents_of code → AllDrained s gs rs → AreDrained code (shared_of s) rs
 are_drained code s gs rs of all h i g r e f n =
     ap (λ cs. next_action (cells_of cs) ((shared_of s).books 0) g) (sym of.cells) ∙ drained_at s gs rs i g r h (subst (λ l. nth l i ≡ Some g) (sym all) e) f n

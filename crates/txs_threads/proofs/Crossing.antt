@@ -26,8 +26,8 @@ use Rattle.txs_code_meaning.proofs.fusing.Fused.TheSendSync as fused_sent
 use Rattle.txs_threads_gather.specs.contracts.played.Played as played_is
 use Rattle.txs_threads_gather.specs.contracts.played.Played.TheInside as played_in
 use Rattle.txs_threads.specs.contracts.atoms.Atoms as atoms_is
-use Rattle.txs_threads.specs.contracts.desk.Desk as desk_is
-use Rattle.txs_threads.proofs.desk.Actors.TheSendSync as actors_sent
+use Rattle.txs_threads.specs.contracts.scheduler.Scheduler as scheduler_is
+use Rattle.txs_threads.proofs.scheduler.Actors.TheSendSync as actors_sent
 use Rattle.std.specs.contracts.sync.Mutex as mutex_is
 use Rattle.std.specs.contracts.alloc.Global as global_is
 use Rattle.std.specs.contracts.impls.GlobalAllocator.TheImpl as allocator
@@ -50,7 +50,7 @@ use Rattle.txs_world_protocol.specs.contracts.ask.Ask as ask_is
 use Rattle.txs_world_protocol.specs.contracts.ask.Reply as reply_is
 use Rattle.txs_world_protocol.specs.contracts.event.EventKind as event_kind_is
 use Rattle.txs_world_protocol.specs.contracts.event.Event as event_is
-use Rattle.txs_threads_replay.specs.contracts.kept.Kept as kept_is
+use Rattle.txs_threads_replay.specs.contracts.kept.KeptEntry as kept_is
 use Rattle.txs_threads_replay.specs.contracts.stored.Stored as stored_is
 use Rattle.txs_threads_replay.specs.contracts.kept.KeptEntries as kept_entries_is
 use Rattle.txs_threads_replay.specs.contracts.kept.KeptEntries.TheInside as kept_entries_in
@@ -61,7 +61,7 @@ use Rattle.txs_frame.specs.contracts.phase.Phase as phase_is
 use Rattle.txs_frame.specs.contracts.phase.Phase.TheInside as phase_in
 use Rattle.txs_machine_stack.specs.contracts.stack.Stack as stack_is
 use Rattle.txs_machine_stack.specs.contracts.stack.Stack.TheInside as stack_in
-use Rattle.txs_machine_transaction.specs.contracts.state.Origin as origin_is
+use Rattle.txs_machine_transaction.specs.contracts.state.Savepoint as savepoint_is
 use Rattle.txs_machine_transaction.specs.contracts.state.Transaction as transaction_is
 use Rattle.txs_machine_transaction.specs.contracts.state.Pending as pending_is
 use Rattle.txs_machine_transaction.specs.contracts.kept.KeptTransaction as kept_transaction_is
@@ -160,11 +160,11 @@ phase_send = view_send phase_in.the_row _ _ _ _ (recorded_send (phase_in.the_fie
 pub stack_send : IsSend stack_is.the_row
 stack_send = view_send stack_in.the_row _ _ _ _ (recorded_send (stack_in.the_field).row _ _ (stack_in.the_type).to_one (struct_send (S.shape stack_in.the_type) ((search (plain_send, crosses, sendable) depth 60 fits 20000), ((search (plain_send, vec.the_send, crosses, sendable) depth 60 fits 20000), ((search (value_send, vec.the_send, crosses, sendable) depth 60 fits 20000), tt)))))
 
-pub origin_field_send : IsSend (origin_is.the_field).row
-origin_field_send = struct_send (S.shape origin_is.the_type) ((search (span_sent.the_field_send, crosses, sendable) depth 60 fits 20000), ((search (stack_send, crosses, sendable) depth 60 fits 20000), tt))
+pub origin_field_send : IsSend (savepoint_is.the_field).row
+origin_field_send = struct_send (S.shape savepoint_is.the_type) ((search (span_sent.the_field_send, crosses, sendable) depth 60 fits 20000), ((search (stack_send, crosses, sendable) depth 60 fits 20000), tt))
 
-pub origin_send : IsSend origin_is.the_row
-origin_send = recorded_send (origin_is.the_field).row _ _ (origin_is.the_type).to_one origin_field_send
+pub origin_send : IsSend savepoint_is.the_row
+origin_send = recorded_send (savepoint_is.the_field).row _ _ (savepoint_is.the_type).to_one origin_field_send
 
 pub transaction_field_send : IsSend (transaction_is.the_field).row
 transaction_field_send = enum_send (E.shape transaction_is.the_type) (tt, (((search (plain_send, crosses, sendable) depth 60 fits 20000), tt), (((search (plain_send, crosses, sendable) depth 60 fits 20000), ((search (plain_send, crosses, sendable) depth 60 fits 20000), ((search (origin_field_send, crosses, sendable) depth 60 fits 20000), tt))), (((search (plain_send, crosses, sendable) depth 60 fits 20000), ((search (origin_field_send, crosses, sendable) depth 60 fits 20000), ((search (phase_send, crosses, sendable) depth 60 fits 20000), tt))), (((search (plain_send, crosses, sendable) depth 60 fits 20000), ((search (origin_field_send, crosses, sendable) depth 60 fits 20000), ((search (phase_send, crosses, sendable) depth 60 fits 20000), ((search (stack_send, crosses, sendable) depth 60 fits 20000), tt)))), ((cell_id_sent.the_field_send, ((search (plain_send, crosses, sendable) depth 60 fits 20000), ((search (origin_field_send, crosses, sendable) depth 60 fits 20000), tt))), tt))))))
@@ -265,13 +265,13 @@ pub atoms_sync : IsSync atoms_is.the_row
 atoms_sync = recorded_sync (atoms_is.the_field).row _ _ (atoms_is.the_type).to_one (struct_sync (S.shape atoms_is.the_type) (plain_sync _ _ _ _ _, (search (plain_sync, vec.the_sync, crosses, sendable) depth 60 fits 20000, (search (atom_locked, vec.the_sync, crosses, sendable) depth 60 fits 20000, tt))))
 
 module _ (P : RattleType) (p : IsSend P) where
-  pub desk_send : IsSend (desk_is.the_row P)
-  desk_send = recorded_send (desk_is.the_field P).row _ _ (desk_is.the_type P).to_one (struct_send (S.shape (desk_is.the_type P)) (store_send, (actors_sent.the_field_send P p, tt)))
+  pub scheduler_send : IsSend (scheduler_is.the_row P)
+  scheduler_send = recorded_send (scheduler_is.the_field P).row _ _ (scheduler_is.the_type P).to_one (struct_send (S.shape (scheduler_is.the_type P)) (store_send, (actors_sent.the_field_send P p, tt)))
 
 -- what a worker holds: the runtime, what lies under the store's lock, the atoms, both ends of the channel, and the gate, each lent
 module _ (R P G : RattleType) (r : IsSync (param 0 R)) (p : IsSend (param 1 P)) (g : IsSync (param 2 G)) where
-  desk_shared : IsSync (mutex_is.the_row (desk_is.the_row (param 1 P)))
-  desk_shared = mutex.the_sync (desk_is.the_row (param 1 P)) (desk_send (param 1 P) p)
+  scheduler_shared : IsSync (mutex_is.the_row (scheduler_is.the_row (param 1 P)))
+  scheduler_shared = mutex.the_sync (scheduler_is.the_row (param 1 P)) (scheduler_send (param 1 P) p)
 
   message_sent : IsSend (option_is.the_row (param 1 P))
   message_sent = search (option.the_send, p, crosses, sendable) depth 60 fits 20000
@@ -284,11 +284,11 @@ module _ (R P G : RattleType) (r : IsSync (param 0 R)) (p : IsSend (param 1 P)) 
 
   abbrev pub worker_fields : NamedLft → NamedLft → NamedLft → NamedLft → NamedLft → NamedLft → List RattleType
   worker_fields a b l c d e =
-      (shr_ref_field a (param 0 R) tt).row ∷ (shr_ref_field b (mutex_is.the_row (desk_is.the_row (param 1 P))) tt).row
+      (shr_ref_field a (param 0 R) tt).row ∷ (shr_ref_field b (mutex_is.the_row (scheduler_is.the_row (param 1 P))) tt).row
       ∷ (shr_ref_field l atoms_is.the_row tt).row
       ∷ (shr_ref_field c (sender_is.the_row (option_is.the_row (param 1 P)) global_is.the_row allocator.ghosts) tt).row
       ∷ (shr_ref_field d (receiver_is.the_row (option_is.the_row (param 1 P)) global_is.the_row allocator.ghosts) tt).row ∷ (shr_ref_field e (param 2 G) tt).row ∷ []
 
   pub worker_send : (n : Sym) (a b l c d e : NamedLft) → IsSend (TupleAt n (worker_fields a b l c d e))
   worker_send n a b l c d e =
-      recorded_send (field_at n (worker_fields a b l c d e)).row _ _ (type_at n (worker_fields a b l c d e)).to_one (struct_send (S.shape (type_at n (worker_fields a b l c d e))) (shr_send _ _ _ r, (shr_send _ _ _ desk_shared, (shr_send _ _ _ atoms_sync, (shr_send _ _ _ sender_shared, (shr_send _ _ _ receiver_shared, (shr_send _ _ _ g, tt)))))))
+      recorded_send (field_at n (worker_fields a b l c d e)).row _ _ (type_at n (worker_fields a b l c d e)).to_one (struct_send (S.shape (type_at n (worker_fields a b l c d e))) (shr_send _ _ _ r, (shr_send _ _ _ scheduler_shared, (shr_send _ _ _ atoms_sync, (shr_send _ _ _ sender_shared, (shr_send _ _ _ receiver_shared, (shr_send _ _ _ g, tt)))))))

@@ -5,7 +5,7 @@ use Rattle.txs_code_meaning.specs.PlainCode.{PlainCode}
 use Rattle.txs_machine.specs.Agents.{agents_of, AreDrained, AreExplainedBy}
 use Rattle.txs_machine.specs.RunOver.{IsStateOf}
 use Rattle.txs_machine.specs.Schedule.{HaveEnded, IsExplainedBy}
-use Rattle.txs_world_protocol.specs.declared.report.Ran.{Ran}
+use Rattle.txs_world_protocol.specs.declared.report.ActorReport.{ActorReport}
 use Rattle.txs_threads_gather.specs.ByPlace.{PartsAgree}
 use Rattle.txs_threads_gather.specs.Gather.{AllHaveDone, AllHaveAttended, AreReportsOf}
 use Rattle.txs_threads_gather.specs.Played.{PlainPlayed}
@@ -19,7 +19,7 @@ use Rattle.txs_world_book.specs.Served.{cells_of}
 use Rattle.txs_world.specs.Store.{PlainStore, next_action}
 
 -- every thread has ended
-abbrev pub AllEnded : List Ran → Type 0
+abbrev pub AllEnded : List ActorReport → Type 0
 AllEnded [] = Unit {0}
 AllEnded (r ∷ rs) = (r.outcome ≡ None → ⊥) × AllEnded rs
 
@@ -28,17 +28,17 @@ abbrev pub AreAgents : PlainShared → List CellId → Type 0
 AreAgents s gs = (i : ℕ) (g : CellId) → nth gs i ≡ Some g → has_agent (cells_of s.cells) g ≡ true
 
 -- an agent whose actor hasn't ended has failed, or nothing waits for it
-abbrev pub IsDrained : PlainShared → CellId → Ran → Type 0
+abbrev pub IsDrained : PlainShared → CellId → ActorReport → Type 0
 IsDrained s g r = r.outcome ≡ None → next_action (cells_of s.cells) (numbered_book s 0) g ≡ None
 
 -- so it is of each of these agents, with its entry
-abbrev pub AllDrained : PlainShared → List CellId → List Ran → Type 0
+abbrev pub AllDrained : PlainShared → List CellId → List ActorReport → Type 0
 AllDrained s [] rs = Unit {0}
 AllDrained s (g ∷ gs) [] = Unit {0}
 AllDrained s (g ∷ gs) (r ∷ rs) = IsDrained s g r × AllDrained s gs rs
 
 -- what is left of a run, its state and the entries of its threads and agents: all that `run_threads` says of them
-pub record IsLeft (code : PlainCode) (limit : ℕ) (s : PlainShared) (threads agents : List Ran) : Type 0 where
+pub record IsLeft (code : PlainCode) (limit : ℕ) (s : PlainShared) (threads agents : List ActorReport) : Type 0 where
   pub of : IsStateOf code s
   pub one_each : length threads ≡ length code.threads
   pub agents_each : length agents ≡ length (agents_of code)
@@ -51,8 +51,8 @@ pub record IsLeft (code : PlainCode) (limit : ℕ) (s : PlainShared) (threads ag
 
 -- Something is left of these actors over a state: by their entries a thread hasn't ended, or something waits for an agent that continues.
 pub record IsUnfinished (code : PlainCode) (s : PlainShared) (ps : List PlainPlayed) : Type 0 where
-  pub threads : List Ran
-  pub agents : List Ran
+  pub threads : List ActorReport
+  pub agents : List ActorReport
   pub of_threads : AreReportsOf s (take (length code.threads) ps) threads
   pub of_agents : AreReportsOf s (drop (length code.threads) ps) agents
   pub left : AllEnded threads → AllDrained s (agents_of code) agents → ⊥

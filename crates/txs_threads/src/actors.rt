@@ -1,43 +1,26 @@
 //! The actors of a code before their first turns: one for each thread, and behind them one for each agent.
 
-ghost use Rattle.std.specs.Prelude.{◌≡◌, ◌<◌, ◌≤◌, ◌+◌, ◌++◌, [], length, IfOk, OnOk};
+ghost use Rattle.std.specs.Prelude.{◌≡◌, ◌<◌, ◌≤◌, ◌+◌, length, IfOk};
 ghost use Rattle.txs_machine_actor.specs.PlainActor.{Lives};
-ghost use Rattle.txs_value_cell.specs.Agents.{with_agent};
 ghost use Rattle.txs_machine_actor.specs.Turns.{IsNew};
 ghost use Rattle.txs_machine.specs.Agents.{agents_of};
 ghost use Rattle.txs_threads_gather.specs.Callees.{AreCallees};
 
-use crate::desk::{Actors, agent_at};
+use crate::scheduler::{Actors, agent_at};
 use std::alloc::{AllocError, Global};
 use txs_code_meaning::Verified;
 use txs_machine_actor::Actor;
 use txs_threads_gather::Played;
-use txs_value_data::{CellId, CellKind};
-
-/// Adds the cell with this number, where it is an agent.
-fn add_agent(agents: &mut Vec<CellId>, kind: CellKind, number: u16) -> Result<(), AllocError>
-    ensures { OnOk result (agents.new.items ≡ agents.old.items ++ with_agent kind number []) }
-{
-    match kind {
-        CellKind::Ref | CellKind::Atom => Ok(()),
-        CellKind::Agent => {
-            agents.push(CellId { kind, number })?;
-            Ok(())
-        }
-    }
-}
+use txs_value_cell::list_agents;
+use txs_value_data::CellId;
 
 /// The agents of the code, in the order of its cells.
 pub(crate) fn agents_in(alloc: Global, code: &Verified) -> Result<Vec<CellId>, AllocError>
     requires few { length code.now.cells ≤ 65535 }
     ensures { IfOk result (λ v. v.items ≡ agents_of code.now) }
 {
-    let mut agents = Vec::new(alloc);
     let cells = code.code().cells();
-    for number in 0..cells.len() {
-        add_agent(&mut agents, cells[number].kind, number as u16)?;
-    }
-    Ok(agents)
+    list_agents(alloc, cells)
 }
 
 /// The actor with this number before its first turn: those of threads come first, and behind them those of these agents.

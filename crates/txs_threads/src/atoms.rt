@@ -4,7 +4,7 @@ ghost use Rattle.std.specs.Prelude.{◌≡◌, length, false, None, IfSome};
 ghost use Rattle.txs_world_book.specs.Atom.{AtomAnswers, serve_atom};
 ghost use Rattle.txs_world_shared.specs.Apart.{may_ask_atom};
 
-use crate::desk::{Served, count};
+use crate::scheduler::{Served, count};
 use std::alloc::{AllocError, Global};
 use std::hint::spin_loop;
 use std::sync::{Mutex, MutexGuard, Wait};

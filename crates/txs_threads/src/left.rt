@@ -9,11 +9,11 @@ ghost use Rattle.txs_world_book.specs.Served.{cells_of};
 ghost use Rattle.txs_world_shared.specs.SharedState.{is_lawful, answer_to, Answers};
 
 use crate::atoms::Atoms;
-use crate::desk::{Actors, Desk, Served};
-use crate::player::{Next, Player};
+use crate::runnable::{AfterReply, Runnable};
+use crate::scheduler::{Actors, Scheduler, Served};
 use std::alloc::Global;
 use txs_code_meaning::Verified;
-use txs_machine::{Ran, RunError};
+use txs_machine::{ActorReport, RunError};
 use txs_machine_actor::Turn;
 use txs_threads_gather::{Gathered, Played, gather};
 use txs_value_data::CellId;
@@ -39,15 +39,18 @@ fn serve_state(shared: &mut SharedState, actor: u16, ask: Ask) -> Option<Served>
 }
 
 /// Rounds of one ask of each actor that hasn't ended, until none continues: each is turned up to its next ask, which is served and answered, or to its end.
-fn play_rounds<P: Player>(shared: &mut SharedState, actors: &mut [P]) {
+fn play_rounds<P: Runnable>(shared: &mut SharedState, actors: &mut [P]) {
     for _ in 0..u64::MAX {
         let mut more = false;
         for one in actors.iter_mut() {
             match one.run(u64::MAX) {
                 Some(Turn::Went) => more = true,
                 Some(Turn::Asks(ask)) => {
-                    let served = serve_state(shared, one.place(), ask);
-                    more |= matches!(one.hear(served), Next::GoesOn | Next::Redoes | Next::Again);
+                    let served = serve_state(shared, one.number(), ask);
+                    more |= matches!(
+                        one.hear(served),
+                        AfterReply::GoesOn | AfterReply::Redoes | AfterReply::Again
+                    );
                 }
                 Some(Turn::Ended(_)) | None => {}
             }
@@ -59,7 +62,7 @@ fn play_rounds<P: Player>(shared: &mut SharedState, actors: &mut [P]) {
 }
 
 /// All actors, in the order of their numbers, when what the workers left unended was run in rounds.
-fn play_out<P: Player>(shared: &mut SharedState, mut actors: Actors<P>) -> Vec<P> {
+fn play_out<P: Runnable>(shared: &mut SharedState, mut actors: Actors<P>) -> Vec<P> {
     actors.wake_all();
     let Actors {
         mut ready,
@@ -70,13 +73,13 @@ fn play_out<P: Player>(shared: &mut SharedState, mut actors: Actors<P>) -> Vec<P
     drop(parked);
     let _ = ready.append(&mut down);
     drop(down);
-    ready.sort_unstable_by_key(P::place);
+    ready.sort_unstable_by_key(P::number);
     play_rounds(shared, ready.as_mut_slice());
     ready
 }
 
 /// Whether each of these entries is of an actor that has ended.
-fn have_ended(threads: &[Ran]) -> bool
+fn have_ended(threads: &[ActorReport]) -> bool
     ensures { IsTrue result ↔ AllEnded threads.now }
 {
     for thread in threads {
@@ -88,7 +91,7 @@ fn have_ended(threads: &[Ran]) -> bool
 }
 
 /// Whether an agent's actor has ended, or the agent has failed, or nothing waits for it.
-fn is_drained(shared: &SharedState, agent: CellId, ran: &Ran) -> bool
+fn is_drained(shared: &SharedState, agent: CellId, ran: &ActorReport) -> bool
     requires { has_agent (cells_of shared.now.cells) agent ≡ true }
     ensures { IsTrue result ↔ IsDrained shared.now agent ran.now }
 {
@@ -102,7 +105,7 @@ fn is_drained(shared: &SharedState, agent: CellId, ran: &Ran) -> bool
 }
 
 /// Whether this is so of each of these agents.
-fn are_drained(shared: &SharedState, agents: &[CellId], rans: &[Ran]) -> bool
+fn are_drained(shared: &SharedState, agents: &[CellId], rans: &[ActorReport]) -> bool
     requires agents { AreAgents shared.now agents.now }
     requires one_each { length rans.now ≡ length agents.now }
     ensures { IsTrue result ↔ AllDrained shared.now agents.now rans.now }
@@ -182,14 +185,14 @@ pub(crate) fn gather_left(
     code: &Verified,
     agents: &[CellId],
     max_steps: u64,
-    desk: Desk<Played<'_>>,
+    scheduler: Scheduler<Played<'_>>,
     atoms: Atoms,
 ) -> Result<Gathered, RunError>
     requires agents { agents.now ≡ agents_of code.now }
     ensures left { IfOk result (λ g. IsLeft code.now max_steps g.shared g.report.threads.items g.report.agents.items) }
     ensures refusals { IfErr result (λ e. (e ≡ JournalMismatch) ⊎ (e ≡ Memory)) }
 {
-    let Desk { store, actors } = desk;
+    let Scheduler { store, actors } = scheduler;
     let mut shared = match state_left(alloc, code, store, atoms) {
         Ok(shared) => shared,
         Err(refused) => {

@@ -4,13 +4,13 @@
 
 mod actors;
 mod atoms;
-mod desk;
 pub mod gate;
 mod left;
-mod player;
 mod run;
+mod runnable;
+mod scheduler;
 
 pub use gate::{AskKind, Gate, Moment, OpenGate};
 pub use run::run_threads;
 pub use txs_machine::RunError;
-pub use txs_threads_gather::{Gathered, Kept, KeptEntries, Played, gather, sent_functions};
+pub use txs_threads_gather::{Gathered, KeptEntries, KeptEntry, Played, gather, sent_functions};

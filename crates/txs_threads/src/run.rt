@@ -13,10 +13,10 @@ ghost use Rattle.txs_threads.specs.Run.{IsLeft};
 
 use crate::actors::{agents_in, open_all};
 use crate::atoms::Atoms;
-use crate::desk::{Desk, Served, Step};
 use crate::gate::{AskKind, Gate, Moment, kind_of};
 use crate::left::gather_left;
-use crate::player::{Next, Player};
+use crate::runnable::{AfterReply, Runnable};
+use crate::scheduler::{Scheduler, Served, Step};
 use crossbeam_channel::{Receiver, Sender};
 use std::alloc::Global;
 use std::hint::spin_loop;
@@ -32,10 +32,13 @@ use txs_world_protocol::Ask;
 use txs_world_shared::SharedState;
 use txs_world_shared::atoms::atom_named;
 
+/// How many workers there may be.
+const MOST_WORKERS: usize = 64;
+
 /// After so many asks an actor is handed on, so that others have their turns: then, or at the end of its transaction, swap or action.
 const ASKS: u32 = 64;
 
-/// Whether an actor that goes on after such an ask is within a transaction, a swap or an action.
+/// Whether an actor that continues after such an ask is within a transaction, a swap or an action.
 fn is_within(kind: AskKind) -> bool {
     matches!(
         kind,
@@ -46,35 +49,38 @@ fn is_within(kind: AskKind) -> bool {
 /// How often a worker that finds the store's lock held looks again before it sleeps.
 const LOOKS: u32 = 200;
 
-/// How it stands with an actor that was run for a while.
+/// What becomes of an actor that was run for a while.
 #[derive(Clone, Copy)]
-enum Standing {
-    /// It goes on, and is handed on.
+enum Handover {
+    /// It continues, and is handed on.
     GoesOn,
     /// It is this agent's, and nothing waits for it; or nobody's, and it is turned no more: it has ended, or met what agrees with no run.
     Rests(Option<CellId>),
 }
 
 /// What lies under the store's lock, to serve an ask. Most asks are short, so a worker that finds the lock held looks again for a while before it sleeps.
-fn lock_for<'a, R: Wait, P: Player>(rt: &R, desk: &'a Mutex<Desk<P>>) -> MutexGuard<'a, Desk<P>> {
+fn lock_for<'a, R: Wait, P: Runnable>(
+    rt: &R,
+    scheduler: &'a Mutex<Scheduler<P>>,
+) -> MutexGuard<'a, Scheduler<P>> {
     for _ in 0..LOOKS {
-        if let Some(guard) = desk.try_lock() {
+        if let Some(guard) = scheduler.try_lock() {
             return guard;
         }
         spin_loop();
     }
-    desk.lock(rt)
+    scheduler.lock(rt)
 }
 
 /// Sends the word that no actor is live.
-fn send_stop<R: Wait, P: Player>(rt: &R, to: &Sender<Option<P>>) {
+fn send_stop<R: Wait, P: Runnable>(rt: &R, to: &Sender<Option<P>>) {
     let _ = to.send(rt, None);
 }
 
 /// Hands an actor on, or puts it down where that can't be: whether it was the last that was live.
-fn hand_on<R: Wait, P: Player>(
+fn hand_on<R: Wait, P: Runnable>(
     rt: &R,
-    desk: &Mutex<Desk<P>>,
+    scheduler: &Mutex<Scheduler<P>>,
     to: &Sender<Option<P>>,
     played: P,
 ) -> bool {
@@ -82,22 +88,22 @@ fn hand_on<R: Wait, P: Player>(
         return false;
     };
     match back.into_inner() {
-        Some(played) => desk.lock(rt).put(played),
+        Some(played) => scheduler.lock(rt).put(played),
         None => false,
     }
 }
 
 /// Hands on the actors that are ready: whether the last that was live had to be put down.
-fn hand_on_ready<R: Wait, P: Player>(
+fn hand_on_ready<R: Wait, P: Runnable>(
     rt: &R,
-    desk: &Mutex<Desk<P>>,
+    scheduler: &Mutex<Scheduler<P>>,
     to: &Sender<Option<P>>,
 ) -> bool {
     let mut last = false;
     for _ in rt.forever() {
-        let ready = desk.lock(rt).next();
+        let ready = scheduler.lock(rt).next();
         match ready {
-            Some(played) => last = hand_on(rt, desk, to, played),
+            Some(played) => last = hand_on(rt, scheduler, to, played),
             None => return last,
         }
     }
@@ -112,28 +118,28 @@ fn taker(ask: &Ask) -> Option<CellId> {
     }
 }
 
-/// How it stands with an actor after an answer, by what it is to do next; its ask may have been for an action for this agent. Nothing where it goes on, and has
+/// What becomes of an actor after an answer, by what it is to do next; its ask may have been for an action for this agent. Nothing where it continues, and has
 /// asks left or is within a transaction, a swap or an action.
 fn after_answer(
-    next: Next,
+    next: AfterReply,
     taker: Option<CellId>,
     within: bool,
     left: &mut u32,
-) -> Option<Standing> {
+) -> Option<Handover> {
     *left = left.saturating_sub(1);
     match next {
-        Next::Redoes => None,
-        Next::GoesOn if within || *left > 0 => None,
-        Next::GoesOn | Next::Again => Some(Standing::GoesOn),
-        Next::Idle => Some(Standing::Rests(taker)),
-        Next::Broken => Some(Standing::Rests(None)),
+        AfterReply::Redoes => None,
+        AfterReply::GoesOn if within || *left > 0 => None,
+        AfterReply::GoesOn | AfterReply::Again => Some(Handover::GoesOn),
+        AfterReply::Idle => Some(Handover::Rests(taker)),
+        AfterReply::Broken => Some(Handover::Rests(None)),
     }
 }
 
 /// Serves an ask under the lock of the book that it is for: an atom's, or the store's. Hands on the agents that it woke.
-fn serve_under<R: Wait, P: Player>(
+fn serve_under<R: Wait, P: Runnable>(
     rt: &R,
-    desk: &Mutex<Desk<P>>,
+    scheduler: &Mutex<Scheduler<P>>,
     atoms: &Atoms,
     to: &Sender<Option<P>>,
     actor: u16,
@@ -142,30 +148,30 @@ fn serve_under<R: Wait, P: Player>(
     if let Some(cell) = atom_named(&ask) {
         return atoms.serve(rt, actor, cell, ask);
     }
-    let Step { served, woke } = lock_for(rt, desk).serve(actor, ask);
+    let Step { served, woke } = lock_for(rt, scheduler).serve(actor, ask);
     if woke {
-        hand_on_ready(rt, desk, to);
+        hand_on_ready(rt, scheduler, to);
     }
     served
 }
 
 /// Serves an actor's ask, hands on the agents that it woke, and hands the actor the answer.
-fn serve_ask<R: Wait, P: Player, G: Gate>(
+fn serve_ask<R: Wait, P: Runnable, G: Gate>(
     rt: &R,
-    desk: &Mutex<Desk<P>>,
+    scheduler: &Mutex<Scheduler<P>>,
     atoms: &Atoms,
     to: &Sender<Option<P>>,
     gate: &G,
     played: &mut P,
     ask: Ask,
     left: &mut u32,
-) -> Option<Standing> {
-    let actor = played.place();
+) -> Option<Handover> {
+    let actor = played.number();
     let kind = kind_of(&ask);
     let agent = taker(&ask);
-    let served = serve_under(rt, desk, atoms, to, actor, ask);
+    let served = serve_under(rt, scheduler, atoms, to, actor, ask);
     let next = played.hear(served);
-    if !matches!(next, Next::Broken) {
+    if !matches!(next, AfterReply::Broken) {
         gate.pass(actor, Moment::Answered(kind));
     }
     after_answer(next, agent, is_within(kind), left)
@@ -173,35 +179,37 @@ fn serve_ask<R: Wait, P: Player, G: Gate>(
 
 /// Runs an actor up to so many asks, each of which is served, to a retry, until nothing waits for it, or to its end. It is turned so often at once as the gate
 /// allows, and no further than to its next ask.
-fn play<R: Wait, P: Player, G: Gate>(
+fn play<R: Wait, P: Runnable, G: Gate>(
     rt: &R,
-    desk: &Mutex<Desk<P>>,
+    scheduler: &Mutex<Scheduler<P>>,
     atoms: &Atoms,
     to: &Sender<Option<P>>,
     gate: &G,
     played: &mut P,
-) -> Standing {
+) -> Handover {
     let budget = gate.most_turns().max(1);
     let mut left = ASKS;
     for _ in rt.forever() {
-        gate.pass(played.place(), Moment::Local);
+        gate.pass(played.number(), Moment::Local);
         let standing = match played.run(budget) {
             Some(Turn::Went) => None,
-            Some(Turn::Asks(ask)) => serve_ask(rt, desk, atoms, to, gate, played, ask, &mut left),
-            Some(Turn::Ended(_)) | None => Some(Standing::Rests(None)),
+            Some(Turn::Asks(ask)) => serve_ask(
+                rt, scheduler, atoms, to, gate, played, ask, &mut left,
+            ),
+            Some(Turn::Ended(_)) | None => Some(Handover::Rests(None)),
         };
         if let Some(standing) = standing {
             return standing;
         }
     }
-    Standing::Rests(None)
+    Handover::Rests(None)
 }
 
-/// One worker: receives actors and runs each for a while, until none is live. Those that go on are handed on, and those that rest are parked or put down; or
+/// One worker: receives actors and runs each for a while, until none is live. Those that continue are handed on, and those that rest are parked or put down; or
 /// handed on, where something waits for their agent by now.
-fn work<R: Wait, P: Player, G: Gate>(
+fn work<R: Wait, P: Runnable, G: Gate>(
     rt: &R,
-    desk: &Mutex<Desk<P>>,
+    scheduler: &Mutex<Scheduler<P>>,
     atoms: &Atoms,
     to: &Sender<Option<P>>,
     from: &Receiver<Option<P>>,
@@ -211,13 +219,13 @@ fn work<R: Wait, P: Player, G: Gate>(
         let Ok(Some(mut played)) = from.recv(rt) else {
             break;
         };
-        let last = match play(rt, desk, atoms, to, gate, &mut played) {
-            Standing::GoesOn => hand_on(rt, desk, to, played),
-            Standing::Rests(agent) => {
-                let rests = desk.lock(rt).rest(agent, played);
+        let last = match play(rt, scheduler, atoms, to, gate, &mut played) {
+            Handover::GoesOn => hand_on(rt, scheduler, to, played),
+            Handover::Rests(agent) => {
+                let rests = scheduler.lock(rt).rest(agent, played);
                 match rests {
                     Ok(last) => last,
-                    Err(played) => hand_on(rt, desk, to, played),
+                    Err(played) => hand_on(rt, scheduler, to, played),
                 }
             }
         };
@@ -229,22 +237,27 @@ fn work<R: Wait, P: Player, G: Gate>(
 }
 
 /// Hands the workers what is ready, or the word to stop where nothing is live or not all of them were started.
-fn feed<R: Wait, P: Player>(rt: &R, desk: &Mutex<Desk<P>>, to: &Sender<Option<P>>, started: bool) {
-    let none = !started || desk.lock(rt).actors.live == 0;
-    if none || hand_on_ready(rt, desk, to) {
+fn feed<R: Wait, P: Runnable>(
+    rt: &R,
+    scheduler: &Mutex<Scheduler<P>>,
+    to: &Sender<Option<P>>,
+    started: bool,
+) {
+    let none = !started || scheduler.lock(rt).actors.live == 0;
+    if none || hand_on_ready(rt, scheduler, to) {
         send_stop(rt, to);
     }
 }
 
-/// Has all actors of the desk run by so many workers, who hand them on over a channel with room for so many messages: each is an actor, or nothing, the word
+/// Has all actors of the scheduler run by so many workers, who hand them on over a channel with room for so many messages: each is an actor, or nothing, the word
 /// that none is live. They are handed what is ready when all have been started, and it returns when all have returned.
 ///
 /// # Errors
 /// `NoThread` where a worker couldn't be started, and nothing was run; `Memory` where there was none for the channel.
-fn run_desk<R: Threads + Wait + Sync, P: Player + Send, G: Gate>(
+fn run_scheduler<R: Threads + Wait + Sync, P: Runnable + Send, G: Gate>(
     rt: &R,
     alloc: Global,
-    desk: &Mutex<Desk<P>>,
+    scheduler: &Mutex<Scheduler<P>>,
     atoms: &Atoms,
     room: usize,
     gate: &G,
@@ -265,14 +278,14 @@ fn run_desk<R: Threads + Wait + Sync, P: Player + Send, G: Gate>(
         {
             let mut started = true;
             for _ in 0..workers {
-                let worker = scope.spawn(move || work(rt, desk, atoms, to, from, gate));
+                let worker = scope.spawn(move || work(rt, scheduler, atoms, to, from, gate));
                 started = worker.is_ok();
                 drop(worker);
                 if !started {
                     break;
                 }
             }
-            feed(rt, desk, to, started);
+            feed(rt, scheduler, to, started);
             started
         },
     );
@@ -316,19 +329,19 @@ fn run_actors<R: Threads + Wait + Sync, G: Gate>(
             return Err(RunError::Memory);
         }
     };
-    let mut desk = Desk::new(alloc, store);
-    let actors = &mut desk.actors;
+    let mut scheduler = Scheduler::new(alloc, store);
+    let actors = &mut scheduler.actors;
     let opened = open_all(actors, alloc, code, callees, agents, threads, max_steps);
-    let desk = Mutex::new(desk);
+    let scheduler = Mutex::new(scheduler);
     let ran = match opened {
-        Ok(()) => run_desk(rt, alloc, &desk, &atoms, room, gate, workers),
+        Ok(()) => run_scheduler(rt, alloc, &scheduler, &atoms, room, gate, workers),
         Err(_) => Err(RunError::Memory),
     };
-    let desk = desk.into_inner();
+    let scheduler = scheduler.into_inner();
     match ran {
-        Ok(()) => gather_left(alloc, code, agents, max_steps, desk, atoms),
+        Ok(()) => gather_left(alloc, code, agents, max_steps, scheduler, atoms),
         Err(refused) => {
-            drop(desk);
+            drop(scheduler);
             drop(atoms);
             Err(refused)
         }
@@ -364,7 +377,7 @@ fn run_all<R: Threads + Wait + Sync, G: Gate>(
 }
 
 /// Runs all threads and agents of the code by so many workers, each on a thread of its own, until each thread has ended and nothing waits for an
-/// agent that goes on. An actor makes no more than `max_steps` steps. It stays with its worker for 64 asks and to the end of its transaction, swap or action,
+/// agent that continues. An actor makes no more than `max_steps` steps. It stays with its worker for 64 asks and to the end of its transaction, swap or action,
 /// and is handed on where its transaction runs again.
 ///
 /// # Errors
@@ -392,7 +405,7 @@ pub fn run_threads<R: Threads + Wait + Sync, G: Gate>(
     ensures all_explained { IfOk result (λ g. AreExplainedBy code.now (shared_of g.shared) g.report.threads.items g.report.agents.items) }
     ensures refusals { IfErr result (λ e. (e ≡ NoThread) ⊎ (e ≡ JournalMismatch) ⊎ (e ≡ Memory)) }
 {
-    if workers == 0 || workers > 64 {
+    if workers == 0 || workers > MOST_WORKERS {
         return Err(RunError::NoThread);
     }
     run_all(rt, alloc, code, workers, max_steps, gate)

@@ -42,12 +42,12 @@ use Rattle.txs_theorem_runs.proofs.Refused.{all_refused}
 use Rattle.txs_theorem_runs.proofs.Whole.{all_undisturbed}
 use Rattle.txs_world_shared.specs.SharedState.{PlainShared, shared_of}
 use Rattle.txs_threads_replay.specs.Entries.{entry_of}
-use Rattle.txs_threads_replay.specs.declared.kept.Kept.{Kept}
+use Rattle.txs_threads_replay.specs.declared.kept.KeptEntry.{KeptEntry}
 use Rattle.txs_machine.specs.Agents.{agents_of, AgentHasDone, AreExplainedBy}
 use Rattle.txs_machine.specs.RunTheorem.{HasDone, NeverEnds, ExplainsAgent}
 use Rattle.txs_machine.specs.RunOver.{RunOver, IsLimited, AskedOn, AtFullBook, books_of, places_of}
 use Rattle.txs_machine.specs.Schedule.{IsExplainedBy}
-use Rattle.txs_world_protocol.specs.declared.report.Ran.{Ran}
+use Rattle.txs_world_protocol.specs.declared.report.ActorReport.{ActorReport}
 use Rattle.txs_machine.proofs.Explaining.{Known, length_map, books_stand}
 use Rattle.txs_machine.proofs.Together.{agent_at, agent_acts}
 use Rattle.txs_threads_replay.specs.Adds.{adds_event, kept_trace}
@@ -74,20 +74,20 @@ is_cons [] = ⊥
 is_cons (e ∷ es) = Unit {0}
 
 module _ (cells : List CellDefinition) (books : ℕ → List Event) where
-  same_told : (ks : List Kept) → map exchange_of (map entry_of ks) ≡ map exchange_of (placed cells books ks)
+  same_told : (ks : List KeptEntry) → map exchange_of (map entry_of ks) ≡ map exchange_of (placed cells books ks)
   same_told [] = refl
   same_told (k ∷ ks) = ap (λ l. record { ask = k.ask; reply = k.reply } ∷ l) (same_told ks)
 
-  goes_placed : (code : ThreadCode) (ks : List Kept) (at there : Turned Configuration) → GoesTo code at (map entry_of ks) there → GoesTo code at (placed cells books ks) there
+  goes_placed : (code : ThreadCode) (ks : List KeptEntry) (at there : Turned Configuration) → GoesTo code at (map entry_of ks) there → GoesTo code at (placed cells books ks) there
   goes_placed code [] at there g = g
   goes_placed code (k ∷ ks) at there g = (g.0, g.1, g.2, g.3, goes_placed code ks _ there g.4)
 
-  staged_placed : (ks : List Kept) (st end : Stage) → AreStaged st (map entry_of ks) end → AreStaged st (placed cells books ks) end
+  staged_placed : (ks : List KeptEntry) (st end : Stage) → AreStaged st (map entry_of ks) end → AreStaged st (placed cells books ks) end
   staged_placed [] st end h = h
   staged_placed (k ∷ ks) st end h = (h.0, staged_placed ks (stage_after st k.ask k.reply) end h.1)
 
   -- where the one list is cut, the other is
-  cut : (ks : List Kept) (before : List Entry) (e : Entry) (rest : List Entry) → placed cells books ks ≡ before ++ e ∷ rest
+  cut : (ks : List KeptEntry) (before : List Entry) (e : Entry) (rest : List Entry) → placed cells books ks ≡ before ++ e ∷ rest
       → (b : List Entry) × (d : Entry) × (r : List Entry) × (map entry_of ks ≡ b ++ d ∷ r) × (map exchange_of b ≡ map exchange_of before)
   cut [] [] e rest h = absurd (subst is_cons (sym h) tt)
   cut [] (x ∷ before) e rest h = absurd (subst is_cons (sym h) tt)
@@ -105,7 +105,7 @@ module _ (cells : List CellDefinition) (books : ℕ → List Event) where
     printed = h.printed;
   }
 
-  thread_placed : (code : PlainCode) (ks : List Kept) (a : PlainActor) → IsThreadOn code (map entry_of ks) a → IsThreadOn code (placed cells books ks) a
+  thread_placed : (code : PlainCode) (ks : List KeptEntry) (a : PlainActor) → IsThreadOn code (map entry_of ks) a → IsThreadOn code (placed cells books ks) a
   thread_placed code ks a t = record {
     stands = t.stands;
     stage = t.stage;
@@ -115,7 +115,7 @@ module _ (cells : List CellDefinition) (books : ℕ → List Event) where
   }
 
   -- an actor is where its code comes to, at whatever places its entries are looked at
-  played_placed : (code : PlainCode) (ks : List Kept) (o : Option Ask) (a : PlainActor) → HasPlayed code (map entry_of ks) o a → HasPlayed code (placed cells books ks) o a
+  played_placed : (code : PlainCode) (ks : List KeptEntry) (o : Option Ask) (a : PlainActor) → HasPlayed code (map entry_of ks) o a → HasPlayed code (placed cells books ks) o a
   played_placed code ks o a h = record {
     ran = subst (λ l. HasRun code l a) (same_told ks) h.ran;
     gone = record { at = h.gone.at; goes = goes_placed (code_of code a.number) ks _ h.gone.at h.gone.goes; here = h.gone.here };
@@ -140,7 +140,7 @@ module _ (cells : List CellDefinition) (books : ℕ → List Event) where
   own_place own next (ask.Broke c p) r h = refl
 
   -- the places of the events of entries are those of their trace
-  trace_is_placed : (threads a : ℕ) (ks : List Kept) → AllHold cells threads books a (placed cells books ks) → kept_trace cells ks ≡ trace_of cells books a (placed cells books ks)
+  trace_is_placed : (threads a : ℕ) (ks : List KeptEntry) → AllHold cells threads books a (placed cells books ks) → kept_trace cells ks ≡ trace_of cells books a (placed cells books ks)
   trace_is_placed threads a [] h = refl
   trace_is_placed threads a (k ∷ ks) h = go (adds_event k.ask k.reply) refl (trace_is_placed threads a ks h.1)
     where
@@ -209,7 +209,7 @@ module _ (cells : List CellDefinition) (books : ℕ → List Event) where
     its : (e : Entry) → EntryHolds cells threads books a e → IsIts e.ask
     its e h = asks_its h.asked.0 (before_entry cells books e) e.ask h.asked.1
 
-    turns_of : (ks : List Kept) → AllHold cells threads books a (placed cells books ks) → AreInTurn false ks → TakesInTurn g (length (books 0)) (placed cells books ks)
+    turns_of : (ks : List KeptEntry) → AllHold cells threads books a (placed cells books ks) → AreInTurn false ks → TakesInTurn g (length (books 0)) (placed cells books ks)
     turns_of [] h t = tt
     turns_of (k ∷ []) h t =
         let e = takes k.ask t.0 (its _ h.0) in
@@ -286,13 +286,13 @@ module _ (code : PlainCode) (limit : ℕ) (s : PlainShared) (same : s.cells ≡ 
         full = full_of k p d;
       }
 
-  trace_so : (k : ℕ) (p : PlainPlayed) (r : Ran) → DoneOver code limit s k p → IsReportOf s p r → places_of r.trace.items ≡ trace_of code.cells (books_of s) k (placed code.cells (books_of s) p.kept)
+  trace_so : (k : ℕ) (p : PlainPlayed) (r : ActorReport) → DoneOver code limit s k p → IsReportOf s p r → places_of r.trace.items ≡ trace_of code.cells (books_of s) k (placed code.cells (books_of s) p.kept)
   trace_so k p r d rep = rep.traced ∙ ap (λ cs. kept_trace cs p.kept) same ∙ trace_is_placed code.cells (books_of s) (length code.threads) k p.kept d.hold
 
   limited_so : (k : ℕ) (p : PlainPlayed) → DoneOver code limit s k p → IsLimited limit p.actor
   limited_so k p d = subst (λ n. IsLimited n p.actor) d.player.limited d.played.limited
 
-  done_so : DoneIsUndisturbed → RefusedIsUndisturbed → (k : ℕ) (p : PlainPlayed) (r : Ran) → k < length code.threads → DoneOver code limit s k p → IsReportOf s p r → HasDone code k limit (books_of s) r
+  done_so : DoneIsUndisturbed → RefusedIsUndisturbed → (k : ℕ) (p : PlainPlayed) (r : ActorReport) → k < length code.threads → DoneOver code limit s k p → IsReportOf s p r → HasDone code k limit (books_of s) r
   unfolding over_of
   done_so law refused k p r below d rep = record {
     actor = p.actor;
@@ -307,7 +307,7 @@ module _ (code : PlainCode) (limit : ℕ) (s : PlainShared) (same : s.cells ≡ 
     refused = all_refused refused code.cells (length code.threads) (books_of s) k (placed code.cells (books_of s) p.kept) d.hold;
   }
 
-  attended_so : (k : ℕ) (p : PlainPlayed) (r : Ran) → DoneOver code limit s k p → IsReportOf s p r → AgentHasDone code k limit (books_of s) r
+  attended_so : (k : ℕ) (p : PlainPlayed) (r : ActorReport) → DoneOver code limit s k p → IsReportOf s p r → AgentHasDone code k limit (books_of s) r
   attended_so k p r d rep = record {
     actor = p.actor;
     number = d.player.number;
@@ -325,14 +325,14 @@ module _ (code : PlainCode) (limit : ℕ) (s : PlainShared) (same : s.cells ≡ 
   }
 
   -- each thread's actor did over the books what its entry says
-  all_done : DoneIsUndisturbed → RefusedIsUndisturbed → (ps : List PlainPlayed) (rs : List Ran) → AgreesByPlace code limit s ps → ArePlayed ps → AreReportsOf s (take s.threads ps) rs → AllHaveDone code limit s rs
+  all_done : DoneIsUndisturbed → RefusedIsUndisturbed → (ps : List PlainPlayed) (rs : List ActorReport) → AgreesByPlace code limit s ps → ArePlayed ps → AreReportsOf s (take s.threads ps) rs → AllHaveDone code limit s rs
   all_done law refused ps rs g h rep k r f =
       let p = there code limit s (take s.threads ps) rs k r rep f in
       let t = taken_at ps s.threads k p.0 p.1 in
       done_so law refused k p.0 r (subst (λ n. k < n) many t.0) (each_done ps g h k p.0 t.1) (report_at code limit s (take s.threads ps) rs k p.0 r rep p.1 f)
 
   -- so did each agent's
-  all_attended : (ps : List PlainPlayed) (rs : List Ran) → AgreesByPlace code limit s ps → ArePlayed ps → AreReportsOf s (drop s.threads ps) rs → AllHaveAttended code limit s rs
+  all_attended : (ps : List PlainPlayed) (rs : List ActorReport) → AgreesByPlace code limit s ps → ArePlayed ps → AreReportsOf s (drop s.threads ps) rs → AllHaveAttended code limit s rs
   all_attended ps rs g h rep i r f =
       let p = there code limit s (drop s.threads ps) rs i r rep f in
       let at : nth ps (length code.threads + i) ≡ Some p.0 = ap (λ n. nth ps (n + i)) (sym many) ∙ sym (dropped_at ps s.threads i) ∙ p.1 in
@@ -343,7 +343,7 @@ module _ (code : PlainCode) (limit : ℕ) (s : PlainShared) (same : s.cells ≡ 
   own_stands stands = subst (λ n. SharedStands code.cells n (shared_of s)) many (subst (λ cs. SharedStands cs s.threads (shared_of s)) same stands)
 
   -- each program that the code follows explains what its threads did
-  all_explained : Known → SharedStands s.cells s.threads (shared_of s) → (rs : List Ran) → length rs ≡ length code.threads → AllHaveDone code limit s rs → IsExplainedBy code (shared_of s) rs
+  all_explained : Known → SharedStands s.cells s.threads (shared_of s) → (rs : List ActorReport) → length rs ≡ length code.threads → AllHaveDone code limit s rs → IsExplainedBy code (shared_of s) rs
   all_explained by stands rs one done p is follows = record {
     one_each = one ∙ threads;
     books = subst (λ cs. BooksStand cs (length p.threads) (shared_of s)) (sym is) (subst (λ n. BooksStand code.cells n (shared_of s)) threads (books_stand code.cells (length code.threads) (shared_of s) (own_stands stands)));
@@ -421,7 +421,7 @@ module _ (code : PlainCode) (limit : ℕ) (s : PlainShared) (same : s.cells ≡ 
   -- ---- what they say of agents
 
   module _ (law : PlacedReported) (ps : List PlainPlayed) (g : AgreesByPlace code limit s ps) (h : ArePlayed ps) (stands : SharedStands s.cells s.threads (shared_of s)) (staged : CodesStaged (map (thread_code code) code.threads))
-      (ts rs : List Ran) (by : IsExplainedBy code (shared_of s) ts) (rep : AreReportsOf s (drop s.threads ps) rs) (one : length rs ≡ length (agents_of code)) where
+      (ts rs : List ActorReport) (by : IsExplainedBy code (shared_of s) ts) (rep : AreReportsOf s (drop s.threads ps) rs) (one : length rs ≡ length (agents_of code)) where
     abbrev st : State
     st = record { shared = shared_of s; actors = actor_in ps h 0 g.each g.holds }
 
@@ -467,7 +467,7 @@ module _ (code : PlainCode) (limit : ℕ) (s : PlainShared) (same : s.cells ≡ 
             law p (map (thread_code code) code.threads) (library_of code) (code_of code) st follows agents staged sends program
             (subst (λ cs. RunPlaced cs (length p.threads) (code_of code) st) (sym is) (subst (λ n. RunPlaced code.cells n (code_of code) st) threads run_placed))
 
-        agent_explained : (i : ℕ) (r : Ran) → nth rs i ≡ Some r → ExplainsAgent (length p.threads + i) (books_of s) r
+        agent_explained : (i : ℕ) (r : ActorReport) → nth rs i ≡ Some r → ExplainsAgent (length p.threads + i) (books_of s) r
         agent_explained i r e =
             let k = length code.threads + i in
             let d = done i r e in

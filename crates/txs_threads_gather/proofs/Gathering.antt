@@ -22,7 +22,7 @@ use Rattle.txs_machine.specs.Agents.{agents_of}
 use Rattle.txs_machine.specs.RunOver.{AtFullBook, books_of}
 use Rattle.txs_machine.specs.RunTheorem.{HasDone, ExplainsThread, NeverEnds}
 use Rattle.txs_machine.specs.declared.run_error.RunError.TheVariants as run_error
-use Rattle.txs_world_protocol.specs.declared.report.Ran.{Ran}
+use Rattle.txs_world_protocol.specs.declared.report.ActorReport.{ActorReport}
 use Rattle.txs_machine.proofs.Explaining.{Known, part_explained, part_printed, code_at, MeansSo, LeastSo, entry_explained}
 use Rattle.txs_threads_replay.specs.ByPlace.{HoldsByPlace, AreBelow}
 use Rattle.txs_threads_gather.specs.ByPlace.{AllHoldByPlace, AgreesByPlace}
@@ -39,7 +39,7 @@ abbrev pub or_first : PlainPlayed → Option PlainPlayed → PlainPlayed
 or_first d None = d
 or_first d (Some p) = p
 
-abbrev report_or : Ran → Option Ran → Ran
+abbrev report_or : ActorReport → Option ActorReport → ActorReport
 report_or d None = d
 report_or d (Some r) = r
 
@@ -67,14 +67,14 @@ module _ (code : PlainCode) (limit : ℕ) (s : PlainShared) where
   full_over c xs a None same f w = absurd f
   full_over c xs a (Some q) same f w = subst (λ cs. AtFullBook cs c (books_of s) xs a) same (record { ask = q; asked = w; full = f })
 
-  pub report_at : (ps : List PlainPlayed) (rs : List Ran) (k : ℕ) (p : PlainPlayed) (r : Ran) → AreReportsOf s ps rs → nth ps k ≡ Some p → nth rs k ≡ Some r → IsReportOf s p r
+  pub report_at : (ps : List PlainPlayed) (rs : List ActorReport) (k : ℕ) (p : PlainPlayed) (r : ActorReport) → AreReportsOf s ps rs → nth ps k ≡ Some p → nth rs k ≡ Some r → IsReportOf s p r
   report_at [] rs k p r h e f = absurd (subst is_some (sym e) tt)
   report_at (x ∷ ps) [] k p r h e f = absurd h
   report_at (x ∷ ps) (y ∷ rs) zero p r h e f = subst (λ z. IsReportOf s z r) (ap (or_first x) e) (subst (IsReportOf s x) (ap (report_or y) f) h.0)
   report_at (x ∷ ps) (y ∷ rs) (suc k) p r h e f = report_at ps rs k p r h.1 e f
 
   -- the actor of an entry
-  pub there : (ps : List PlainPlayed) (rs : List Ran) (k : ℕ) (r : Ran) → AreReportsOf s ps rs → nth rs k ≡ Some r → (p : PlainPlayed) × (nth ps k ≡ Some p)
+  pub there : (ps : List PlainPlayed) (rs : List ActorReport) (k : ℕ) (r : ActorReport) → AreReportsOf s ps rs → nth rs k ≡ Some r → (p : PlainPlayed) × (nth ps k ≡ Some p)
   there [] [] k r h e = absurd (subst is_some (sym e) tt)
   there [] (y ∷ rs) k r h e = absurd h
   there (x ∷ ps) [] k r h e = absurd h
@@ -83,14 +83,14 @@ module _ (code : PlainCode) (limit : ℕ) (s : PlainShared) where
 
 -- ---- what sources say
 
-pub as_many : (s : PlainShared) (ps : List PlainPlayed) (rs : List Ran) → AreReportsOf s ps rs → length rs ≡ length ps
+pub as_many : (s : PlainShared) (ps : List PlainPlayed) (rs : List ActorReport) → AreReportsOf s ps rs → length rs ≡ length ps
 as_many s [] [] h = refl
 as_many s [] (r ∷ rs) h = absurd h
 as_many s (p ∷ ps) [] h = absurd h
 as_many s (p ∷ ps) (r ∷ rs) h = ap suc (as_many s ps rs h.1)
 
 -- an entry that says what its actor did is explained by each source that the code follows
-pub thread_explained : Known → (code : PlainCode) (k limit : ℕ) (books : ℕ → List Event) (r : Ran) → HasDone code k limit books r
+pub thread_explained : Known → (code : PlainCode) (k limit : ℕ) (books : ℕ → List Event) (r : ActorReport) → HasDone code k limit books r
     → (p : PlainProgram) (t : PlainThread) → p.cells ≡ code.cells → FollowsAll (map (thread_code code) code.threads) p → nth p.threads k ≡ Some t → ExplainsThread p k t books r
 thread_explained by code k limit books r d p t same follows e =
     let a = d.actor in
@@ -142,10 +142,10 @@ length_drop (x ∷ xs) (suc n) m h = length_drop xs n m (omega (arith, h))
 pub enough_for : (code : PlainCode) (s : PlainShared) (ps : List PlainPlayed) → IsMadeFor code s (length ps) → s.threads ≤ length ps
 enough_for code s ps made = omega (arith, made.1, made.2)
 
-pub as_many_threads : (code : PlainCode) (s : PlainShared) (ps : List PlainPlayed) (rs : List Ran) → IsMadeFor code s (length ps) → AreReportsOf s (take s.threads ps) rs → length rs ≡ length code.threads
+pub as_many_threads : (code : PlainCode) (s : PlainShared) (ps : List PlainPlayed) (rs : List ActorReport) → IsMadeFor code s (length ps) → AreReportsOf s (take s.threads ps) rs → length rs ≡ length code.threads
 as_many_threads code s ps rs made rep = as_many s (take s.threads ps) rs rep ∙ length_take ps s.threads (enough_for code s ps made) ∙ made.1
 
-pub as_many_agents : (code : PlainCode) (s : PlainShared) (ps : List PlainPlayed) (rs : List Ran) → IsMadeFor code s (length ps) → AreReportsOf s (drop s.threads ps) rs → length rs ≡ length (agents_of code)
+pub as_many_agents : (code : PlainCode) (s : PlainShared) (ps : List PlainPlayed) (rs : List ActorReport) → IsMadeFor code s (length ps) → AreReportsOf s (drop s.threads ps) rs → length rs ≡ length (agents_of code)
 as_many_agents code s ps rs made rep = as_many s (drop s.threads ps) rs rep ∙ length_drop ps s.threads (length (agents_of code)) (made.2 ∙ ap (λ n. n + length (agents_of code)) (sym made.1))
 
 -- ---- tests
@@ -193,8 +193,24 @@ agreed code limit s ps made each below holds = record { cells = made.0; threads 
 
 -- ---- how a report is written
 
-pub reports_more : (s : PlainShared) (ps : List PlainPlayed) (rs : List Ran) (p : PlainPlayed) (r : Ran) → AreReportsOf s ps rs → IsReportOf s p r → AreReportsOf s (ps ++ p ∷ []) (rs ++ r ∷ [])
+pub reports_more : (s : PlainShared) (ps : List PlainPlayed) (rs : List ActorReport) (p : PlainPlayed) (r : ActorReport) → AreReportsOf s ps rs → IsReportOf s p r → AreReportsOf s (ps ++ p ∷ []) (rs ++ r ∷ [])
 reports_more s [] [] p r h e = (e, tt)
 reports_more s [] (y ∷ rs) p r h e = absurd h
 reports_more s (x ∷ ps) [] p r h e = absurd h
 reports_more s (x ∷ ps) (y ∷ rs) p r h e = (h.0, reports_more s ps rs p r h.1 e)
+
+-- the reports of the first so many are the first so many reports
+pub reports_taken : (s : PlainShared) (ps : List PlainPlayed) (rs : List ActorReport) (n : ℕ) → AreReportsOf s ps rs → AreReportsOf s (take n ps) (take n rs)
+reports_taken s ps rs zero h = tt
+reports_taken s [] [] (suc n) h = tt
+reports_taken s [] (y ∷ rs) (suc n) h = absurd h
+reports_taken s (x ∷ ps) [] (suc n) h = absurd h
+reports_taken s (x ∷ ps) (y ∷ rs) (suc n) h = (h.0, reports_taken s ps rs n h.1)
+
+-- the reports of the others are the others
+pub reports_dropped : (s : PlainShared) (ps : List PlainPlayed) (rs : List ActorReport) (n : ℕ) → AreReportsOf s ps rs → AreReportsOf s (drop n ps) (drop n rs)
+reports_dropped s ps rs zero h = h
+reports_dropped s [] [] (suc n) h = tt
+reports_dropped s [] (y ∷ rs) (suc n) h = absurd h
+reports_dropped s (x ∷ ps) [] (suc n) h = absurd h
+reports_dropped s (x ∷ ps) (y ∷ rs) (suc n) h = reports_dropped s ps rs n h.1

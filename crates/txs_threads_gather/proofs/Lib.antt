@@ -1,5 +1,4 @@
 pub mod ByPlace
-pub mod Counting
 pub mod Gathering
 pub mod Going
 pub mod Noting

@@ -12,7 +12,7 @@ use Rattle.txs_machine_actor.specs.declared.outcome.Turn.{Turn}
 use Rattle.txs_machine_actor.specs.declared.outcome.Turn.TheVariants as turned
 use Rattle.txs_theorem_runs.specs.Told.{IsExchanged}
 use Rattle.txs_threads_replay.specs.Entries.{entry_of}
-use Rattle.txs_threads_replay.specs.declared.kept.Kept.{Kept}
+use Rattle.txs_threads_replay.specs.declared.kept.KeptEntry.{KeptEntry}
 use Rattle.txs_threads_gather.specs.Asked.{asked_after}
 use Rattle.txs_threads_gather.specs.Played.{PlainPlayed, HasPlayed, IsPlayed, IsTold, IsToldFor, IsUnkept, IsLostBy, GoesOnTold, MayBeTold, kept_after, stopped_after, kept_of}
 use Rattle.txs_threads_gather.proofs.Playing.{ended_free}
@@ -79,7 +79,7 @@ none_told x p o r e i n h =
 -- ---- replies that an actor doesn't go on with
 
 -- one isn't kept
-pub unkept : (r : Reply) (k : Kept) (ks : List Kept) → (IsExchanged r → ⊥) → ks ≡ kept_after r k ks
+pub unkept : (r : Reply) (k : KeptEntry) (ks : List KeptEntry) → (IsExchanged r → ⊥) → ks ≡ kept_after r k ks
 unkept (reply.At p) k ks h = absurd (h tt)
 unkept (reply.Is v) k ks h = absurd (h tt)
 unkept (reply.Views p vs) k ks h = absurd (h tt)
@@ -111,7 +111,7 @@ unheard reply.Memory q o h i = refl
 -- ---- what an actor is told of a reply
 
 -- a reply that an actor goes on with is kept
-kept_behind : (r : Reply) (k : Kept) (ks : List Kept) → IsExchanged r → ks ++ k ∷ [] ≡ kept_after r k ks
+kept_behind : (r : Reply) (k : KeptEntry) (ks : List KeptEntry) → IsExchanged r → ks ++ k ∷ [] ≡ kept_after r k ks
 kept_behind (reply.At p) k ks h = refl
 kept_behind (reply.Is v) k ks h = refl
 kept_behind (reply.Views p vs) k ks h = refl
@@ -141,19 +141,19 @@ unstopped reply.Full q o h = absurd h
 unstopped reply.Memory q o h = absurd h
 
 -- where there is no action for an agent nothing is kept
-pub told_idle : (q : Ask) (r : Reply) (at : ℕ) (ks : List Kept) (o : Option Ask) → r ≡ reply.Idle → IsTold q r at ks o r ks o
+pub told_idle : (q : Ask) (r : Reply) (at : ℕ) (ks : List KeptEntry) (o : Option Ask) → r ≡ reply.Idle → IsTold q r at ks o r ks o
 told_idle q r at ks o e = subst (λ x. IsTold q x at ks o x ks o) (sym e) (record { told = inl refl; kept = refl; stopped = refl })
 
 -- of a reply that stops the actor the ask is kept
-pub told_stopped : (q : Ask) (r : Reply) (at : ℕ) (ks : List Kept) (o last : Option Ask) → (IsExchanged r → ⊥) → (r ≡ reply.Idle → ⊥) → last ≡ Some q → IsTold q r at ks o r ks last
+pub told_stopped : (q : Ask) (r : Reply) (at : ℕ) (ks : List KeptEntry) (o last : Option Ask) → (IsExchanged r → ⊥) → (r ≡ reply.Idle → ⊥) → last ≡ Some q → IsTold q r at ks o r ks last
 told_stopped q r at ks o last h i e = record { told = inl refl; kept = unkept r (kept_of q r at) ks h; stopped = e ∙ unheard r q o h i }
 
 -- any other is kept with its ask
-pub told_kept : (q : Ask) (r : Reply) (at : ℕ) (ks later : List Kept) (o : Option Ask) → IsExchanged r → later ≡ ks ++ kept_of q r at ∷ [] → IsTold q r at ks o r later o
+pub told_kept : (q : Ask) (r : Reply) (at : ℕ) (ks later : List KeptEntry) (o : Option Ask) → IsExchanged r → later ≡ ks ++ kept_of q r at ∷ [] → IsTold q r at ks o r later o
 told_kept q r at ks later o h e = record { told = inl refl; kept = e ∙ kept_behind r (kept_of q r at) ks h; stopped = unstopped r q o h }
 
 -- where there is no memory for that, the actor is told so, and the ask is kept
-pub told_memory : (q : Ask) (r t : Reply) (at : ℕ) (ks later : List Kept) (o last : Option Ask) → t ≡ reply.Memory → IsUnkept q r → later ≡ ks → last ≡ Some q → IsTold q r at ks o t later last
+pub told_memory : (q : Ask) (r t : Reply) (at : ℕ) (ks later : List KeptEntry) (o last : Option Ask) → t ≡ reply.Memory → IsUnkept q r → later ≡ ks → last ≡ Some q → IsTold q r at ks o t later last
 told_memory q r t at ks later o last e u same put = record {
   told = inr (e, u);
   kept = same ∙ ap (λ x. kept_after x (kept_of q x at) ks) (sym e);
@@ -161,7 +161,7 @@ told_memory q r t at ks later o last e u same put = record {
 }
 
 -- whichever comes of that
-pub told_unkept : (o : Option Reply) (a q : Ask) (r : Reply) (at : ℕ) (ks later : List Kept) (was last : Option Ask) → a ≡ q → later ≡ ks → IfSome o (λ t. (t ≡ reply.Memory) × IsUnkept a r × (last ≡ Some a)) → IfSome o (λ t. IsTold q r at ks was t later last)
+pub told_unkept : (o : Option Reply) (a q : Ask) (r : Reply) (at : ℕ) (ks later : List KeptEntry) (was last : Option Ask) → a ≡ q → later ≡ ks → IfSome o (λ t. (t ≡ reply.Memory) × IsUnkept a r × (last ≡ Some a)) → IfSome o (λ t. IsTold q r at ks was t later last)
 told_unkept None a q r at ks later was last e same h = tt
 told_unkept (Some t) a q r at ks later was last e same h = told_memory q r t at ks later was last h.0 (subst (λ b. IsUnkept b r) e h.1) same (h.2 ∙ ap (λ b. Some b) e)
 

@@ -25,7 +25,7 @@ use Rattle.txs_theorem_runs.specs.Stages.{Stage, Idle, stage_after}
 use Rattle.txs_theorem_runs.specs.Told.{Entry, exchange_of, AreStaged}
 use Rattle.txs_theorem_runs.proofs.Known.{standing_staged}
 use Rattle.txs_threads_replay.specs.Entries.{entry_of}
-use Rattle.txs_threads_replay.specs.declared.kept.Kept.{Kept}
+use Rattle.txs_threads_replay.specs.declared.kept.KeptEntry.{KeptEntry}
 use Rattle.txs_machine.specs.RunOver.{IsLimited, AskedOn}
 use Rattle.txs_machine.proofs.Answered.{answer_leaves, memory_stops, stop_ends, idle_number, idle_outcome}
 use Rattle.txs_machine.proofs.Limits.{new_limited, turn_limited, turns_limited, answered_limited}
@@ -220,12 +220,12 @@ asker_goes code a q (inr h) f = go a.outcome refl a.pending f h.attends
     go (Some o) e None x g = cc
     go (Some o) e (Some p) x g = absurd g
 
-kept_more : (ks : List Kept) (k : Kept) → map entry_of (ks ++ k ∷ []) ≡ map entry_of ks ++ entry_of k ∷ []
+kept_more : (ks : List KeptEntry) (k : KeptEntry) → map entry_of (ks ++ k ∷ []) ≡ map entry_of ks ++ entry_of k ∷ []
 kept_more [] k = refl
 kept_more (x ∷ ks) k = ap (λ l. entry_of x ∷ l) (kept_more ks k)
 
 -- a reply keeps what it is, of what is kept behind it
-pub answer_played : ActorsRun → (code : PlainCode) (ks : List Kept) (o : Option Ask) (a : PlainActor) (q : Ask) (r : Reply) (at : ℕ) → Lives code a → unanswered a ≡ Some q → unanswered (answered a r) ≡ None → MayAnswer q r → HasPlayed code (map entry_of ks) o a
+pub answer_played : ActorsRun → (code : PlainCode) (ks : List KeptEntry) (o : Option Ask) (a : PlainActor) (q : Ask) (r : Reply) (at : ℕ) → Lives code a → unanswered a ≡ Some q → unanswered (answered a r) ≡ None → MayAnswer q r → HasPlayed code (map entry_of ks) o a
     → HasPlayed code (map entry_of (kept_after r (kept_of q r at) ks)) (stopped_after r q o) (answered a r)
 answer_played laws code ks o a q r at runs f free may h = go r free may
   where

@@ -5,7 +5,7 @@ use Rattle.txs_value_cell.specs.declared.cell.CellDefinition.{CellDefinition}
 use Rattle.txs_theorem_runs.specs.Shared.{book_for}
 use Rattle.txs_theorem_runs.specs.Told as told_by
 use Rattle.txs_threads_replay.specs.Adds.{adds_event, kept_trace}
-use Rattle.txs_threads_replay.specs.declared.kept.Kept.{Kept}
+use Rattle.txs_threads_replay.specs.declared.kept.KeptEntry.{KeptEntry}
 use Rattle.txs_machine.specs.RunOver.{places_of}
 use Rattle.txs_world_protocol.specs.declared.event.Place.{Place}
 use Rattle.txs_threads_gather.specs.Gather.{IsNotedBehind}
@@ -23,7 +23,7 @@ append_assoc [] y ys = refl
 append_assoc (x ∷ xs) y ys = ap (λ l. x ∷ l) (append_assoc xs y ys)
 
 -- so what is left of a trace comes behind it
-pub noted_more : (cells : List CellDefinition) (k : Kept) (ks : List Kept) (ps later : List Place) → IsNotedBehind cells k ps later → places_of later ++ kept_trace cells ks ≡ places_of ps ++ kept_trace cells (k ∷ ks)
+pub noted_more : (cells : List CellDefinition) (k : KeptEntry) (ks : List KeptEntry) (ps later : List Place) → IsNotedBehind cells k ps later → places_of later ++ kept_trace cells ks ≡ places_of ps ++ kept_trace cells (k ∷ ks)
 noted_more cells k ks ps later h = ap (λ l. l ++ kept_trace cells ks) h ∙ go (adds_event k.ask k.reply)
   where
     place : told_by.Place
@@ -37,12 +37,12 @@ place_is : (book at : ℕ) (p : Place) → p.book ≡ book → p.at ≡ at → p
 place_is book at p e f = rw (e, f) refl
 
 -- an event's place, pushed
-pub noted_added : (cells : List CellDefinition) (k : Kept) (ps : List Place) (p : Place) → adds_event k.ask k.reply ≡ true → p.book ≡ book_for cells k.ask → p.at ≡ k.at → IsNotedBehind cells k ps (ps ++ p ∷ [])
+pub noted_added : (cells : List CellDefinition) (k : KeptEntry) (ps : List Place) (p : Place) → adds_event k.ask k.reply ≡ true → p.book ≡ book_for cells k.ask → p.at ≡ k.at → IsNotedBehind cells k ps (ps ++ p ∷ [])
 noted_added cells k ps p adds e f =
     places_append ps (p ∷ []) ∙ ap (λ l. places_of ps ++ l) (place_is (book_for cells k.ask) k.at p e f ∙ ap (λ b. if b then record { book = book_for cells k.ask; at = k.at } ∷ [] else []) (sym adds))
 
 -- none, where it added none
-pub noted_none : (cells : List CellDefinition) (k : Kept) (ps : List Place) → adds_event k.ask k.reply ≡ false → IsNotedBehind cells k ps ps
+pub noted_none : (cells : List CellDefinition) (k : KeptEntry) (ps : List Place) → adds_event k.ask k.reply ≡ false → IsNotedBehind cells k ps ps
 noted_none cells k ps none = sym (ap (λ l. places_of ps ++ l) (ap (λ b. if b then record { book = book_for cells k.ask; at = k.at } ∷ [] else []) none) ∙ append_nil (places_of ps))
 
 -- what is left of a list at a place
@@ -50,5 +50,5 @@ pub drop_read : {A : Type 0} (xs : List A) (i : ℕ) (x : A) → i < length xs �
 drop_read xs i x h e = drop_more xs i x h ∙ ap (λ y. y ∷ drop (i + 1) xs) (sym e)
 
 -- nothing is left
-pub noted_all : (cells : List CellDefinition) (ks : List Kept) (i : ℕ) (ps : List Place) → length ks ≤ i → places_of ps ++ kept_trace cells (drop i ks) ≡ kept_trace cells ks → places_of ps ≡ kept_trace cells ks
+pub noted_all : (cells : List CellDefinition) (ks : List KeptEntry) (i : ℕ) (ps : List Place) → length ks ≤ i → places_of ps ++ kept_trace cells (drop i ks) ≡ kept_trace cells ks → places_of ps ≡ kept_trace cells ks
 noted_all cells ks i ps h e = sym (append_nil (places_of ps)) ∙ ap (λ l. places_of ps ++ kept_trace cells l) (sym (drop_all i ks h)) ∙ e

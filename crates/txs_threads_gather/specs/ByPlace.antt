@@ -12,7 +12,7 @@ use Rattle.txs_threads_replay.specs.ByPlace.{HoldsByPlace, AreBelow}
 use Rattle.txs_machine.specs.Agents.{actors_of, AreExplainedBy}
 use Rattle.txs_machine.specs.RunOver.{books_of}
 use Rattle.txs_machine.specs.Schedule.{IsExplainedBy}
-use Rattle.txs_world_protocol.specs.declared.report.Ran.{Ran}
+use Rattle.txs_world_protocol.specs.declared.report.ActorReport.{ActorReport}
 use Rattle.txs_threads_gather.specs.Gather.{ArePlayers, ArePlayed, AreReportsOf, AllHaveDone, AllHaveAttended}
 use Rattle.txs_threads_gather.specs.Played.{PlainPlayed}
 
@@ -37,7 +37,7 @@ pub record PartsAgree (code : PlainCode) (limit : ℕ) (store : PlainStore) (ato
   pub agree : AgreesByPlace code limit (state_of code.cells store atoms) ps
 
 -- what a report of such actors says
-pub record SaysWell (code : PlainCode) (limit : ℕ) (s : PlainShared) (threads agents : List Ran) : Type 0 where
+pub record SaysWell (code : PlainCode) (limit : ℕ) (s : PlainShared) (threads agents : List ActorReport) : Type 0 where
   pub done : AllHaveDone code limit s threads
   pub attended : AllHaveAttended code limit s agents
   pub explained : IsExplainedBy code (shared_of s) threads
@@ -46,7 +46,7 @@ pub record SaysWell (code : PlainCode) (limit : ℕ) (s : PlainShared) (threads 
 -- Where parts agree by place, the report of the actors says what they did over the books, and each program that the code follows explains it.
 abbrev pub ByPlaceExplains : Type 0
 ByPlaceExplains =
-    (code : PlainCode) (limit : ℕ) (s : PlainShared) (ps : List PlainPlayed) (ts rs : List Ran)
+    (code : PlainCode) (limit : ℕ) (s : PlainShared) (ps : List PlainPlayed) (ts rs : List ActorReport)
     → CodesStaged (map (thread_code code) code.threads) → SharedStands s.cells s.threads (shared_of s)
     → AgreesByPlace code limit s ps → ArePlayed ps
     → AreReportsOf s (take s.threads ps) ts → AreReportsOf s (drop s.threads ps) rs

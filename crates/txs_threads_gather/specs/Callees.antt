@@ -50,7 +50,7 @@ IsCallee code f = (b : CodeBody) × IsBodyOf code b × IsSentIn code b f
 abbrev pub AreCallees : PlainCode → List Bool → Type 0
 AreCallees code marks = (f : ℕ) → (nth marks f ≡ Some true) ↔ IsCallee code f
 
--- ---- what an agent may be told to run
+-- ---- what an agent may be given to run
 
 -- so many values can have been sent to a callee: an operation that takes them, or a function with so many parameters that the code sends
 abbrev pub TakesSent : PlainCode → Callee → ℕ → Type 0

@@ -11,11 +11,11 @@ use Rattle.txs_machine_actor.specs.PlainActor.{unanswered}
 use Rattle.txs_theorem_runs.specs.Shared.{book_for}
 use Rattle.txs_world_shared.specs.SharedState.{PlainShared, numbered_book}
 use Rattle.txs_threads_replay.specs.Entries.{entry_of}
-use Rattle.txs_threads_replay.specs.declared.kept.Kept.{Kept}
+use Rattle.txs_threads_replay.specs.declared.kept.KeptEntry.{KeptEntry}
 use Rattle.txs_machine.specs.Agents.{actors_of, AgentHasDone}
 use Rattle.txs_machine.specs.RunOver.{books_of, places_of}
 use Rattle.txs_machine.specs.RunTheorem.{HasDone}
-use Rattle.txs_world_protocol.specs.declared.report.Ran.{Ran}
+use Rattle.txs_world_protocol.specs.declared.report.ActorReport.{ActorReport}
 use Rattle.txs_threads_replay.specs.Adds.{kept_before, kept_trace}
 use Rattle.txs_threads_gather.specs.Played.{PlainPlayed, HasPlayed}
 
@@ -58,18 +58,18 @@ abbrev pub IsMadeFor : PlainCode → PlainShared → ℕ → Type 0
 IsMadeFor code s actors = (s.cells ≡ code.cells) × (s.threads ≡ length code.threads) × (actors ≡ actors_of code)
 
 -- what each of them kept
-abbrev pub kept_by : List PlainPlayed → List (List Kept)
+abbrev pub kept_by : List PlainPlayed → List (List KeptEntry)
 kept_by ps = map (λ p. p.kept) ps
 
 -- an entry of a report says what its actor came to, and has the places of the events that the actor's entries added
-pub record IsReportOf (s : PlainShared) (p : PlainPlayed) (ran : Ran) : Type 0 where
+pub record IsReportOf (s : PlainShared) (p : PlainPlayed) (ran : ActorReport) : Type 0 where
   pub ended : p.actor.outcome ≡ ran.outcome
   pub printed : p.actor.printed ≡ ran.printed.items
   pub counted : p.actor.steps ≡ ran.steps
   pub traced : places_of ran.trace.items ≡ kept_trace s.cells p.kept
 
 -- one for each actor
-abbrev pub AreReportsOf : PlainShared → List PlainPlayed → List Ran → Type 0
+abbrev pub AreReportsOf : PlainShared → List PlainPlayed → List ActorReport → Type 0
 AreReportsOf s [] [] = Unit {0}
 AreReportsOf s [] (r ∷ rs) = ⊥
 AreReportsOf s (p ∷ ps) [] = ⊥
@@ -77,13 +77,13 @@ AreReportsOf s (p ∷ ps) (r ∷ rs) = IsReportOf s p r × AreReportsOf s ps rs
 
 -- Each entry says what the actor of a thread of the code, which may make so many steps, did over the books: its steps are no more than these, and where
 -- they were spent, just as many.
-abbrev pub AllHaveDone : PlainCode → ℕ → PlainShared → List Ran → Type 0
-AllHaveDone code limit s rans = (k : ℕ) (ran : Ran) → nth rans k ≡ Some ran → HasDone code k limit (books_of s) ran
+abbrev pub AllHaveDone : PlainCode → ℕ → PlainShared → List ActorReport → Type 0
+AllHaveDone code limit s rans = (k : ℕ) (ran : ActorReport) → nth rans k ≡ Some ran → HasDone code k limit (books_of s) ran
 
 -- so does each of the actor of an agent, in the order of the agents
-abbrev pub AllHaveAttended : PlainCode → ℕ → PlainShared → List Ran → Type 0
-AllHaveAttended code limit s rans = (i : ℕ) (ran : Ran) → nth rans i ≡ Some ran → AgentHasDone code (length code.threads + i) limit (books_of s) ran
+abbrev pub AllHaveAttended : PlainCode → ℕ → PlainShared → List ActorReport → Type 0
+AllHaveAttended code limit s rans = (i : ℕ) (ran : ActorReport) → nth rans i ≡ Some ran → AgentHasDone code (length code.threads + i) limit (books_of s) ran
 
 -- the place of an entry's event, where it added one, is noted behind the others
-abbrev pub IsNotedBehind : List CellDefinition → Kept → List Place → List Place → Type 0
+abbrev pub IsNotedBehind : List CellDefinition → KeptEntry → List Place → List Place → Type 0
 IsNotedBehind cells k ps later = places_of later ≡ places_of ps ++ kept_before cells k []

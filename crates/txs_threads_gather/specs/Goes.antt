@@ -9,7 +9,7 @@ use Rattle.txs_machine_actor.specs.PlainActor.{PlainActor, Awaits, configuration
 use Rattle.txs_theorem_runs.specs.Told.{Entry}
 use Rattle.txs_theorem_runs.specs.Goes.{GoesTo}
 
--- An actor that goes on is there, and one that asks is at its ask; one that is done or has failed has ended so; one that was stopped has printed and written
+-- An actor that continues is there, and one that asks is at its ask; one that is done or has failed has ended so; one that was stopped has printed and written
 -- what it had there.
 abbrev pub IsThere : ThreadCode → PlainActor → Option Outcome → Option Ask → Turned Configuration → Type 0
 IsThere code a None None at = at ≡ Unfinished (configuration_of a)

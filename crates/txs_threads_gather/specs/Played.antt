@@ -13,7 +13,7 @@ use Rattle.txs_theorem_runs.specs.Standing.{StandingCode}
 use Rattle.txs_theorem_runs.specs.Told.{Entry, IsExchanged, exchange_of, AreStaged}
 use Rattle.txs_threads_replay.specs.Adds.{adds_event}
 use Rattle.txs_threads_replay.specs.Entries.{entry_of}
-use Rattle.txs_threads_replay.specs.declared.kept.Kept.{Kept}
+use Rattle.txs_threads_replay.specs.declared.kept.KeptEntry.{KeptEntry}
 use Rattle.txs_machine.specs.RunOver.{IsIn, IsLimited, AskedOn}
 use Rattle.txs_threads_gather.specs.Callees.{HandsOutSent}
 use Rattle.txs_threads_gather.specs.Goes.{HasGone}
@@ -45,7 +45,7 @@ pub record HasPlayed (code : PlainCode) (es : List Entry) (stopped : Option Ask)
 pub record PlainPlayed : Type 0 where
   pub code : PlainCode
   pub actor : PlainActor
-  pub kept : List Kept
+  pub kept : List KeptEntry
   pub stopped : Option Ask
   pub lost : Bool
 
@@ -59,11 +59,11 @@ abbrev pub IsPlayed : Bool → PlainPlayed → Option Ask → Type 0
 IsPlayed true p q = q ≡ None
 IsPlayed false p q = (q ≡ unanswered p.actor) × HasPlayed p.code (map entry_of p.kept) p.stopped p.actor
 
--- the actor can go on with its code, and so it is of what it kept
+-- the actor can continue with its code, and so it is of what it kept
 abbrev pub IsWell : PlainPlayed → Option Ask → Type 0
 IsWell p q = Lives p.code p.actor × IsPlayed p.lost p q
 
--- An actor may be told a reply: it lost nothing, its ask may have this reply, and the reply hands out no action but one that the code can have sent.
+-- An actor may be answered a reply: it lost nothing, its ask may have this reply, and the reply hands out no action but one that the code can have sent.
 abbrev pub MayBeTold : PlainPlayed → Reply → Type 0
 MayBeTold p r = (p.lost ≡ false) × MayAnswerIf (unanswered p.actor) r × HandsOutSent p.code r
 
@@ -72,7 +72,7 @@ abbrev pub IsMadeWith : ℕ → PlainActor → Type 0
 IsMadeWith limit a = a.limit ≡ limit
 
 -- what is kept after a reply: one entry more, but for one that stops the actor, and where there is no action for an agent
-abbrev pub kept_after : Reply → Kept → List Kept → List Kept
+abbrev pub kept_after : Reply → KeptEntry → List KeptEntry → List KeptEntry
 kept_after reply.Full k ks = ks
 kept_after reply.Memory k ks = ks
 kept_after reply.Idle k ks = ks
@@ -85,31 +85,31 @@ stopped_after reply.Memory q o = Some q
 stopped_after r q o = o
 
 -- an entry of these
-abbrev pub kept_of : Ask → Reply → ℕ → Kept
+abbrev pub kept_of : Ask → Reply → ℕ → KeptEntry
 kept_of q r at = record { ask = q; reply = r; at = at }
 
--- there is no memory to keep a reply, and the actor is told that: its ask may be answered so, and added no event
+-- there is no memory to keep a reply, and the actor is answered that: its ask may be answered so, and added no event
 pub record IsUnkept (q : Ask) (r : Reply) : Type 0 where
   pub exchanged : IsExchanged r
   pub answers : MayAnswer q reply.Memory
   pub unseen : adds_event q r ≡ false
 
--- a reply may be lost where there is no memory to keep it: it has to be kept, and no other may be told in its place
+-- a reply may be lost where there is no memory to keep it: it has to be kept, and no other may be answered in its place
 pub record IsLostBy (q : Ask) (r : Reply) : Type 0 where
   pub exchanged : IsExchanged r
   pub seen : MayAnswer q reply.Memory → adds_event q r ≡ false → ⊥
 
--- what an actor is told of a reply: the reply, or that there is no memory to keep it
+-- what an actor is answered of a reply: the reply, or that there is no memory to keep it
 abbrev pub IsToldFor : Ask → Reply → Reply → Type 0
 IsToldFor q r t = (t ≡ r) ⊎ ((t ≡ reply.Memory) × IsUnkept q r)
 
 -- and what is kept of it
-pub record IsTold (q : Ask) (r : Reply) (at : ℕ) (ks : List Kept) (o : Option Ask) (t : Reply) (later : List Kept) (last : Option Ask) : Type 0 where
+pub record IsTold (q : Ask) (r : Reply) (at : ℕ) (ks : List KeptEntry) (o : Option Ask) (t : Reply) (later : List KeptEntry) (last : Option Ask) : Type 0 where
   pub told : IsToldFor q r t
   pub kept : later ≡ kept_after t (kept_of q t at) ks
   pub stopped : last ≡ stopped_after t q o
 
--- an actor goes on after what it is told of a reply to its ask, and that is kept
+-- an actor continues after what it is answered of a reply to its ask, and that is kept
 pub record GoesOnTold (q : Ask) (r : Reply) (at : ℕ) (p later : PlainPlayed) : Type 0 where
   pub word : Reply
   pub goes : later.actor ≡ answered p.actor word

@@ -1,4 +1,4 @@
-//! What holds of actors that agree with the books by place. Each law stands on a function of its own, which does nothing when it
+//! What holds of actors that agree with the books by place. Each law is the contract of a function of its own, which does nothing when it
 //! runs.
 
 ghost use Rattle.txs_threads_gather.specs.ByPlace.{ByPlaceExplains};

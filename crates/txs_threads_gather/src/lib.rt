@@ -11,4 +11,4 @@ pub use callees::sent_functions;
 pub use parts::{Gathered, gather};
 pub use played::Played;
 pub use txs_machine::RunError;
-pub use txs_threads_replay::{Kept, KeptEntries};
+pub use txs_threads_replay::{KeptEntries, KeptEntry};

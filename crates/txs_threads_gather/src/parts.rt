@@ -2,7 +2,6 @@
 
 ghost use Rattle.std.specs.Prelude.{◌≡◌, ◌≤◌, ◌<◌, ◌↔◌, ◌⊎◌, ℕ, [], length, take, drop, false, IsTrue, IfOk, IfErr, OnOk};
 ghost use Rattle.txs_machine.specs.Agents.{agents_of, AreExplainedBy};
-ghost use Rattle.txs_value_cell.specs.Agents.{agents_from, with_agent};
 ghost use Rattle.txs_machine.specs.RunOver.{books_of, places_of};
 ghost use Rattle.txs_machine.specs.Schedule.{IsExplainedBy};
 ghost use Rattle.txs_threads_replay.specs.Adds.{kept_trace};
@@ -19,11 +18,10 @@ use crate::played::Played;
 use std::alloc::{AllocError, Global};
 use txs_code_encode::same_code;
 use txs_code_meaning::Verified;
-use txs_machine::{Entries, Place, Ran, RunError};
+use txs_machine::{ActorReport, Entries, Place, RunError};
 use txs_theorem_runs::law::typed_threads_are_staged;
 use txs_threads_replay::{Index, KeptEntries, Stored, all_below};
-use txs_value_cell::CellDefinition;
-use txs_value_data::CellKind;
+use txs_value_cell::count_agents;
 use txs_world::Store;
 use txs_world_book::AtomBook;
 use txs_world_protocol::Outcome;
@@ -102,27 +100,6 @@ fn are_players(code: &Verified, max_steps: u64, shared: &SharedState, played: &[
     true
 }
 
-/// One for an agent, and none for another cell.
-fn agents_in(cell: &CellDefinition) -> usize
-    ensures { result ≡ length (with_agent cell.now.kind 0 []) }
-{
-    match cell.kind {
-        CellKind::Agent => 1,
-        CellKind::Ref | CellKind::Atom => 0,
-    }
-}
-
-/// How many of these cells are agents.
-fn count_agents(cells: &[CellDefinition]) -> usize
-    ensures { result ≡ length (agents_from 0 cells.now) }
-{
-    let mut agents = 0;
-    for cell in cells {
-        agents += agents_in(cell);
-    }
-    agents
-}
-
 /// Whether what is shared is of the code's cells, for its threads, and there are as many actors as threads and agents.
 fn is_made_for(code: &Verified, shared: &SharedState, actors: usize) -> bool
     ensures { IsTrue result ↔ IsMadeFor code.now shared.now actors }
@@ -167,57 +144,58 @@ fn trace_of(
     Ok(trace)
 }
 
-/// What an actor did, as a report tells it.
-fn report_of(alloc: Global, shared: &SharedState, played: &Played<'_>) -> Result<Ran, AllocError>
-    ensures { IfOk result (λ ran. IsReportOf shared.now played.now ran) }
+/// What an actor did, as a report says: its bytes are moved there.
+fn report_of(
+    alloc: Global,
+    shared: &SharedState,
+    played: Played<'_>,
+) -> Result<ActorReport, AllocError>
+    ensures { IfOk result (λ ran. IsReportOf shared.now played.entry ran) }
 {
-    let actor = played.actor();
-    let printed = Vec::from_slice(alloc, actor.printed())?;
     let trace = trace_of(alloc, shared, played.kept())?;
-    Ok(Ran {
-        outcome: actor.outcome(),
-        printed,
+    let actor = played.into_actor();
+    let outcome = actor.outcome();
+    let steps = actor.steps();
+    Ok(ActorReport {
+        outcome,
+        printed: actor.into_printed(),
         trace,
-        steps: actor.steps(),
+        steps,
     })
 }
 
-/// Tells what these actors did, in a list that was empty.
+/// What these actors did.
 fn report_all(
     alloc: Global,
     shared: &SharedState,
-    played: &[Played<'_>],
-    reports: &mut Vec<Ran>,
-) -> Result<(), AllocError>
-    requires { reports.old.items ≡ [] }
-    ensures { OnOk result (AreReportsOf shared.now played.now reports.new.items) }
+    played: Vec<Played<'_>>,
+) -> Result<Vec<ActorReport>, AllocError>
+    ensures { IfOk result (λ reports. AreReportsOf shared.now played.entry.items reports.items) }
 {
-    reports.reserve(played.len())?;
+    let mut reports = Vec::with_capacity(alloc, played.len())?;
     for one in played {
-        let told = report_of(alloc, shared, one)?;
-        reports.push_reserved(told);
+        reports.push(report_of(alloc, shared, one)?)?;
     }
-    Ok(())
+    Ok(reports)
 }
 
 /// What all actors did, of whom the first so many are those of the threads.
 fn report_parts(
     alloc: Global,
     shared: &SharedState,
-    played: &[Played<'_>],
+    played: Vec<Played<'_>>,
     threads: usize,
 ) -> Result<Entries, AllocError>
-    requires { threads ≤ length played.now }
-    ensures threads { IfOk result (λ r. AreReportsOf shared.now (take threads played.now) r.threads.items) }
-    ensures agents { IfOk result (λ r. AreReportsOf shared.now (drop threads played.now) r.agents.items) }
+    requires { threads ≤ length played.items }
+    ensures threads { IfOk result (λ r. AreReportsOf shared.now (take threads played.entry.items) r.threads.items) }
+    ensures agents { IfOk result (λ r. AreReportsOf shared.now (drop threads played.entry.items) r.agents.items) }
 {
-    let mut report = Entries {
-        threads: Vec::new(alloc),
-        agents: Vec::new(alloc),
-    };
-    report_all(alloc, shared, &played[..threads], &mut report.threads)?;
-    report_all(alloc, shared, &played[threads..], &mut report.agents)?;
-    Ok(report)
+    let mut first = report_all(alloc, shared, played)?;
+    let agents = first.split_off(threads)?;
+    Ok(Entries {
+        threads: first,
+        agents,
+    })
 }
 
 /// Whether they are the actors of a run over what is shared: one for each thread and behind these one for each agent, each made with this code and for
@@ -268,7 +246,7 @@ fn all_agree(alloc: Global, index: &Index<'_>, played: &[Played<'_>]) -> Result<
 /// Whether what they kept agrees with the books, and the books with it: each event is of one of them.
 ///
 /// # Errors
-/// `JournalMismatch` where it isn't so; `Memory` where there was no memory to tell.
+/// `JournalMismatch` where it isn't so; `Memory` where there was no memory for the comparison.
 fn check_kept(alloc: Global, shared: &SharedState, played: &[Played<'_>]) -> Result<(), RunError>
     requires { length played.now ≤ 65536 }
     ensures below { OnOk result ((n : ℕ) → AreBelow (length played.now) (books_of shared.now n)) }
@@ -297,17 +275,17 @@ fn compare(
     code: &Verified,
     max_steps: u64,
     shared: &SharedState,
-    actors: &[Played<'_>],
+    actors: Vec<Played<'_>>,
 ) -> Result<Entries, RunError>
-    ensures agrees { OnOk result (AgreesByPlace code.now max_steps shared.now actors.now) }
-    ensures played { OnOk result (ArePlayed actors.now) }
-    ensures threads { IfOk result (λ r. AreReportsOf shared.now (take shared.now.threads actors.now) r.threads.items) }
-    ensures agents { IfOk result (λ r. AreReportsOf shared.now (drop shared.now.threads actors.now) r.agents.items) }
-    ensures differs { IfErr result (λ e. e ≡ JournalMismatch → AgreesByPlace code.now max_steps shared.now actors.now → ⊥) }
+    ensures agrees { OnOk result (AgreesByPlace code.now max_steps shared.now actors.entry.items) }
+    ensures played { OnOk result (ArePlayed actors.entry.items) }
+    ensures threads { IfOk result (λ r. AreReportsOf shared.now (take shared.now.threads actors.entry.items) r.threads.items) }
+    ensures agents { IfOk result (λ r. AreReportsOf shared.now (drop shared.now.threads actors.entry.items) r.agents.items) }
+    ensures differs { IfErr result (λ e. e ≡ JournalMismatch → AgreesByPlace code.now max_steps shared.now actors.entry.items → ⊥) }
     ensures refusals { IfErr result (λ e. (e ≡ JournalMismatch) ⊎ (e ≡ Memory)) }
 {
-    check_actors(code, max_steps, shared, actors)?;
-    check_kept(alloc, shared, actors)?;
+    check_actors(code, max_steps, shared, actors.as_slice())?;
+    check_kept(alloc, shared, actors.as_slice())?;
     let threads = usize::from(shared.threads());
     let report = report_parts(alloc, shared, actors, threads)?;
     Ok(report)
@@ -337,11 +315,12 @@ fn gather_state(
     ensures differs { IfErr result (λ e. e ≡ JournalMismatch → AgreesByPlace code.now max_steps shared played.entry.items → ⊥) }
     ensures refusals { IfErr result (λ e. (e ≡ JournalMismatch) ⊎ (e ≡ Memory)) }
 {
+    // Laws and steps that the proof uses; they do nothing when they run.
     by_place_explains();
     typed_threads_are_staged();
     let (_functions, _threads) = code.rooms();
     let _stands = shared.events();
-    let report = compare(alloc, code, max_steps, &shared, played.as_slice())?;
+    let report = compare(alloc, code, max_steps, &shared, played)?;
     Ok(Gathered { shared, report })
 }
 

@@ -23,7 +23,7 @@ use std::mem;
 use txs_code_meaning::Verified;
 use txs_machine_actor::{Actor, Turn, actors_run, may_answer};
 use txs_theorem_runs::law::typed_stands;
-use txs_threads_replay::{Kept, KeptEntries, adds_event, is_exchanged};
+use txs_threads_replay::{KeptEntries, KeptEntry, adds_event, is_exchanged};
 use txs_value_data::limits::MOST_EVENTS;
 use txs_world_protocol::{Ask, Outcome, Reply, copy_ask, copy_reply};
 use txs_world_shared::SharedState;
@@ -121,7 +121,7 @@ fn push_copy(
     let Ok(copy) = copy_reply(alloc, reply) else {
         return Err(ask);
     };
-    let entry = Kept {
+    let entry = KeptEntry {
         ask,
         reply: copy,
         at,
@@ -129,7 +129,7 @@ fn push_copy(
     match kept.push(entry) {
         Ok(()) => Ok(()),
         Err(entry) => {
-            let Kept { ask, reply, .. } = entry;
+            let KeptEntry { ask, reply, .. } = entry;
             drop(reply);
             Err(ask)
         }
@@ -144,7 +144,7 @@ fn may_stop(ask: &Ask, reply: &Reply) -> bool
     may_answer(ask, &Reply::Memory) && !adds_event(ask, reply)
 }
 
-/// What an actor is told where there was no memory to keep a reply: that, if its ask may be answered so and added no event. Its ask is then the one at which it
+/// What an actor is answered where there was no memory to record a reply: that, if its ask may be answered so and added no event. Its ask is then the one at which it
 /// was stopped. Else nothing.
 fn stop_unkept(stopped: &mut Option<Ask>, ask: Ask, reply: Reply) -> Option<Reply>
     requires { IsExchanged reply }
@@ -161,7 +161,7 @@ fn stop_unkept(stopped: &mut Option<Ask>, ask: Ask, reply: Reply) -> Option<Repl
     None
 }
 
-/// What an actor is told of a reply to its ask. It is the reply, and that is kept with the ask; of one that stops the actor the ask alone, and of one that has no
+/// What an actor is answered of a reply to its ask. It is the reply, and that is recorded with the ask; of one that stops the actor the ask alone, and of one that has no
 /// action for an agent nothing. Where there is no memory to keep it, it is that there is none, if the ask may be answered so and added no event; else it is
 /// nothing, and the reply is lost.
 fn keep_or_lose(
@@ -191,7 +191,7 @@ fn keep_or_lose(
 
 impl<'a> Played<'a> {
     /// A new actor, of a thread or of an agent, made with this code and for so many steps, that has kept nothing yet. The callees are the functions that
-    /// the code sends, as `sent_functions` tells them.
+    /// the code sends, as `sent_functions` lists them.
     pub fn new(
         alloc: Global,
         code: &'a Verified,
@@ -204,6 +204,7 @@ impl<'a> Played<'a> {
         requires new { IsNew code.now actor.number max_steps actor }
         ensures { result ≡ new_player code.now actor }
     {
+        // Laws that the proof uses; they do nothing when they run.
         actors_run();
         typed_stands();
         let (_functions, _threads) = code.rooms();
@@ -236,6 +237,7 @@ impl<'a> Played<'a> {
         ensures asked { self.old.lost ≡ false → self.new.lost ≡ true → (q : AnAsk) × TurnsOf self.old.code budget self.old.actor (turned.Asks q) self.new.actor }
         ensures stays { self.old.lost ≡ true → self.new ≡ self.old }
     {
+        // Laws that the proof uses; they do nothing when they run.
         actors_run();
         if self.lost {
             return Turn::Ended(Outcome::Memory);
@@ -268,9 +270,9 @@ impl<'a> Played<'a> {
         self.run(1)
     }
 
-    /// The actor goes on after the reply to its ask, which was served where its book had `at` events. The reply is kept with the ask, and of one that stops
+    /// The actor continues after the reply to its ask, which was served where its book had `at` events. The reply is kept with the ask, and of one that stops
     /// the actor the ask alone; where there is no action for an agent, nothing is kept, and it is where it was. Where there is no memory to keep a reply whose
-    /// ask added no event, the actor is told that, and has ended so. Where an event was added, it has lost what it should have kept, and makes no more turns; one
+    /// ask added no event, the actor is answered that, and has ended so. Where an event was added, it has lost what it should have kept, and makes no more turns; one
     /// that lost something stays as it is.
     pub fn answer(&mut self, at: u32, reply: Reply)
         requires answers { self.old.lost ≡ false → MayAnswerIf (unanswered self.old.actor) reply }
@@ -281,6 +283,7 @@ impl<'a> Played<'a> {
         ensures told { (q : AnAsk) → unanswered self.old.actor ≡ Some q → self.new.lost ≡ false → GoesOnTold q reply at self.old self.new }
         ensures lost { (q : AnAsk) → unanswered self.old.actor ≡ Some q → self.old.lost ≡ false → self.new.lost ≡ true → IsLostBy q reply }
     {
+        // Laws that the proof uses; they do nothing when they run.
         actors_run();
         if self.lost {
             drop(reply);
@@ -321,6 +324,27 @@ impl<'a> Played<'a> {
         ensures { result.now ≡ self.now.code }
     {
         self.code
+    }
+
+    /// Its actor, once what it kept is used no more.
+    pub fn into_actor(self) -> Actor
+        ensures { result ≡ self.entry.actor }
+    {
+        let Played {
+            alloc: _,
+            code: _,
+            callees: _,
+            actor,
+            limit: _,
+            asked,
+            kept,
+            stopped,
+            lost: _,
+        } = self;
+        drop(asked);
+        drop(kept);
+        drop(stopped);
+        actor
     }
 
     /// Its actor.
@@ -370,7 +394,7 @@ impl<'a> Played<'a> {
         }
     }
 
-    /// How it ended, if it did: for want of memory, where it lost something.
+    /// How it ended, if it did: out of memory, where it lost something.
     pub fn outcome(&self) -> Option<Outcome>
         ensures whole { self.now.lost ≡ false → result ≡ self.now.actor.outcome }
         ensures lost { self.now.lost ≡ true → result ≡ Some outcome.Memory }

@@ -24,7 +24,7 @@ use Rattle.txs_theorem_runs.specs.Shared.{is_atom, atom_of, serve_atom, serve_on
 use Rattle.txs_theorem_runs.specs.Told as told_by
 use Rattle.txs_theorem_runs.specs.Told.{Entry, EntryHolds, AllHold, before_entry, served_at, adding, trace_of}
 use Rattle.txs_threads_replay.specs.Entries.{entry_of}
-use Rattle.txs_threads_replay.specs.declared.kept.Kept.{Kept}
+use Rattle.txs_threads_replay.specs.declared.kept.KeptEntry.{KeptEntry}
 use Rattle.txs_threads_replay.specs.Adds.{is_retry, is_done, is_full, adds_event, kept_before, kept_trace}
 
 -- what was served grows its book just where the reply says so
@@ -110,7 +110,7 @@ entry_adds cells threads books a e h =
     ap (λ (m : ℕ). nat_lt m (length v.book)) (sym n) ∙ tells_growth cells a e.ask before ∙ ap (adds_event e.ask) (sym h.replied)
 
 -- so the places of what it added are those of its trace
-pub trace_is_kept : (cells : List CellDefinition) (threads : ℕ) (books : ℕ → List Event) (a : ℕ) (ks : List Kept) → AllHold cells threads books a (map entry_of ks) → kept_trace cells ks ≡ trace_of cells books a (map entry_of ks)
+pub trace_is_kept : (cells : List CellDefinition) (threads : ℕ) (books : ℕ → List Event) (a : ℕ) (ks : List KeptEntry) → AllHold cells threads books a (map entry_of ks) → kept_trace cells ks ≡ trace_of cells books a (map entry_of ks)
 trace_is_kept cells threads books a [] h = refl
 trace_is_kept cells threads books a (k ∷ ks) h =
     ap (kept_before cells k) (trace_is_kept cells threads books a ks h.1)

@@ -17,7 +17,7 @@ use Rattle.txs_threads_replay.specs.Fits.{LooksAt}
 use Rattle.txs_threads_replay.specs.Looks.{entry_at}
 use Rattle.txs_threads_replay.specs.Past.{PlainPast, IsStorePast}
 use Rattle.txs_world_book.specs.Served.{cells_of}
-use Rattle.txs_threads_replay.specs.declared.kept.Kept.{Kept}
+use Rattle.txs_threads_replay.specs.declared.kept.KeptEntry.{KeptEntry}
 use Rattle.txs_threads_replay.proofs.Indexing.{is_less, is_not_less}
 use Rattle.txs_threads_replay.proofs.Looks.{looks_decide}
 
@@ -78,7 +78,7 @@ head_or d (x ∷ xs) = x
 -- ---- traces
 
 -- the places of one entry come before those of the others
-kept_parts : (cells : List CellDefinition) (n : ℕ) (k : Kept) (ps : List told_by.Place) → places_in n (kept_before cells k ps) ≡ places_in n (kept_before cells k []) ++ places_in n ps
+kept_parts : (cells : List CellDefinition) (n : ℕ) (k : KeptEntry) (ps : List told_by.Place) → places_in n (kept_before cells k ps) ≡ places_in n (kept_before cells k []) ++ places_in n ps
 kept_parts cells n k ps = go (adds_event k.ask k.reply)
   where
     here : List told_by.Place → List told_by.Place
@@ -103,11 +103,11 @@ module _ (s : PlainShared) (a : ℕ) where
   -- ---- an entry's event is taken
 
   -- one that added none takes none
-  pub claims_none : (k : Kept) (taken : List ℕ) → adds_event k.ask k.reply ≡ false → IsClaimed s a k true taken taken
+  pub claims_none : (k : KeptEntry) (taken : List ℕ) → adds_event k.ask k.reply ≡ false → IsClaimed s a k true taken taken
   claims_none k taken e = (refl, λ n. ap (λ b. places_in n (if b then record { book = book_for s.cells k.ask; at = k.at } ∷ [] else []) ++ left_of s a taken n) (sym e))
 
   -- one that added the next one takes it
-  pub claims_next : (k : Kept) (taken : List ℕ) (book next : ℕ) → adds_event k.ask k.reply ≡ true → book ≡ book_for s.cells k.ask → book < length taken → next ≡ get_or taken book 0
+  pub claims_next : (k : KeptEntry) (taken : List ℕ) (book next : ℕ) → adds_event k.ask k.reply ≡ true → book ≡ book_for s.cells k.ask → book < length taken → next ≡ get_or taken book 0
       → next < length (places_by a 0 (numbered_book s book)) → get_or (places_by a 0 (numbered_book s book)) next k.at ≡ k.at → IsClaimed s a k true taken (set taken book (next + 1))
   claims_next k taken book next e is within read lt at = (set_length taken book (next + 1), λ n. ap (λ b. left b n) e' ∙ go n (book == n) refl)
     where
@@ -142,7 +142,7 @@ module _ (s : PlainShared) (a : ℕ) where
           ∙ ap (λ l. l ++ left_of s a new n) (sym (all n ∙ ap (λ c. if c then k.at ∷ [] else []) t))
 
   -- a book that isn't there has no events
-  pub no_such_book : (k : Kept) (old new : List ℕ) (book : ℕ) → adds_event k.ask k.reply ≡ true → book ≡ book_for s.cells k.ask → length s.books ≤ book → IsClaimed s a k false old new
+  pub no_such_book : (k : KeptEntry) (old new : List ℕ) (book : ℕ) → adds_event k.ask k.reply ≡ true → book ≡ book_for s.cells k.ask → length s.books ≤ book → IsClaimed s a k false old new
   no_such_book k old new book e is past = (e, λ rest h. subst is_cons (sym h ∙ none) tt)
     where
       empty : numbered_book s (book_for s.cells k.ask) ≡ []
@@ -152,7 +152,7 @@ module _ (s : PlainShared) (a : ℕ) where
       none = ap (λ es. drop (get_or old (book_for s.cells k.ask) 0) (places_by a 0 es)) empty ∙ dropped_none (get_or old (book_for s.cells k.ask) 0)
 
   -- none of the actor's events is left there, or the next one is another
-  pub no_such_event : (k : Kept) (old new : List ℕ) (book next : ℕ) → adds_event k.ask k.reply ≡ true → book ≡ book_for s.cells k.ask → next ≡ get_or old book 0
+  pub no_such_event : (k : KeptEntry) (old new : List ℕ) (book next : ℕ) → adds_event k.ask k.reply ≡ true → book ≡ book_for s.cells k.ask → next ≡ get_or old book 0
       → (next < length (places_by a 0 (numbered_book s book)) → get_or (places_by a 0 (numbered_book s book)) next k.at ≡ k.at → ⊥) → IsClaimed s a k false old new
   no_such_event k old new book next e is read other = (e, λ rest h. stands rest (subst (λ b. left_of s a old b ≡ k.at ∷ rest) (sym is) h))
     where
@@ -170,10 +170,10 @@ module _ (s : PlainShared) (a : ℕ) where
 
   -- ---- one entry more
 
-  abbrev here : Kept → List Kept → ℕ
+  abbrev here : KeptEntry → List KeptEntry → ℕ
   here k ks = place_of s.cells (shared_of s).books k.at (next_place (length (numbered_book s 0)) ks) k.ask k.reply
 
-  module _ (held : Bool) (taken : List ℕ) (k : Kept) (ks : List Kept) where
+  module _ (held : Bool) (taken : List ℕ) (k : KeptEntry) (ks : List KeptEntry) where
     -- an entry looks right where it is looked at, just where it holds
     pub looks_of : LeftAgree s a held taken (k ∷ ks) → LooksAt s a k.ask (here k ks) k.reply
     looks_of h = (looks_decide s.cells s.threads (shared_of s).books a (entry_at k.ask (here k ks) k.reply)).0 h.hold.0
@@ -204,7 +204,7 @@ module _ (s : PlainShared) (a : ℕ) where
 
   -- ---- the first and the last
 
-  pub left_all : (ks : List Kept) (taken : List ℕ) → ((n : ℕ) → get_or taken n 0 ≡ 0) → HoldsByPlace s a ks ↔ LeftAgree s a false taken ks
+  pub left_all : (ks : List KeptEntry) (taken : List ℕ) → ((n : ℕ) → get_or taken n 0 ≡ 0) → HoldsByPlace s a ks ↔ LeftAgree s a false taken ks
   left_all ks taken z = (
     (λ h. record { hold = h.hold; traced = λ n. h.traced n ∙ ap (λ i. drop i (places_by a 0 (numbered_book s n))) (sym (z n)); turns = h.turns }),
     (λ h. record { hold = h.hold; traced = λ n. h.traced n ∙ ap (λ i. drop i (places_by a 0 (numbered_book s n))) (z n); turns = h.turns }),
@@ -222,7 +222,7 @@ pub left_past : (s : PlainShared) (a : ℕ) (taken : List ℕ) (n : ℕ) → len
 left_past s a taken n past = ap (λ es. drop (get_or taken n 0) (places_by a 0 es)) (past_none s.books n [] past) ∙ dropped_none (get_or taken n 0)
 
 -- an entry with those behind it
-pub dropped_at : (ks : List Kept) (i : ℕ) (k : Kept) → i < length ks → k ≡ get_or ks i k → drop i ks ≡ k ∷ drop (i + 1) ks
+pub dropped_at : (ks : List KeptEntry) (i : ℕ) (k : KeptEntry) → i < length ks → k ≡ get_or ks i k → drop i ks ≡ k ∷ drop (i + 1) ks
 dropped_at [] i k h e = absurd (omega (arith, h))
 dropped_at (x ∷ ks) zero k h e = ap (λ y. y ∷ ks) (sym e)
 dropped_at (x ∷ ks) (suc i) k h e = dropped_at ks i k (omega (arith, h)) e ∙ ap (λ m. k ∷ drop m (x ∷ ks)) (let m : suc (i + 1) ≡ suc i + 1 = omega arith in m)
@@ -271,8 +271,8 @@ below_all s a m past h n = go (nat_lt n m) refl
     go false t = subst (AreBelow a) (sym (past n (is_not_less n m t))) tt
 
 -- where the entry behind another one was looked at, or the end
-pub place_behind : (end i : ℕ) (ks : List Kept) (k : Kept) → i + 1 < length ks → k ≡ get_or ks (i + 1) k → k.at ≡ next_place end (drop (i + 1) ks)
+pub place_behind : (end i : ℕ) (ks : List KeptEntry) (k : KeptEntry) → i + 1 < length ks → k ≡ get_or ks (i + 1) k → k.at ≡ next_place end (drop (i + 1) ks)
 place_behind end i ks k lt e = ap (next_place end) (sym (dropped_at ks (i + 1) k lt e))
 
-pub place_none : (end i : ℕ) (ks : List Kept) → length ks ≤ i + 1 → end ≡ next_place end (drop (i + 1) ks)
+pub place_none : (end i : ℕ) (ks : List KeptEntry) → length ks ≤ i + 1 → end ≡ next_place end (drop (i + 1) ks)
 place_none end i ks le = ap (next_place end) (sym (drop_none (i + 1) ks le))

@@ -3,7 +3,7 @@ use Rattle.std.proofs.Common.{◌≡◌, ◌<◌, ◌++◌, ◌∷◌, [], ℕ, 
 use Rattle.txs_world_protocol.specs.declared.ask.Ask.{Ask}
 use Rattle.txs_world_protocol.specs.declared.ask.Reply.{Reply}
 use Rattle.txs_threads_replay.specs.Storing.{kept_in}
-use Rattle.txs_threads_replay.specs.declared.kept.Kept.{Kept}
+use Rattle.txs_threads_replay.specs.declared.kept.KeptEntry.{KeptEntry}
 use Rattle.txs_threads_replay.specs.declared.stored.Stored.{Stored}
 
 pub as_many : (xs : List Stored) → length (map kept_in xs) ≡ length xs
@@ -22,5 +22,5 @@ one_more [] x = refl
 one_more (y ∷ xs) x = ap (λ l. kept_in y ∷ l) (one_more xs x)
 
 -- an entry that was taken apart
-pub taken_apart : (k : Kept) (q : Ask) (r : Reply) → k.ask ≡ q → k.reply ≡ r → record { ask = q; reply = r; at = k.at } ≡ k
+pub taken_apart : (k : KeptEntry) (q : Ask) (r : Reply) → k.ask ≡ q → k.reply ≡ r → record { ask = q; reply = r; at = k.at } ≡ k
 taken_apart k q r e f = rw (e, f) refl

@@ -1,4 +1,3 @@
-mod Comparing
 pub mod Adding
 pub mod Agreeing
 pub mod Fitting

@@ -27,7 +27,7 @@ use Rattle.txs_theorem_runs.specs.Shared.{book_for, has_atom, may_close, may_ask
 use Rattle.txs_theorem_runs.specs.Told.{IsExchanged, EntryHolds, AllHold, TraceHolds, before_entry}
 use Rattle.txs_world_shared.specs.SharedState.{PlainShared, shared_of}
 use Rattle.txs_threads_replay.specs.Entries.{entry_of}
-use Rattle.txs_threads_replay.specs.declared.kept.Kept.{Kept}
+use Rattle.txs_threads_replay.specs.declared.kept.KeptEntry.{KeptEntry}
 use Rattle.txs_theorem_runs.proofs.Acting.{no_thread}
 use Rattle.txs_theorem_runs.proofs.Replayed.{length_taken, after_taken}
 use Rattle.txs_threads_replay.specs.Adds.{is_retry, is_done}
@@ -305,12 +305,12 @@ module _ (s : PlainShared) (a : ℕ) (below : nat_lt a s.threads ≡ true) where
   quiet_turn taken book (ask.CloseAt c p v) may = (refl, refl)
   quiet_turn taken book (ask.Broke c p) may = (refl, refl)
 
-  all_placed : (ks : List Kept) → AllHold s.cells s.threads (shared_of s).books a (map entry_of ks) → AllHold s.cells s.threads (shared_of s).books a (placed s.cells (shared_of s).books ks)
+  all_placed : (ks : List KeptEntry) → AllHold s.cells s.threads (shared_of s).books a (map entry_of ks) → AllHold s.cells s.threads (shared_of s).books a (placed s.cells (shared_of s).books ks)
   all_placed [] h = tt
   all_placed (k ∷ ks) h =
       (places_hold s.cells s.threads (shared_of s).books a k.at (next_place (length ((shared_of s).books 0)) ks) k.ask k.reply (no_take h.0.asked.0 (before_entry s.cells (shared_of s).books (entry_of k)) k.ask h.0.asked.1) h.0, all_placed ks h.1)
 
-  all_in_turn : (ks : List Kept) → AllHold s.cells s.threads (shared_of s).books a (map entry_of ks) → AreInTurn false ks
+  all_in_turn : (ks : List KeptEntry) → AllHold s.cells s.threads (shared_of s).books a (map entry_of ks) → AreInTurn false ks
   all_in_turn [] h = tt
   all_in_turn (k ∷ ks) h =
       let t = quiet_turn h.0.asked.0 (before_entry s.cells (shared_of s).books (entry_of k)) k.ask h.0.asked.1 in

@@ -10,7 +10,7 @@ use Rattle.txs_value_cell.specs.declared.cell.CellDefinition.{CellDefinition}
 use Rattle.txs_world_book.specs.Atom.{is_swap}
 use Rattle.txs_theorem_runs.specs.Told.{Entry, AllHold, TraceHolds}
 use Rattle.txs_world_shared.specs.SharedState.{PlainShared, shared_of}
-use Rattle.txs_threads_replay.specs.declared.kept.Kept.{Kept}
+use Rattle.txs_threads_replay.specs.declared.kept.KeptEntry.{KeptEntry}
 use Rattle.txs_threads_replay.specs.Adds.{is_retry, is_done, kept_trace}
 
 -- the place that a reply names, else another one
@@ -34,7 +34,7 @@ after_swap p [] = 0
 after_swap zero (e ∷ es) = if is_swap e.kind then 1 else suc (after_swap zero es)
 after_swap (suc p) (e ∷ es) = suc (after_swap p es)
 
--- where a swap that was opened at a place is told that the atom has changed
+-- where a swap that was opened at a place is answered that the atom has changed
 abbrev pub changed_place : Option ℕ → ℕ → List Event → ℕ
 changed_place None own es = own
 changed_place (Some p) own es = after_swap p es
@@ -56,12 +56,12 @@ place_of cells books own next (ask.CloseAt c p v) r = if is_done r then own else
 place_of cells books own next (ask.Broke c p) r = own
 
 -- the place of the event of the entry that comes next; this end, where none does
-abbrev pub next_place : ℕ → List Kept → ℕ
+abbrev pub next_place : ℕ → List KeptEntry → ℕ
 next_place end [] = end
 next_place end (k ∷ ks) = k.at
 
 -- what an actor kept, each entry at the place where it is looked at; of the places that were kept those of events alone count
-abbrev pub placed : List CellDefinition → (ℕ → List Event) → List Kept → List Entry
+abbrev pub placed : List CellDefinition → (ℕ → List Event) → List KeptEntry → List Entry
 placed cells books [] = []
 placed cells books (k ∷ ks) = record { ask = k.ask; reply = k.reply; at = place_of cells books k.at (next_place (length (books 0)) ks) k.ask k.reply } ∷ placed cells books ks
 
@@ -78,13 +78,13 @@ held_after held (ask.Finish g new sends) = false
 held_after held _ = held
 
 -- it takes an action only where it has none, and hands one in only where it has one
-abbrev pub AreInTurn : Bool → List Kept → Type 0
+abbrev pub AreInTurn : Bool → List KeptEntry → Type 0
 AreInTurn held [] = Unit {0}
 AreInTurn held (k ∷ ks) = (in_turn held k.ask ≡ true) × AreInTurn (held_after held k.ask) ks
 
 -- What an actor kept agrees with the books: each entry might be asked at its place, and the reply is what is answered there; the events that entries added are
 -- the actor's in each book, in order; and its actions come in turn.
-pub record HoldsByPlace (s : PlainShared) (a : ℕ) (ks : List Kept) : Type 0 where
+pub record HoldsByPlace (s : PlainShared) (a : ℕ) (ks : List KeptEntry) : Type 0 where
   pub hold : AllHold s.cells s.threads (shared_of s).books a (placed s.cells (shared_of s).books ks)
   pub traced : TraceHolds (shared_of s).books a (kept_trace s.cells ks)
   pub turns : AreInTurn false ks

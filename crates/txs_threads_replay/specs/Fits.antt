@@ -1,4 +1,4 @@
--- When an ask with its reply looks right at a place, told in parts.
+-- When an ask with its reply looks right at an index, part by part.
 use Rattle.std.specs.Prelude.{◌≡◌, ℕ, suc, true, false, List, length, take, Option, Some, None}
 use Rattle.txs_value_cell.specs.declared.action.Action.{Action}
 use Rattle.txs_value_data.specs.declared.value.CellId.{CellId}

@@ -1,4 +1,4 @@
--- When an entry holds at its place, told by its ask and reply and by what stands at the place in the books: what a comparison has to test.
+-- When an entry holds at its place, by its ask and reply and by what is at the index in the books: what a comparison has to test.
 use Rattle.std.specs.Prelude.{◌≡◌, ◌≤◌, ◌↔◌, ℕ, suc, Bool, true, false, ◌&&◌, ◌==◌, List, [], length, map, Some}
 use Rattle.txs_world_protocol.specs.SeenEvent.{home}
 use Rattle.txs_world_protocol.specs.declared.ask.Ask.{Ask}
@@ -54,8 +54,8 @@ kind_of cells (ask.OpenAt c) r book = event.Broke 0
 kind_of cells (ask.CloseAt c p v) r book = event.Swap v
 kind_of cells (ask.Broke c p) r book = event.Broke p
 
--- An entry looks right at its place: the actor may ask this there, the reply is what is answered there, and where the two tell that an event was added, that event
--- stands there.
+-- An entry looks right at its place: the actor may ask this there, the reply is what is answered there, and where the two say that an event was added, that event
+-- is there.
 pub record EntryLooks (cells : List CellDefinition) (threads : ℕ) (books : ℕ → List Event) (a : ℕ) (e : Entry) : Type 0 where
   pub within : e.at ≤ length (books (book_for cells e.ask))
   pub asked : may_ask_at cells threads a e.ask (before_entry cells books e) ≡ true

@@ -1,4 +1,4 @@
--- That what an actor was told when it asked holds also at the place where it is looked at.
+-- That what an actor was answered when it asked holds also at the place where it is looked at.
 use Rattle.std.specs.Prelude.{◌≡◌, ◌≤◌, ℕ, true, nat_lt, List, length, map, take, drop}
 use Rattle.txs_world_protocol.specs.declared.ask.Ask.{Ask}
 use Rattle.txs_world_protocol.specs.declared.ask.Ask.TheVariants as ask
@@ -12,7 +12,7 @@ use Rattle.txs_world.specs.Laws.{no_acts}
 use Rattle.txs_theorem_runs.specs.Told.{EntryHolds, AllHold, TraceHolds, trace_of}
 use Rattle.txs_world_shared.specs.SharedState.{PlainShared, shared_of}
 use Rattle.txs_threads_replay.specs.Entries.{entry_of}
-use Rattle.txs_threads_replay.specs.declared.kept.Kept.{Kept}
+use Rattle.txs_threads_replay.specs.declared.kept.KeptEntry.{KeptEntry}
 use Rattle.txs_threads_replay.specs.ByPlace.{place_of, HoldsByPlace}
 use Rattle.txs_threads_replay.specs.Looks.{entry_at}
 
@@ -35,8 +35,8 @@ TakesHold =
     → Legal (cells_of cells) threads (books 0) → k ≤ m → m ≤ length (books 0) → no_acts g.number (drop k (take m (books 0))) ≡ true
     → EntryHolds cells threads books a (entry_at (ask.Take g) k r) → EntryHolds cells threads books a (entry_at (ask.Take g) m r)
 
--- So each thread that was told what the books say, as every thread of every run is, agrees with them by place.
+-- So each thread that was answered what the books say, as every thread of every run is, agrees with them by place.
 abbrev pub ThreadsAgree : Type 0
 ThreadsAgree =
-    (s : PlainShared) (a : ℕ) (ks : List Kept)
+    (s : PlainShared) (a : ℕ) (ks : List KeptEntry)
     → nat_lt a s.threads ≡ true → AllHold s.cells s.threads (shared_of s).books a (map entry_of ks) → TraceHolds (shared_of s).books a (trace_of s.cells (shared_of s).books a (map entry_of ks)) → HoldsByPlace s a ks

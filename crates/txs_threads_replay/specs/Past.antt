@@ -163,7 +163,7 @@ pub record PlainPast : Type 0 where
   pub threads : ℕ
   pub book : List Event
 
--- it stands: the book is legal, its commits are undisturbed, and all is noted
+-- it is legal: the book is legal, its commits are undisturbed, and all is noted
 pub record IsPast (cells : List StoreCell) (threads : ℕ) (book : List Event) (l : Lists) : Type 0 where
   pub noted : AreNoted book l
   pub legal : Legal cells threads book

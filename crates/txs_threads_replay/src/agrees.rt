@@ -3,7 +3,7 @@
 ghost use Rattle.std.specs.Prelude.{◌≡◌, ◌<◌, ◌+◌, ◌↔◌, ℕ, [], length, true, false, IfOk, IsTrue};
 ghost use Rattle.std.proofs.Common.{drop};
 ghost use Rattle.txs_world_shared.specs.SharedState.{numbered_book};
-ghost use Rattle.txs_threads_replay.specs.Adds.{adds_event};
+ghost use Rattle.txs_threads_replay.specs.Adds.{added, adds_event};
 ghost use Rattle.txs_threads_replay.specs.ByPlace.{AreBelow, HoldsByPlace, next_place};
 ghost use Rattle.txs_threads_replay.specs.Agrees.{IsClaimed, AllClaimed};
 ghost use Rattle.txs_threads_replay.specs.Storing.{kept_in};
@@ -20,8 +20,14 @@ use txs_world_shared::SharedState;
 pub fn adds_event(ask: &Ask, reply: &Reply) -> bool
     ensures { result ≡ adds_event ask.now reply.now }
 {
+    ask.may_add_event() && added(ask, reply)
+}
+
+/// Whether the reply says that the event which the ask may add was added.
+fn added(ask: &Ask, reply: &Reply) -> bool
+    ensures { result ≡ added ask.now reply.now }
+{
     match ask {
-        Ask::Begin | Ask::View { .. } | Ask::Take { .. } | Ask::OpenAt { .. } => false,
         Ask::Look { .. } => matches!(reply, Reply::Retry(_)),
         Ask::CloseAt { .. } => matches!(reply, Reply::Done),
         _ => !matches!(reply, Reply::Full),
@@ -98,7 +104,7 @@ impl Index<'_> {
     /// actions come in turn.
     ///
     /// # Errors
-    /// `AllocError` where there was no memory to tell.
+    /// `AllocError` where there was no memory for the comparison.
     pub fn agrees(&self, alloc: Global, actor: u16, kept: &KeptEntries) -> Result<bool, AllocError>
         ensures { IfOk result (λ ok. IsTrue ok ↔ HoldsByPlace self.now actor kept.now) }
     {

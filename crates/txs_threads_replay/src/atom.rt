@@ -116,7 +116,7 @@ impl<'a> AtomPast<'a> {
         place <= to && !has_between(numbers_of(self.own.as_slice(), actor), place, to)
     }
 
-    /// Whether a swap stands at a place or later, up to another.
+    /// Whether there is a swap at an index or later, up to another.
     pub(crate) fn is_swapped(&self, from: usize, to: usize) -> bool
         ensures { result ≡ swapped_since from (take to self.now) }
     {
@@ -128,6 +128,7 @@ impl<'a> AtomPast<'a> {
         ensures some { IfSome result (λ q. (q ≡ after_swap from self.now) × (swapped_since from (take q self.now) ≡ true) × (q ≤ length self.now)) }
         ensures none { result ≡ None → swapped_since from self.now ≡ false }
     {
+        // A step of the proof, which does nothing when it runs.
         let _end = self.events.len();
         let swaps = self.swaps.as_slice();
         let first = before(swaps, from);

@@ -1,4 +1,4 @@
-//! Whether a certain event stands at an index of a book.
+//! Whether a certain event is at an index of a book.
 
 ghost use Rattle.std.specs.Prelude.{◌≡◌, ◌↔◌, ℕ, true, Some, None, IfSome, IsTrue};
 ghost use Rattle.txs_value_base.specs.Places.{nth};
@@ -10,11 +10,10 @@ ghost use Rattle.txs_world.specs.Places.{Ascend};
 ghost use Rattle.txs_world.specs.Store.{are_apart, merged};
 
 use crate::joined::are_joined;
-use crate::same::{same_action, same_actions, same_new};
 use txs_value_base::Fault;
 use txs_value_cell::Action;
 use txs_value_data::{CellId, Value, same};
-use txs_world_protocol::{Event, EventKind};
+use txs_world_protocol::{Event, EventKind, same_action, same_actions, same_new};
 
 /// What the actor did with the event at this index, if it is the actor's.
 fn event_by(events: &[Event], at: usize, actor: u16) -> Option<&EventKind>

@@ -98,6 +98,7 @@ impl<'a> Index<'a> {
         ensures value { result.now ≡ self.now }
         ensures stands { SharedStands self.now.cells self.now.threads (shared_of self.now) }
     {
+        // A step of the proof, which does nothing when it runs.
         let _stands = self.shared.events();
         self.shared
     }

@@ -6,11 +6,11 @@ ghost use Rattle.txs_world_book.specs.Book.{cells_in};
 ghost use Rattle.txs_world.specs.Places.{Ascend};
 ghost use Rattle.txs_world.specs.Store.{are_apart, merged};
 
-use crate::same::{same_write, same_writes};
 use txs_value_data::{CellId, Value};
 use txs_world::place_for;
+use txs_world_protocol::{same_write, same_writes};
 
-/// What stands behind a write, if that comes first.
+/// What is behind a write, if that comes first.
 fn behind<'a>(
     writes: &'a [(CellId, Value)],
     write: &(CellId, Value),
@@ -24,7 +24,7 @@ fn behind<'a>(
     Some(&writes[1..])
 }
 
-/// What stands behind other writes, if these come first.
+/// What is behind other writes, if these come first.
 fn behind_all<'a>(
     writes: &'a [(CellId, Value)],
     first: &[(CellId, Value)],

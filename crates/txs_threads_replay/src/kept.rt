@@ -13,13 +13,13 @@ use txs_world_protocol::{Ask, Reply};
 
 /// An ask with its reply, and how many events its book had when it was served.
 #[derive(Drop)]
-pub struct Kept {
+pub struct KeptEntry {
     pub ask: Ask,
     pub reply: Reply,
     pub at: u32,
 }
 
-/// Whether an actor goes on with a reply, so that it keeps it.
+/// Whether an actor continues with a reply, so that it records it.
 pub fn is_exchanged(reply: &Reply) -> bool
     ensures yes { IsTrue result → IsExchanged reply.now }
     ensures no { result ≡ false → IsExchanged reply.now → ⊥ }
@@ -48,10 +48,10 @@ impl Model for KeptEntries {
     ghost use Rattle.std.specs.Coded.{codes};
     ghost use Rattle.std.specs.Prelude.{List, map};
     ghost use Rattle.txs_threads_replay.specs.Storing.{kept_in};
-    ghost use Rattle.txs_threads_replay.specs.declared.kept.Kept.{Kept};
+    ghost use Rattle.txs_threads_replay.specs.declared.kept.KeptEntry.{KeptEntry};
     ghost use Rattle.txs_value_data.specs.contracts.value.Value as value;
 
-    ghost Value = { List Kept };
+    ghost Value = { List KeptEntry };
 
     ghost coded = { Prim.hlevel (codes, value.the_row.coded) };
 
@@ -80,7 +80,7 @@ impl KeptEntries {
     ///
     /// # Errors
     /// The entry, where there is no memory for it.
-    pub fn push(&mut self, kept: Kept) -> Result<(), Kept>
+    pub fn push(&mut self, kept: KeptEntry) -> Result<(), KeptEntry>
         ensures ok { OnOk result (self.new ≡ self.old ++ kept ∷ []) }
         ensures err { IfErr result (λ back. (back ≡ kept) × (self.new ≡ self.old)) }
     {

@@ -1,4 +1,4 @@
-//! What holds of what actors kept. Each law stands on a function of its own, which does nothing when it runs.
+//! What holds of what actors kept. Each law is the contract of a function of its own, which does nothing when it runs.
 
 ghost use Rattle.txs_threads_replay.specs.Looks.{LooksDecide, PlacesAnswer};
 ghost use Rattle.txs_threads_replay.specs.Moves.{PlacesHold, TakesHold, ThreadsAgree};
@@ -11,12 +11,12 @@ pub fn looks_decide()
     ensures { LooksDecide }
 {}
 
-/// At the place that an ask or a reply names, the answer is told by the world there.
+/// At the index that a request or a reply names, the answer is determined by the world there.
 pub fn places_answer()
     ensures { PlacesAnswer }
 {}
 
-/// The walk along a book from any place on tells whether what is left of what was kept agrees with the rest of the book.
+/// The walk along a book from any index on answers whether what is left of what was recorded agrees with the rest of the book.
 pub fn walk_decides()
     ensures { WalkDecides }
 {}
@@ -38,7 +38,7 @@ pub fn takes_hold()
     action_stays();
 }
 
-/// A thread that was told what the books say agrees with them by place.
+/// A thread that was answered what the books say agrees with them by index.
 pub fn threads_agree()
     ensures { ThreadsAgree }
 {}

@@ -5,7 +5,6 @@
 pub mod agrees;
 mod atom;
 mod by_place;
-mod cells;
 mod events;
 pub mod index;
 mod joined;
@@ -15,10 +14,9 @@ mod lists;
 mod looking;
 mod past;
 mod rows;
-mod same;
 pub mod stored;
 
 pub use agrees::{adds_event, all_below};
 pub use index::Index;
-pub use kept::{Kept, KeptEntries, is_exchanged};
+pub use kept::{KeptEntries, KeptEntry, is_exchanged};
 pub use stored::Stored;

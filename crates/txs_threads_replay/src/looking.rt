@@ -1,4 +1,5 @@
-//! Whether an ask with its reply looks right in the books.
+//! Whether an ask with its reply looks right in the books. The lines `let _stands = self.shared();` are steps of the proof: they take from a contract that
+//! the books are legal, and do nothing when they run.
 
 ghost use Rattle.std.specs.Prelude.{◌≡◌, ◌≤◌, ◌<◌, ◌↔◌, ℕ, suc, length, map, take, true, false, None, Some, IsTrue, if◌then◌else◌};
 ghost use Rattle.txs_world_protocol.specs.SeenEvent.{home};
@@ -15,20 +16,36 @@ ghost use Rattle.txs_threads_replay.specs.ByPlace.{named_or, after_swap, changed
 ghost use Rattle.txs_threads_replay.specs.Storing.{kept_in};
 ghost use Rattle.txs_threads_replay.specs.Fits.{LooksAt, HasCommit, MayClose, taken_at};
 
-use crate::cells::{are_sends, are_written, has_agent, has_cell, has_ref, has_refs};
 use crate::events::{
     is_act, is_broke, is_commit, is_fail, is_read, is_refused, is_retry, is_send, is_send_refused,
     is_swap,
 };
 use crate::index::Index;
-use crate::kept::Kept;
-use crate::same::same_action;
+use crate::kept::KeptEntry;
 use crate::stored::Stored;
 use txs_value_base::Fault;
 use txs_value_cell::Action;
 use txs_value_data::{CellId, CellKind, Value, same};
 use txs_world::are_apart;
-use txs_world_protocol::{Ask, Reply};
+use txs_world_book::{are_sends, are_written, has_agent, has_cell, has_ref, has_refs};
+use txs_world_protocol::{Ask, Reply, same_action, same_cell};
+
+/// The end of a transaction that didn't fault, as it was asked, lent.
+#[derive(Clone, Copy)]
+struct Ending<'a> {
+    /// The read point.
+    at: u32,
+    /// The refs that were set, with their values.
+    sets: &'a [(CellId, Value)],
+    /// The refs that were ensured.
+    ensured: &'a [CellId],
+    /// The index of the view.
+    view: u32,
+    /// The refs that were commuted and not set, with their values.
+    commuted: &'a [(CellId, Value)],
+    /// The actions that it holds.
+    sends: &'a [Action],
+}
 
 /// Whether a reply is that what was asked is done.
 fn is_done(reply: &Reply) -> bool
@@ -45,13 +62,6 @@ fn is_cell(found: Option<CellId>, cell: CellId) -> bool
         Some(found) => found == cell,
         None => false,
     }
-}
-
-/// Whether two cells are one.
-fn is_same(a: CellId, b: CellId) -> bool
-    ensures { IsTrue result ↔ (a ≡ b) }
-{
-    a == b
 }
 
 /// Whether there is none.
@@ -130,12 +140,12 @@ impl Index<'_> {
         same(value, self.value(cell, at as usize))
     }
 
-    /// A read in a transaction that has to run again, since the value at the read point was no longer kept: that stands in the book.
+    /// A read in a transaction that has to run again, since the value at the read point was no longer kept: that is in the book.
     fn reran(&self, actor: u16, own: usize, cell: CellId, at: u32, written: CellId) -> bool
         ensures { IsTrue result ↔ LooksAt self.now actor (ask.Look cell at) own (replied.Retry written) }
     {
         let _stands = self.shared();
-        if !is_same(written, cell) {
+        if !same_cell(written, cell) {
             return false;
         }
         if !is_retry(self.events(), own, actor, at, cell, false) {
@@ -221,140 +231,92 @@ impl Index<'_> {
         are_sends(cells, sends)
     }
 
-    /// A commit that was done: it stands in the book, and nothing that it tested was written.
-    fn committed(
-        &self,
-        actor: u16,
-        own: usize,
-        at: u32,
-        sets: &[(CellId, Value)],
-        ensured: &[CellId],
-        view: u32,
-        commuted: &[(CellId, Value)],
-        sends: &[Action],
-    ) -> bool
-        requires { HasCommit (cells_of self.now.cells) sets.now ensured.now commuted.now sends.now }
-        ensures { IsTrue result ↔ LooksAt self.now actor (ask.Commit at sets.now ensured.now view commuted.now sends.now) own replied.Done }
+    /// A commit that was done: it is in the book, and nothing that it tested was written.
+    fn committed(&self, actor: u16, own: usize, end: Ending<'_>) -> bool
+        requires { HasCommit (cells_of self.now.cells) end.sets.now end.ensured.now end.commuted.now end.sends.now }
+        ensures { IsTrue result ↔ LooksAt self.now actor (ask.Commit end.entry.at end.entry.sets.now end.entry.ensured.now end.entry.view end.entry.commuted.now end.entry.sends.now) own replied.Done }
     {
         let _stands = self.shared();
-        if !is_commit(self.events(), own, actor, at, view, sets, commuted, sends) {
+        if !is_commit(
+            self.events(),
+            own,
+            actor,
+            end.at,
+            end.view,
+            end.sets,
+            end.commuted,
+            end.sends,
+        ) {
             return false;
         }
-        let tested = self.least_tested(at as usize, own, sets, ensured);
-        let viewed = self.least_written(view as usize, own, commuted);
+        let tested = self.least_tested(end.at as usize, own, end.sets, end.ensured);
+        let viewed = self.least_written(end.view as usize, own, end.commuted);
         is_nothing(tested) & is_nothing(viewed)
     }
 
-    /// One that has to run again, since this ref was written: that stands in the book.
-    fn retried(
-        &self,
-        actor: u16,
-        own: usize,
-        at: u32,
-        sets: &[(CellId, Value)],
-        ensured: &[CellId],
-        view: u32,
-        commuted: &[(CellId, Value)],
-        sends: &[Action],
-        written: CellId,
-    ) -> bool
-        requires { HasCommit (cells_of self.now.cells) sets.now ensured.now commuted.now sends.now }
-        ensures { IsTrue result ↔ LooksAt self.now actor (ask.Commit at sets.now ensured.now view commuted.now sends.now) own (replied.Retry written) }
+    /// One that has to run again, since this ref was written: that is in the book.
+    fn retried(&self, actor: u16, own: usize, end: Ending<'_>, written: CellId) -> bool
+        requires { HasCommit (cells_of self.now.cells) end.sets.now end.ensured.now end.commuted.now end.sends.now }
+        ensures { IsTrue result ↔ LooksAt self.now actor (ask.Commit end.entry.at end.entry.sets.now end.entry.ensured.now end.entry.view end.entry.commuted.now end.entry.sends.now) own (replied.Retry written) }
     {
         let _stands = self.shared();
-        if !is_retry(self.events(), own, actor, at, written, false) {
+        if !is_retry(self.events(), own, actor, end.at, written, false) {
             return false;
         }
-        if !self.may_end(actor, at as usize, view as usize, own) {
+        if !self.may_end(actor, end.at as usize, end.view as usize, own) {
             return false;
         }
-        is_cell(self.least_tested(at as usize, own, sets, ensured), written)
+        is_cell(
+            self.least_tested(end.at as usize, own, end.sets, end.ensured),
+            written,
+        )
     }
 
-    /// One whose commutes have to be made again, since this ref was written: that stands in the book.
-    fn redone(
-        &self,
-        actor: u16,
-        own: usize,
-        at: u32,
-        sets: &[(CellId, Value)],
-        ensured: &[CellId],
-        view: u32,
-        commuted: &[(CellId, Value)],
-        sends: &[Action],
-        written: CellId,
-    ) -> bool
-        requires { HasCommit (cells_of self.now.cells) sets.now ensured.now commuted.now sends.now }
-        ensures { IsTrue result ↔ LooksAt self.now actor (ask.Commit at sets.now ensured.now view commuted.now sends.now) own (replied.Changed written) }
+    /// One whose commutes have to be made again, since this ref was written: that is in the book.
+    fn redone(&self, actor: u16, own: usize, end: Ending<'_>, written: CellId) -> bool
+        requires { HasCommit (cells_of self.now.cells) end.sets.now end.ensured.now end.commuted.now end.sends.now }
+        ensures { IsTrue result ↔ LooksAt self.now actor (ask.Commit end.entry.at end.entry.sets.now end.entry.ensured.now end.entry.view end.entry.commuted.now end.entry.sends.now) own (replied.Changed written) }
     {
         let _stands = self.shared();
-        if !is_retry(self.events(), own, actor, view, written, true) {
+        if !is_retry(self.events(), own, actor, end.view, written, true) {
             return false;
         }
-        if !self.may_end(actor, at as usize, view as usize, own) {
+        if !self.may_end(actor, end.at as usize, end.view as usize, own) {
             return false;
         }
-        let tested = self.least_tested(at as usize, own, sets, ensured);
-        let viewed = self.least_written(view as usize, own, commuted);
+        let tested = self.least_tested(end.at as usize, own, end.sets, end.ensured);
+        let viewed = self.least_written(end.view as usize, own, end.commuted);
         is_nothing(tested) & is_cell(viewed, written)
     }
 
-    /// One that was refused, since this agent had failed: that stands in the book.
-    fn refused(
-        &self,
-        actor: u16,
-        own: usize,
-        at: u32,
-        sets: &[(CellId, Value)],
-        ensured: &[CellId],
-        view: u32,
-        commuted: &[(CellId, Value)],
-        sends: &[Action],
-        agent: CellId,
-    ) -> bool
-        requires { HasCommit (cells_of self.now.cells) sets.now ensured.now commuted.now sends.now }
-        ensures { IsTrue result ↔ LooksAt self.now actor (ask.Commit at sets.now ensured.now view commuted.now sends.now) own (replied.AgentIsFailed agent) }
+    /// One that was refused, since this agent had failed: that is in the book.
+    fn refused(&self, actor: u16, own: usize, end: Ending<'_>, agent: CellId) -> bool
+        requires { HasCommit (cells_of self.now.cells) end.sets.now end.ensured.now end.commuted.now end.sends.now }
+        ensures { IsTrue result ↔ LooksAt self.now actor (ask.Commit end.entry.at end.entry.sets.now end.entry.ensured.now end.entry.view end.entry.commuted.now end.entry.sends.now) own (replied.AgentIsFailed agent) }
     {
         let _stands = self.shared();
-        if !is_refused(self.events(), own, actor, at, view, agent) {
+        if !is_refused(self.events(), own, actor, end.at, end.view, agent) {
             return false;
         }
-        let tested = self.least_tested(at as usize, own, sets, ensured);
-        let viewed = self.least_written(view as usize, own, commuted);
-        let failed = self.first_failed(sends, own);
+        let tested = self.least_tested(end.at as usize, own, end.sets, end.ensured);
+        let viewed = self.least_written(end.view as usize, own, end.commuted);
+        let failed = self.first_failed(end.sends, own);
         is_nothing(tested) & is_nothing(viewed) & is_cell(failed, agent)
     }
 
     /// The end of a transaction that didn't fault.
-    fn commits(
-        &self,
-        actor: u16,
-        own: usize,
-        at: u32,
-        sets: &[(CellId, Value)],
-        ensured: &[CellId],
-        view: u32,
-        commuted: &[(CellId, Value)],
-        sends: &[Action],
-        reply: &Reply,
-    ) -> bool
-        ensures { IsTrue result ↔ LooksAt self.now actor (ask.Commit at sets.now ensured.now view commuted.now sends.now) own reply.now }
+    fn commits(&self, actor: u16, own: usize, end: Ending<'_>, reply: &Reply) -> bool
+        ensures { IsTrue result ↔ LooksAt self.now actor (ask.Commit end.entry.at end.entry.sets.now end.entry.ensured.now end.entry.view end.entry.commuted.now end.entry.sends.now) own reply.now }
     {
         let _stands = self.shared();
-        if !self.has_commit(sets, ensured, commuted, sends) {
+        if !self.has_commit(end.sets, end.ensured, end.commuted, end.sends) {
             return false;
         }
         match reply {
-            Reply::Done => self.committed(actor, own, at, sets, ensured, view, commuted, sends),
-            Reply::Retry(c) => {
-                self.retried(actor, own, at, sets, ensured, view, commuted, sends, *c)
-            }
-            Reply::Changed(c) => {
-                self.redone(actor, own, at, sets, ensured, view, commuted, sends, *c)
-            }
-            Reply::AgentIsFailed(g) => {
-                self.refused(actor, own, at, sets, ensured, view, commuted, sends, *g)
-            }
+            Reply::Done => self.committed(actor, own, end),
+            Reply::Retry(c) => { self.retried(actor, own, end, *c) }
+            Reply::Changed(c) => { self.redone(actor, own, end, *c) }
+            Reply::AgentIsFailed(g) => { self.refused(actor, own, end, *g) }
             _ => false,
         }
     }
@@ -434,7 +396,7 @@ impl Index<'_> {
         }
     }
 
-    /// A send that was done: it stands in the book.
+    /// A send that was done: it is in the book.
     fn sent(&self, actor: u16, own: usize, action: &Action) -> bool
         ensures { IsTrue result ↔ LooksAt self.now actor (ask.Send action.now) own replied.Done }
     {
@@ -442,12 +404,12 @@ impl Index<'_> {
         is_send(self.events(), own, actor, action)
     }
 
-    /// A send that was refused, since the agent had failed: that stands in the book.
+    /// A send that was refused, since the agent had failed: that is in the book.
     fn unsent(&self, actor: u16, own: usize, action: &Action, agent: CellId) -> bool
         ensures { IsTrue result ↔ LooksAt self.now actor (ask.Send action.now) own (replied.AgentIsFailed agent) }
     {
         let _stands = self.shared();
-        if !is_same(agent, action.agent) {
+        if !same_cell(agent, action.agent) {
             return false;
         }
         is_send_refused(self.events(), own, actor, agent)
@@ -624,12 +586,12 @@ impl Index<'_> {
         self.may_close(actor, own, cell, at)
     }
 
-    /// The end of a swap that has to be made again, since the atom has changed: a swap stands at the place where it was opened, or later.
+    /// The end of a swap that has to be made again, since the atom has changed: there is a swap at the index where it was opened, or later.
     fn changed(&self, actor: u16, cell: CellId, place: u32, new: &Value, changed: CellId) -> bool
         ensures { IsTrue result ↔ LooksAt self.now actor (ask.CloseAt cell (Some place) new.now) (after_swap place (numbered_book self.now (home self.now.cells cell))) (replied.Changed changed) }
     {
         let _stands = self.shared();
-        if !is_same(changed, cell) {
+        if !same_cell(changed, cell) {
             return false;
         }
         if actor >= self.threads() {
@@ -701,7 +663,7 @@ impl Index<'_> {
     // ---- any ask
 
     /// Whether an actor's ask with its reply looks right at the place where it is looked at; what an agent took is looked at at the place that comes next.
-    fn fits_any(&self, actor: u16, kept: &Kept, next: usize) -> bool
+    fn fits_any(&self, actor: u16, kept: &KeptEntry, next: usize) -> bool
         ensures { IsTrue result ↔ LooksAt self.now actor kept.now.ask (place_of self.now.cells (shared_of self.now).books kept.now.at next kept.now.ask kept.now.reply) kept.now.reply }
     {
         let own = kept.at as usize;
@@ -720,12 +682,14 @@ impl Index<'_> {
             } => self.commits(
                 actor,
                 own,
-                *at,
-                sets.as_slice(),
-                ensured.as_slice(),
-                *view,
-                commuted.as_slice(),
-                sends.as_slice(),
+                Ending {
+                    at: *at,
+                    sets: sets.as_slice(),
+                    ensured: ensured.as_slice(),
+                    view: *view,
+                    commuted: commuted.as_slice(),
+                    sends: sends.as_slice(),
+                },
                 reply,
             ),
             Ask::Fail { at, view } => self.fails(actor, own, *at, *view, reply),

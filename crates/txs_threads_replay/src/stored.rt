@@ -8,7 +8,7 @@ ghost use Rattle.txs_threads_replay.specs.Storing.{kept_in};
 
 use crate::agrees::adds_event;
 use crate::by_place::{held_after, in_turn};
-use crate::kept::Kept;
+use crate::kept::KeptEntry;
 use std::alloc::Global;
 use txs_value_data::{CellId, Value};
 use txs_world_protocol::{Ask, Reply};
@@ -50,7 +50,7 @@ pub enum Stored {
         at: u32,
     },
     /// Any other.
-    Other(Box<Kept>),
+    Other(Box<KeptEntry>),
 }
 
 /// An entry in little room, if it comes often.
@@ -58,15 +58,15 @@ pub enum Stored {
 /// # Errors
 /// The entry, where it doesn't.
 #[tactic(auto, using(crate::proofs::Keeping::taken_apart))]
-fn small(kept: Kept) -> Result<Stored, Kept>
+fn small(kept: KeptEntry) -> Result<Stored, KeptEntry>
     ensures small { IfOk result (λ s. kept_in s ≡ kept) }
     ensures back { IfErr result (λ k. k ≡ kept) }
 {
-    let Kept { ask, reply, at } = kept;
+    let KeptEntry { ask, reply, at } = kept;
     match ask {
         Ask::Begin => match reply {
             Reply::At(read) => Ok(Stored::Begun { read, at }),
-            reply => Err(Kept {
+            reply => Err(KeptEntry {
                 ask: Ask::Begin,
                 reply,
                 at,
@@ -79,7 +79,7 @@ fn small(kept: Kept) -> Result<Stored, Kept>
                 value,
                 at,
             }),
-            reply => Err(Kept {
+            reply => Err(KeptEntry {
                 ask: Ask::Look { cell, at: from },
                 reply,
                 at,
@@ -87,7 +87,7 @@ fn small(kept: Kept) -> Result<Stored, Kept>
         },
         Ask::Peek { cell } => match reply {
             Reply::Is(value) => Ok(Stored::Peeked { cell, value, at }),
-            reply => Err(Kept {
+            reply => Err(KeptEntry {
                 ask: Ask::Peek { cell },
                 reply,
                 at,
@@ -100,7 +100,7 @@ fn small(kept: Kept) -> Result<Stored, Kept>
                 value,
                 at,
             }),
-            reply => Err(Kept {
+            reply => Err(KeptEntry {
                 ask: Ask::OpenAt { cell },
                 reply,
                 at,
@@ -117,7 +117,7 @@ fn small(kept: Kept) -> Result<Stored, Kept>
                 new,
                 at,
             }),
-            reply => Err(Kept {
+            reply => Err(KeptEntry {
                 ask: Ask::CloseAt {
                     cell,
                     at: Some(from),
@@ -127,7 +127,7 @@ fn small(kept: Kept) -> Result<Stored, Kept>
                 at,
             }),
         },
-        ask => Err(Kept { ask, reply, at }),
+        ask => Err(KeptEntry { ask, reply, at }),
     }
 }
 
@@ -135,7 +135,7 @@ fn small(kept: Kept) -> Result<Stored, Kept>
 ///
 /// # Errors
 /// The entry, where there is no memory for it.
-pub(crate) fn pack(alloc: Global, kept: Kept) -> Result<Stored, Kept>
+pub(crate) fn pack(alloc: Global, kept: KeptEntry) -> Result<Stored, KeptEntry>
     ensures stored { IfOk result (λ s. kept_in s ≡ kept) }
     ensures back { IfErr result (λ k. k ≡ kept) }
 {
@@ -149,11 +149,11 @@ pub(crate) fn pack(alloc: Global, kept: Kept) -> Result<Stored, Kept>
 }
 
 /// The entry that is stored.
-pub(crate) fn unpack(stored: Stored) -> Kept
+pub(crate) fn unpack(stored: Stored) -> KeptEntry
     ensures { result ≡ kept_in stored }
 {
     match stored {
-        Stored::Begun { read, at } => Kept {
+        Stored::Begun { read, at } => KeptEntry {
             ask: Ask::Begin,
             reply: Reply::At(read),
             at,
@@ -163,12 +163,12 @@ pub(crate) fn unpack(stored: Stored) -> Kept
             from,
             value,
             at,
-        } => Kept {
+        } => KeptEntry {
             ask: Ask::Look { cell, at: from },
             reply: Reply::Is(value),
             at,
         },
-        Stored::Peeked { cell, value, at } => Kept {
+        Stored::Peeked { cell, value, at } => KeptEntry {
             ask: Ask::Peek { cell },
             reply: Reply::Is(value),
             at,
@@ -178,7 +178,7 @@ pub(crate) fn unpack(stored: Stored) -> Kept
             from,
             value,
             at,
-        } => Kept {
+        } => KeptEntry {
             ask: Ask::OpenAt { cell },
             reply: Reply::Opened(from, value),
             at,
@@ -188,7 +188,7 @@ pub(crate) fn unpack(stored: Stored) -> Kept
             from,
             new,
             at,
-        } => Kept {
+        } => KeptEntry {
             ask: Ask::CloseAt {
                 cell,
                 at: Some(from),
@@ -241,7 +241,7 @@ impl Stored {
         }
     }
 
-    /// Whether an actor that has an action in hand, or has none, may ask for it.
+    /// Whether an actor that runs an action, or runs none, may ask for it.
     pub(crate) fn in_turn(&self, held: bool) -> bool
         ensures { result ≡ in_turn held (kept_in self.now).ask }
     {
@@ -251,7 +251,7 @@ impl Stored {
         }
     }
 
-    /// Whether the actor has an action in hand after it.
+    /// Whether the actor runs an action after it.
     pub(crate) fn held_after(&self, held: bool) -> bool
         ensures { result ≡ held_after held (kept_in self.now).ask }
     {

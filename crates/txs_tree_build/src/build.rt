@@ -12,7 +12,7 @@ use txs_value_base::{Callee, Span};
 use txs_value_cell::{LookForm, PutForm, UpdateForm};
 use txs_value_data::Value;
 
-/// Where a node stands in the script, and whether its result is wanted.
+/// Where a node is in the script, and whether its result is wanted.
 #[derive(Clone, Copy)]
 pub struct Spot {
     pub span: Span,

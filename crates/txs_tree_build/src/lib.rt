@@ -1,4 +1,4 @@
-//! Nodes taken apart and made anew: `view` tells what a node is, with its parts; a function for each form makes a node of parts;
+//! Nodes taken apart and made anew: `view` says what a node is, with its parts; a function for each form makes a node of parts;
 //! `shift_node` copies a node where more locals come in; `copy_program` copies a program.
 #![tactic(auto)]
 

@@ -1,4 +1,4 @@
--- What is told of a meaning: of a thread, of a transaction, of a pure callee.
+-- What is known of a meaning: of a thread, of a transaction, of a pure callee.
 use Rattle.std.specs.Prelude.{◌≡◌, ◌-◌, ℕ, zero, suc, List, [], map, length, Option, Some, None, Result, Ok, Err, ⊤}
 use Rattle.txs_world_protocol.specs.SeenEvent.{SeenEvent}
 use Rattle.txs_world_protocol.specs.declared.event.Outcome.{Outcome}
@@ -29,7 +29,7 @@ source_in p (Some t) = Some (record { functions = p.functions; cells = p.cells; 
 abbrev pub thread_source : PlainProgram → ℕ → Option ThreadSource
 thread_source p k = source_in p (nth p.threads k)
 
--- what is told of a transaction that was committed or refused: its result, and what it did
+-- what is known of a transaction that was committed or refused: its result, and what it did
 abbrev pub told_tx : TxRun → TxMeaning
 told_tx x = record { result = Ok x.result; done = x.state.done; reads = x.state.reads; used = x.state.used }
 
@@ -80,11 +80,11 @@ TellsOf m k right before Invalid = TellsWrong m right before
 abbrev pub Tells : ThreadMeaning → ThreadSource → ℕ → List SeenEvent → Type 0
 Tells m p n es = TellsOf m (length es) (eats_right p n [] es) (right_meaning p n es) (thread_meaning p n es)
 
--- what is told of a transaction that was committed or refused
+-- what is known of a transaction that was committed or refused
 abbrev pub told_run : Transacted → TxMeaning
 told_run r = record { result = Ok r.result; done = r.work.done; reads = r.work.reads.items; used = r.work.used }
 
--- What is told of a transaction's body on a world: its value or fault, and what it did until then. Turns may not suffice, or
+-- What is known of a transaction's body on a world: its value or fault, and what it did until then. Turns may not suffice, or
 -- there was no memory.
 abbrev pub TellsTx : Result TxMeaning EvalStop → Completion TxState Value → Type 0
 TellsTx (Ok m) (Completes v t) = m ≡ record { result = Ok v; done = t.done; reads = t.reads; used = t.used }

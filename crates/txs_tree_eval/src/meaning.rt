@@ -29,7 +29,7 @@ pub enum Needs {
 }
 
 /// What a thread means on some events: the bytes that it prints, what it needs, its outcome, how many events it ate, and what
-/// is told of each transaction whose commit or refusal it ate, in order. The outcome is there where it needs nothing: Done
+/// is said of each transaction whose commit or refusal it ate, in order. The outcome is there where it needs nothing: Done
 /// where its body has a value, Failed where it faults. Before an event that the thread doesn't allow it stays as it is.
 #[derive(Drop)]
 pub struct ThreadMeaning {
@@ -40,14 +40,14 @@ pub struct ThreadMeaning {
     pub txs: Listed<TxMeaning>,
 }
 
-/// What is told of a transaction.
+/// What is known of a transaction.
 fn told_one(run: Transacted<'_>) -> TxMeaning
     ensures { result ≡ told_run run.entry }
 {
     meaning_of(Ok(run.result), run.work)
 }
 
-/// What is told of these transactions.
+/// What is known of these transactions.
 fn told(alloc: Global, runs: Vec<Transacted<'_>>) -> Result<Listed<TxMeaning>, AllocError>
     ensures { IfOk result (λ txs. txs ≡ map told_run runs.entry.items) }
 {

@@ -51,7 +51,7 @@ impl<T: Drop> From<AllocFailed<T>> for EvalStop {
     }
 }
 
-/// A fault of an operation as callee stands at no place of the script.
+/// A fault of an operation as callee is at no place of the script.
 const NOWHERE: Span = Span { from: 0, to: 0 };
 
 /// What a pure callee gives on these values, where each loop, and each recur to a function, makes at most
@@ -112,7 +112,7 @@ fn call_function(
     answer(given)
 }
 
-/// What is told of a call that met no event.
+/// What is known of a call that met no event.
 fn answer(given: Result<Value, ThreadStop>) -> Result<Value, EvalStop>
     requires { Waitless given }
     ensures { (c : Completion (Unit {0}) AnyValue) → Told given c → PureGives result c }

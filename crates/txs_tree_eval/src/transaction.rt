@@ -31,7 +31,7 @@ pub struct TxMeaning {
     pub used: bool,
 }
 
-/// What is told of a transaction that gave this and did this work.
+/// What is known of a transaction that gave this and did this work.
 pub(crate) fn meaning_of(gave: Result<Value, Fault>, work: TxWork) -> TxMeaning
     ensures { result ≡ record { result = gave; done = work.done; reads = work.reads.items; used = work.used } }
 {
@@ -65,7 +65,7 @@ pub fn eval_tx<'a>(
     tell_tx(gave, state.into_tx())
 }
 
-/// What is told of a body that met no event, and gave this and did this work.
+/// What is known of a body that met no event, and gave this and did this work.
 fn tell_tx(gave: Result<Value, ThreadStop>, work: TxWork) -> Result<TxMeaning, EvalStop>
     requires { Waitless gave }
     ensures { (c : Completion TxState AnyValue) → Gives true gave (tx_state work) c → TellsTx result c }

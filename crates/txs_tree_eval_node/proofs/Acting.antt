@@ -2,7 +2,7 @@
 use Rattle.std.proofs.Common.{◌≡◌, ℕ, zero, suc, ◌+◌, ◌<◌, ◌==◌, Bool, true, false, if◌then◌else◌, List, [], ◌∷◌, ◌++◌, length, get_or, drop, Some, None, Result, Ok, Err, MatchResult, refl, sym, ap, ◌∙◌, subst, arith, Option}
 use Rattle.std.proofs.lemmas.List.{drop_more}
 use Rattle.txs_world_protocol.specs.Ask.{Writes, buffered, with_write}
-use Rattle.txs_frame.specs.Frame.{Work, commuted, set_writes, commutes_of, by_ref, phase_work}
+use Rattle.txs_frame.specs.Frame.{PlainTxFrame, commuted, set_writes, commutes_of, by_ref, phase_work}
 use Rattle.txs_frame.specs.declared.frame.Commute.{Commute}
 use Rattle.txs_tree_eval_node.specs.Evaluated.{part, is_on, Yields, SoundCommutes, acts, applied, act_means, inside_means, outside_means, quiet, redone_means, final_means, thread_state}
 use Rattle.txs_tree_eval_transaction.specs.Worked.{Stops, Gives, Told, ToldOf, tx_state}
@@ -80,12 +80,12 @@ module _ {S : Type 0} (s : S) (x : Setting) (sound : SoundFunctions [] (function
       bind_agrees s (quiet x span c.callee vs tt) (real c.callee vs s) (λ v t. redone (quiet x span) cs (with_write ws c.cell v) t) (λ v t. redone real cs (with_write ws c.cell v) t)
       (callee_agrees true s x sound fx inside span c.callee vs h.0) (λ v. redone_agrees cs (with_write ws c.cell v) h.1)
 
-  pub finals_agree_on : (w : Work) (C : World) → SoundCommutes (callable x) w.commutes → Agrees s (final_writes (quiet x span) (validators_of x.cells) span w C tt) (final_writes real (validators_of x.cells) span w C s)
+  pub finals_agree_on : (w : PlainTxFrame) (C : World) → SoundCommutes (callable x) w.commutes → Agrees s (final_writes (quiet x span) (validators_of x.cells) span w C tt) (final_writes real (validators_of x.cells) span w C s)
   finals_agree_on w C h =
       bind_agrees s (commute_writes (quiet x span) w C tt) (commute_writes real w C s) (λ ws t. Completes (merged (set_writes w) ws) t) (λ ws t. Completes (merged (set_writes w) ws) t)
       (redone_agrees (phase_work w) (valued (commuted w) C) (sound_by (callable x) (commuted w) w.commutes h)) (λ ws. refl)
 
-  pub finals_agree : (w : Work) (r : PlainView) → SoundCommutes (callable x) w.commutes → Agrees s (final_means x w r span) (final_writes real (validators_of x.cells) span w (world_of r) s)
+  pub finals_agree : (w : PlainTxFrame) (r : PlainView) → SoundCommutes (callable x) w.commutes → Agrees s (final_means x w r span) (final_writes real (validators_of x.cells) span w (world_of r) s)
   finals_agree w r h = finals_agree_on w (world_of r) h
 
 -- one commute more
@@ -120,11 +120,11 @@ module _ (x : Setting) (span : Span) (c : Commute) (ws : Writes) where
       ap (λ d. bind d (λ u t. Completes (with_write ws c.cell u) t)) (ap (λ u. applied x c.callee (u ∷ c.args) span) (sym (is ∙ nil_same (buffered ws c.cell.number))) ∙ made) ∙ ap (λ us. Completes us tt) (sym put)
 
 -- the commutes of the phase are among all
-pub phase_sound : (ks : List Known) (w : Work) (cs : List Commute) → cs ≡ phase_work w → SoundCommutes ks w.commutes → SoundCommutes ks cs
+pub phase_sound : (ks : List Known) (w : PlainTxFrame) (cs : List Commute) → cs ≡ phase_work w → SoundCommutes ks w.commutes → SoundCommutes ks cs
 phase_sound ks w cs are h = subst (λ l. SoundCommutes ks l) (sym are) (sound_by ks (commuted w) w.commutes h)
 
 -- the whole phase, and then the writes
-module _ (x : Setting) (span : Span) (w : Work) (r : PlainView) (first : Writes) (begin : first ≡ valued (commuted w) (world_of r)) where
+module _ (x : Setting) (span : Span) (w : PlainTxFrame) (r : PlainView) (first : Writes) (begin : first ≡ valued (commuted w) (world_of r)) where
   abbrev phase : Completion (Unit {0}) Writes
   phase = redone_means x span (phase_work w) first
 

@@ -6,7 +6,7 @@ use Rattle.txs_world_protocol.specs.Ask.{same_writes, same_cell, same_value, sam
 use Rattle.txs_world_protocol.specs.SeenEvent.{SeenEvent, home}
 use Rattle.txs_world_protocol.specs.declared.event.EventKind.{EventKind}
 use Rattle.txs_world_protocol.specs.declared.event.EventKind.TheVariants.{Read, Commit, Retry, Fail, Refused, Send as Sent, SendRefused, Act, Swap as Swapped, Broke}
-use Rattle.txs_frame.specs.Frame.{Work, is_commuted, set_ref}
+use Rattle.txs_frame.specs.Frame.{PlainTxFrame, is_commuted, set_ref}
 use Rattle.txs_frame.specs.declared.frame.Commute as frame
 use Rattle.txs_value_cell.specs.Cells.{World}
 use Rattle.txs_value_cell.specs.Forms.{rule, may_stand, cell_of}
@@ -410,7 +410,7 @@ module _ (top : Option (List Known)) where
   noted_keeps c None t h = h
   noted_keeps c (Some v) t h = h
 
-  set_keeps : (b : Bool) (tail : Option ℕ) (w w2 : Work) (k : FaultKind) (span : Span) (v : Value) (t : TxState) → KeptBy top w2.commutes → Fine Keeps tail (done_as (if b then Err k else Ok w2) span v t)
+  set_keeps : (b : Bool) (tail : Option ℕ) (w w2 : PlainTxFrame) (k : FaultKind) (span : Span) (v : Value) (t : TxState) → KeptBy top w2.commutes → Fine Keeps tail (done_as (if b then Err k else Ok w2) span v t)
   set_keeps true tail w w2 k span v t h = tt
   set_keeps false tail w w2 k span v t h = h
 

@@ -4,7 +4,7 @@ use Rattle.txs_world_protocol.specs.Ask.{Writes, same_cell, same_value, same_wri
 use Rattle.txs_world_protocol.specs.SeenEvent.{SeenEvent}
 use Rattle.txs_world_protocol.specs.declared.event.EventKind.{EventKind}
 use Rattle.txs_world_protocol.specs.declared.event.EventKind.TheVariants.{Read, Commit as Committed, Fail as Failing, Refused as Refusing, Send as Sent, SendRefused, Swap as Swapped, Broke}
-use Rattle.txs_frame.specs.Frame.{Work}
+use Rattle.txs_frame.specs.Frame.{PlainTxFrame}
 use Rattle.txs_frame.specs.declared.frame.Commute.{Commute}
 use Rattle.txs_value_apply.specs.Core.{core, vector_of, takes}
 use Rattle.txs_value_apply.specs.Truth.{choose}
@@ -298,7 +298,7 @@ acts o x (a_put form) m c (v ∷ vs) s = (forms_on o (around_it x) x.depth).put 
 acts o x (an_update form callee) m c vs s = (forms_on o (around_it x) x.depth).update form (is_on o) m c callee vs (apply (calls_on o x (is_on o)) m.span) s
 acts o x (a_send callee) m c vs s = (forms_on o (around_it x) x.depth).send (is_on o) m c callee vs s
 
--- it may stand in this zone with so many arguments
+-- it may be in this zone with so many arguments
 abbrev pub ReadyIn : List Known → Zone → Act → ℕ → Type 0
 ReadyIn ks zone (a_look form) n = MayStand zone (rule (form_of.Look form)).stands
 ReadyIn ks zone (a_put form) n = MayStand zone (rule (form_of.Put form)).stands × (n ≡ 1)
@@ -388,7 +388,7 @@ abbrev pub redone_means : Setting → Span → List Commute → Writes → Compl
 redone_means x span cs ws = redone (quiet x span) cs ws tt
 
 -- the final writes on a world
-abbrev pub final_means : Setting → Work → PlainView → Span → Completion (Unit {0}) Writes
+abbrev pub final_means : Setting → PlainTxFrame → PlainView → Span → Completion (Unit {0}) Writes
 final_means x w r span = final_writes (quiet x span) (validators_of x.cells) span w (world_of r) tt
 
 -- ---- transactions

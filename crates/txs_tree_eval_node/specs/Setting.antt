@@ -33,6 +33,6 @@ abbrev pub zone_on : Option PlainView → Zone
 zone_on None = in_thread
 zone_on (Some r) = in_dosync
 
--- where a node stands here
+-- where a node is here
 abbrev pub zone_in : Setting → Zone
 zone_in s = zone_on s.world

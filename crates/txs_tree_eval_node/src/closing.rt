@@ -47,7 +47,7 @@ pub(crate) enum Closing {
     Stopped(ThreadStop),
 }
 
-/// What a run with these final writes and sends is to the event. That an agent had failed is told by the journal, and not asked
+/// What a run with these final writes and sends is to the event. That an agent had failed is given by the journal, and not asked
 /// here.
 fn ends_as(kind: &EventKind, last: &[(CellId, Value)], held: &[Action]) -> Closing
     ensures { result ≡ ends_as kind.now last.now held.now }

@@ -68,6 +68,7 @@ impl<'a> Context<'a> {
     pub(crate) fn is_sound(&self)
         ensures { SoundFunctions [] (functions_of self.now.functions) }
     {
+        // A step of the proof, which does nothing when it runs.
         let _ = &self.functions;
     }
 

@@ -42,7 +42,7 @@ pub(crate) enum Step {
     Recur(Vec<Value>),
 }
 
-/// A dosync: its body, where it stands, and whether its result is wanted.
+/// A dosync: its body, where it is, and whether its result is wanted.
 #[derive(Clone, Copy)]
 pub(crate) struct Dosync<'a> {
     body: &'a Node,
@@ -146,7 +146,7 @@ pub fn evaluate<'a>(
     }
 }
 
-/// The same of a node that may stand in tail position of a loop.
+/// The same of a node that may be in tail position of a loop.
 #[cycle(evaluate)]
 fn evaluate_tail<'a>(
     alloc: Global,

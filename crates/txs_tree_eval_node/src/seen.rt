@@ -1,4 +1,4 @@
-//! Events as the evaluators are told of them.
+//! Events as the evaluators get them.
 
 use txs_tree_eval_transaction::RefView;
 use txs_world_protocol::EventKind;

@@ -9,11 +9,11 @@ ghost use Rattle.txs_tree_meaning.specs.Thread.{ThreadState, reads, resets, send
 
 use crate::seen::Seen;
 use crate::state::Progress;
-use txs_tree_eval_transaction::{RefView, ThreadStop, same_action, same_cell, same_value};
+use txs_tree_eval_transaction::{RefView, ThreadStop};
 use txs_value_base::{Callee, Fault, FaultKind, Span};
 use txs_value_cell::Action;
 use txs_value_data::{CellId, Listed, Value};
-use txs_world_protocol::EventKind;
+use txs_world_protocol::{EventKind, same_action, same_cell, same_value};
 
 /// How often a transaction is tried.
 const TRIES: u16 = 10_000;

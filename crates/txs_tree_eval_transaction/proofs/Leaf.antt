@@ -1,14 +1,12 @@
--- Lists by ascending number, and lists that are the same, item by item.
-use Rattle.std.proofs.Common.{◌≡◌, ℕ, zero, suc, ◌+◌, ◌<◌, ◌≤◌, ◌==◌, nat_lt, Bool, true, false, ◌&&◌, if◌then◌else◌, List, [], ◌∷◌, length, get_or, drop, set, Ok, Err, refl, sym, ap, ◌∙◌, subst, arith}
+-- Lists by ascending number.
+use Rattle.std.proofs.Common.{◌≡◌, ℕ, zero, suc, ◌+◌, ◌<◌, ◌≤◌, ◌==◌, nat_lt, Bool, true, false, if◌then◌else◌, List, [], ◌∷◌, length, get_or, drop, set, Ok, Err, refl, sym, ap, ◌∙◌, subst, arith}
 use Rattle.std.specs.List.{insert}
-use Rattle.std.proofs.lemmas.List.{drop_all, drop_more, get_or_default}
-use Rattle.std.proofs.Math.Bool.{and-false}
+use Rattle.std.proofs.lemmas.List.{drop_more}
 use Rattle.std.proofs.lemmas.Bool.{eq-eqb, ne_eqb, le-ltb, lt-ltb, false≢true}
-use Rattle.txs_world_protocol.specs.Ask.{Writes, with_write, same_cell, same_value, same_values, same_action, same_actions, same_writes}
+use Rattle.txs_world_protocol.specs.Ask.{Writes, with_write}
 use Rattle.txs_frame.specs.Frame.{with_cell}
 use Rattle.txs_tree_meaning.specs.Transaction.{merged}
 use Rattle.txs_tree_eval_transaction.specs.Worked.{Finds}
-use Rattle.txs_value_cell.specs.declared.action.Action.{Action}
 use Rattle.txs_value_data.specs.declared.value.CellId.{CellId}
 use Rattle.txs_value_data.specs.declared.value.Value.{Value}
 
@@ -85,49 +83,7 @@ with_cell_missed (d ∷ ds) c zero h = second_of (d.number == c.number) (nat_lt 
 with_cell_missed (d ∷ ds) c (suc i) h =
     third_of (d.number == c.number) (nat_lt c.number d.number) _ _ _ (apart d.number c.number h.0) (le-ltb c.number d.number (omega (arith, h.0))) ∙ ap (λ l. d ∷ l) (with_cell_missed ds c i h.1)
 
--- ---- lists of other lengths aren't the same
-
-pub other_values : (vs ws : List Value) → (length vs ≡ length ws → ⊥) → same_values vs ws ≡ false
-other_values [] [] h = absurd (h refl)
-other_values [] (w ∷ ws) h = refl
-other_values (v ∷ vs) [] h = refl
-other_values (v ∷ vs) (w ∷ ws) h = ap (λ b. same_value v w && b) (other_values vs ws (λ e. h (ap suc e))) ∙ and-false (same_value v w)
-
-pub other_actions : (vs ws : List Action) → (length vs ≡ length ws → ⊥) → same_actions vs ws ≡ false
-other_actions [] [] h = absurd (h refl)
-other_actions [] (w ∷ ws) h = refl
-other_actions (v ∷ vs) [] h = refl
-other_actions (v ∷ vs) (w ∷ ws) h = ap (λ b. same_action v w && b) (other_actions vs ws (λ e. h (ap suc e))) ∙ and-false (same_action v w)
-
-pub other_writes : (vs ws : Writes) → (length vs ≡ length ws → ⊥) → same_writes vs ws ≡ false
-other_writes [] [] h = absurd (h refl)
-other_writes [] (w ∷ ws) h = refl
-other_writes (v ∷ vs) [] h = refl
-other_writes (v ∷ vs) (w ∷ ws) h =
-    ap (λ b. same_cell v.0 w.0 && (same_value v.1 w.1 && b)) (other_writes vs ws (λ e. h (ap suc e))) ∙ ap (λ b. same_cell v.0 w.0 && b) (and-false (same_value v.1 w.1)) ∙ and-false (same_cell v.0 w.0)
-
 -- ---- two lists of values as one, one value more
 
 pub merged_next : (now others : Writes) (i : ℕ) (x : CellId × Value) → i < length others → x ≡ get_or others i x → merged now (drop i others) ≡ merged (with_write now x.0 x.1) (drop (i + 1) others)
 merged_next now others i x lt is = ap (λ l. merged now l) (drop_more others i x lt ∙ ap (λ y. y ∷ drop (i + 1) others) (sym is))
-
--- ---- two lists of one length, item by item
-
--- an item that is read once more
-pub read_again : {X : Type 0} (xs : List X) (i : ℕ) (x z : X) → i < length xs → z ≡ get_or xs i z → z ≡ get_or xs i x
-read_again xs i x z lt is = is ∙ get_or_default xs i z x lt
-
--- a test of two items, told of what they are
-pub test_of : {X : Type 0} (f : X → X → Bool) (b : Bool) (v x w y : X) → v ≡ x → w ≡ y → b ≡ f x y → b ≡ f v w
-test_of f b v x w y e g h = h ∙ ap (λ z. f z y) (sym e) ∙ ap (λ z. f v z) (sym g)
-
-module _ {X : Type 0} (each : X → X → Bool → Bool) (all : List X → List X → Bool) (xs ys : List X) (long : length xs ≡ length ys) (i : ℕ) where
-  pub same_next : ((v w : X) (vs ws : List X) → all (v ∷ vs) (w ∷ ws) ≡ each v w (all vs ws)) → (x y : X) → i < length xs → x ≡ get_or xs i x → y ≡ get_or ys i y
-      → all (drop i xs) (drop i ys) ≡ each x y (all (drop (i + 1) xs) (drop (i + 1) ys))
-  same_next more x y lt ex ey =
-      ap (λ l. all l (drop i ys)) (drop_more xs i x lt ∙ ap (λ z. z ∷ drop (i + 1) xs) (sym ex))
-      ∙ ap (λ l. all (x ∷ drop (i + 1) xs) l) (drop_more ys i y (subst (λ n. i < n) long lt) ∙ ap (λ z. z ∷ drop (i + 1) ys) (sym ey))
-      ∙ more x y (drop (i + 1) xs) (drop (i + 1) ys)
-
-  pub same_end : length xs ≤ i → all (drop i xs) (drop i ys) ≡ all [] []
-  same_end le = ap (λ l. all l (drop i ys)) (drop_all i xs le) ∙ ap (λ l. all [] l) (drop_all i ys (subst (λ n. n ≤ i) long le))

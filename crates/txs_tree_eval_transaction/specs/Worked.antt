@@ -1,6 +1,6 @@
 -- What the parts of an evaluation answer, and what a transaction has done.
 use Rattle.std.specs.Prelude.{◌≡◌, ◌<◌, ◌||◌, ℕ, zero, suc, Bool, true, false, List, [], ◌∷◌, Result, Ok, Err, ⊤}
-use Rattle.txs_frame.specs.Frame.{Work, set_ref, commute_ref}
+use Rattle.txs_frame.specs.Frame.{PlainTxFrame, set_ref, commute_ref}
 use Rattle.txs_tree_meaning.specs.Meaning.{Completion, Completes, Faults, Waits, OutOfTurns, Invalid}
 use Rattle.txs_tree_meaning.specs.Transaction.{TxState, current, done_as, taken}
 use Rattle.txs_tree_meaning.specs.Tree.{Mark}
@@ -20,11 +20,11 @@ abbrev pub tx_state : TxWork → TxState
 tx_state x = record { done = x.done; reads = x.reads.items; used = x.used }
 
 -- with other work
-abbrev pub with_work : Work → TxState → TxState
+abbrev pub with_work : PlainTxFrame → TxState → TxState
 with_work w t = record t { done = w }
 
 -- with other work, and a result of a commute used or not
-abbrev pub with_use : Bool → Work → TxState → TxState
+abbrev pub with_use : Bool → PlainTxFrame → TxState → TxState
 with_use used w t = record t { done = w; used = used }
 
 -- A stop is that of the meaning, with the state that it leaves, or there was no memory. In a transaction nothing is waited for,
@@ -61,7 +61,7 @@ stop_without_fault OtherEvent = OtherEvent
 stop_without_fault NoTurns = NoTurns
 stop_without_fault Memory = Memory
 
--- where the item with this number stands among ascending ones, or where it would stand
+-- where the item with this number is among ascending ones, or where it would be
 abbrev pub Finds : {X : Type 0} → (X → ℕ) → List X → ℕ → Result ℕ ℕ → Type 0
 Finds n [] k (Ok i) = ⊥
 Finds n [] k (Err i) = i ≡ 0
@@ -81,7 +81,7 @@ RefCell c = c.kind ≡ Ref
 
 -- ---- forms that update refs
 
--- a form that may stand in a transaction
+-- a form that may be in a transaction
 abbrev pub UpdatesRef : UpdateForm → Type 0
 UpdatesRef Alter = Unit {0}
 UpdatesRef Commute = Unit {0}

@@ -1,5 +1,5 @@
 //! What a transaction does on one world of refs, but for applying callees: the parts of the evaluators of txs_tree_eval that need no
-//! evaluation. Worlds as they are told, why an evaluation gives no value, and whether what an event names is what is meant.
+//! evaluation. Worlds as they are given, why an evaluation gives no value, and whether what an event names is what is meant.
 #![tactic(auto)]
 
 pub mod past;
@@ -11,7 +11,7 @@ pub mod work;
 pub mod writes;
 
 pub use past::History;
-pub use same::{same_action, same_cell, same_commit, same_value};
+pub use same::same_commit;
 pub use stop::ThreadStop;
 pub use values::{collect, operate, print_line};
 pub use view::RefView;

@@ -43,7 +43,7 @@ pub fn take_cell(
     }
 }
 
-/// Where the ref with this number stands, or where it would stand.
+/// Where the ref with this number is, or where it would be.
 fn find(cells: &[CellId], number: u16) -> Result<usize, usize>
     ensures { Finds (λ c. c.number) cells.now number result }
 {

@@ -22,7 +22,7 @@ pub fn value_in(writes: &[(CellId, Value)], number: u16) -> Result<Value, AllocE
     Ok(Value::Nil)
 }
 
-/// Where the ref with this number stands, or where it would stand.
+/// Where the ref with this number is, or where it would be.
 fn find(writes: &[(CellId, Value)], number: u16) -> Result<usize, usize>
     ensures { Finds (λ w. w.0.number) writes.now number result }
 {

@@ -5,7 +5,7 @@ use Rattle.std.specs.Prelude.{pos}
 use Rattle.txs_world_protocol.specs.SeenEvent.{SeenEvent}
 use Rattle.txs_world_protocol.specs.declared.event.EventKind.{EventKind}
 use Rattle.txs_world_protocol.specs.declared.event.EventKind.TheVariants.{Read, Commit, Retry, Fail, Refused, Send as Sent, SendRefused, Swap as Swapped, Broke}
-use Rattle.txs_frame.specs.Frame.{Work}
+use Rattle.txs_frame.specs.Frame.{PlainTxFrame}
 use Rattle.txs_frame.specs.declared.frame.Commute.{Commute as KeptCommute}
 use Rattle.txs_value_apply.specs.Core.{core}
 use Rattle.txs_tree_meaning.specs.Meaning.{Completion, Completes, Recurs, Faults, Retries, Waits, OutOfTurns, Invalid, apply}
@@ -162,7 +162,7 @@ commute_faults_inside = refl
 abbrev commute_of : ℕ → Callee → List Value → KeptCommute
 commute_of n f vs = record { cell = ref_of n; callee = f; args = vs }
 
-abbrev several : Work
+abbrev several : PlainTxFrame
 several = record {
   values = (ref_of 0, int 7) ∷ (ref_of 1, int 100) ∷ (ref_of 2, int 8) ∷ [];
   sets = ref_of 1 ∷ [];
@@ -193,7 +193,7 @@ alter_reads : tx_meaning 3 [] 0 (Update Alter (constant (Cell (ref_of 0))) (Core
 unfolding core
 alter_reads = refl
 
-abbrev commuted_once : Work
+abbrev commuted_once : PlainTxFrame
 commuted_once = record { values = (ref_of 0, int 2) ∷ []; sets = []; ensures = []; commutes = commute_of 0 (CoreOp Inc) [] ∷ []; sends = [] }
 
 abbrev increment : Mark → Tree

@@ -17,16 +17,16 @@ pub record Known : Type 0 where
   -- it is for outside alone
   pub outside : Bool
   pub pure : Bool
-  -- how many nodes stand in one another, those of the functions that it calls among them
+  -- how many nodes are in one another, those of the functions that it calls among them
   pub levels : ℕ
 
--- whether what stands so is for transactions alone
+-- whether what is placed so is for transactions alone
 abbrev pub only_inside : Standing → Bool
 only_inside Inside = true
 only_inside Anywhere = false
 only_inside Outside = false
 
--- whether what stands so is for outside alone
+-- whether what is placed so is for outside alone
 abbrev pub only_outside : Standing → Bool
 only_outside Outside = true
 only_outside Anywhere = false
@@ -57,7 +57,7 @@ abbrev pub callee_levels : List Known → Callee → ℕ
 callee_levels ks (CoreOp op) = 0
 callee_levels ks (Function f) = levels_of (nth ks f)
 
--- a body is inside where something that is for transactions alone stands in it outside every transaction of it
+-- a body is inside where something that is for transactions alone is in it outside every transaction of it
 abbrev mutual
   pub inside_in : List Known → Tree → Bool
   inside_in ks (Const v m) = false
@@ -82,7 +82,7 @@ abbrev mutual
   any_inside ks none = false
   any_inside ks (more e rest) = inside_in ks e || any_inside ks rest
 
--- a body is outside where something that is for outside alone stands in it
+-- a body is outside where something that is for outside alone is in it
 abbrev mutual
   pub outside_in : List Known → Tree → Bool
   outside_in ks (Const v m) = false
@@ -107,7 +107,7 @@ abbrev mutual
   any_outside ks none = false
   any_outside ks (more e rest) = outside_in ks e || any_outside ks rest
 
--- a body is pure where no form on cells, no line and no transaction stands in it, and it calls pure functions alone
+-- a body is pure where no form on cells, no line and no transaction is in it, and it calls pure functions alone
 abbrev mutual
   pub pure_in : List Known → Tree → Bool
   pure_in ks (Const v m) = true
@@ -132,7 +132,7 @@ abbrev mutual
   all_pure ks none = true
   all_pure ks (more e rest) = pure_in ks e && all_pure ks rest
 
--- how many nodes stand in one another, a call or callee counted with the function's body below it
+-- how many nodes are in one another, a call or callee counted with the function's body below it
 abbrev mutual
   pub levels : List Known → Tree → ℕ
   levels ks (Const v m) = 1
@@ -152,7 +152,7 @@ abbrev mutual
   levels ks (Update form cell callee args m) = suc (max (callee_levels ks callee) (max (levels ks cell) (levels_in ks args)))
   levels ks (Send cell callee args m) = suc (max (callee_levels ks callee) (max (levels ks cell) (levels_in ks args)))
 
-  -- the most levels of these, which stand beside one another
+  -- the most levels of these, which are beside one another
   pub levels_in : List Known → Trees → ℕ
   levels_in ks none = 0
   levels_in ks (more e rest) = max (levels ks e) (levels_in ks rest)

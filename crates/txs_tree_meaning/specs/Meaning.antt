@@ -29,7 +29,7 @@ pub data Completion (S A : Type 0) : Type 0 where
   -- no meaning, which never comes of a sound program
   Invalid : Completion S A
 
--- goes on with what was given; the first part is no recur's tail position
+-- continues with what was given; the first part is no recur's tail position
 abbrev pub bind : {S A B : Type 0} → Completion S A → (A → S → Completion S B) → Completion S B
 bind (Completes a s) go = go a s
 bind (Recurs vs s) go = Invalid
@@ -39,7 +39,7 @@ bind (Waits s) go = Waits s
 bind (OutOfTurns s) go = OutOfTurns s
 bind Invalid go = Invalid
 
--- a recur goes on, all else stays
+-- a recur continues, all else stays
 abbrev pub again : {S A : Type 0} → Completion S A → (List Value → S → Completion S A) → Completion S A
 again (Completes a s) go = Completes a s
 again (Recurs vs s) go = go vs s
@@ -72,7 +72,7 @@ allowed false r = Invalid
 abbrev pub Applies : Type 0 → Type 0
 Applies S = Callee → List Value → S → Completion S Value
 
--- What the forms on cells do, one handler for each family. The truth value tells whether a transaction is running; the mark has
+-- What the forms on cells do, one handler for each family. The truth value says whether a transaction is running; the mark has
 -- the form's span and whether its result is wanted.
 pub record Effects (S : Type 0) : Type 0 where
   pub print : Bool → List Value → S → Completion S Value
@@ -90,7 +90,7 @@ abbrev pub turns : {S : Type 0} → ℕ → ℕ → (List Value → S → Comple
 turns zero d body vs s = OutOfTurns s
 turns (suc n) d body vs s = if nat_eq (length vs) d then again (body vs s) (turns n d body) else Invalid
 
--- the last item's completion stands for all; that of another is let go, and what comes after it goes on
+-- the last item's completion stands for all; that of another is let go, and what comes after it continues
 abbrev pub last_or : {S : Type 0} → Bool → Completion S Value → (S → Completion S Value) → Completion S Value
 last_or true r go = r
 last_or false r go = bind r (λ v s. go s)

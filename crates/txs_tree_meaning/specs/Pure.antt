@@ -25,7 +25,7 @@ no_effects = record {
 abbrev pub pure_calls : ℕ → List PlainFunction → ℕ → Bool → ℕ → List Value → Unit {0} → Completion (Unit {0}) Value
 pure_calls n functions d = call_at (λ b. no_effects) n functions d
 
--- an operation as callee stands at no place of the script
+-- an operation as callee is at no place of the script
 abbrev pub nowhere : Span
 nowhere = record { from = 0; to = 0 }
 

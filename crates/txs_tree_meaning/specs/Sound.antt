@@ -14,12 +14,12 @@ use Rattle.txs_tree_meaning.specs.Known.{Known, known_of, known, levels}
 use Rattle.txs_tree_meaning.specs.Scoped.{Scoped}
 use Rattle.txs_tree_meaning.specs.Tree.{Tree, Const, Local, If, Do, Let, Loop, Recur, Core, Call, VectorOf, Println, Dosync, Look, Put, Update, Send, Trees, none, more, count, PlainFunction, PlainThread, PlainProgram, ThreadSource}
 
--- where a node stands: in a function, which may be called inside transactions and outside; in a thread outside every
+-- where a node is: in a function, which may be called inside transactions and outside; in a thread outside every
 -- transaction; or in a transaction
 pub data Zone : Type 0 where
   in_function in_thread in_dosync : Zone
 
--- what stands so may stand here
+-- what is placed so may be here
 abbrev pub MayStand : Zone → Standing → Type 0
 MayStand in_function s = Unit {0}
 MayStand in_thread Anywhere = Unit {0}
@@ -59,7 +59,7 @@ SoundCallee ks (CoreOp op) n = TakesFew op n
 SoundCallee ks (Function f) n = PureCall ks f n
 
 -- A node with so many locals, where these functions are defined, in this zone. In tail position of a loop or function the
--- number of its values is given: a recur stands there alone, with as many.
+-- number of its values is given: a recur is there alone, with as many.
 abbrev mutual
   pub SoundTree : List Known → Zone → ℕ → Option ℕ → Tree → Type 0
   SoundTree ks zone d tail (Const v m) = Unit {0}
@@ -78,7 +78,7 @@ abbrev mutual
   SoundTree ks zone d tail (Println args m) = MayStand zone Outside × (count args ≤ most_items) × SoundAll ks zone d args
   -- a barrier for recur; an inner one joins
   SoundTree ks zone d tail (Dosync body m) = SoundTree ks in_dosync d None body
-  -- the forms on cells stand where the table says, and apply pure callees
+  -- the forms on cells are where the table says, and apply pure callees
   SoundTree ks zone d tail (Look form cell m) = MayStand zone (rule (form_of.Look form)).stands × SoundTree ks zone d None cell
   SoundTree ks zone d tail (Put form cell value m) =
       MayStand zone (rule (form_of.Put form)).stands × SoundTree ks zone d None cell × SoundTree ks zone d None value

@@ -156,7 +156,7 @@ ends_tx d f (Commit at view writes sent) R Q C t =
 -- a failure: the body's fault, else the first one of the commutes on the world that was viewed
 ends_tx d f (Fail at view) R Q C t =
     over t (d.on R) (λ v x. faulted (final_writes f d.validators d.mark.span x.done Q t) (λ g t1. Faults g t1)) (λ g. Faults g t)
--- a refusal: neither the body nor a commute faults; that the agent had failed is told by the journal, and not asked here
+-- a refusal: neither the body nor a commute faults; that the agent had failed is given by the journal, and not asked here
 ends_tx d f (Refused at view agent) R Q C t =
     over t (d.on R) (λ v x. faultless (final_writes f d.validators d.mark.span x.done Q t) (λ ws t1. Faults (fault_at AgentFailed d.mark.span) (with_tx (run_of d v x) t1))) (λ g. Invalid)
 ends_tx d f _ R Q C t = Invalid
@@ -175,7 +175,7 @@ eats_tx (suc k) d f (e ∷ es) t =
     then (if is_retry e.kind then eats_tx k d f es t else uneaten (e ∷ es) (ends_tx d f e.kind e.R e.Q e.C (record t { todo = es })))
     else Invalid
 
--- what a thread's meaning is told of: the cells' definitions, how many tries a transaction has, how many turns a loop, and the functions
+-- what a thread's meaning is given: the cells' definitions, how many tries a transaction has, how many turns a loop, and the functions
 pub record Surroundings : Type 0 where
   pub cells : List CellDefinition
   pub tries : ℕ
@@ -198,7 +198,7 @@ thread_update x Alter span c callee vs f t = Invalid
 thread_update x Commute span c callee vs f t = Invalid
 thread_update x Swap span c callee vs f t = eats (home x.cells c) (λ e t1. swaps c (λ v t2. f callee (v ∷ vs) t2) e.kind e.R e.C t1) t.todo t
 
--- a form that may stand outside every transaction
+-- a form that may be outside every transaction
 abbrev pub outside_form : CellForm → Completion ThreadState Value → Completion ThreadState Value
 outside_form form r = allowed (may_stand (rule form).stands false) r
 

@@ -1,7 +1,7 @@
 -- What a transaction's body means on one world of refs, and what it writes at its commit.
 use Rattle.std.specs.Prelude.{ℕ, Bool, true, false, List, [], ◌∷◌, ◌||◌, map, Option, Some, None, Result}
 use Rattle.txs_world_protocol.specs.Ask.{Writes, buffered, with_write}
-use Rattle.txs_frame.specs.Frame.{Work, no_work, with_cell, has_number, commuted, set_ref, ensure_ref, commute_ref, hold_send, set_writes, phase_work}
+use Rattle.txs_frame.specs.Frame.{PlainTxFrame, empty_frame, with_cell, has_number, commuted, set_ref, ensure_ref, commute_ref, hold_send, set_writes, phase_work}
 use Rattle.txs_frame.specs.declared.frame.Commute.{Commute}
 use Rattle.txs_tree_meaning.specs.Meaning.{Completion, Completes, Invalid, bind, closed, result_of, Applies, Effects, eval, call_at}
 use Rattle.txs_tree_meaning.specs.Tree.{Mark, Tree, PlainFunction}
@@ -24,7 +24,7 @@ use Rattle.txs_value_data.specs.declared.value.Value.TheVariants.{Nil}
 
 -- what a transaction has done so far, the refs that it read of the world, and whether the result of a commute was used
 pub record TxState : Type 0 where
-  pub done : Work
+  pub done : PlainTxFrame
   pub reads : List CellId
   pub used : Bool
 
@@ -34,11 +34,11 @@ value_or None v = v
 value_or (Some w) v = w
 
 -- the transaction's own value of the ref with this number, if it set or commuted it
-abbrev pub own : Work → ℕ → Option Value
+abbrev pub own : PlainTxFrame → ℕ → Option Value
 own w k = buffered w.values k
 
 -- a ref's value: the transaction's own, else the world's, which is that of its start (Clojure's reference on refs and transactions)
-abbrev pub current : World → Work → CellId → Value
+abbrev pub current : World → PlainTxFrame → CellId → Value
 current R w c = value_or (own w c.number) (R c.number)
 
 -- a read of a ref that the transaction has no value of joins its reads; one of a ref that was commuted and not set is a use
@@ -51,7 +51,7 @@ abbrev pub taken : World → CellId → TxState → Completion TxState Value
 taken R c t = Completes (current R t.done c) (noted c (own t.done c.number) t)
 
 -- the transaction has done this, or the form faults
-abbrev pub done_as : Result Work FaultKind → Span → Value → TxState → Completion TxState Value
+abbrev pub done_as : Result PlainTxFrame FaultKind → Span → Value → TxState → Completion TxState Value
 done_as r span v t = bind (result_of r span t) (λ w t1. Completes v (record t1 { done = w }))
 
 -- a form on a cell that it takes; else it faults
@@ -95,7 +95,7 @@ in_transaction R = record {
 
 -- before a transaction's body
 abbrev pub tx_start : TxState
-tx_start = record { done = no_work; reads = []; used = false }
+tx_start = record { done = empty_frame; reads = []; used = false }
 
 -- the transaction meaning: the body of a dosync, with its locals, on one world, as if it ran alone (Clojure's reference on refs and transactions)
 abbrev pub tx_meaning : ℕ → List PlainFunction → ℕ → Tree → List Value → World → Completion TxState Value
@@ -120,10 +120,10 @@ redone f (c ∷ cs) ws s =
     bind (f c.callee (value_or (buffered ws c.cell.number) Nil ∷ c.args) s) (λ v s1. redone f cs (with_write ws c.cell v) s1)
 
 -- the commutes of the refs that weren't set, ref by ref in ascending number, on the values of a world
-abbrev pub commute_writes : {S : Type 0} → Applies S → Work → World → S → Completion S Writes
+abbrev pub commute_writes : {S : Type 0} → Applies S → PlainTxFrame → World → S → Completion S Writes
 commute_writes f w C s = redone f (phase_work w) (valued (commuted w) C) s
 
 -- the final writes: each ref that was set has its value, each other commuted ref what its commutes make of the world; the cells'
 -- validators, and the span of the dosync, change nothing
-abbrev pub final_writes : {S : Type 0} → Applies S → Validators → Span → Work → World → S → Completion S Writes
+abbrev pub final_writes : {S : Type 0} → Applies S → Validators → Span → PlainTxFrame → World → S → Completion S Writes
 final_writes f vs span w C s = bind (commute_writes f w C s) (λ ws s1. Completes (merged (set_writes w) ws) s1)

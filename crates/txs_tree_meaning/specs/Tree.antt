@@ -9,7 +9,7 @@ use Rattle.txs_value_base.specs.declared.op.Op.{Op}
 use Rattle.txs_value_base.specs.declared.op.Callee.{Callee}
 use Rattle.txs_value_data.specs.declared.value.Value.{Value}
 
--- where a node stands in the script, and whether its result is wanted
+-- where a node is in the script, and whether its result is wanted
 pub record Mark : Type 0 where
   pub span : Span
   pub wanted : Bool
@@ -52,13 +52,13 @@ abbrev pub is_none : Trees → Bool
 is_none none = true
 is_none (more e rest) = false
 
--- a function: the number of its parameters, its body, and where its definition stands; it calls functions before it alone
+-- a function: the number of its parameters, its body, and where its definition is; it calls functions before it alone
 pub record PlainFunction : Type 0 where
   pub parameters : ℕ
   pub body : Tree
   pub span : Span
 
--- a thread: the body of a future, and where the future stands
+-- a thread: the body of a future, and where the future is
 pub record PlainThread : Type 0 where
   pub body : Tree
   pub span : Span

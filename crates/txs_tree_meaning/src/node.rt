@@ -20,7 +20,7 @@ pub enum NodeKind {
     Let(Vec<Node>, Box<Node>),
     /// A let whose body a recur runs again.
     Loop(Vec<Node>, Box<Node>),
-    /// The values in order, for the next turn of the nearest loop or function, in whose tail position it stands.
+    /// The values in order, for the next turn of the nearest loop or function, in whose tail position it is.
     Recur(Vec<Node>),
     /// A core operation on its arguments.
     Core(Op, Vec<Node>),
@@ -42,7 +42,7 @@ pub enum NodeKind {
     Send(Box<Node>, Callee, Vec<Node>),
 }
 
-/// A node of a program: what it does, where it stands in the script, and whether its result is wanted.
+/// A node of a program: what it does, where it is in the script, and whether its result is wanted.
 #[cycle(node)]
 #[derive(Drop)]
 pub struct Node {
@@ -51,7 +51,7 @@ pub struct Node {
     pub wanted: bool,
 }
 
-/// A function: how many parameters it has, its body, and where its definition stands in the script. It calls
+/// A function: how many parameters it has, its body, and where its definition is in the script. It calls
 /// functions before it alone.
 #[derive(Drop)]
 pub struct Function {
@@ -60,7 +60,7 @@ pub struct Function {
     pub span: Span,
 }
 
-/// A thread: the body of a future, and where the future stands in the script.
+/// A thread: the body of a future, and where the future is in the script.
 #[derive(Drop)]
 pub struct Thread {
     pub body: Node,

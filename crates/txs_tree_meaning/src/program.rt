@@ -70,6 +70,7 @@ impl Program {
     pub fn is_sound(&self)
         ensures { Sound (program_of self.now) }
     {
+        // A step of the proof, which does nothing when it runs.
         let _ = &self.raw;
     }
 

@@ -92,6 +92,7 @@ impl Raw {
     pub fn is_marked(&self)
         ensures { MarkedProgram (program_of self.now) }
     {
+        // A step of the proof, which does nothing when it runs.
         let _ = &self.threads;
     }
 }

@@ -1,4 +1,4 @@
--- The words under which faults are told, and their numbers in the order of their table.
+-- The words by which faults are named, and their numbers in the order of their table.
 use Rattle.std.specs.Prelude.{ℕ, List, codes}
 use Rattle.txs_value_base.specs.declared.fault.FaultKind.{FaultKind}
 use Rattle.txs_value_base.specs.declared.fault.FaultKind.TheVariants.{Overflow, DivideByZero, NotANumber, NotAVector, IndexOut, PopEmpty, NotACell, NotARef, NotAnAtom, NotAnAgent, OutsideOnly, SetAfterCommute, RetryLimit, AgentFailed, InvalidState, TooDeep, TooLong}

@@ -1,4 +1,4 @@
--- What stands at a place of a list, and a fault at a place of the script.
+-- What is at a place of a list, and a fault at a place of the script.
 use Rattle.std.specs.Prelude.{ℕ, zero, suc, List, [], ◌∷◌, Option, Some, None}
 use Rattle.txs_value_base.specs.declared.fault.Fault.{Fault}
 use Rattle.txs_value_base.specs.declared.fault.FaultKind.{FaultKind}

@@ -55,7 +55,7 @@ pub enum FaultKind {
 }
 
 impl FaultKind {
-    /// The word under which the fault is told.
+    /// The word by which the fault is named.
     pub fn name(self) -> &'static str
         ensures { result.now ≡ fault_name self }
     {

@@ -1,4 +1,4 @@
--- The forms on cells, in families, and one table of what each of them takes and where it may stand.
+-- The forms on cells, in families, and one table of what each of them takes and where it may be.
 use Rattle.std.specs.Prelude.{Bool, true, false, Option, Some, None, Result, Ok, Err, not}
 use Rattle.txs_value_base.specs.declared.fault.FaultKind.{FaultKind}
 use Rattle.txs_value_base.specs.declared.fault.FaultKind.TheVariants.{NotACell, NotARef, NotAnAtom, NotAnAgent, OutsideOnly}
@@ -17,7 +17,7 @@ use Rattle.txs_value_data.specs.declared.value.CellKind.TheVariants.{Ref, Atom, 
 use Rattle.txs_value_data.specs.declared.value.Value.{Value}
 use Rattle.txs_value_data.specs.declared.value.Value.TheVariants.{Cell}
 
--- The table of forms on cells: the kind of cell that a form takes (none: any), where it may stand, the fault of anything else, and what
+-- The table of forms on cells: the kind of cell that a form takes (none: any), where it may be, the fault of anything else, and what
 -- the form asks of the shared state.
 abbrev pub rule : CellForm → FormRule
 rule (Look Deref) = record { takes = None; stands = Anywhere; fault = NotACell; asks = ItsValue }
@@ -29,7 +29,7 @@ rule (Update Commute) = record { takes = Some Ref; stands = Inside; fault = NotA
 rule (Update Swap) = record { takes = Some Atom; stands = Outside; fault = NotAnAtom; asks = Swapping }
 rule Send = record { takes = Some Agent; stands = Anywhere; fault = NotAnAgent; asks = Sending }
 
--- whether a form may stand here; the truth value tells whether a transaction is running
+-- whether a form may be here; the truth value says whether a transaction is running
 abbrev pub may_stand : Standing → Bool → Bool
 may_stand Anywhere inside = true
 may_stand Inside inside = inside

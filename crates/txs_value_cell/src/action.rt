@@ -7,7 +7,7 @@ use txs_value_base::{Callee, Span};
 use txs_value_data::{CellId, Listed, Value, copy_values};
 
 /// An action that waits for its agent: what is called on the agent's state and these further arguments, and where the `send`
-/// stands in the script.
+/// is in the script.
 pub struct Action {
     pub agent: CellId,
     pub callee: Callee,

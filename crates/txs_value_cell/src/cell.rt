@@ -1,14 +1,20 @@
-//! The definition of a cell.
+//! The definition of a cell, and the agents among cells.
 
+ghost use Rattle.std.specs.Prelude.{◌≡◌, ◌≤◌, ◌++◌, [], length, if◌then◌else◌, IfOk, OnOk};
+ghost use Rattle.txs_value_cell.specs.Agents.{agents_from, with_agent};
+ghost use Rattle.txs_value_cell.specs.Forms.{same_kind};
+ghost use Rattle.txs_value_data.specs.declared.value.CellKind.TheVariants.{Agent};
+
+use std::alloc::{AllocError, Global};
 use txs_value_base::Callee;
-use txs_value_data::{CellKind, Name, Value};
+use txs_value_data::{CellId, CellKind, Name, Value};
 
 /// What an agent does after an action that faulted, as `:error-mode` says.
 #[derive(Clone, Copy, PartialEq, Eq)]
 pub enum ErrorMode {
     /// It is failed, and runs no further action.
     Fail,
-    /// It goes on as if the action hadn't happened.
+    /// It continues as if the action hadn't happened.
     Continue,
 }
 
@@ -35,4 +41,51 @@ impl Drop for CellDefinition {
         drop(name);
         drop(opening);
     }
+}
+
+/// 1 for an agent, 0 for another cell.
+pub fn agents_in(kind: CellKind) -> usize
+    ensures listed { result ≡ length (with_agent kind 0 []) }
+    ensures kind { result ≡ (if same_kind kind Agent then 1 else 0) }
+{
+    match kind {
+        CellKind::Agent => 1,
+        CellKind::Ref | CellKind::Atom => 0,
+    }
+}
+
+/// How many of these cells are agents.
+pub fn count_agents(cells: &[CellDefinition]) -> usize
+    ensures { result ≡ length (agents_from 0 cells.now) }
+{
+    let mut agents = 0;
+    for cell in cells {
+        agents += agents_in(cell.kind);
+    }
+    agents
+}
+
+/// Adds the cell with this number, where it is an agent.
+fn add_agent(agents: &mut Vec<CellId>, kind: CellKind, number: u16) -> Result<(), AllocError>
+    ensures { OnOk result (agents.new.items ≡ agents.old.items ++ with_agent kind number []) }
+{
+    match kind {
+        CellKind::Ref | CellKind::Atom => Ok(()),
+        CellKind::Agent => {
+            agents.push(CellId { kind, number })?;
+            Ok(())
+        }
+    }
+}
+
+/// The agents among these cells, in their order.
+pub fn list_agents(alloc: Global, cells: &[CellDefinition]) -> Result<Vec<CellId>, AllocError>
+    requires few { length cells.now ≤ 65536 }
+    ensures { IfOk result (λ v. v.items ≡ agents_from 0 cells.now) }
+{
+    let mut agents = Vec::new(alloc);
+    for number in 0..cells.len() {
+        add_agent(&mut agents, cells[number].kind, number as u16)?;
+    }
+    Ok(agents)
 }

@@ -1,4 +1,4 @@
-//! The forms on cells, in families, and the table of what each of them takes and where it may stand.
+//! The forms on cells, in families, and the table of what each of them takes and where it may be.
 
 ghost use Rattle.std.specs.Prelude.{◌≡◌, ◌↔◌, IsTrue, Some};
 ghost use Rattle.txs_value_cell.specs.Forms.{cell_of, may_stand, rule, same_kind};
@@ -51,7 +51,7 @@ pub enum CellForm {
     Send,
 }
 
-/// Where a form may stand.
+/// Where a form may be.
 #[derive(Clone, Copy)]
 pub enum Standing {
     /// In transactions and outside them.
@@ -79,7 +79,7 @@ pub enum FormAsk {
     Sending,
 }
 
-/// What a form takes: the kind of cell, any where there is none; where it may stand; the fault of anything else; and what it
+/// What a form takes: the kind of cell, any where there is none; where it may be; the fault of anything else; and what it
 /// asks of the shared state.
 #[derive(Clone, Copy)]
 pub struct FormRule {
@@ -89,7 +89,7 @@ pub struct FormRule {
     pub asks: FormAsk,
 }
 
-/// The rule of forms on refs, which stand in transactions alone.
+/// The rule of forms on refs, which are in transactions alone.
 fn rule_of_ref(asks: FormAsk) -> FormRule
     ensures { result ≡ record { takes = Some Ref; stands = Inside; fault = NotARef; asks = asks } }
 {
@@ -101,7 +101,7 @@ fn rule_of_ref(asks: FormAsk) -> FormRule
     }
 }
 
-/// The rule of forms on atoms, which stand outside transactions alone.
+/// The rule of forms on atoms, which are outside transactions alone.
 fn rule_of_atom(asks: FormAsk) -> FormRule
     ensures { result ≡ record { takes = Some Atom; stands = Outside; fault = NotAnAtom; asks = asks } }
 {
@@ -159,7 +159,7 @@ impl CellForm {
 }
 
 impl Standing {
-    /// Whether a form may stand in a running transaction, or outside.
+    /// Whether a form may be in a running transaction, or outside.
     pub fn allows(self, inside: bool) -> bool
         ensures { result ≡ may_stand self inside }
     {

@@ -1,4 +1,4 @@
-//! Cells: how a script defines them, the forms on them with the table of what each takes and where it may stand, and the
+//! Cells: how a script defines them, the forms on them with the table of what each takes and where it may be, and the
 //! actions that are sent to agents. Promises that a form takes the cells of its row and no others, and that a copy of an
 //! action is equal to it.
 #![tactic(auto)]
@@ -8,5 +8,5 @@ pub mod cell;
 pub mod form;
 
 pub use action::{Action, copy_action};
-pub use cell::{CellDefinition, ErrorMode};
+pub use cell::{CellDefinition, ErrorMode, agents_in, count_agents, list_agents};
 pub use form::{CellForm, FormAsk, FormRule, LookForm, PutForm, Standing, UpdateForm};

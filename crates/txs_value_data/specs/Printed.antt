@@ -7,13 +7,13 @@ use Rattle.txs_value_data.specs.declared.value.CellKind.{CellKind}
 use Rattle.txs_value_data.specs.declared.value.CellKind.TheVariants.{Ref, Atom, Agent}
 use Rattle.txs_value_data.specs.declared.value.Value.{Value}
 
--- what stands before the number of a cell, by its kind
+-- what is before the number of a cell, by its kind
 abbrev pub kind_printed : CellKind → List ℕ
 kind_printed Ref = codes "#ref["
 kind_printed Atom = codes "#atom["
 kind_printed Agent = codes "#agent["
 
--- what stands before the i-th item
+-- what is before the i-th item
 abbrev pub gap : ℕ → List ℕ
 gap zero = []
 gap (suc n) = codes " "

@@ -83,7 +83,7 @@ pub record IsRightBody (n : ℕ) (ps : List ℕ) (b : CodeBody) : Type 0 where
   pub right : (at : ℕ) (i : Instr) → nth b.instrs at ≡ Some i → IsRight n ps b at i
 
 -- Why a body is refused for an instruction alone: what this kind looks at is wrong there, and what is looked at before is right. Of more
--- parameters than locals the refusal is told at the first place.
+-- parameters than locals the refusal is reported at the first place.
 abbrev pub IsWrongAlone : ℕ → List ℕ → CodeBody → VerifyErrorKind → ℕ → Type 0
 IsWrongAlone n ps b JumpOut at = (i : Instr) × (nth b.instrs at ≡ Some i) × (JumpsWithin (length b.instrs) i → ⊥)
 IsWrongAlone n ps b StackLow at = ⊥
@@ -191,7 +191,7 @@ is_behind is to = is_some (opens (before is to)) || is_some (opens (before_that 
 abbrev pub is_followed : List ℕ → List Instr → ℕ → OpenForm → ℕ → Bool
 is_followed ps is at by n = applies ps by (n + 1) (nth is (at + 1)) && closes (form_of by) (nth is (at + 2))
 
--- whether a call, an open, a close, a send or a jump stands in order
+-- whether a call, an open, a close, a send or a jump is in order
 abbrev pub in_order : ℕ → List ℕ → List Instr → ℕ → Instr → Bool
 in_order n ps is at (Jump to) = not (is_behind is to)
 in_order n ps is at (JumpFalse to) = not (is_behind is to)

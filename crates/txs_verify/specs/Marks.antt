@@ -36,7 +36,7 @@ stages_from is p (Some m ∷ ms) = Some (stage_for is p m.txs) ∷ stages_from i
 abbrev pub mark_behind : List ℕ → Instr → Mark → Mark
 mark_behind ps i m = record { depth = depth_behind ps i m.depth; txs = txs_behind i m.txs }
 
--- at a marked place an instruction stands, finds what it takes, and leads to places with the mark of what is behind it
+-- at a marked place an instruction is, finds what it takes, and leads to places with the mark of what is behind it
 pub record IsDone (ps : List ℕ) (is : List Instr) (marks : Marks) (p : ℕ) (m : Mark) : Type 0 where
   pub instr : Instr
   pub stands : nth is p ≡ Some instr

@@ -35,7 +35,7 @@ wants ps (Close by) = 2
 wants ps (Send callee n) = suc n
 wants ps Halt = 0
 
--- how many stand there behind it
+-- how many are there behind it
 abbrev pub depth_behind : List ℕ → Instr → ℕ → ℕ
 depth_behind ps (Const k) d = d + 1
 depth_behind ps (Local i) d = d + 1
@@ -57,7 +57,7 @@ depth_behind ps (Close by) d = d - 1
 depth_behind ps (Send callee n) d = d - n
 depth_behind ps Halt d = d
 
--- an end stands in a transaction
+-- an end is in a transaction
 abbrev pub MayEnd : Instr → ℕ → Type 0
 MayEnd TxEnd t = 0 < t
 MayEnd _ t = Unit {0}
@@ -119,7 +119,7 @@ stage_behind None None t = plain t
 abbrev pub stage_for : List Instr → ℕ → ℕ → Stage
 stage_for is p t = stage_behind (opens (before is p)) (opens (before_that is p)) t
 
--- ---- what may stand at a place
+-- ---- what may be at a place
 
 -- a body of this kind ends here with one value, outside transactions of its own
 abbrev pub EndsWell : Owner → ℕ → ℕ → Instr → Type 0
@@ -127,7 +127,7 @@ EndsWell owner d t Return = Returns owner × (d ≡ 1) × (t ≡ 0)
 EndsWell owner d t Halt = Halts owner × (d ≡ 1) × (t ≡ 0)
 EndsWell owner d t _ = Unit {0}
 
--- an instruction outside opens and closes may stand in so many transactions
+-- an instruction outside opens and closes may be in so many transactions
 abbrev pub MayBe : Functions → Owner → ℕ → Instr → Type 0
 MayBe fs owner t (Call f) = MayCall fs.kinds owner t f
 MayBe fs owner t (Print n) = IsImpure owner × MayStand owner t Outside

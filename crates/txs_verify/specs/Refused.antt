@@ -32,7 +32,7 @@ HasTwoNestings ps is p = (d : ℕ) × (t : ℕ) × (e : ℕ) × (u : ℕ) × Com
 abbrev pub EndsNothing : List ℕ → List Instr → ℕ → Type 0
 EndsNothing ps is p = (d : ℕ) × (t : ℕ) × (i : Instr) × IsMet ps is p d t i × (MayEnd i t → ⊥)
 
--- A body goes on past its end: a path comes to the instruction that leads there; a body without instructions does so at 0.
+-- A body continues past its end: a path comes to the instruction that leads there; a body without instructions does so at 0.
 pub data GoesPast (ps : List ℕ) (is : List Instr) (p : ℕ) : Type 0 where
   of_none : (empty : is ≡ []) (first : p ≡ 0) → GoesPast ps is p
   behind : (d t q e u : ℕ) (comes : Comes ps is p d t) (leads : Steps ps is p d t q e u) (past : nth is q ≡ None) → GoesPast ps is p
@@ -41,7 +41,7 @@ pub data GoesPast (ps : List ℕ) (is : List Instr) (p : ℕ) : Type 0 where
 abbrev pub EndsBadly : List ℕ → List Instr → Owner → ℕ → Type 0
 EndsBadly ps is owner p = (d : ℕ) × (t : ℕ) × (i : Instr) × IsMet ps is p d t i × (EndsWell owner d t i → ⊥)
 
--- an instruction that may not stand where it does
+-- an instruction that may not be where it is
 abbrev pub IsMisplaced : Functions → List Instr → Owner → ℕ → Type 0
 IsMisplaced fs is owner p = (d : ℕ) × (t : ℕ) × (i : Instr) × IsMet fs.parameters is p d t i × (IsAllowed fs owner (stage_for is p t) i → ⊥)
 

@@ -1,4 +1,4 @@
--- Where instructions may stand, what functions are for, and what is wrong with an instruction where a path comes to it.
+-- Where instructions may be, what functions are for, and what is wrong with an instruction where a path comes to it.
 use Rattle.std.specs.Prelude.{◌≡◌, ◌↔◌, ℕ, suc, ◌-◌, ◌<◌, Bool, true, false, not, ◌&&◌, ◌||◌, nat_eq, if◌then◌else◌, is_some, List, [], ◌∷◌, Option, Some, None, Result, Ok, Err}
 use Rattle.txs_value_cell.specs.Forms.{rule}
 use Rattle.txs_value_base.specs.Places.{nth}
@@ -32,11 +32,11 @@ abbrev pub kinds_from : List Kind → List FunctionKind
 kinds_from [] = []
 kinds_from (k ∷ ks) = kind_from k ∷ kinds_from ks
 
--- what is pure may stand anywhere
+-- what is pure may be anywhere
 abbrev pub pure_kind : Kind
 pure_kind = record { inside = false; outside = false; impure = false }
 
--- the kind of what has a form on cells, a print or a transaction, and may stand so
+-- the kind of what has a form on cells, a print or a transaction, and may be so
 abbrev pub impure_kind : Standing → Kind
 impure_kind Anywhere = record { inside = false; outside = false; impure = true }
 impure_kind Inside = record { inside = true; outside = false; impure = true }
@@ -62,7 +62,7 @@ kind_of ks _ = pure_kind
 abbrev pub joined : Kind → Kind → Kind
 joined a b = record { inside = a.inside || b.inside; outside = a.outside || b.outside; impure = a.impure || b.impure }
 
--- what stands in transactions of the body doesn't make the body one for inside or outside alone
+-- what is in transactions of the body doesn't make the body one for inside or outside alone
 abbrev pub seen_from : ℕ → Kind → Kind
 seen_from t k = record { inside = nat_eq t 0 && k.inside; outside = nat_eq t 0 && k.outside; impure = k.impure }
 
@@ -118,7 +118,7 @@ pub data NestsWrongly (ks : List Kind) (thread : Bool) (ps : List ℕ) (is : Lis
   -- behind an open, a function that isn't pure is called
   opens_impure : (x : OpenForm × ℕ) (d t f : ℕ) → opens (nth is p) ≡ Some x → IsMet ps is (suc p) d t (Call f) → (or_pure (nth ks f)).impure ≡ true → NestsWrongly ks thread ps is p
 
--- why a body is refused for what stands at a place that a path comes to
+-- why a body is refused for what is at a place that a path comes to
 abbrev pub StandsWrongly : List Kind → Bool → List ℕ → List Instr → VerifyErrorKind → ℕ → Type 0
 StandsWrongly ks thread ps is JumpOut p = ⊥
 StandsWrongly ks thread ps is StackLow p = ⊥
@@ -186,7 +186,7 @@ abbrev pub judged : List Kind → Bool → List Instr → ℕ → Option Mark �
 judged ks thread is p None i kind = Ok kind
 judged ks thread is p (Some m) i kind = unless_wrong (wrong ks thread is p m i) (joined kind (seen_from m.txs (kind_of ks i)))
 
--- an instruction stands at a place with a mark
+-- an instruction is at a place with a mark
 pub record IsMarked (is : List Instr) (ms : Marks) (p : ℕ) (m : Mark) (i : Instr) : Type 0 where
   pub mark : mark_at ms p ≡ Some m
   pub stands : nth is p ≡ Some i

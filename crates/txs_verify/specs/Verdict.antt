@@ -61,7 +61,7 @@ kinds_before zero ks = []
 kinds_before (suc n) [] = []
 kinds_before (suc n) (k ∷ ks) = k ∷ kinds_before n ks
 
--- there is room for what stands on the stack at each marked place
+-- there is room for what is on the stack at each marked place
 abbrev pub IsRoomFor : Marks → ℕ → Type 0
 IsRoomFor ms room = (p : ℕ) (m : Mark) → mark_at ms p ≡ Some m → m.depth ≤ room
 
@@ -97,7 +97,7 @@ AreKinds ps bs ks = (n : ℕ) (b : CodeBody) (k : Kind) → nth bs n ≡ Some b 
 
 -- ---- refusals
 
--- this, unless it is want of memory
+-- this, unless it is running out of memory
 abbrev pub OrMemory : VerifyErrorKind → Type 0 → Type 0
 OrMemory JumpOut P = P
 OrMemory StackLow P = P

@@ -12,7 +12,7 @@ use Rattle.txs_verify.specs.declared.error.VerifyErrorKind.{VerifyErrorKind}
 use Rattle.txs_verify.specs.declared.error.VerifyErrorKind.TheVariants.{StackDiffers, StackLow, TxNesting, FallsOff}
 use Rattle.txs_verify.specs.declared.walk.Mark.{Mark}
 
--- want of memory
+-- running out of memory
 abbrev pub out_of_memory : Stop
 out_of_memory = Memory
 
@@ -68,13 +68,13 @@ abbrev pub looked : List ℕ → List Instr → ℕ → Option Mark → Walk →
 looked ps is p None s = Ok s
 looked ps is p (Some m) s = passed ps p m (nth is p) s
 
--- the answer is this, with what was left; want of memory says nothing
+-- the answer is this, with what was left; running out of memory says nothing
 abbrev pub Gives : Result (Unit {0}) Stop → Walk → Result Walk Refusal → Type 0
 Gives (Ok u) left wanted = wanted ≡ Ok left
 Gives (Err (Refused r)) left wanted = wanted ≡ Err r
 Gives (Err Memory) left wanted = Unit {0}
 
--- what is refused is so; want of memory says nothing
+-- what is refused is so; running out of memory says nothing
 abbrev pub WhereRefused : (Refusal → Type 0) → Stop → Type 0
 WhereRefused P (Refused r) = P r
 WhereRefused P Memory = Unit {0}

@@ -229,7 +229,7 @@ fn is_followed(
     called && closed
 }
 
-/// Whether an instruction stands in order, where a body may call the first so many functions.
+/// Whether an instruction is in order, where a body may call the first so many functions.
 fn in_order(functions: &[Body], callable: usize, instrs: &[Instr], at: usize, instr: Instr) -> bool
     requires place { at < length instrs.now }
     requires few { length instrs.now < 4294967295 }
@@ -292,7 +292,7 @@ fn look_alone_at(functions: &[Body], callable: usize, body: &Body, at: usize) ->
 }
 
 /// Looks at the instructions of a body, each alone, where the body may call the first so many functions: all are right, or the first
-/// that isn't is told.
+/// that isn't is reported.
 pub(crate) fn look_alone(functions: &[Body], callable: usize, body: &Body) -> Result<(), Refusal>
     requires { length body.now.instrs < 4294967295 }
     ensures right { OnOk result (IsRightBody callable (parameters_of functions.now) body.now) }

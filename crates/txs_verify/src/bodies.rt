@@ -98,7 +98,7 @@ fn look_at_bodies(functions: &[Body], thread: bool, bodies: &[Body]) -> Result<(
     Ok(())
 }
 
-/// The greater of a room and of what stands on the stack at a place.
+/// The greater of a room and of what is on the stack at a place.
 fn higher(room: u32, here: Option<Mark>) -> u32
     requires { (m : AMark) → here ≡ Some m → m.depth < 4294967295 }
     ensures kept { room ≤ result }
@@ -115,7 +115,7 @@ fn higher(room: u32, here: Option<Mark>) -> u32
     }
 }
 
-/// Room for what stands on the stack at each marked place.
+/// Room for what is on the stack at each marked place.
 fn room_for(marks: &[Option<Mark>]) -> u32
     requires { (p : ℕ) (m : AMark) → mark_at marks.now p ≡ Some m → m.depth < 4294967295 }
     ensures roomy { IsRoomFor marks.now result }

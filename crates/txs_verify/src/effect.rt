@@ -38,7 +38,7 @@ pub(crate) fn wants(functions: &[Body], instr: Instr) -> usize
     }
 }
 
-/// How many values stand there behind an instruction.
+/// How many values are there behind an instruction.
 pub(crate) fn depth_behind(functions: &[Body], instr: Instr, depth: usize) -> usize
     requires enough { wants (parameters_of functions.now) instr ≤ depth }
     requires low { depth < 4294967295 }

@@ -11,7 +11,7 @@ use std::alloc::{AllocError, AllocFailed};
 pub enum VerifyErrorKind {
     /// A jump to what is no place of the body.
     JumpOut,
-    /// An instruction that takes more values than stand on the stack.
+    /// An instruction that takes more values than are on the stack.
     StackLow,
     /// Two depths of the stack at one place, or a body that ends with another number of values than one.
     StackDiffers,
@@ -19,11 +19,11 @@ pub enum VerifyErrorKind {
     LocalOut,
     /// A number of arguments that the operation or callee doesn't take.
     ArityWrong,
-    /// A function that isn't numbered below its caller, or an open, call and close that don't stand together.
+    /// A function that isn't numbered below its caller, or an open, call and close that aren't together.
     CallOrder,
-    /// What may not stand inside a transaction or outside one, or two numbers of open transactions at one place.
+    /// What may not be inside a transaction or outside one, or two numbers of open transactions at one place.
     TxNesting,
-    /// Code that goes on past its end, told at the instruction that does so, or at 0 of a body without instructions; or code that ends as a body of its
+    /// Code that continues past its end, reported at the instruction that does so, or at 0 of a body without instructions; or code that ends as a body of its
     /// kind doesn't.
     FallsOff,
     /// There was no memory for the checks.
@@ -31,7 +31,7 @@ pub enum VerifyErrorKind {
 }
 
 impl VerifyErrorKind {
-    /// The number under which the reason is reported: 41 to 48, and 0 for want of memory.
+    /// The number under which the reason is reported: 41 to 48, and 0 where memory ran out.
     pub fn number(self) -> u8
         ensures { result ≡ verify_number self }
     {

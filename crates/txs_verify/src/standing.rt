@@ -1,4 +1,4 @@
-//! Where instructions may stand, and what functions are for.
+//! Where instructions may be, and what functions are for.
 
 ghost use Rattle.std.specs.Prelude.{◌≡◌, ◌<◌, ◌+◌, length, slice_index_or, IfOk, IfErr};
 ghost use Rattle.txs_value_base.specs.Places.{nth};
@@ -21,7 +21,7 @@ pub struct Kind {
     pub impure: bool,
 }
 
-/// The kind of what isn't pure, and may stand so.
+/// The kind of what isn't pure, and may be so.
 fn impure_kind(stands: Standing) -> Kind
     ensures { result ≡ impure_kind stands }
 {

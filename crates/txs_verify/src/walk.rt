@@ -95,7 +95,7 @@ fn ends_nothing(instr: Instr, txs: usize) -> bool
     }
 }
 
-/// Goes on from a place with a mark. Behind the last instruction, that one goes on past the end; no jump leads there.
+/// Goes on from a place with a mark. Behind the last instruction, that one continues past the end; no jump leads there.
 fn pass(
     functions: &[Body],
     instrs: &[Instr],
@@ -136,7 +136,7 @@ fn pass(
     reach_next(marks, waiting, at, instr, behind)
 }
 
-/// Looks at a place, and goes on from it where it has a mark.
+/// Looks at a place, and continues from it where it has a mark.
 fn look(
     functions: &[Body],
     instrs: &[Instr],

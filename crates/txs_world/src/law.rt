@@ -1,4 +1,4 @@
-//! Laws of what the store answers. Each stands on a function of its own, which does nothing when it runs.
+//! Laws of what the store answers. Each is the contract of a function of its own, which does nothing when it runs.
 
 ghost use Rattle.txs_world.specs.Laws.{ServeKeeps, DoneIsUndisturbed, RefusedIsUndisturbed, ActionStays};
 

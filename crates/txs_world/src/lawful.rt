@@ -9,8 +9,10 @@ ghost use Rattle.txs_world.specs.Store.{is_lawful, may_ask, has_named, is_taken}
 use crate::slot::are_apart;
 use crate::store::Store;
 use txs_value_cell::Action;
-use txs_value_data::{CellId, CellKind, Listed, Value};
-use txs_world_book::stand_of;
+use txs_value_data::{CellId, Listed, Value};
+use txs_world_book::{
+    are_sends, are_written, has_agent, has_readable, has_ref, has_refs, stand_of,
+};
 use txs_world_protocol::Ask;
 
 /// Whether these are no actions.
@@ -46,10 +48,11 @@ impl Store {
     fn has_named(&self, actor: u16, ask: &Ask) -> bool
         ensures { result ≡ has_named self.now actor ask.now }
     {
+        let all = self.cells.as_slice();
         match ask {
             Ask::Begin => true,
-            Ask::Look { cell, at } => self.has_ref(*cell) && self.may_try(actor, *at),
-            Ask::View { cells } => self.has_refs(cells.as_slice()),
+            Ask::Look { cell, at } => has_ref(all, *cell) && self.may_try(actor, *at),
+            Ask::View { cells } => has_refs(all, cells.as_slice()),
             Ask::Commit {
                 at,
                 sets,
@@ -59,11 +62,11 @@ impl Store {
                 sends,
             } => self.has_commit(actor, *at, sets, ensured, *view, commuted, sends),
             Ask::Fail { at, view } => self.may_end(actor, *at, *view),
-            Ask::Peek { cell } => cell.kind != CellKind::Atom && self.has_cell(*cell),
-            Ask::Send { action } => self.has_agent(action.agent),
-            Ask::Take { agent } => self.has_agent(*agent) && !self.is_taken(*agent),
+            Ask::Peek { cell } => has_readable(all, *cell),
+            Ask::Send { action } => has_agent(all, action.agent),
+            Ask::Take { agent } => has_agent(all, *agent) && !self.is_taken(*agent),
             Ask::Finish { agent, sends, .. } => {
-                self.has_agent(*agent) && self.is_taken(*agent) && sends_nothing(sends)
+                has_agent(all, *agent) && self.is_taken(*agent) && sends_nothing(sends)
             }
             Ask::OpenAt { .. } | Ask::CloseAt { .. } | Ask::Broke { .. } => false,
         }
@@ -82,18 +85,19 @@ impl Store {
     ) -> bool
         ensures { result ≡ has_named self.now actor (ask.Commit at sets.now ensured.now view commuted.now sends.now) }
     {
+        let cells = self.cells.as_slice();
         let (sets, commuted) = (sets.as_slice(), commuted.as_slice());
-        if !self.are_written(sets) {
+        if !are_written(cells, sets) {
             return false;
         }
-        if !self.has_refs(ensured.as_slice()) {
+        if !has_refs(cells, ensured.as_slice()) {
             return false;
         }
-        if !self.are_written(commuted) {
+        if !are_written(cells, commuted) {
             return false;
         }
         are_apart(commuted, sets)
-            && self.are_sends(sends.as_slice())
+            && are_sends(cells, sends.as_slice())
             && self.may_end(actor, at, view)
     }
 
@@ -104,67 +108,6 @@ impl Store {
     {
         let agents = self.cells.agents_below(agent.number);
         usize::from(actor) == usize::from(self.threads) + agents
-    }
-
-    /// Whether it has a cell of this kind and number.
-    fn has_cell(&self, cell: CellId) -> bool
-        ensures { result ≡ has_cell self.now.cells cell }
-    {
-        let number = usize::from(cell.number);
-        let cells = self.cells.as_slice();
-        number < cells.len() && cells[number].kind == cell.kind
-    }
-
-    /// Whether it has this cell, and it is a ref.
-    fn has_ref(&self, cell: CellId) -> bool
-        ensures { result ≡ has_ref self.now.cells cell }
-    {
-        cell.kind == CellKind::Ref && self.has_cell(cell)
-    }
-
-    /// Whether it has this cell, and it is an agent.
-    fn has_agent(&self, cell: CellId) -> bool
-        ensures { result ≡ has_agent self.now.cells cell }
-    {
-        cell.kind == CellKind::Agent && self.has_cell(cell)
-    }
-
-    /// Whether each of these is a ref of the store.
-    fn has_refs(&self, cells: &[CellId]) -> bool
-        ensures { result ≡ has_refs self.now.cells cells.now }
-    {
-        for cell in cells {
-            if !self.has_ref(*cell) {
-                return false;
-            }
-        }
-        true
-    }
-
-    /// Whether what is written are refs of the store, with ascending numbers.
-    fn are_written(&self, writes: &[(CellId, Value)]) -> bool
-        ensures { result ≡ are_refs self.now.cells 0 (cells_in writes.now) }
-    {
-        let mut least = 0u32;
-        for write in writes {
-            if !self.has_ref(write.0) || u32::from(write.0.number) < least {
-                return false;
-            }
-            least = u32::from(write.0.number) + 1;
-        }
-        true
-    }
-
-    /// Whether these actions are for agents of the store.
-    fn are_sends(&self, sends: &[Action]) -> bool
-        ensures { result ≡ are_sends self.now.cells sends.now }
-    {
-        for action in sends {
-            if !self.has_agent(action.agent) {
-                return false;
-            }
-        }
-        true
     }
 
     /// Whether the agent's first action is taken.

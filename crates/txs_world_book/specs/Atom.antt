@@ -60,7 +60,7 @@ is_swap (Act g n new sends) = false
 is_swap (Swap new) = true
 is_swap (Broke at) = false
 
--- whether a swap stands at place p or later
+-- whether a swap is at place p or later
 abbrev pub swapped_since : ℕ → List Event → Bool
 swapped_since p [] = false
 swapped_since zero (e ∷ es) = is_swap e.kind || swapped_since zero es
@@ -79,7 +79,7 @@ LegalAtomKind cell done a (Act g n new sends) = ⊥
 LegalAtomKind cell done a (Swap new) = Unit {0}
 LegalAtomKind cell done a (Broke at) = may_name true done a at ≡ true
 
--- a book of this atom's: it isn't too long, and each event may stand after those before it
+-- a book of this atom's: it isn't too long, and each event may be after those before it
 pub record LegalAtom (cell : CellId) (book : List Event) : Type 0 where
   pub few : length book ≤ most_events
   pub each : Each (λ done e. LegalAtomKind cell done e.actor e.kind) [] book
@@ -134,7 +134,7 @@ is_lawful_atom cell a (ask.Send x) book = false
 is_lawful_atom cell a (ask.Take g) book = false
 is_lawful_atom cell a (ask.Finish g new sends) book = false
 
--- which replies of an atom's book take memory: those behind an event, and those that hand out its value; that it has changed is told without
+-- which replies of an atom's book take memory: those behind an event, and those that hand out its value; that it has changed is said without
 abbrev pub AtomTakesMemory : Reply → Type 0
 AtomTakesMemory (reply.At p) = ⊥
 AtomTakesMemory (reply.Is v) = Unit {0}

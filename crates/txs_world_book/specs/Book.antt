@@ -68,7 +68,7 @@ opened (Some s) = s.opening
 abbrev pub opening : List StoreCell → World
 opening cells k = opened (nth cells k)
 
--- whether an agent goes on after a fault
+-- whether an agent continues after a fault
 abbrev pub goes_on : Option StoreCell → Bool
 goes_on None = false
 goes_on (Some s) = s.goes_on
@@ -183,7 +183,7 @@ sent_to k (x ∷ xs) = if x.agent.number == k then x ∷ sent_to k xs else sent_
 abbrev pub mailed : List Action → Mail → Mail
 mailed xs m = record m { actions = m.actions ++ xs }
 
--- the mail after its first action came to this; a fault makes the agent failed, unless it goes on
+-- the mail after its first action came to this; a fault makes the agent failed, unless it continues
 abbrev pub acted : Bool → Result Value Fault → Mail → Mail
 acted goes (Ok v) m = record { actions = drop 1 m.actions; fault = m.fault; acts = suc m.acts }
 acted true (Err f) m = record { actions = drop 1 m.actions; fault = m.fault; acts = suc m.acts }
@@ -258,17 +258,17 @@ is_redo (Act g n new sends) = false
 is_redo (Swap new) = false
 is_redo (Broke at) = false
 
--- whether an event is one that a place has to stand behind: every one is behind a view, all but redone commutes behind a read point
+-- whether an event is one that a place has to be behind: every one is behind a view, all but redone commutes behind a read point
 abbrev pub counts : Bool → EventKind → Bool
 counts all d = all || not (is_redo d)
 
--- whether every event of the actor that counts stands before place p
+-- whether every event of the actor that counts is before place p
 abbrev pub all_before : Bool → ℕ → ℕ → List Event → Bool
 all_before all a p [] = true
 all_before all a zero (e ∷ es) = not (e.actor == a && counts all e.kind) && all_before all a zero es
 all_before all a (suc p) (e ∷ es) = all_before all a p es
 
--- whether the actor may name this place after these events: it is one of theirs or their end, and what the actor did stands before it, but for redone commutes where not all counts
+-- whether the actor may name this place after these events: it is one of theirs or their end, and what the actor did is before it, but for redone commutes where not all counts
 abbrev pub may_name : Bool → List Event → ℕ → ℕ → Bool
 may_name all done a p = nat_le p (length done) && all_before all a p done
 
@@ -297,7 +297,7 @@ abbrev pub Each : (List Event → Event → Type 0) → List Event → List Even
 Each P done [] = Unit {0}
 Each P done (e ∷ es) = P done e × Each P (done ++ e ∷ []) es
 
--- a book of the store of these cells and so many threads: it isn't too long, and each event is one that its actor makes, and may stand after those before it
+-- a book of the store of these cells and so many threads: it isn't too long, and each event is one that its actor makes, and may be after those before it
 pub record Legal (cells : List StoreCell) (threads : ℕ) (book : List Event) : Type 0 where
   pub few : length book ≤ most_events
   pub made : Each (λ done e. makes cells threads e.actor e.kind ≡ true) [] book

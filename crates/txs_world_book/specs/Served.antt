@@ -10,7 +10,7 @@ use Rattle.txs_value_cell.specs.declared.cell.ErrorMode.TheVariants as mode
 use Rattle.txs_value_data.specs.Limits.{most_events}
 use Rattle.txs_world_book.specs.declared.cell.StoreCell.{StoreCell}
 
--- whether an agent of this error mode goes on after a fault
+-- whether an agent of this error mode continues after a fault
 abbrev pub continues : ErrorMode → Bool
 continues mode.Fail = false
 continues mode.Continue = true

@@ -1,4 +1,4 @@
--- Where actors stand in a book, and which actor is whose.
+-- Where actors are in a book, and which actor is whose.
 use Rattle.std.specs.Prelude.{◌≡◌, ◌<◌, ◌≤◌, ℕ, true, false, Bool, ◌&&◌, ◌==◌, List, length, slice_index, if◌then◌else◌}
 use Rattle.std.proofs.Common.{get_or}
 use Rattle.txs_world_protocol.specs.declared.event.Event.{Event}
@@ -18,7 +18,7 @@ mark_at counts own n stand = if own && counts then n else stand
 abbrev pub Marked : Bool → ℕ → ℕ → List ℕ → List ℕ → Type 0
 Marked counts a n old new = (b : ℕ) → slice_index new b ≡ mark_at counts (a == b) n (slice_index old b)
 
--- every actor stands where it stood
+-- every actor is where it was
 abbrev pub StandAsBefore : List ℕ → List ℕ → Type 0
 StandAsBefore old new = (b : ℕ) → slice_index new b ≡ slice_index old b
 

@@ -196,7 +196,7 @@ impl AtomBook {
         self.journal.book.len() >= MOST_EVENTS
     }
 
-    /// Whether a swap stands at this place or later.
+    /// Whether a swap is at this place or later.
     fn is_swapped(&self, place: u32) -> bool
         ensures { result ≡ swapped_since place self.now.book }
     {

@@ -1,18 +1,16 @@
 //! The cells of a store.
 
-ghost use Rattle.std.specs.Prelude.{◌≡◌, ◌≤◌, [], IfOk, if◌then◌else◌, length, vec_capacity};
-ghost use Rattle.txs_value_cell.specs.Forms.{same_kind};
-ghost use Rattle.txs_value_data.specs.declared.value.CellKind.TheVariants as kind;
+ghost use Rattle.std.specs.Prelude.{◌≡◌, ◌≤◌, [], IfOk, length, vec_capacity};
 ghost use Rattle.txs_world_book.specs.Book.{agents_below};
 ghost use Rattle.txs_world_book.specs.Stands.{AreCounted};
 ghost use Rattle.txs_world_book.specs.Served.{continues, cells_of};
 
 use std::alloc::{AllocError, Global};
 use std::marker::Model;
-use txs_value_cell::{CellDefinition, ErrorMode};
+use txs_value_cell::{CellDefinition, ErrorMode, agents_in};
 use txs_value_data::{CellKind, Value, copy_value};
 
-/// A cell of a store: its kind, the value that it opened with, and of an agent whether it goes on after a fault.
+/// A cell of a store: its kind, the value that it opened with, and of an agent whether it continues after a fault.
 #[derive(Drop)]
 pub struct StoreCell {
     pub kind: CellKind,
@@ -97,7 +95,7 @@ fn open_cells(alloc: Global, definitions: &[CellDefinition]) -> Result<Vec<Store
     Ok(cells)
 }
 
-/// Whether an agent of this error mode goes on after a fault.
+/// Whether an agent of this error mode continues after a fault.
 pub fn continues(mode: ErrorMode) -> bool
     ensures { result ≡ continues mode }
 {
@@ -113,14 +111,7 @@ fn count_agents(before: &mut Vec<usize>, cells: &[StoreCell]) -> usize
     let mut agents = 0usize;
     for cell in cells {
         before.push_reserved(agents);
-        agents += agents_in(cell);
+        agents += agents_in(cell.kind);
     }
     agents
-}
-
-/// 1 for an agent, 0 for another cell.
-fn agents_in(cell: &StoreCell) -> usize
-    ensures { result ≡ (if same_kind cell.now.kind kind.Agent then 1 else 0) }
-{
-    if cell.kind == CellKind::Agent { 1 } else { 0 }
 }

@@ -1,4 +1,4 @@
-//! A book, and where each actor stands in it.
+//! A book, and where each actor is in it.
 
 ghost use Rattle.std.specs.Prelude.{◌≡◌, ◌<◌, ◌++◌, ◌∷◌, [], suc, length, slice_index, true, false, vec_capacity, IfOk, OnErr, OnOk};
 ghost use Rattle.txs_value_data.specs.Limits.{most_events};
@@ -64,7 +64,7 @@ impl Journal {
         }
     }
 
-    /// Makes room for one more event, and for where the actor stands.
+    /// Makes room for one more event, and for where the actor is.
     fn make_room(&mut self, actor: u16) -> Result<(), AllocError>
         ensures same { self.new.book.items ≡ self.old.book.items }
         ensures same_views { StandAsBefore self.old.views.items self.new.views.items }
@@ -108,7 +108,7 @@ fn is_no_redo(kind: &EventKind) -> bool
     }
 }
 
-/// Where an actor stands, 0 where it has no place yet.
+/// Where an actor is, 0 where it has no place yet.
 pub fn stand_of(stands: &[u32], actor: u16) -> u32
     ensures { result ≡ slice_index stands.now actor }
 {
@@ -120,7 +120,7 @@ pub fn stand_of(stands: &[u32], actor: u16) -> u32
     }
 }
 
-/// Makes room for where the actor stands. Where every actor stands is as before.
+/// Makes room for where the actor is. Where every actor is stays as before.
 fn make_room(stands: &mut Vec<u32>, actor: u16) -> Result<(), AllocError>
     ensures same { StandAsBefore stands.old.items stands.new.items }
     ensures room { OnOk result (actor < length stands.new.items) }

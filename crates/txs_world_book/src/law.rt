@@ -1,4 +1,4 @@
-//! Laws of books. Each stands on a function of its own, which does nothing when it runs.
+//! Laws of books. Each is the contract of a function of its own, which does nothing when it runs.
 
 ghost use Rattle.txs_world_book.specs.Laws.{WorldsStay, UnwrittenStays, HistoryGrows, HistoryOfWhole, AtomStays, UnswappedStays, AtomServeKeeps};
 

@@ -70,7 +70,7 @@ same_cells-itself : (cs : List CellId) → same_cells cs cs ≡ true
 same_cells-itself [] = refl
 same_cells-itself (c ∷ cs) = and_true _ _ (same_cell-itself c) (same_cells-itself cs)
 
-same_values-sound : (vs ws : List Value) → same_values vs ws ≡ true → vs ≡ ws
+pub same_values-sound : (vs ws : List Value) → same_values vs ws ≡ true → vs ≡ ws
 same_values-sound [] [] h = refl
 same_values-sound [] (w ∷ ws) h = absurd (false≢true h)
 same_values-sound (v ∷ vs) [] h = absurd (false≢true h)
@@ -78,7 +78,7 @@ same_values-sound (v ∷ vs) (w ∷ ws) h =
     let both = and_both (same_value v w) (same_values vs ws) h in
     λ i. same_value-sound v w both.0 i ∷ same_values-sound vs ws both.1 i
 
-same_values-itself : (vs : List Value) → same_values vs vs ≡ true
+pub same_values-itself : (vs : List Value) → same_values vs vs ≡ true
 same_values-itself [] = refl
 same_values-itself (v ∷ vs) = and_true _ _ (same_value-itself v) (same_values-itself vs)
 
@@ -103,7 +103,7 @@ same_callee-itself : (a : Callee) → same_callee a a ≡ true
 same_callee-itself (Core a) = number-itself (op_number a)
 same_callee-itself (Function f) = number-itself f
 
-same_action-sound : (a b : Action) → same_action a b ≡ true → a ≡ b
+pub same_action-sound : (a b : Action) → same_action a b ≡ true → a ≡ b
 same_action-sound a b h =
     let one = and_both (same_cell a.agent b.agent) (same_callee a.callee b.callee && (same_values a.args b.args && same_span a.span b.span)) h in
     let two = and_both (same_callee a.callee b.callee) (same_values a.args b.args && same_span a.span b.span) one.1 in
@@ -115,11 +115,11 @@ same_action-sound a b h =
       span = same_span-sound a.span b.span three.1 i;
     }
 
-same_action-itself : (a : Action) → same_action a a ≡ true
+pub same_action-itself : (a : Action) → same_action a a ≡ true
 same_action-itself a =
     and_true _ _ (same_cell-itself a.agent) (and_true _ _ (same_callee-itself a.callee) (and_true _ _ (same_values-itself a.args) (same_span-itself a.span)))
 
-same_actions-sound : (xs ys : List Action) → same_actions xs ys ≡ true → xs ≡ ys
+pub same_actions-sound : (xs ys : List Action) → same_actions xs ys ≡ true → xs ≡ ys
 same_actions-sound [] [] h = refl
 same_actions-sound [] (y ∷ ys) h = absurd (false≢true h)
 same_actions-sound (x ∷ xs) [] h = absurd (false≢true h)
@@ -127,7 +127,7 @@ same_actions-sound (x ∷ xs) (y ∷ ys) h =
     let both = and_both (same_action x y) (same_actions xs ys) h in
     λ i. same_action-sound x y both.0 i ∷ same_actions-sound xs ys both.1 i
 
-same_actions-itself : (xs : List Action) → same_actions xs xs ≡ true
+pub same_actions-itself : (xs : List Action) → same_actions xs xs ≡ true
 same_actions-itself [] = refl
 same_actions-itself (x ∷ xs) = and_true _ _ (same_action-itself x) (same_actions-itself xs)
 
@@ -157,21 +157,21 @@ at_number TooLong d = refl
 same_kind_of_fault : (a b : FaultKind) → fault_number a ≡ fault_number b → a ≡ b
 same_kind_of_fault a b e = at_number a Overflow ∙ ap (λ n. get_or kinds n Overflow) e ∙ sym (at_number b Overflow)
 
-same_fault-sound : (f g : Fault) → same_fault f g ≡ true → f ≡ g
+pub same_fault-sound : (f g : Fault) → same_fault f g ≡ true → f ≡ g
 same_fault-sound f g h =
     let both = and_both (fault_number f.kind == fault_number g.kind) (same_span f.span g.span) h in
     λ i. record { kind = same_kind_of_fault f.kind g.kind (numbers (fault_number f.kind) (fault_number g.kind) both.0) i; span = same_span-sound f.span g.span both.1 i }
 
-same_fault-itself : (f : Fault) → same_fault f f ≡ true
+pub same_fault-itself : (f : Fault) → same_fault f f ≡ true
 same_fault-itself f = and_true _ _ (number-itself (fault_number f.kind)) (same_span-itself f.span)
 
-same_new-sound : (a b : Result Value Fault) → same_new a b ≡ true → a ≡ b
+pub same_new-sound : (a b : Result Value Fault) → same_new a b ≡ true → a ≡ b
 same_new-sound (Ok v) (Ok w) h = ap Ok (same_value-sound v w h)
 same_new-sound (Ok v) (Err g) h = absurd (false≢true h)
 same_new-sound (Err f) (Ok w) h = absurd (false≢true h)
 same_new-sound (Err f) (Err g) h = ap Err (same_fault-sound f g h)
 
-same_new-itself : (a : Result Value Fault) → same_new a a ≡ true
+pub same_new-itself : (a : Result Value Fault) → same_new a a ≡ true
 same_new-itself (Ok v) = same_value-itself v
 same_new-itself (Err f) = same_fault-itself f
 

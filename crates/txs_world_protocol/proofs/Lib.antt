@@ -1,1 +1,2 @@
 pub mod AskLemmas
+pub mod Comparing

@@ -38,6 +38,21 @@ pub record Exchange : Type 0 where
   pub ask : Ask
   pub reply : Reply
 
+-- whether an ask may add an event to its book; the others only read one, or take from a mailbox
+abbrev pub may_add_event : Ask → Bool
+may_add_event Begin = false
+may_add_event (Look c p) = true
+may_add_event (View cs) = false
+may_add_event (Commit p sets ensured q commuted sends) = true
+may_add_event (Fail p q) = true
+may_add_event (Peek c) = true
+may_add_event (Send x) = true
+may_add_event (Take g) = false
+may_add_event (Finish g new sends) = true
+may_add_event (OpenAt c) = false
+may_add_event (CloseAt c p v) = true
+may_add_event (Broke c p) = true
+
 -- whether two values are equal
 abbrev pub same_value : Value → Value → Bool
 same_value v w = same_plain (plain_of v) (plain_of w)

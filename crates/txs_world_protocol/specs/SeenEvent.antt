@@ -7,7 +7,7 @@ use Rattle.txs_value_data.specs.declared.value.CellId.{CellId}
 use Rattle.txs_value_data.specs.declared.value.CellKind.TheVariants.{Atom}
 use Rattle.txs_world_protocol.specs.declared.event.EventKind.{EventKind}
 
--- R is the world at the read point, Q that at the view, C that at the event's own place. An atom's book is told by the world of that
+-- R is the world at the read point, Q that at the view, C that at the event's own place. An atom's book is given by the world of that
 -- atom alone.
 pub record SeenEvent : Type 0 where
   pub book : ℕ

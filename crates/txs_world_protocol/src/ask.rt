@@ -1,7 +1,7 @@
 //! What an actor asks the shared state, and what it is answered.
 
 ghost use Rattle.std.specs.Prelude.{◌≡◌, ◌↔◌, IsTrue};
-ghost use Rattle.txs_world_protocol.specs.Ask.{same_ask};
+ghost use Rattle.txs_world_protocol.specs.Ask.{may_add_event, same_ask};
 ghost use Rattle.txs_world_protocol.specs.declared.ask.Ask.{Ask as AnAsk};
 
 use txs_value_base::Fault;
@@ -9,7 +9,7 @@ use txs_value_cell::Action;
 use txs_value_data::{CellId, Listed, Value};
 
 /// One request of an actor to the shared state. Each place is a number of events of a book: `at` is the read point of the
-/// transaction that asks, `view` the place of its last view, which is the read point where it has none. Refs stand in ascending
+/// transaction that asks, `view` the place of its last view, which is the read point where it has none. Refs are in ascending
 /// number wherever there are several.
 #[derive(Drop)]
 pub enum Ask {
@@ -72,6 +72,18 @@ pub enum Ask {
         cell: CellId,
         at: u32,
     },
+}
+
+impl Ask {
+    /// Whether it may add an event to its book.
+    pub fn may_add_event(&self) -> bool
+        ensures { result ≡ may_add_event self.now }
+    {
+        match self {
+            Ask::Begin | Ask::View { .. } | Ask::Take { .. } | Ask::OpenAt { .. } => false,
+            _ => true,
+        }
+    }
 }
 
 /// The answer to a request.

@@ -4,8 +4,8 @@ use txs_value_base::Fault;
 use txs_value_cell::Action;
 use txs_value_data::{CellId, Listed, Value};
 
-/// What an actor did to the shared state. Places are numbers of events of the same book. Swaps and broken swaps stand in the book
-/// of their atom, and so do its reads; all else stands in the store's.
+/// What an actor did to the shared state. Places are numbers of events of the same book. Swaps and broken swaps are in the book
+/// of their atom, and so are its reads; all else is in the store's.
 #[derive(Drop)]
 pub enum EventKind {
     /// It read a cell outside every transaction.

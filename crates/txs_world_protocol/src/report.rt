@@ -6,7 +6,7 @@ use txs_value_data::{Listed, Value};
 
 /// What an actor did.
 #[derive(Drop)]
-pub struct Ran {
+pub struct ActorReport {
     /// How it ended, if it has.
     pub outcome: Option<Outcome>,
     /// The bytes that it printed.
@@ -17,12 +17,12 @@ pub struct Ran {
     pub steps: u64,
 }
 
-/// A report of a run, which stands alone: what each actor did, all events, and what the cells hold behind the run.
+/// A report of a run, which needs nothing else: what each actor did, all events, and what the cells hold behind the run.
 pub struct Report {
     /// What each thread did, by its number.
-    pub threads: Vec<Ran>,
+    pub threads: Vec<ActorReport>,
     /// What the actor of each agent did, in the order of the cells.
-    pub agents: Vec<Ran>,
+    pub agents: Vec<ActorReport>,
     /// The events of refs and agents.
     pub book: Vec<Event>,
     /// The events of each atom, in the order of the cells.

@@ -108,6 +108,20 @@ few_new m (d ∷ ds) (suc k) le = go (same_kind d.kind Atom) (nat_lt m 65536) (f
     go true false r = omega (arith, r)
     go false t r = r
 
+-- where each cell has a number that a cell id has, there is an atom for each that a script defines
+pub each_new : (m : ℕ) (cells : List CellDefinition) → m + length cells ≤ 65536 → length (atoms_of m cells) ≡ atoms_below cells (length cells)
+each_new m [] le = refl
+each_new m (d ∷ ds) le = go (same_kind d.kind Atom) (nat_lt m 65536) (small m 65536 (omega (arith, le))) (each_new (suc m) ds (omega (arith, le)))
+  where
+    small : (i n : ℕ) → i < n → nat_lt i n ≡ true
+    small i n lt = grind (arith, nat_tests, lt)
+
+    go : (b t : Bool) → t ≡ true → length (atoms_of (suc m) ds) ≡ atoms_below ds (length ds)
+        → length (if b && t then new_atom m d ∷ atoms_of (suc m) ds else atoms_of (suc m) ds) ≡ (if b then suc (atoms_below ds (length ds)) else atoms_below ds (length ds))
+    go true true e r = ap suc r
+    go true false e r = absurd (false≢true e)
+    go false t e r = r
+
 -- ---- atoms that opened alike
 
 head_in : List PlainAtom → PlainAtom

@@ -48,14 +48,14 @@ abbrev pub places_of : ℕ → List CellDefinition → List ℕ
 places_of n [] = n ∷ []
 places_of n (d ∷ ds) = n ∷ places_of (if same_kind d.kind Atom then suc n else n) ds
 
--- the state's parts agree: the store is one of these cells, the atoms are those of the cells in their order, and each place is that of its cell; and what is shared stands
+-- the state's parts agree: the store is one of these cells, the atoms are those of the cells in their order, and each place is that of its cell; and what is shared is legal
 pub record IsKept (cells : List CellDefinition) (store : PlainStore) (atoms : List PlainAtom) (places : List ℕ) : Type 0 where
   pub cells_are : store.cells ≡ cells_of cells
   pub atoms_are : map without_book atoms ≡ atoms_of 0 cells
   pub places_are : places ≡ places_of 0 cells
   pub stands : SharedStands cells store.threads (shared_of (state_of cells store atoms))
 
--- what stands for an atom that is not there
+-- the stand-in for an atom that is not there
 abbrev pub no_atom : PlainAtom
 no_atom = record { cell = atom_id 0; opening = Nil; book = [] }
 

@@ -15,11 +15,15 @@ use Rattle.txs_world_book.specs.Served.{Served}
 use Rattle.txs_world.specs.Store.{TakesMemory}
 use Rattle.txs_theorem_runs.specs.Shared.{Shared, book_for, serve_on, may_ask, shared_after, world_of}
 
--- the state as contracts see it: the cells as they were defined, how many threads there are, the books, which are the store's and behind it each atom's in the order of their cells, and of each cell whether it is an agent whose first action is taken
+-- the state as contracts see it
 pub record PlainShared : Type 0 where
+  -- the cells as they were defined
   pub cells : List CellDefinition
+  -- how many threads there are
   pub threads : ℕ
+  -- the store's book, and behind it each atom's in the order of their cells
   pub books : List (List Event)
+  -- of each cell whether it is an agent whose first action is taken
   pub taken : List Bool
 
 -- the state as the laws of runs speak of it, its books by number
@@ -30,7 +34,7 @@ shared_of s = record { books = λ n. get_or s.books n []; taken = s.taken }
 abbrev pub numbered_book : PlainShared → ℕ → List Event
 numbered_book s n = (shared_of s).books n
 
--- the book that a cell's events stand in: an atom's own, else the store's
+-- the book that a cell's events are in: an atom's own, else the store's
 abbrev pub book_of : PlainShared → CellId → List Event
 book_of s c = numbered_book s (home s.cells c)
 
@@ -52,7 +56,7 @@ pub record IsAfter (s : PlainShared) (q : Ask) (v : Served) (t : PlainShared) : 
   pub threads : t.threads ≡ s.threads
   pub shared : shared_of t ≡ shared_after s.cells q v (shared_of s)
 
--- whether this reply to this ask takes memory: to begin and to end a swap is for an atom's book, which tells without that it has changed
+-- whether this reply to this ask takes memory: to begin and to end a swap is for an atom's book, which says without that it has changed
 abbrev pub TakesMemoryFor : Ask → Reply → Type 0
 TakesMemoryFor ask.Begin r = TakesMemory r
 TakesMemoryFor (ask.Look c at) r = TakesMemory r

@@ -1,4 +1,4 @@
-//! Laws of the state that actors share. Each stands on a function of its own, which does nothing when it runs.
+//! Laws of the state that actors share. Each is the contract of a function of its own, which does nothing when it runs.
 
 ghost use Rattle.txs_world_shared.specs.Laws.{UntouchedStands, ServesStand};
 

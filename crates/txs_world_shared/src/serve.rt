@@ -44,6 +44,7 @@ impl SharedState {
         requires { is_lawful self.old actor ask ≡ true }
         ensures { Answers self.old ask (answer_to self.old actor ask) result self.new }
     {
+        // Laws that the proof uses; they do nothing when they run.
         serve_keeps();
         match atom_named(&ask) {
             Some(cell) => {

@@ -25,7 +25,9 @@ use txs_world_protocol::{Ask, Event};
 
 /// What all actors share: the refs and agents with their book, and the atoms, each with a book of its own.
 pub struct SharedState {
+    /// The cells as they were defined.
     pub(crate) cells: Vec<CellDefinition>,
+    /// The refs and agents with their book, and the agents' mailboxes.
     pub(crate) store: Store,
     /// The atoms in the order of their cells.
     pub(crate) atoms: Vec<AtomBook>,
@@ -106,7 +108,7 @@ impl SharedState {
         self.store.threads()
     }
 
-    /// The events of the store's book. All books stand, those of the atoms as well: they are legal, and the commits undisturbed.
+    /// The events of the store's book. All books are legal, those of the atoms as well, and the commits undisturbed.
     pub fn events(&self) -> &[Event]
         ensures value { result.now ≡ numbered_book self.now 0 }
         ensures stands { SharedStands self.now.cells self.now.threads (shared_of self.now) }
@@ -135,12 +137,13 @@ impl SharedState {
         self.atoms.len() + 1
     }
 
-    /// The books themselves: the store's, and those of the atoms in the order of their cells.
+    /// The books themselves: the store's, and those of the atoms in the order of their cells, one for each.
     ///
     /// # Errors
     /// `AllocError` where there was no memory for the list of the atoms' books.
     pub fn into_books(self, alloc: Global) -> Result<(Vec<Event>, Vec<Listed<Event>>), AllocError>
-        ensures { IfOk result (λ books. books.0.items ∷ books.1.items ≡ self.books) }
+        ensures books { IfOk result (λ books. books.0.items ∷ books.1.items ≡ self.books) }
+        ensures atoms { IfOk result (λ books. length books.1.items ≡ length (atoms_of 0 self.cells)) }
     {
         let mut books = Vec::with_capacity(alloc, self.atoms.len())?;
         let SharedState {
@@ -234,7 +237,7 @@ impl SharedState {
         }
     }
 
-    /// The number of the book that a cell's events stand in.
+    /// The number of the book that a cell's events are in.
     pub fn home(&self, cell: CellId) -> usize
         ensures number { result ≡ home self.now.cells cell }
         ensures few { result ≤ 65536 }

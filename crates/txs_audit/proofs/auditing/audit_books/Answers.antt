@@ -5,7 +5,7 @@ use Rattle.txs_theorem_audit.specs.Pieces.{pieces_finding, pieces_of, pieces_ser
 use Rattle.txs_theorem_audit.specs.Verdict.{verdict}
 use Rattle.txs_audit_piece.specs.Judged.{as_found}
 use Rattle.txs_audit_evidence.specs.Evidence.{Opened}
-use Rattle.txs_audit.specs.Answered.{as_verdict}
+use Rattle.txs_audit_answer.specs.Answered.{as_verdict}
 use Rattle.txs_audit.proofs.Answering.{by_books}
 use Rattle.txs_audit.proofs.Parting.{if_done}
 use Rattle.txs_audit.proofs.auditing.audit_books.Goals as goal

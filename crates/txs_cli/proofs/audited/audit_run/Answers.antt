@@ -1,31 +1,34 @@
-use Rattle.std.proofs.Common.{arith, ◌≡◌, ◌≤◌, ℕ, List, length, subst, sym}
+use Rattle.std.proofs.Common.{arith, ◌≡◌, ◌≤◌, ◌∙◌, ℕ, List, ap, length, subst, sym}
 use Rattle.txs_code_load.proofs.Formed.{few_cells, few_threads}
 use Rattle.txs_cli_audit.specs.Audit.{AuditTells, HasNoAnswer}
-use Rattle.txs_cli_audit.specs.declared.answer.NoAnswer.{NoAnswer}
-use Rattle.txs_cli_report.specs.Lent.{script_of, told_of}
-use Rattle.txs_cli_report.specs.Told.{ReportTells}
+use Rattle.txs_audit_answer.specs.declared.verdict.AuditError.{AuditError}
+use Rattle.txs_cli_report.specs.Lent.{lines_of, script_of}
+use Rattle.txs_cli_report.specs.Lines.{all_printed}
+use Rattle.txs_cli_report.specs.Told.{ReportTells, behind_bytes}
 use Rattle.txs_code_meaning.specs.PlainCode.{PlainCode}
 use Rattle.txs_machine.specs.Agents.{agents_of}
-use Rattle.txs_theorem_audit.specs.Audited.{report_as}
+use Rattle.txs_theorem_audit.specs.Audited.{Verdict, report_as}
 use Rattle.txs_theorem_audit.specs.Verdict.{verdict}
 use Rattle.txs_tree_meaning.specs.View.{program_of}
 use Rattle.txs_value_cell.specs.declared.cell.CellDefinition.{CellDefinition}
+use Rattle.txs_world_protocol.specs.declared.report.ActorReport.{ActorReport}
 use Rattle.txs_world_protocol.specs.declared.report.Report.{Report}
+use Rattle.txs_cli.proofs.Audits.{audit_behind}
 use Rattle.txs_cli.proofs.audited.audit_run.Goals as goal
 use Rattle.txs_cli.specs.Audited.{AuditedRunTells, audit_turns}
 
 -- code that has a form has no more threads and cells than the limits allow
-pub report_run-requires-clause-few_threads : goal.report_run-requires-clause-few_threads
-report_run-requires-clause-few_threads g c = subst (λ (n : ℕ). n ≤ 64) (sym c.requires.worked.one_each) (few_threads c.args.compiled.now.1 c.requires.form)
+pub report_lines-requires-clause-few_threads : goal.report_lines-requires-clause-few_threads
+report_lines-requires-clause-few_threads g c = subst (λ (n : ℕ). n ≤ 64) (sym c.requires.worked.one_each) (few_threads c.args.compiled.now.1 c.requires.form)
 
-pub report_run-requires-clause-few_cells : goal.report_run-requires-clause-few_cells
-report_run-requires-clause-few_cells g c = subst (λ (d : PlainCode). length d.cells ≤ 1000) (sym c.code-code.ensures.value) (few_cells c.args.compiled.now.1 c.requires.form)
+pub report_lines-requires-clause-few_cells : goal.report_lines-requires-clause-few_cells
+report_lines-requires-clause-few_cells g c = subst (λ (d : PlainCode). length d.cells ≤ 1000) (sym c.code-code.ensures.value) (few_cells c.args.compiled.now.1 c.requires.form)
 
-pub report_run-requires-clause-made : goal.report_run-requires-clause-made
-report_run-requires-clause-made g c = subst (λ (d : PlainCode). c.args.ran.0.cells ≡ d.cells) (sym c.code-code.ensures.value) c.requires.worked.of.cells
+pub report_lines-requires-clause-made : goal.report_lines-requires-clause-made
+report_lines-requires-clause-made g c = subst (λ (d : PlainCode). c.args.ran.0.cells ≡ d.cells) (sym c.code-code.ensures.value) c.requires.worked.of.cells
 
-pub report_run-requires-clause-one_each : goal.report_run-requires-clause-one_each
-report_run-requires-clause-one_each g c = subst (λ (d : PlainCode). length c.args.ran.1.agents.items ≡ length (agents_of d)) (sym c.code-code.ensures.value) c.requires.worked.agents_each
+pub report_lines-requires-clause-one_each : goal.report_lines-requires-clause-one_each
+report_lines-requires-clause-one_each g c = subst (λ (d : PlainCode). length c.args.ran.1.agents.items ≡ length (agents_of d)) (sym c.code-code.ensures.value) c.requires.worked.agents_each
 
 within : (n : ℕ) → n ≤ 1000 → n ≤ 65535
 within n h = omega (arith, h)
@@ -44,12 +47,17 @@ returns g c =
     let script = script_of c.args.script in
     let shared = c.args.ran.0 in
     let entries = c.args.ran.1 in
-    let ran = told_of c.in_ok-told.told in
+    let printed = all_printed entries.threads.items in
+    let lines = lines_of c.in_ok-told.told in
+    let ran = behind_bytes printed lines in
     let report = c.in_ok-report.report in
     let made = c.in_ok-report.ensures in
-    let told = told_of c.add_audit.new.told in
-    let unaudited : Report → NoAnswer → Type 0 = λ r e. HasNoAnswer (goal.A-post g c.args.auditor.now) parts r (audit_turns o.steps) working.workers e in
-    let tells : ℕ → Type 0 = λ n. AuditTells (λ e. HasNoAnswer (goal.A-post g c.args.auditor.now) parts report n working.workers e) script (verdict (program_of parts) (report_as report) n) ran told in
+    let more = lines_of c.add_audit.new.told in
+    let told = behind_bytes printed more in
+    let unaudited : Report → AuditError → Type 0 = λ r e. HasNoAnswer (goal.A-post g c.args.auditor.now) parts r (audit_turns o.steps) working.workers e in
+    let why : ℕ → AuditError → Type 0 = λ n e. HasNoAnswer (goal.A-post g c.args.auditor.now) parts report n working.workers e in
+    let answered : ℕ → Verdict = λ n. verdict (program_of parts) (report_as report) n in
+    let audited : AuditTells (why (audit_turns o.steps)) script (answered (audit_turns o.steps)) lines more = subst (λ n. AuditTells (why n) script (answered n) lines more) c.turns_of-turns.ensures c.in_ok-add_audit.ensures.told in
     let is : AuditedRunTells unaudited parts code script o told = record {
       shared = shared;
       entries = entries;
@@ -57,6 +65,9 @@ returns g c =
       ran = ran;
       told = subst (λ (d : PlainCode). ReportTells d script shared entries o.cells o.events ran) c.code-code.ensures.value c.in_ok-told.ensures;
       report = report;
-      of = record { threads = made.threads; agents = made.agents; books = made.books; cells = made.cells; failed = made.failed };
-      audited = subst tells c.turns_of-turns.ensures c.in_ok-add_audit.ensures;
-    } in is
+      of = record { threads = made.threads; agents = made.agents; books = made.report.books; cells = made.report.cells; failed = made.report.failed };
+      audited = audit_behind (why (audit_turns o.steps)) script (answered (audit_turns o.steps)) printed lines more audited;
+    }
+    in
+    let threads : entries.threads.items ≡ c.swap.new.x.items = ap (λ v. v.items) (sym (c.swap.ensures.x_after ∙ made.threads)) in
+    subst (λ (rs : List ActorReport). AuditedRunTells unaudited parts code script o (behind_bytes (all_printed rs) more)) threads is

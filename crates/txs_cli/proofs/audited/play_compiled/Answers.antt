@@ -8,13 +8,13 @@ use Rattle.txs_cli.proofs.Audits.{of_audited}
 use Rattle.txs_cli.proofs.audited.play_compiled.Goals as goal
 use Rattle.txs_cli.specs.Audited.{AuditedRunTells, AuditedTells, IsUnplayed, audit_turns, of_unrun}
 use Rattle.txs_cli_audit.specs.Audit.{HasNoAnswer}
-use Rattle.txs_cli_audit.specs.declared.answer.NoAnswer.{NoAnswer}
+use Rattle.txs_audit_answer.specs.declared.verdict.AuditError.{AuditError}
 use Rattle.txs_tree_meaning.specs.View.{Parts}
 use Rattle.txs_world_protocol.specs.declared.report.Report.{Report}
 
 pub returns-in-Ok : goal.returns-in-Ok
 returns-in-Ok g c =
-    let unaudited : Parts → Report → NoAnswer → Type 0 = λ p r e. HasNoAnswer (goal.A-post g c.args.auditor.now) p r (audit_turns c.args.working.options.steps) c.args.working.workers e in
+    let unaudited : Parts → Report → AuditError → Type 0 = λ p r e. HasNoAnswer (goal.A-post g c.args.auditor.now) p r (audit_turns c.args.working.options.steps) c.args.working.workers e in
     let parts = c.args.compiled.now.0 in
     let code = c.args.compiled.now.1 in
     let o = c.args.working.options in
@@ -26,12 +26,12 @@ returns-in-Ok g c =
 -- a play names no actor
 pub returns-in-Err-NoActor : goal.returns-in-Err-NoActor
 returns-in-Err-NoActor g c =
-    let unaudited : Parts → Report → NoAnswer → Type 0 = λ p r e. HasNoAnswer (goal.A-post g c.args.auditor.now) p r (audit_turns c.args.working.options.steps) c.args.working.workers e in
+    let unaudited : Parts → Report → AuditError → Type 0 = λ p r e. HasNoAnswer (goal.A-post g c.args.auditor.now) p r (audit_turns c.args.working.options.steps) c.args.working.workers e in
     let parts = c.args.compiled.now.0 in
     let code = c.args.compiled.now.1 in
     let plays = spread c.args.plays.now in
     let script = script_of c.args.script in
     let unnamed : all_named (actors_of code) plays ≡ false = subst (λ r. IfErr r (λ e. e ≡ NoActor → all_named (actors_of code) plays ≡ false)) c.in-Err-NoActor.is c.run_plays.ensures.unnamed c.in-Err-NoActor.field-0-is in
     let e = c.complaint.ensures in
-    ok_three c.complaint.result (λ t. t.output.items ≡ []) (λ t. t.errors.items ≡ codes "run failed: NoActor" ++ codes "\n") (λ t. t.status ≡ 2)
+    ok_three c.complaint.result (λ t. (told_of t).output ≡ []) (λ t. t.errors.items ≡ codes "run failed: NoActor" ++ codes "\n") (λ t. t.status ≡ 2)
     (λ t. AuditedTells (IsUnplayed plays) unaudited script c.args.working.options (told_of t)) (λ t output errors status. of_unrun parts code c.requires.compiled (unnamed, output, errors, status)) e.output e.errors e.status

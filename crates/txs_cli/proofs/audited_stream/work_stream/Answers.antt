@@ -8,7 +8,7 @@ use Rattle.txs_cli.proofs.audited_stream.work_stream.Goals as goal
 use Rattle.txs_cli.specs.Audited.{AuditedTells, IsUnworked, StreamAuditedTells, audit_turns, of_memory, of_script, of_unread}
 use Rattle.txs_cli.specs.Runner.{HasFailed}
 use Rattle.txs_cli_audit.specs.Audit.{HasNoAnswer}
-use Rattle.txs_cli_audit.specs.declared.answer.NoAnswer.{NoAnswer}
+use Rattle.txs_audit_answer.specs.declared.verdict.AuditError.{AuditError}
 use Rattle.txs_code_meaning.specs.PlainCode.{PlainCode}
 use Rattle.txs_machine.specs.declared.run_error.RunError.{RunError}
 use Rattle.txs_tree_meaning.specs.View.{Parts}
@@ -17,7 +17,7 @@ use Rattle.txs_world_protocol.specs.declared.report.Report.{Report}
 pub returns-in-Ok : goal.returns-in-Ok
 returns-in-Ok g c =
     let failed : PlainCode → RunError → Type 0 = λ d. HasFailed (goal.X-post g c.args.runner.now) d c.args.working.workers c.args.working.options.steps in
-    let unaudited : Parts → Report → NoAnswer → Type 0 = λ p r e. HasNoAnswer (goal.A-post g c.args.auditor.now) p r (audit_turns c.args.working.options.steps) c.args.working.workers e in
+    let unaudited : Parts → Report → AuditError → Type 0 = λ p r e. HasNoAnswer (goal.A-post g c.args.auditor.now) p r (audit_turns c.args.working.options.steps) c.args.working.workers e in
     let known = g.R.Read.remaining c.args.reader.now in
     let o = c.args.working.options in
     let told = c.work_audited-told.result in
@@ -36,7 +36,7 @@ returns-in-Ok g c =
 pub returns-in-Err : goal.returns-in-Err
 returns-in-Err g c =
     let failed : PlainCode → RunError → Type 0 = λ d. HasFailed (goal.X-post g c.args.runner.now) d c.args.working.workers c.args.working.options.steps in
-    let unaudited : Parts → Report → NoAnswer → Type 0 = λ p r e. HasNoAnswer (goal.A-post g c.args.auditor.now) p r (audit_turns c.args.working.options.steps) c.args.working.workers e in
+    let unaudited : Parts → Report → AuditError → Type 0 = λ p r e. HasNoAnswer (goal.A-post g c.args.auditor.now) p r (audit_turns c.args.working.options.steps) c.args.working.workers e in
     let known = g.R.Read.remaining c.args.reader.now in
     let o = c.args.working.options in
     let told = c.unread.result in

@@ -11,8 +11,9 @@ use Rattle.txs_cli.specs.Runner.{FailsAs, HasFailed, IsWorked, RunsLawfully}
 
 pub report_run-requires-clause-few_threads : goal.report_run-requires-clause-few_threads
 report_run-requires-clause-few_threads g c =
-    let ran = c.in-Ok.ran in
-    let worked : IsWorked c.args.code.now c.args.working.options.steps ran.0 ran.1 = subst (λ r. RunsLawfully c.args.code.now c.args.working.options.steps r) c.in-Ok.is c.run_all.ensures.lawful in
+    let shared = c.in-Ok.shared in
+    let report = c.in-Ok.report in
+    let worked : IsWorked c.args.code.now c.args.working.options.steps shared report = subst (λ r. RunsLawfully c.args.code.now c.args.working.options.steps r) c.in-Ok.is c.run_all.ensures.lawful in
     subst (λ (n : ℕ). n ≤ 64) (sym worked.one_each) c.requires.few_threads
 
 pub report_run-requires-clause-few_cells : goal.report_run-requires-clause-few_cells
@@ -20,15 +21,17 @@ report_run-requires-clause-few_cells g c = subst (λ (d : PlainCode). length d.c
 
 pub report_run-requires-clause-made : goal.report_run-requires-clause-made
 report_run-requires-clause-made g c =
-    let ran = c.in-Ok.ran in
-    let worked : IsWorked c.args.code.now c.args.working.options.steps ran.0 ran.1 = subst (λ r. RunsLawfully c.args.code.now c.args.working.options.steps r) c.in-Ok.is c.run_all.ensures.lawful in
-    subst (λ (d : PlainCode). ran.0.cells ≡ d.cells) (sym c.code.ensures.value) worked.of.cells
+    let shared = c.in-Ok.shared in
+    let report = c.in-Ok.report in
+    let worked : IsWorked c.args.code.now c.args.working.options.steps shared report = subst (λ r. RunsLawfully c.args.code.now c.args.working.options.steps r) c.in-Ok.is c.run_all.ensures.lawful in
+    subst (λ (d : PlainCode). shared.cells ≡ d.cells) (sym c.code.ensures.value) worked.of.cells
 
 pub report_run-requires-clause-one_each : goal.report_run-requires-clause-one_each
 report_run-requires-clause-one_each g c =
-    let ran = c.in-Ok.ran in
-    let worked : IsWorked c.args.code.now c.args.working.options.steps ran.0 ran.1 = subst (λ r. RunsLawfully c.args.code.now c.args.working.options.steps r) c.in-Ok.is c.run_all.ensures.lawful in
-    subst (λ (d : PlainCode). length ran.1.agents.items ≡ length (agents_of d)) (sym c.code.ensures.value) worked.agents_each
+    let shared = c.in-Ok.shared in
+    let report = c.in-Ok.report in
+    let worked : IsWorked c.args.code.now c.args.working.options.steps shared report = subst (λ r. RunsLawfully c.args.code.now c.args.working.options.steps r) c.in-Ok.is c.run_all.ensures.lawful in
+    subst (λ (d : PlainCode). length report.agents.items ≡ length (agents_of d)) (sym c.code.ensures.value) worked.agents_each
 
 pub returns-in-Ok : goal.returns-in-Ok
 returns-in-Ok g c =
@@ -36,10 +39,11 @@ returns-in-Ok g c =
     let script = script_of c.args.script in
     let working = c.args.working in
     let failed = HasFailed (goal.X-post g c.args.runner.now) code working.workers working.options.steps in
-    let ran = c.in-Ok.ran in
-    let worked : IsWorked code working.options.steps ran.0 ran.1 = subst (λ r. RunsLawfully code working.options.steps r) c.in-Ok.is c.run_all.ensures.lawful in
-    ok_maps c.report_run.result (λ t. ReportTells c.code.result.now script ran.0 ran.1 working.options.cells working.options.events (told_of t)) (λ t. RunTold failed code script working.options.steps working.options.cells working.options.events (told_of t))
-    (λ t told. of_report ran.0 ran.1 worked (subst (λ (d : PlainCode). ReportTells d script ran.0 ran.1 working.options.cells working.options.events (told_of t)) c.code.ensures.value told)) c.report_run.ensures
+    let shared = c.in-Ok.shared in
+    let report = c.in-Ok.report in
+    let worked : IsWorked code working.options.steps shared report = subst (λ r. RunsLawfully code working.options.steps r) c.in-Ok.is c.run_all.ensures.lawful in
+    ok_maps c.report_run.result (λ t. ReportTells c.code.result.now script shared report working.options.cells working.options.events (told_of t)) (λ t. RunTold failed code script working.options.steps working.options.cells working.options.events (told_of t))
+    (λ t told. of_report shared report worked (subst (λ (d : PlainCode). ReportTells d script shared report working.options.cells working.options.events (told_of t)) c.code.ensures.value told)) c.report_run.ensures
 
 -- the run has no report
 pub returns-in-Err : goal.returns-in-Err

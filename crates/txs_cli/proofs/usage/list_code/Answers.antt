@@ -12,7 +12,7 @@ returns-in-Ok c =
     let rooms = c.in-Ok._rooms in
     let l = c.in-Ok.ensures in
     let e = c.listing_of.ensures in
-    ok_three c.listing_of.result (λ t. t.output.items ≡ listing code) (λ t. t.errors.items ≡ []) (λ t. t.status ≡ 0) (λ t. CodeTells c.args.bytes.now (told_of t) Listed)
+    ok_three c.listing_of.result (λ t. (told_of t).output ≡ listing code) (λ t. t.errors.items ≡ []) (λ t. t.status ≡ 0) (λ t. CodeTells c.args.bytes.now (told_of t) Listed)
     (λ t. of_listed code rooms.functions.items rooms.threads.items l.form l.typed) e.output e.errors e.status
 
 pub returns-in-Err : goal.returns-in-Err

@@ -1,5 +1,5 @@
 use Rattle.std.proofs.Common.{◌∙◌, ℕ, List, ap, subst}
-use Rattle.txs_world_protocol.specs.declared.report.Ran.{Ran}
+use Rattle.txs_world_protocol.specs.declared.report.ActorReport.{ActorReport}
 use Rattle.txs_cli_report.specs.AgentLines.{AreAgentsTold, failure_of, named_from, status_of_agents}
 use Rattle.txs_cli_report.specs.Lent.{script_of}
 use Rattle.txs_cli_report.specs.Lines.{status_from}
@@ -16,7 +16,7 @@ returns-clause-errors c =
       of_threads = c.in_ok-told.told.errors.items;
       of_agents = agents.0;
       first = threads.errors;
-      behind = subst (λ (rs : List Ran). AreAgentsTold script failure named rs agents.0) c.as_slice-agents.ensures.value agents.1;
+      behind = subst (λ (rs : List ActorReport). AreAgentsTold script failure named rs agents.0) c.as_slice-agents.ensures.value agents.1;
       is = agents.2;
     }
 
@@ -26,4 +26,4 @@ returns-clause-status c =
     let named = named_from 0 c.args.cells.now in
     c.in_ok-add_agents.ensures.status
     ∙ ap (λ (m : ℕ). status_of_agents m failure named c.as_slice-agents.result.now) c.in_ok-told.ensures.status
-    ∙ ap (λ (rs : List Ran). status_of_agents (status_from 0 c.args.report.now.threads.items) failure named rs) c.as_slice-agents.ensures.value
+    ∙ ap (λ (rs : List ActorReport). status_of_agents (status_from 0 c.args.report.now.threads.items) failure named rs) c.as_slice-agents.ensures.value

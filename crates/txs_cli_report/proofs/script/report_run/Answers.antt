@@ -1,44 +1,14 @@
-use Rattle.std.proofs.Common.{◌≤◌, ◌++◌, ◌∙◌, List, ap, length, subst, sym}
-use Rattle.txs_cli_report.proofs.OfAgents.{all_named_from}
-use Rattle.txs_cli_report.specs.AgentLines.{named_from}
-use Rattle.txs_cli_report.specs.Lent.{script_of, told_of}
-use Rattle.txs_cli_report.specs.Told.{EndsTold, cells_told, events_told, run_status}
-use Rattle.txs_value_cell.specs.declared.cell.CellDefinition.{CellDefinition}
-use Rattle.txs_world_shared.specs.SharedState.{numbered_book}
+use Rattle.std.proofs.Common.{List, ap, subst, sym}
+use Rattle.txs_cli_report.specs.Lent.{lines_of, script_of}
+use Rattle.txs_cli_report.specs.Lines.{all_printed}
+use Rattle.txs_cli_report.specs.Told.{ReportTells, behind_bytes}
+use Rattle.txs_world_protocol.specs.declared.report.ActorReport.{ActorReport}
 use Rattle.txs_cli_report.proofs.script.report_run.Goals as goal
 
-pub of_report-requires-clause-one_each : goal.of_report-requires-clause-one_each
-of_report-requires-clause-one_each c =
-    let code = c.args.code.now in
-    c.requires.one_each ∙ sym (all_named_from 0 code.cells) ∙ ap (λ (ds : List CellDefinition). length (named_from 0 ds)) (sym c.cells-cells.ensures)
-
--- the state is of the code's cells, of which there are few
-pub of_report-requires-clause-few_cells : goal.of_report-requires-clause-few_cells
-of_report-requires-clause-few_cells c = subst (λ (ds : List CellDefinition). length ds ≤ 1000) (sym c.cells-cells.ensures) c.requires.few_cells
-
-pub of_report-requires-clause-made : goal.of_report-requires-clause-made
-of_report-requires-clause-made c = c.requires.made ∙ sym c.cells-cells.ensures
-
-pub tell_book-requires-clause-few : goal.tell_book-requires-clause-few
-tell_book-requires-clause-few c = subst (λ (ds : List CellDefinition). length ds ≤ 1000) (sym c.cells-cells.ensures) c.requires.few_cells
-
-pub tell_book-requires-clause-made : goal.tell_book-requires-clause-made
-tell_book-requires-clause-made c = c.requires.made ∙ sym c.cells-cells.ensures
-
+-- the threads are those of the report
 pub returns : goal.returns
 returns c =
-    let code = c.args.code.now in
-    let shared = c.args.shared.now in
-    let rans = c.args.report.now.threads.items in
-    let agents = c.args.report.now.agents.items in
-    let options = c.args.options in
-    let script = script_of c.args.script in
-    let t = c.in_ok-told.ensures in
-    let first = c.in_ok-told.told.output.items in
-    let book = c.in_ok-tell_book.ensures in
-    let told = told_of c.tell_book.new.told in
-    record {
-      output = book.output ∙ ap (λ (ds : List CellDefinition). (first ++ cells_told options.cells ds shared) ++ events_told options.events (numbered_book shared 0)) c.cells-cells.ensures ∙ ap (λ xs. (xs ++ cells_told options.cells code.cells shared) ++ events_told options.events (numbered_book shared 0)) t.output;
-      errors = subst (λ (ds : List CellDefinition). EndsTold ds script shared rans agents told.errors) c.cells-cells.ensures (subst (EndsTold c.cells-cells.result.now script shared rans agents) (sym book.errors) t.errors);
-      status = book.status ∙ t.status ∙ ap (λ (ds : List CellDefinition). run_status ds shared rans agents) c.cells-cells.ensures;
-    }
+    let o = c.args.options in
+    let lines = lines_of c.in_ok-told.told in
+    subst (λ (rs : List ActorReport). ReportTells c.args.code.now (script_of c.args.script) c.args.shared.now c.args.report o.cells o.events (behind_bytes (all_printed rs) lines))
+    (ap (λ v. v.items) (sym c.swap.ensures.x_after)) c.in_ok-told.ensures

@@ -19,7 +19,7 @@ returns c =
     subst (λ (r : Option owned.Told). RunAnswers code script plays o.steps o.cells o.events c.run_code.new.shared (option_map told_of r)) c.in-None.is c.in_ok-told.ensures.told
     in
     let e = c.complaint.ensures in
-    ok_three c.complaint.result (λ t. t.output.items ≡ []) (λ t. t.errors.items ≡ codes "run failed: NoActor" ++ codes "\n") (λ t. t.status ≡ 2)
+    ok_three c.complaint.result (λ t. (told_of t).output ≡ []) (λ t. t.errors.items ≡ codes "run failed: NoActor" ++ codes "\n") (λ t. t.status ≡ 2)
     (λ t. TurnsTell code script plays o.steps o.cells o.events (told_of t)) (λ t. of_none unnamed) e.output e.errors e.status
 
 pub returns-in-Some : goal.returns-in-Some

@@ -18,7 +18,7 @@ returns-in-Check c =
     let r = c.accepted.result in
     let e = c.accepted.ensures in
     subst (λ (u : Use). IfOk r (λ t. ScriptTells script (told_of t) (wanted_of u))) (sym c.in-Check.is)
-    (ok_three r (λ t. t.output.items ≡ codes "ok\n") (λ t. t.errors.items ≡ []) (λ t. t.status ≡ 0) (λ t. ScriptTells script (told_of t) Check) (λ t. of_checked (program_of c.args.compiled.now.0) of.program) e.output e.errors e.status)
+    (ok_three r (λ t. (told_of t).output ≡ codes "ok\n") (λ t. t.errors.items ≡ []) (λ t. t.status ≡ 0) (λ t. ScriptTells script (told_of t) Check) (λ t. of_checked (program_of c.args.compiled.now.0) of.program) e.output e.errors e.status)
 
 pub returns-in-Listing : goal.returns-in-Listing
 returns-in-Listing c =
@@ -27,7 +27,7 @@ returns-in-Listing c =
     let r = c.listing_of.result in
     let e = c.listing_of.ensures in
     subst (λ (u : Use). IfOk r (λ t. ScriptTells script (told_of t) (wanted_of u))) (sym c.in-Listing.is)
-    (ok_three r (λ t. t.output.items ≡ listing c.code.result.now) (λ t. t.errors.items ≡ []) (λ t. t.status ≡ 0) (λ t. ScriptTells script (told_of t) Listing)
+    (ok_three r (λ t. (told_of t).output ≡ listing c.code.result.now) (λ t. t.errors.items ≡ []) (λ t. t.status ≡ 0) (λ t. ScriptTells script (told_of t) Listing)
     (λ t output. of_listed (program_of c.args.compiled.now.0) code c.requires.compiled (output ∙ ap (λ (d : PlainCode). listing d) c.code.ensures.value)) e.output e.errors e.status)
 
 pub returns-in-Build : goal.returns-in-Build

@@ -5,11 +5,6 @@ use Rattle.txs_cli_report.specs.Lines.{IsLesson, end_line, end_place, status_of,
 use Rattle.txs_cli_report.proofs.Fronts.{on_any}
 use Rattle.txs_cli_report.proofs.told.add_thread.Goals as goal
 
-pub returns-clause-output : goal.returns-clause-output
-returns-clause-output c =
-    let old = c.args.told.now.output.items in
-    on_any c.tell_end.result _ (c.tell_end.ensures.output ∙ c.in_ok-extend_from_slice.ensures.items ∙ ap (λ (l : List ℕ). old ++ l) c.as_slice.ensures.value)
-
 pub returns-clause-errors : goal.returns-clause-errors
 returns-clause-errors c =
     let script = script_of c.args.script in

@@ -2,7 +2,8 @@ use Rattle.std.proofs.Common.{◌≡◌, ◌≤◌, ◌+◌, ◌∙◌, ℕ, Lis
 use Rattle.txs_world_protocol.specs.declared.event.Place.{Place}
 use Rattle.txs_theorem_runs.specs.Shared.{book_for}
 use Rattle.txs_world_shared.specs.SharedState.{numbered_book}
-use Rattle.txs_machine.specs.Serving.{may_add, with_place}
+use Rattle.txs_world_protocol.specs.Ask.{may_add_event}
+use Rattle.txs_machine.specs.Serving.{with_place}
 use Rattle.txs_machine.proofs.RunOver.{reads_alone}
 use Rattle.txs_machine.proofs.run.serve_noted.Goals as goal
 
@@ -12,15 +13,15 @@ ok_then (Ok x) P e h = h
 ok_then (Err x) P e h = absurd cc
 
 -- an ask that adds nothing
-pub returns-then-not-may_add : goal.returns-then-not-may_add
-returns-then-not-may_add c =
-    let none : may_add c.args.ask ≡ false = search rules in
+pub returns-then-not-may_add_event : goal.returns-then-not-may_add_event
+returns-then-not-may_add_event c =
+    let none : may_add_event c.args.ask ≡ false = search rules in
     reads_alone c.args.shared.now c.serve.new.self c.args.actor c.args.ask c.serve.result c.args.trace.now.items none c.serve.ensures
 
 -- no room for a place
 pub returns-then-is_err : goal.returns-then-is_err
 returns-then-is_err c =
-    let adds : may_add c.args.ask ≡ true = search rules in
+    let adds : may_add_event c.args.ask ≡ true = search rules in
     inr (record { adds = adds; replied = refl; state = refl; places = c.reserve.ensures.items })
 
 pub note-requires : goal.note-requires

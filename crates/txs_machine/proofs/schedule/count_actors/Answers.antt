@@ -1,31 +1,22 @@
-use Rattle.std.proofs.Common.{◌≡◌, ◌<◌, ◌∙◌, List, length, get_or, ap, subst, rules, [], arith}
+use Rattle.std.proofs.Common.{◌≡◌, ◌∙◌, List, length, ap, arith}
+use Rattle.txs_value_cell.specs.Agents.{agents_from}
 use Rattle.txs_value_cell.specs.declared.cell.CellDefinition.{CellDefinition}
+use Rattle.txs_value_cell.proofs.AgentsLemmas.{agents_few}
 use Rattle.txs_code_meaning.specs.PlainCode.{PlainCode}
-use Rattle.txs_value_cell.specs.Agents.{with_agent}
-use Rattle.txs_machine.proofs.Opened.{agents_few, agents_behind}
 use Rattle.txs_machine.proofs.schedule.count_actors.Goals as goal
 
-pub overflow_add-actors : goal.overflow_add-actors
-overflow_add-actors c =
+pub overflow_cast-result : goal.overflow_cast-result
+overflow_cast-result c =
     let ds = c.args.code.now.cells in
-    let i = c.loop-cell.cell-index in
-    let d = c.cell-item.result in
     let same : c.cells-cells.result.now ≡ ds = c.cells-cells.ensures ∙ ap (λ (x : PlainCode). x.cells) c.code.ensures.value in
-    let within : i < length ds = subst (λ (l : List CellDefinition). i < length l) same c.loop-cell-test.true in
-    let read : d ≡ get_or ds i d = c.cell-item.is ∙ ap (λ (l : List CellDefinition). get_or l i d) same in
-    let one : c.agents_in-actors.result ≡ length (with_agent d.kind 0 []) = search rules in
-    let behind = agents_behind ds i d within read in
+    let agents : c.count_agents-agents.result ≡ length (agents_from 0 ds) = c.count_agents-agents.ensures ∙ ap (λ (l : List CellDefinition). length (agents_from 0 l)) same in
     let few = agents_few 0 ds in
-    omega (arith, one, behind, few, c.loop-cell.invariant, c.requires.many, c.requires.few)
+    omega (arith, agents, few, c.requires.few)
 
-pub loop-cell-preserved : goal.loop-cell-preserved
-loop-cell-preserved c =
+pub overflow_add-result : goal.overflow_add-result
+overflow_add-result c =
     let ds = c.args.code.now.cells in
-    let i = c.loop-cell.cell-index in
-    let d = c.cell-item.result in
     let same : c.cells-cells.result.now ≡ ds = c.cells-cells.ensures ∙ ap (λ (x : PlainCode). x.cells) c.code.ensures.value in
-    let within : i < length ds = subst (λ (l : List CellDefinition). i < length l) same c.loop-cell-test.true in
-    let read : d ≡ get_or ds i d = c.cell-item.is ∙ ap (λ (l : List CellDefinition). get_or l i d) same in
-    let one : c.agents_in-actors.result ≡ length (with_agent d.kind 0 []) = search rules in
-    let behind = agents_behind ds i d within read in
-    omega (arith, one, behind, c.loop-cell.invariant)
+    let agents : c.count_agents-agents.result ≡ length (agents_from 0 ds) = c.count_agents-agents.ensures ∙ ap (λ (l : List CellDefinition). length (agents_from 0 l)) same in
+    let few = agents_few 0 ds in
+    omega (arith, agents, few, c.requires.many, c.requires.few)

@@ -43,5 +43,5 @@ returns-clause-says c =
       idle = e.idle;
     } in
     says_of code limit (spread c.args.plays.now) c.args.rounds s all out (state_stands code s e.of stands) (typed_staged code c.rooms.result.0.now c.rooms.result.1.now c.rooms.ensures) c.report_all.result
-    (subst (λ xs. IfOk c.report_all.result (λ r. AreReported xs r.threads.items)) c.as_slice.ensures.value c.report_all.ensures.threads)
-    (subst (λ gs. IfOk c.report_all.result (λ r. AreReported (attendants gs) r.agents.items)) c.as_slice-2.ensures.value c.report_all.ensures.agents)
+    c.report_all.ensures.threads
+    c.report_all.ensures.agents

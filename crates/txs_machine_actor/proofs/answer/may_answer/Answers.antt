@@ -1,7 +1,7 @@
-use Rattle.std.proofs.Common.{◌≡◌, ◌⊎◌, inl, inr, ℕ, List, Option, Result, false, true, refl, sym, subst, rules}
+use Rattle.std.proofs.Common.{◌≡◌, ◌⊎◌, ◌∙◌, inl, inr, ℕ, Bool, List, Option, Result, false, true, refl, sym, subst, rules}
 use Rattle.std.specs.Prelude.{IsTrue}
 use Rattle.std.proofs.lemmas.Bool.{false≢true}
-use Rattle.txs_world_protocol.specs.Ask.{Writes}
+use Rattle.txs_world_protocol.specs.Ask.{Writes, may_add_event}
 use Rattle.txs_world_protocol.specs.declared.ask.Ask.{Ask}
 use Rattle.txs_world_protocol.specs.declared.ask.Ask.TheVariants as ask
 use Rattle.txs_world_protocol.specs.declared.ask.Reply.{Reply}
@@ -21,20 +21,20 @@ no n = (λ e. absurd (false≢true e), λ a. absurd (n a))
 yes : {A : Type 0} → A → (IsTrue true → A) × (A → IsTrue true)
 yes a = (λ e. a, λ b. refl)
 
--- each ask but that of a beginning, a view, an action and the open of an atom may find the book full
-may_be_full : (q0 : Ask) → (q0 ≡ ask.Begin → ⊥) → ((cs : List CellId) → q0 ≡ ask.View cs → ⊥) → ((g : CellId) → q0 ≡ ask.Take g → ⊥) → ((c : CellId) → q0 ≡ ask.OpenAt c → ⊥) → MayAnswer q0 reply.Full
-may_be_full ask.Begin n0 n1 n2 n3 = absurd (n0 refl)
-may_be_full (ask.Look c p) n0 n1 n2 n3 = tt
-may_be_full (ask.View cs) n0 n1 n2 n3 = absurd (n1 cs refl)
-may_be_full (ask.Commit p ws es q cs xs) n0 n1 n2 n3 = tt
-may_be_full (ask.Fail p q) n0 n1 n2 n3 = tt
-may_be_full (ask.Peek c) n0 n1 n2 n3 = tt
-may_be_full (ask.Send x) n0 n1 n2 n3 = tt
-may_be_full (ask.Take g) n0 n1 n2 n3 = absurd (n2 g refl)
-may_be_full (ask.Finish g new sends) n0 n1 n2 n3 = tt
-may_be_full (ask.OpenAt c) n0 n1 n2 n3 = absurd (n3 c refl)
-may_be_full (ask.CloseAt c p v) n0 n1 n2 n3 = tt
-may_be_full (ask.Broke c p) n0 n1 n2 n3 = tt
+-- an ask may find the book full where it may add an event
+full_is : (q0 : Ask) (r : Bool) → r ≡ may_add_event q0 → (IsTrue r → MayAnswer q0 reply.Full) × (MayAnswer q0 reply.Full → IsTrue r)
+full_is ask.Begin r e = (λ t. absurd (false≢true (sym e ∙ t)), λ m. absurd m)
+full_is (ask.Look c p) r e = (λ t. tt, λ m. e)
+full_is (ask.View cs) r e = (λ t. absurd (false≢true (sym e ∙ t)), λ m. absurd m)
+full_is (ask.Commit p ws es q cs xs) r e = (λ t. tt, λ m. e)
+full_is (ask.Fail p q) r e = (λ t. tt, λ m. e)
+full_is (ask.Peek c) r e = (λ t. tt, λ m. e)
+full_is (ask.Send x) r e = (λ t. tt, λ m. e)
+full_is (ask.Take g) r e = (λ t. absurd (false≢true (sym e ∙ t)), λ m. absurd m)
+full_is (ask.Finish g new sends) r e = (λ t. tt, λ m. e)
+full_is (ask.OpenAt c) r e = (λ t. absurd (false≢true (sym e ∙ t)), λ m. absurd m)
+full_is (ask.CloseAt c p v) r e = (λ t. tt, λ m. e)
+full_is (ask.Broke c p) r e = (λ t. tt, λ m. e)
 
 -- each ask but that of a beginning may find no memory
 may_want_memory : (q0 : Ask) → (q0 ≡ ask.Begin → ⊥) → MayAnswer q0 reply.Memory
@@ -165,13 +165,6 @@ may_be_done q0 (inr (inr (inr (inl h)))) = subst (λ (q : Ask). MayAnswer q repl
 may_be_done q0 (inr (inr (inr (inr (inl h))))) = subst (λ (q : Ask). MayAnswer q reply.Done) (sym h.3) tt
 may_be_done q0 (inr (inr (inr (inr (inr h))))) = subst (λ (q : Ask). MayAnswer q reply.Done) (sym h.2) tt
 
--- the book of a beginning, of a view, of an action that is taken and of an atom's open isn't full
-never_full : (q0 : Ask) → (q0 ≡ ask.Begin) ⊎ ((cs : List CellId) × (q0 ≡ ask.View cs)) ⊎ ((g : CellId) × (q0 ≡ ask.Take g)) ⊎ ((c : CellId) × (q0 ≡ ask.OpenAt c)) → MayAnswer q0 reply.Full → ⊥
-never_full q0 (inl h) m = subst (λ (q : Ask). MayAnswer q reply.Full) h m
-never_full q0 (inr (inl h)) m = subst (λ (q : Ask). MayAnswer q reply.Full) h.1 m
-never_full q0 (inr (inr (inl h))) m = subst (λ (q : Ask). MayAnswer q reply.Full) h.1 m
-never_full q0 (inr (inr (inr h))) m = subst (λ (q : Ask). MayAnswer q reply.Full) h.1 m
-
 pub returns-in_default : goal.returns-in_default
 returns-in_default c = no (λ m. no_read_point c.args.ask.now c.in-At.field-0 c.in_default.not-Begin (subst (λ (r : Reply). MayAnswer c.args.ask.now r) c.in-At.is m))
 
@@ -193,12 +186,13 @@ returns-in_default-matches-6 c = no (λ m. not_opened c.args.ask.now c.in-Opened
 pub returns-in_default-matches-3 : goal.returns-in_default-matches-3
 returns-in_default-matches-3 c = search rules
 
-pub returns-in_default-ask-2 : goal.returns-in_default-ask-2
-returns-in_default-ask-2 c =
-    yes (subst (λ (r : Reply). MayAnswer c.args.ask.now r) (sym c.in-Full.is) (may_be_full c.args.ask.now c.in_default-ask-2.not-Begin c.in_default-ask-2.not-View c.in_default-ask-2.not-Take c.in_default-ask-2.not-OpenAt))
+pub returns-in-Full : goal.returns-in-Full
+returns-in-Full c =
+    let is = full_is c.args.ask.now c.may_add_event.result c.may_add_event.ensures in
+    (λ t. subst (λ (r : Reply). MayAnswer c.args.ask.now r) (sym c.in-Full.is) (is.0 t), λ m. is.1 (subst (λ (r : Reply). MayAnswer c.args.ask.now r) c.in-Full.is m))
 
-pub returns-in_default-ask-3 : goal.returns-in_default-ask-3
-returns-in_default-ask-3 c = yes (subst (λ (r : Reply). MayAnswer c.args.ask.now r) (sym c.in-Memory.is) (may_want_memory c.args.ask.now c.in_default-ask-3.not-Begin))
+pub returns-in_default-ask-2 : goal.returns-in_default-ask-2
+returns-in_default-ask-2 c = yes (subst (λ (r : Reply). MayAnswer c.args.ask.now r) (sym c.in-Memory.is) (may_want_memory c.args.ask.now c.in_default-ask-2.not-Begin))
 
 pub returns-in-Look : goal.returns-in-Look
 returns-in-Look c = yes (subst (λ (r : Reply). MayAnswer c.args.ask.now r) (sym c.in-Is.is) (has_value c.args.ask.now c.in-Is.field-0 c.in-Look.is))
@@ -235,15 +229,3 @@ returns-in-Commit-5 c = yes (subst (λ (r : Reply). MayAnswer c.args.ask.now r) 
 
 pub returns-in-Commit-6 : goal.returns-in-Commit-6
 returns-in-Commit-6 c = yes (subst (λ (r : Reply). MayAnswer c.args.ask.now r) (sym c.in-Done.is) (may_be_done c.args.ask.now c.in-Commit.is))
-
-pub returns-in-Begin-ask : goal.returns-in-Begin-ask
-returns-in-Begin-ask c = no (λ m. never_full c.args.ask.now c.in-Begin-ask.is (subst (λ (r : Reply). MayAnswer c.args.ask.now r) c.in-Full.is m))
-
-pub returns-in-Begin-ask-3 : goal.returns-in-Begin-ask-3
-returns-in-Begin-ask-3 c = no (λ m. never_full c.args.ask.now c.in-Begin-ask.is (subst (λ (r : Reply). MayAnswer c.args.ask.now r) c.in-Full.is m))
-
-pub returns-in-Begin-ask-4 : goal.returns-in-Begin-ask-4
-returns-in-Begin-ask-4 c = no (λ m. never_full c.args.ask.now c.in-Begin-ask.is (subst (λ (r : Reply). MayAnswer c.args.ask.now r) c.in-Full.is m))
-
-pub returns-in-Begin-ask-5 : goal.returns-in-Begin-ask-5
-returns-in-Begin-ask-5 c = no (λ m. never_full c.args.ask.now c.in-Begin-ask.is (subst (λ (r : Reply). MayAnswer c.args.ask.now r) c.in-Full.is m))

@@ -2,7 +2,7 @@ use Rattle.std.proofs.Common.{◌≡◌, ◌∙◌, ℕ, Result, Ok, Err, None, 
 use Rattle.std.specs.Prelude.{IfErr, IfOk}
 use Rattle.txs_world_protocol.specs.declared.ask.Ask.{Ask}
 use Rattle.txs_world_protocol.specs.declared.ask.Ask.TheVariants as ask
-use Rattle.txs_frame.specs.Frame.{Work}
+use Rattle.txs_frame.specs.Frame.{PlainTxFrame}
 use Rattle.txs_machine_transaction.specs.Asks.{applied_in, ask_for, AskWantsMemory}
 use Rattle.txs_machine_transaction.specs.Transaction.{is_running}
 use Rattle.txs_machine_transaction.specs.declared.state.Pending.{Pending}
@@ -10,7 +10,7 @@ use Rattle.txs_machine_transaction.specs.declared.state.Transaction.{Transaction
 use Rattle.txs_machine_transaction.proofs.asks.ask_for.Goals as goal
 
 -- what is asked for this
-abbrev asked : Transaction → ℕ → ℕ → Work → Pending → Ask
+abbrev asked : Transaction → ℕ → ℕ → PlainTxFrame → Pending → Ask
 asked tx at view w p = ask_for p (is_running tx) at view (applied_in tx) w
 
 -- what holds in any case does so of an error

@@ -4,7 +4,7 @@ use Rattle.txs_machine_loop.specs.Values.{but_last, last_of}
 use Rattle.txs_value_cell.specs.Forms.{rule, cell_of}
 use Rattle.txs_value_cell.specs.declared.form.CellForm.TheVariants as form
 use Rattle.txs_value_cell.specs.declared.form.LookForm.TheVariants.{Ensure}
-use Rattle.txs_frame.specs.Frame.{Work, ensure_ref, with_cell}
+use Rattle.txs_frame.specs.Frame.{PlainTxFrame, ensure_ref, with_cell}
 use Rattle.txs_machine_stack.specs.PlainFrame.{PlainStack}
 use Rattle.txs_machine_transaction.specs.Effect.{Effect, moves, waits, own_or, ensures_cell}
 use Rattle.txs_machine_transaction.specs.declared.state.Pending.TheVariants as pending
@@ -39,5 +39,5 @@ returns-in-Ok-ensure-clause-comes c = λ k.
     let own : buffered w.values x.number ≡ Some v = sym (rw c.in-Ok-Some.field-0-is at c.in-Ok-Some.ensures) in
     let go : Value → Effect = λ y. moves (but_last vs ++ y ∷ []) tx (ensure_ref x w) k in
     ap (λ r. ensures_cell vs tx w k r) e ∙ ap (λ o. own_or o go (waits (pending.Ensure x (with_cell w.ensures x)) vs tx w k)) own
-    ∙ ap (λ (u : Work). moves (but_last vs ++ v ∷ []) tx u k) (sym c.in-Ok-ensure.ensures.kept)
+    ∙ ap (λ (u : PlainTxFrame). moves (but_last vs ++ v ∷ []) tx u k) (sym c.in-Ok-ensure.ensures.kept)
     ∙ ap (λ (s : PlainStack). moves s.values tx c.ensure.new.self k) (sym c.replace_last.ensures)

@@ -3,7 +3,7 @@ use Rattle.txs_machine_loop.specs.Values.{below, last_of, under}
 use Rattle.txs_value_cell.specs.Forms.{rule, cell_of}
 use Rattle.txs_value_cell.specs.declared.form.CellForm.TheVariants as form
 use Rattle.txs_value_cell.specs.declared.form.UpdateForm.TheVariants as update
-use Rattle.txs_frame.specs.Frame.{Work, commute_ref}
+use Rattle.txs_frame.specs.Frame.{PlainTxFrame, commute_ref}
 use Rattle.txs_frame.specs.declared.frame.Commute.{Commute}
 use Rattle.txs_machine_stack.specs.PlainFrame.{PlainStack}
 use Rattle.txs_machine_transaction.specs.Effect.{moves, breaks, closes, keeps_cell}
@@ -41,6 +41,6 @@ returns-in-Ok-commute-clause-comes c =
     ap (λ q. closes vs tx w q) c.in-Some.is ∙ ap (λ r. keeps_cell o vs tx w r) e
     ∙ ap (λ (ts : List Value). moves left tx (commute_ref x o.callee ts (last_of vs) w) None) (sym c.in-Ok-copy_values.ensures)
     ∙ ap (λ (v : Value). moves left tx (commute_ref x o.callee c.in-Ok-copy_values.args v w) None) (sym (c.in-Ok-copy_value.ensures ∙ c.last.ensures))
-    ∙ ap (λ (u : Work). moves left tx u None) (sym c.in-Ok-commute.ensures.kept)
+    ∙ ap (λ (u : PlainTxFrame). moves left tx u None) (sym c.in-Ok-commute.ensures.kept)
     ∙ ap (λ (s : PlainStack). moves s.values tx c.commute.new.self None) (sym c.drop_under.ensures)
     ∙ ap (λ (q : Option Commute). moves c.drop_under.new.self.values tx c.commute.new.self q) (sym c.shut.ensures)

@@ -2,7 +2,7 @@ use Rattle.std.proofs.Common.{◌≡◌, ◌+◌, ◌∙◌, ◌∷◌, ◌++◌
 use Rattle.txs_machine_loop.specs.Values.{below, under}
 use Rattle.txs_value_cell.specs.Forms.{rule, cell_of}
 use Rattle.txs_value_cell.specs.declared.form.CellForm.TheVariants as form
-use Rattle.txs_frame.specs.Frame.{Work, hold_send}
+use Rattle.txs_frame.specs.Frame.{PlainTxFrame, hold_send}
 use Rattle.txs_machine_stack.specs.PlainFrame.{PlainStack}
 use Rattle.txs_machine_transaction.specs.Effect.{moves, dispatches, sends_cell}
 use Rattle.txs_machine_transaction.specs.Transaction.{is_running}
@@ -36,5 +36,5 @@ returns-in-Ok-hold_send-clause-comes c = λ k.
     let sent = below (a.n + 1) vs ++ Cell g ∷ [] in
     ap (λ r. sends_cell (is_running tx) a.callee a.n a.span vs tx w k r) e ∙ ap (λ b. sends_cell b a.callee a.n a.span vs tx w k (Ok g)) inside
     ∙ ap (λ (ts : List Value). moves sent tx (hold_send (record { agent = g; callee = a.callee; args = ts; span = a.span }) w) k) (sym c.in-Ok-copy_topmost.ensures)
-    ∙ ap (λ (u : Work). moves sent tx u k) (sym c.in-Ok-hold_send.ensures.kept)
+    ∙ ap (λ (u : PlainTxFrame). moves sent tx u k) (sym c.in-Ok-hold_send.ensures.kept)
     ∙ ap (λ (s : PlainStack). moves s.values tx c.hold_send.new.self k) (sym c.replace_over.ensures)

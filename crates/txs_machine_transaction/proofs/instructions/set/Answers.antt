@@ -1,7 +1,7 @@
 use Rattle.std.proofs.Common.{◌≡◌, ◌∙◌, ◌∷◌, ◌++◌, [], List, Option, Result, Ok, Err, sym, ap, rules, true}
 use Rattle.txs_machine_loop.specs.Values.{below, last_of, under}
 use Rattle.txs_value_cell.specs.Forms.{rule, cell_of}
-use Rattle.txs_frame.specs.Frame.{Work, SetAnswers, set_ref}
+use Rattle.txs_frame.specs.Frame.{PlainTxFrame, SetAnswers, set_ref}
 use Rattle.txs_frame.specs.declared.frame.Commute.{Commute}
 use Rattle.txs_machine_stack.specs.PlainFrame.{PlainStack}
 use Rattle.txs_value_base.specs.declared.fault.FaultKind.{FaultKind}
@@ -11,8 +11,8 @@ use Rattle.txs_value_data.specs.declared.value.Value.{Value}
 use Rattle.txs_machine_transaction.proofs.instructions.set.Goals as goal
 
 -- a ref that was set
-was_set : (vs : List Value) (tx : Transaction) (w now : Work) (k : Option Commute) (r : Result Work FaultKind) → SetAnswers r w (Ok tt) now → sets_as vs tx w k r ≡ moves (below 2 vs ++ last_of vs ∷ []) tx now k
-was_set vs tx w now k (Ok u) h = ap (λ (x : Work). moves (below 2 vs ++ last_of vs ∷ []) tx x k) (sym h)
+was_set : (vs : List Value) (tx : Transaction) (w now : PlainTxFrame) (k : Option Commute) (r : Result PlainTxFrame FaultKind) → SetAnswers r w (Ok tt) now → sets_as vs tx w k r ≡ moves (below 2 vs ++ last_of vs ∷ []) tx now k
+was_set vs tx w now k (Ok u) h = ap (λ (x : PlainTxFrame). moves (below 2 vs ++ last_of vs ∷ []) tx x k) (sym h)
 was_set vs tx w now k (Err e) h = absurd h
 
 pub returns-in-Err-clause-comes : goal.returns-in-Err-clause-comes

@@ -2,7 +2,7 @@ use Rattle.std.proofs.Common.{◌∙◌, Option, List, ap, sym, subst}
 use Rattle.std.specs.Option.{IfSome}
 use Rattle.txs_code_meaning.specs.declared.instr.Instr.{Instr}
 use Rattle.txs_code_meaning.specs.declared.instr.Instr.TheVariants as instr
-use Rattle.txs_frame.specs.Frame.{Work}
+use Rattle.txs_frame.specs.Frame.{PlainTxFrame}
 use Rattle.txs_frame.specs.declared.frame.Commute.{Commute}
 use Rattle.txs_machine_stack.specs.PlainFrame.{PlainStack}
 use Rattle.txs_value_base.specs.declared.fault.Span.{Span}
@@ -13,7 +13,7 @@ use Rattle.txs_value_data.specs.declared.value.Value.{Value}
 use Rattle.txs_machine_transaction.proofs.instructions.transact.Goals as goal
 
 -- what such an instruction comes to, here
-abbrev told : Quick → List Value → Transaction → Work → Option Commute → Span → PlainStack → Transaction → Work → Option Commute → Instr → Type 0
+abbrev told : Quick → List Value → Transaction → PlainTxFrame → Option Commute → Span → PlainStack → Transaction → PlainTxFrame → Option Commute → Instr → Type 0
 told q vs tx w k span stack old was had i =
     ComesQuickly q (record { span = span; stack = stack }) vs tx w k was had (effect (record { span = span; stack = stack }) stack.values old was had i)
 

@@ -1,7 +1,7 @@
 use Rattle.std.proofs.Common.{◌∙◌, Option, List, ap, sym, subst}
 use Rattle.txs_code_meaning.specs.declared.instr.Instr.{Instr}
 use Rattle.txs_code_meaning.specs.declared.instr.Instr.TheVariants as instr
-use Rattle.txs_frame.specs.Frame.{Work}
+use Rattle.txs_frame.specs.Frame.{PlainTxFrame}
 use Rattle.txs_frame.specs.declared.frame.Commute.{Commute}
 use Rattle.txs_machine_stack.specs.PlainFrame.{PlainStack}
 use Rattle.txs_value_base.specs.declared.fault.Span.{Span}
@@ -12,7 +12,7 @@ use Rattle.txs_value_data.specs.declared.value.Value.{Value}
 use Rattle.txs_machine_transaction.proofs.instructions.transact_rarely.Goals as goal
 
 -- what such an instruction comes to, here
-abbrev told : Moved → List Value → Transaction → Work → Option Commute → Span → PlainStack → Transaction → Work → Option Commute → Instr → Type 0
+abbrev told : Moved → List Value → Transaction → PlainTxFrame → Option Commute → Span → PlainStack → Transaction → PlainTxFrame → Option Commute → Instr → Type 0
 told m vs tx w k span stack old was had i = Comes m vs tx w k was had (effect (record { span = span; stack = stack }) stack.values old was had i)
 
 pub returns-in-Look-Ensure-clause-comes : goal.returns-in-Look-Ensure-clause-comes

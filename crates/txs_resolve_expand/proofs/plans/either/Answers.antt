@@ -1,6 +1,6 @@
 use Rattle.std.proofs.Common.{◌∷◌, List, Ok, sym, ap, ◌∙◌, arith}
 use Rattle.txs_reader.specs.declared.form.Form.{Form}
-use Rattle.txs_reader.specs.Tree.{Tree as FormTree, tree}
+use Rattle.txs_reader.specs.Tree.{PlainForm as FormTree, tree}
 use Rattle.txs_resolve_expand.specs.Expressions.{choice, parted}
 use Rattle.txs_resolve_expand.specs.Parts.{choice_name, plain, table, told}
 use Rattle.txs_resolve_expand.proofs.Tables.{choice_few, choice_many, choice_none, choice_one}

@@ -1,5 +1,5 @@
 use Rattle.std.proofs.Common.{sym, ap, ◌∙◌}
-use Rattle.txs_reader.specs.Tree.{Trees as Forms, tree}
+use Rattle.txs_reader.specs.Tree.{PlainForms as Forms, tree}
 use Rattle.txs_resolve_expand.specs.Expressions.{parted, row}
 use Rattle.txs_resolve_expand.specs.declared.shapes.Sequence.TheVariants as sequence
 use Rattle.txs_resolve_expand.proofs.Tables.{operands_chain, operands_plain}

@@ -1,6 +1,6 @@
 use Rattle.std.proofs.Common.{List, length, arith, ap}
 use Rattle.txs_value_data.specs.declared.value.CellId.{CellId}
-use Rattle.txs_threads.proofs.Agents.{agents_few}
+use Rattle.txs_value_cell.proofs.AgentsLemmas.{agents_few}
 use Rattle.txs_threads.proofs.actors.open_all.Goals as goal
 
 pub overflow_cast-many : goal.overflow_cast-many

@@ -4,7 +4,7 @@ use Rattle.txs_value_data.specs.declared.value.CellId.{CellId}
 use Rattle.txs_machine.specs.Agents.{agents_of}
 use Rattle.txs_threads_gather.specs.Gather.{AllHaveDone, AllHaveAttended, AreReportsOf}
 use Rattle.txs_world_shared.specs.SharedState.{PlainShared}
-use Rattle.txs_world_protocol.specs.declared.report.Ran.{Ran}
+use Rattle.txs_world_protocol.specs.declared.report.ActorReport.{ActorReport}
 use Rattle.txs_threads.specs.Run.{AllEnded, AllDrained, IsLeft}
 use Rattle.txs_threads.proofs.Agents.{are_agents, are_drained, state_of}
 use Rattle.txs_threads.proofs.Ended.{all_ended}
@@ -25,8 +25,8 @@ returns-then-is_whole-clause-left c =
     let code = c.args.code.now in
     let g = c.in_ok-gathered in
     let s = g.gathered.shared in
-    let threads : List Ran = g.gathered.report.threads.items in
-    let agents : List Ran = g.gathered.report.agents.items in
+    let threads : List ActorReport = g.gathered.report.threads.items in
+    let agents : List ActorReport = g.gathered.report.agents.items in
     let of = state_of code s _ _ _ g.ensures.shared g.ensures.agrees.agree in
     let ended : AllEnded threads = search rules in
     let drained : AllDrained s c.args.agents.now agents = search rules in

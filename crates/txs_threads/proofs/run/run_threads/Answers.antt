@@ -30,4 +30,4 @@ pub returns-clause-all_explained : goal.returns-clause-all_explained
 returns-clause-all_explained g c = still c.run_all.result c.run_all.ensures.left (λ x l. l.all_explained)
 
 pub returns-clause-workers : goal.returns-clause-workers
-returns-clause-workers g c = always c.run_all.result (omega (arith, c.if-workers-eq0.false), omega (arith, c.if-workers-gt64.false))
+returns-clause-workers g c = always c.run_all.result (omega (arith, c.if-workers-eq0.false), omega (arith, c.if-workers-gt-MOST_WORKERS.false))

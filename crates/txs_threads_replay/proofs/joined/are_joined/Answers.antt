@@ -59,4 +59,4 @@ returns c =
     let out = c.loop-write-test.false in
     let merges = merged_zips sets c.args.commuted.now 0 c.requires.ascend c.requires.apart in
     let inv = subst (λ l. (c.args.writes.now ≡ zipped sets c.args.commuted.now) ↔ (c.loop-write.left.now ≡ l)) (zip_end sets c.loop-write.write-index rest (omega (arith, out))) c.loop-write.invariant in
-    so c.same_writes.ensures (λ e. inv.1 e ∙ sym merges) (λ e. inv.0 (e ∙ merges))
+    so c.same_writes.ensures.equal (λ e. inv.1 e ∙ sym merges) (λ e. inv.0 (e ∙ merges))

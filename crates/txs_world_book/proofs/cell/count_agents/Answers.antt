@@ -13,8 +13,8 @@ loop-cell-preserved c =
     record {
       many = search rules;
       room = subst (λ n. length c.args.cells.now ≤ n) (sym c.push_reserved.ensures.capacity) h.invariant.room;
-      counted = counted_next c.args.cells.now h.cell-index c.cell-item.result h.before.items c.push_reserved.new.self.items h.agents c.agents_in-agents.result c.loop-cell-test.true c.cell-item.is c.push_reserved.ensures.items c.agents_in-agents.ensures h.invariant.counted;
-      few = omega (arith, few, one, c.agents_in-agents.ensures);
+      counted = counted_next c.args.cells.now h.cell-index c.cell-item.result h.before.items c.push_reserved.new.self.items h.agents c.agents_in-agents.result c.loop-cell-test.true c.cell-item.is c.push_reserved.ensures.items c.agents_in-agents.ensures.kind h.invariant.counted;
+      few = omega (arith, few, one, c.agents_in-agents.ensures.kind);
     }
 
 pub returns : goal.returns

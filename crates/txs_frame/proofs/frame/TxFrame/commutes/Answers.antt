@@ -1,6 +1,6 @@
 use Rattle.std.proofs.Common.{◌∙◌, ap}
-use Rattle.txs_frame.specs.Frame.{Work}
+use Rattle.txs_frame.specs.Frame.{PlainTxFrame}
 use Rattle.txs_frame.proofs.frame.TxFrame.commutes.Goals as goal
 
 pub returns : goal.returns
-returns c = c.as_slice.ensures.value ∙ ap (λ (w : Work). w.commutes) c.self.view_is
+returns c = c.as_slice.ensures.value ∙ ap (λ (w : PlainTxFrame). w.commutes) c.self.view_is

@@ -4,7 +4,7 @@ use Rattle.txs_world_protocol.specs.Ask.{Writes}
 use Rattle.txs_value_data.specs.declared.value.CellId.{CellId}
 use Rattle.txs_value_data.specs.declared.value.CellKind.TheVariants.{Ref}
 use Rattle.txs_value_data.specs.declared.value.Value.TheVariants.{Nil}
-use Rattle.txs_frame.specs.Frame.{Work, by_ref, commuted, phase_work}
+use Rattle.txs_frame.specs.Frame.{PlainTxFrame, by_ref, commuted, phase_work}
 use Rattle.txs_frame.specs.Phase.{blank, IsPhase, PlainPhase}
 use Rattle.txs_frame.specs.declared.frame.Commute.{Commute}
 use Rattle.txs_frame.proofs.Phasing.{begins, blank_more}
@@ -29,7 +29,7 @@ loop-cell-preserved c =
 
 pub begin-requires : goal.begin-requires
 begin-requires c =
-    let w : Work = c.args.self.now in
+    let w : PlainTxFrame = c.args.self.now in
     let ds : List CellId = c.as_slice-refs.result.now in
     let all : ds ≡ commuted w = c.as_slice-refs.ensures.value ∙ c.in_ok-cells.ensures in
     let values : c.loop-cell.values.items ≡ blank (commuted w) = c.loop-cell.invariant.built ∙ ap blank (take_all c.loop-cell.cell-index ds c.loop-cell-test.false ∙ all) in
@@ -38,7 +38,7 @@ begin-requires c =
 
 pub returns : goal.returns
 returns c =
-    let w : Work = c.args.self.now in
+    let w : PlainTxFrame = c.args.self.now in
     let ds : List CellId = c.as_slice-refs.result.now in
     let all : ds ≡ commuted w = c.as_slice-refs.ensures.value ∙ c.in_ok-cells.ensures in
     let values : c.loop-cell.values.items ≡ blank (commuted w) = c.loop-cell.invariant.built ∙ ap blank (take_all c.loop-cell.cell-index ds c.loop-cell-test.false ∙ all) in

@@ -1,7 +1,7 @@
 use Rattle.std.proofs.Common.{ap, sym, ◌∙◌, List, Vec, Global, [], ◌∷◌, ◌++◌}
 use Rattle.std.proofs.lemmas.List.{take_all}
 use Rattle.txs_value_data.specs.declared.value.CellId.{CellId}
-use Rattle.txs_frame.specs.Frame.{Work}
+use Rattle.txs_frame.specs.Frame.{PlainTxFrame}
 use Rattle.txs_frame.specs.Kept.{cells_by, was_set, ref_cell}
 use Rattle.txs_frame.proofs.Turns.{cells_join, cells_stay, was_set_so}
 use Rattle.txs_frame.proofs.frame.TxFrame.sets.Goals.{in-Set+in_ok-push-in-Set, in-Commuted}
@@ -12,7 +12,7 @@ returns c =
     c.loop-own.invariant
     ∙ ap (cells_by was_set) (take_all c.loop-own.own-index c.deref-own-items.result.now c.loop-own-test.false)
     ∙ ap (cells_by was_set) c.deref-own-items.ensures.value
-    ∙ ap (λ (w : Work). w.sets) c.self.view_is
+    ∙ ap (λ (w : PlainTxFrame). w.sets) c.self.view_is
 
 pub loop-own-preserved : goal.loop-own-preserved
 loop-own-preserved c =

@@ -1,7 +1,7 @@
 use Rattle.std.proofs.Common.{◌≡◌, ◌∙◌, List, Vec, Global, ap, subst}
 use Rattle.std.specs.Prelude.{insert}
 use Rattle.txs_value_data.specs.declared.value.CellId.{CellId}
-use Rattle.txs_frame.specs.Frame.{Work, with_cell}
+use Rattle.txs_frame.specs.Frame.{PlainTxFrame, with_cell}
 use Rattle.txs_frame.specs.Kept.{IsPlaceOf, cell_number}
 use Rattle.txs_frame.proofs.Frames.{joined, stayed}
 use Rattle.txs_frame.proofs.frame.TxFrame.with_ensured.Goals.{in-Ok, in-Err+in_ok-insert-in-Err}
@@ -19,4 +19,4 @@ returns c =
           ap (λ (v : Vec CellId Global). v.items) w.cells-is ∙ w.in_ok-insert-in-Err.ensures.items ∙ ap (λ (x : List CellId). insert x w.in-Err.i c.args.cell) same
           ∙ joined es c.args.cell w.in-Err.i (subst (IsPlaceOf cell_number es k) w.in-Err.is p)
     ] in
-    c.from_vec.ensures ∙ made ∙ ap (λ (w : Work). with_cell w.ensures c.args.cell) c.self.view_is
+    c.from_vec.ensures ∙ made ∙ ap (λ (w : PlainTxFrame). with_cell w.ensures c.args.cell) c.self.view_is

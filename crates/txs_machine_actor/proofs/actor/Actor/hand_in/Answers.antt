@@ -3,7 +3,7 @@ use Rattle.txs_machine_loop.specs.Values.{last_of, but_last}
 use Rattle.txs_frame.specs.Phase.{PlainPhase, given}
 use Rattle.txs_value_data.specs.declared.value.Value.{Value}
 use Rattle.txs_machine_stack.specs.PlainFrame.{PlainStack}
-use Rattle.txs_machine_transaction.specs.declared.state.Origin.{Origin}
+use Rattle.txs_machine_transaction.specs.declared.state.Savepoint.{Savepoint}
 use Rattle.txs_machine_transaction.specs.declared.state.Transaction.{Transaction}
 use Rattle.txs_machine_transaction.specs.declared.state.Transaction.TheVariants.{Outside, Restarting, Running, Applying, Evaluating, Swapping}
 use Rattle.txs_machine_actor.specs.declared.role.Role.{Role}
@@ -13,7 +13,7 @@ use Rattle.txs_machine_actor.specs.Turns.{IsServing, IsEvaluating, handed_back, 
 use Rattle.txs_machine_actor.proofs.actor.Actor.hand_in.Goals as goal
 
 -- where no function of a commute runs, that of an action does
-no_other : (r : Role) (t : Transaction) → ((l : ℕ) (f : Origin) (p : PlainPhase) (s : PlainStack) → t ≡ Evaluating l f p s → ⊥) → IsEvaluating r t → IsServing r
+no_other : (r : Role) (t : Transaction) → ((l : ℕ) (f : Savepoint) (p : PlainPhase) (s : PlainStack) → t ≡ Evaluating l f p s → ⊥) → IsEvaluating r t → IsServing r
 no_other r Outside e w = w
 no_other r (Restarting l) e w = w
 no_other r (Running l i f) e w = w
@@ -22,7 +22,7 @@ no_other r (Evaluating l f p s) e w = absurd (e l f p s refl)
 no_other r (Swapping c p f) e w = w
 
 -- its value is handed back then, whatever value lies on top
-handed : (a : PlainActor) (t : Transaction) → ((l : ℕ) (f : Origin) (p : PlainPhase) (s : PlainStack) → t ≡ Evaluating l f p s → ⊥) → handed_back a (last_of a.values) a.role ≡ hands_in a t
+handed : (a : PlainActor) (t : Transaction) → ((l : ℕ) (f : Savepoint) (p : PlainPhase) (s : PlainStack) → t ≡ Evaluating l f p s → ⊥) → handed_back a (last_of a.values) a.role ≡ hands_in a t
 handed a Outside e = refl
 handed a (Restarting l) e = refl
 handed a (Running l i f) e = refl

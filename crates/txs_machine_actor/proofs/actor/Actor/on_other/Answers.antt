@@ -1,16 +1,16 @@
 use Rattle.std.proofs.Common.{◌≡◌, ℕ, ◌≤◌, length, Option, refl, ap, sym, subst}
 use Rattle.txs_value_base.specs.declared.fault.Span.{Span}
 use Rattle.txs_code_meaning.specs.declared.instr.Instr.{Instr}
-use Rattle.txs_frame.specs.Frame.{Work}
+use Rattle.txs_frame.specs.Frame.{PlainTxFrame}
 use Rattle.txs_frame.specs.declared.frame.Commute.{Commute}
 use Rattle.txs_machine_stack.specs.PlainFrame.{PlainStack}
 use Rattle.txs_machine_transaction.specs.Effect.{CanMove, IsRare, Comes, effect}
 use Rattle.txs_machine_transaction.specs.declared.moved.Moved.{Moved}
 use Rattle.txs_machine_transaction.specs.declared.moved.Moved.TheVariants as moved
-use Rattle.txs_machine_transaction.specs.declared.state.Origin.{Origin}
+use Rattle.txs_machine_transaction.specs.declared.state.Savepoint.{Savepoint}
 use Rattle.txs_machine_transaction.specs.declared.state.Transaction.{Transaction}
 use Rattle.txs_machine_actor.specs.PlainActor.{PlainActor}
-use Rattle.txs_machine_actor.specs.Turns.{FollowsUp, Transacts, origin_at, stack_in_actor, with_stack}
+use Rattle.txs_machine_actor.specs.Turns.{FollowsUp, Transacts, savepoint_at, stack_in_actor, with_stack}
 use Rattle.txs_machine_actor.specs.declared.outcome.Turn.{Turn}
 use Rattle.txs_machine_actor.proofs.Departing.{transacts_so}
 use Rattle.txs_machine_actor.proofs.Dispatching.{dispatched}
@@ -28,7 +28,7 @@ send_or_hold-requires-clause-room c =
     let k = x.stack in
     let m = c.transact_rarely-moved in
     let s = c.in-Sends in
-    let from : Origin = record { span = c.args.span; stack = k } in
+    let from : Savepoint = record { span = c.args.span; stack = k } in
     let can : CanMove k.values k.room c.take-tx.result c.args.instr =
     subst (λ (t : Transaction). CanMove k.values k.room t c.args.instr) (sym c.take-tx.ensures.taken) (subst (λ (y : PlainActor). CanMove y.values y.room y.tx c.args.instr) (sym c.self.view_is) c.requires.can) in
     let rare : IsRare x.commuting c.args.instr = subst (λ (y : PlainActor). IsRare y.commuting c.args.instr) (sym c.self.view_is) c.requires.rare in
@@ -37,10 +37,10 @@ send_or_hold-requires-clause-room c =
     (found.0, subst (λ (r : ℕ). length m.new.stack.values ≤ r) (sym (ap (λ (y : PlainStack). y.room) m.ensures.rest)) found.1)
 
 -- what it came to, told of the actor that it began with
-made : (y a : PlainActor) (i : Instr) (span : Span) (next : ℕ) (t0 : Transaction) (m n : Moved) (st : PlainStack) (t u : Transaction) (w : Work) (k : Option Commute) (r : Turn) (b : PlainActor) → a ≡ y → t0 ≡ a.tx → st ≡ record (stack_in_actor a) { values = st.values }
-    → Comes m st.values t w k a.done a.commuting (effect (origin_at a span) a.values t0 a.done a.commuting i) → m ≡ n → u ≡ t → FollowsUp (record (with_stack a st) { tx = u; done = w; commuting = k }) n span next r b → Transacts y i span next r b
+made : (y a : PlainActor) (i : Instr) (span : Span) (next : ℕ) (t0 : Transaction) (m n : Moved) (st : PlainStack) (t u : Transaction) (w : PlainTxFrame) (k : Option Commute) (r : Turn) (b : PlainActor) → a ≡ y → t0 ≡ a.tx → st ≡ record (stack_in_actor a) { values = st.values }
+    → Comes m st.values t w k a.done a.commuting (effect (savepoint_at a span) a.values t0 a.done a.commuting i) → m ≡ n → u ≡ t → FollowsUp (record (with_stack a st) { tx = u; done = w; commuting = k }) n span next r b → Transacts y i span next r b
 made y a i span next t0 m n st t u w k r b same taken rest come is put follow =
-    let comes = subst (λ (x : Moved). Comes x st.values t w k a.done a.commuting (effect (origin_at a span) a.values a.tx a.done a.commuting i)) is (subst (λ (x : Transaction). Comes m st.values t w k a.done a.commuting (effect (origin_at a span) a.values x a.done a.commuting i)) taken come) in
+    let comes = subst (λ (x : Moved). Comes x st.values t w k a.done a.commuting (effect (savepoint_at a span) a.values a.tx a.done a.commuting i)) is (subst (λ (x : Transaction). Comes m st.values t w k a.done a.commuting (effect (savepoint_at a span) a.values x a.done a.commuting i)) taken come) in
     let follows = subst (λ (x : Transaction). FollowsUp (record (with_stack a st) { tx = x; done = w; commuting = k }) n span next r b) put follow in
     subst (λ (x : PlainActor). Transacts x i span next r b) same (transacts_so a span i next n st t w k r b rest comes follows)
 

@@ -1,5 +1,5 @@
 use Rattle.std.proofs.Common.{◌≡◌, ◌∙◌, Option, refl, ap, sym, subst}
-use Rattle.txs_frame.specs.Frame.{Work}
+use Rattle.txs_frame.specs.Frame.{PlainTxFrame}
 use Rattle.txs_frame.specs.declared.frame.Commute.{Commute}
 use Rattle.txs_machine_stack.specs.PlainFrame.{PlainStack}
 use Rattle.txs_machine_transaction.specs.Effect.{IsRare}
@@ -10,11 +10,11 @@ use Rattle.txs_machine_actor.proofs.Departing.{quickly_so}
 use Rattle.txs_machine_actor.proofs.actor.Actor.on_transaction.Goals as goal
 
 -- where nothing was done, the actor is as it was
-same_actor : (a : PlainActor) (k st : PlainStack) (t : Transaction) (w : Work) (o : Option Commute) → with_stack a k ≡ a → st ≡ k → t ≡ a.tx → w ≡ a.done → o ≡ a.commuting → record (with_stack a st) { tx = t; done = w; commuting = o } ≡ a
+same_actor : (a : PlainActor) (k st : PlainStack) (t : Transaction) (w : PlainTxFrame) (o : Option Commute) → with_stack a k ≡ a → st ≡ k → t ≡ a.tx → w ≡ a.done → o ≡ a.commuting → record (with_stack a st) { tx = t; done = w; commuting = o } ≡ a
 same_actor a k st t w o is e1 e2 e3 e4 =
     ap (λ (s : PlainStack). record (with_stack a s) { tx = t; done = w; commuting = o }) e1
     ∙ ap (λ (y : Transaction). record (with_stack a k) { tx = y; done = w; commuting = o }) e2
-    ∙ ap (λ (y : Work). record (with_stack a k) { done = y; commuting = o }) e3
+    ∙ ap (λ (y : PlainTxFrame). record (with_stack a k) { done = y; commuting = o }) e3
     ∙ ap (λ (y : Option Commute). record (with_stack a k) { commuting = y }) e4
     ∙ is
 

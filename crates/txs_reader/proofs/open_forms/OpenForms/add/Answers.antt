@@ -3,7 +3,7 @@ use Rattle.std.proofs.lemmas.List.{map-append, length-map, drop-append-le}
 use Rattle.txs_reader.specs.OpenForms.{opens, inner}
 use Rattle.txs_reader.specs.Rows.{divided}
 use Rattle.txs_reader.specs.Script.{Open, Holds}
-use Rattle.txs_reader.specs.Tree.{Tree, tree, trees}
+use Rattle.txs_reader.specs.Tree.{PlainForm, tree, trees}
 use Rattle.txs_reader.proofs.Holding.{completed}
 use Rattle.txs_reader.proofs.Keeps.{fold_keeps}
 use Rattle.txs_reader.proofs.Rows.{divided-more, length-divided}
@@ -29,4 +29,4 @@ returns c = λ bytes rest h.
     let pushed : trees c.push.new.self.items ≡ ts ++ t ∷ [] = ap trees c.in_ok-push.ensures.items ∙ map-append tree _ _ in
     let behind : drop state.start (trees c.push.new.self.items) ≡ inner state ++ t ∷ [] = ap (drop state.start) pushed ∙ drop-append-le state.start ts (t ∷ []) (omega (arith, length-map state.forms.items tree)) in
     let same : divided state.open.items (trees c.push.new.self.items) ≡ opens state = ap (divided state.open.items) pushed ∙ divided-more state.open.items ts (t ∷ []) (omega (arith, length-map state.forms.items tree)) in
-    subst (λ (os : List Open). Holds bytes os (drop state.start (trees c.push.new.self.items)) rest) (sym same) (subst (λ (fs : List Tree). Holds bytes (opens state) fs rest) (sym behind) done)
+    subst (λ (os : List Open). Holds bytes os (drop state.start (trees c.push.new.self.items)) rest) (sym same) (subst (λ (fs : List PlainForm). Holds bytes (opens state) fs rest) (sym behind) done)

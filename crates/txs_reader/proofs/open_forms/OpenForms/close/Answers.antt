@@ -2,7 +2,7 @@ use Rattle.std.proofs.Common.{◌≡◌, ◌-◌, List, drop, length, refl, sym,
 use Rattle.std.proofs.lemmas.List.{drop-map, length-take-le}
 use Rattle.txs_reader.specs.OpenForms.{opens, inner}
 use Rattle.txs_reader.specs.Rows.{before_all, divided}
-use Rattle.txs_reader.specs.Tree.{Tree, tree, group, trees, trees_of}
+use Rattle.txs_reader.specs.Tree.{PlainForm, tree, group, trees, trees_of}
 use Rattle.txs_reader.specs.Script.{between, opened}
 use Rattle.txs_reader.proofs.Last.{at_fits}
 use Rattle.txs_reader.proofs.Rows.{before_all-push, divided-close}
@@ -33,5 +33,5 @@ returns c =
       last = last;
       before = refl;
       bracket = at_fits (opens old) o c.args.bracket (record { init = divided c.pop.new.self.items left; before = before; is = last }) c.requires;
-      made = tree-Group _ _ _ ∙ ap (λ (ts : List Tree). group c.args.bracket (trees_of ts) (between o.from c.args.to)) parts;
+      made = tree-Group _ _ _ ∙ ap (λ (ts : List PlainForm). group c.args.bracket (trees_of ts) (between o.from c.args.to)) parts;
     }

@@ -4,7 +4,7 @@ use Rattle.txs_value_base.specs.declared.fault.Span.{Span}
 use Rattle.txs_reader.specs.declared.form.Bracket.TheVariants.{Round}
 use Rattle.txs_reader.specs.OpenForms.{opens}
 use Rattle.txs_reader.specs.Rows.{before_all, divided}
-use Rattle.txs_reader.specs.Tree.{Tree, leaf, group, symbol, first, none, tree, trees, trees_of}
+use Rattle.txs_reader.specs.Tree.{PlainForm, leaf, group, symbol, first, none, tree, trees, trees_of}
 use Rattle.txs_reader.specs.Script.{between, opened}
 use Rattle.txs_reader.proofs.Last.{at_deref}
 use Rattle.txs_reader.proofs.Rows.{before_all-push, divided-fold, alone}
@@ -42,7 +42,7 @@ returns c =
       bracket = at_deref (opens old) o (record { init = divided new ts; before = before; is = last }) c.requires;
       made =
           tree-Group _ _ _
-          ∙ ap (λ (ts : List Tree). group Round (trees_of ts) (between o.from c.span-to.result.to)) (trees_sugar _ _ _ _ _ _ (ap trees c.in-Ok-with_capacity.ensures.items) c.push_reserved.ensures.items c.push_reserved-in-Some.ensures.items)
+          ∙ ap (λ (ts : List PlainForm). group Round (trees_of ts) (between o.from c.span-to.result.to)) (trees_sugar _ _ _ _ _ _ (ap trees c.in-Ok-with_capacity.ensures.items) c.push_reserved.ensures.items c.push_reserved-in-Some.ensures.items)
           ∙ ap (λ (n : List ℕ). group Round (first (leaf (symbol n) (between o.from (o.from + 1))) (first t none)) (between o.from c.span-to.result.to)) c.in-Ok.ensures
           ∙ ap (λ (s : Span). group Round (first (leaf (symbol (100 ∷ 101 ∷ 114 ∷ 101 ∷ 102 ∷ [])) (between o.from (o.from + 1))) (first t none)) (between o.from s.to)) c.span-to.ensures;
     }

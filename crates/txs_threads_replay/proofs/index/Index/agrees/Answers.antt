@@ -7,7 +7,7 @@ use Rattle.txs_threads_replay.specs.Agrees.{AllClaimed, IsClaimed, LeftAgree}
 use Rattle.txs_threads_replay.specs.ByPlace.{HoldsByPlace, next_place, place_of}
 use Rattle.txs_threads_replay.specs.Fits.{LooksAt}
 use Rattle.txs_threads_replay.specs.Storing.{kept_in}
-use Rattle.txs_threads_replay.specs.declared.kept.Kept.{Kept}
+use Rattle.txs_threads_replay.specs.declared.kept.KeptEntry.{KeptEntry}
 use Rattle.txs_threads_replay.proofs.Agreeing.{looks_of, in_turn_of, left_next, left_back, unclaimed, left_all, left_none, dropped_at, zero_at}
 use Rattle.txs_threads_replay.proofs.Testing.{no, so, isnt}
 use Rattle.txs_threads_replay.proofs.index.Index.agrees.Goals as goal

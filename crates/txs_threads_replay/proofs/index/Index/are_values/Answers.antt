@@ -12,7 +12,7 @@ use Rattle.txs_world_shared.specs.SharedState.{shared_of, numbered_book}
 use Rattle.txs_threads_replay.specs.Fits.{LooksAt}
 use Rattle.txs_threads_replay.proofs.Testing.{no}
 use Rattle.txs_threads_replay.proofs.Parting.{refs_at, map_length, map_at}
-use Rattle.txs_threads_replay.proofs.Comparing.{next_same, same_at, all_same}
+use Rattle.txs_world_protocol.proofs.Comparing.{next_same, same_at, all_same}
 use Rattle.txs_world_book.specs.Book.{after, opening}
 use Rattle.txs_threads_replay.proofs.index.Index.are_values.Goals as goal
 

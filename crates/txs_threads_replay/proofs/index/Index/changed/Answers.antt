@@ -21,8 +21,8 @@ use Rattle.txs_threads_replay.specs.ByPlace.{after_swap}
 use Rattle.txs_world_protocol.specs.declared.event.Event.{Event}
 use Rattle.txs_threads_replay.proofs.index.Index.changed.Goals as goal
 
-pub returns-then-not-is_same : goal.returns-then-not-is_same
-returns-then-not-is_same c = no (λ l. isnt c.is_same.ensures c.if-not-is_same.true (changed_from c.args.self.now c.shared-stands.ensures.stands c.args.actor c.args.cell (after_swap c.args.place (numbered_book c.args.self.now (home c.args.self.now.cells c.args.cell))) c.args.place c.args.new.now c.args.changed l).0)
+pub returns-then-not-same_cell : goal.returns-then-not-same_cell
+returns-then-not-same_cell c = no (λ l. isnt c.same_cell.ensures.equal c.if-not-same_cell.true (changed_from c.args.self.now c.shared-stands.ensures.stands c.args.actor c.args.cell (after_swap c.args.place (numbered_book c.args.self.now (home c.args.self.now.cells c.args.cell))) c.args.place c.args.new.now c.args.changed l).0)
 
 pub returns-then-actor-threads : goal.returns-then-actor-threads
 returns-then-actor-threads c = no (λ l. let lt = (changed_from c.args.self.now c.shared-stands.ensures.stands c.args.actor c.args.cell (after_swap c.args.place (numbered_book c.args.self.now (home c.args.self.now.cells c.args.cell))) c.args.place c.args.new.now c.args.changed l).1 in let ge = c.if-actor-threads.true in let n = c.threads.ensures in omega (arith, lt, ge, n))
@@ -40,7 +40,7 @@ pub returns-in-Some : goal.returns-in-Some
 returns-in-Some c =
     let p = c.args.place in
     let book = numbered_book c.args.self.now (home c.args.self.now.cells c.args.cell) in
-    let same : c.args.changed ≡ c.args.cell = c.is_same.ensures.0 c.if-not-is_same.false in
+    let same : c.args.changed ≡ c.args.cell = c.same_cell.ensures.equal.0 c.if-not-same_cell.false in
     let has = sym c.has_atom.ensures ∙ c.if-not-has_atom.false in
     let lt : c.args.actor < c.args.self.now.threads = (let ge = c.if-actor-threads.false in let n = c.threads.ensures in omega (arith, ge, n)) in
     let is : c.in-Some.behind ≡ after_swap p book = c.in-Some.ensures.some.0 ∙ ap (after_swap p) c.atom_of-atom.ensures in

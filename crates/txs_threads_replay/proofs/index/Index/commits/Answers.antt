@@ -15,22 +15,22 @@ use Rattle.txs_threads_replay.proofs.Testing.{no, isnt, end_is}
 use Rattle.txs_threads_replay.proofs.index.Index.commits.Goals as goal
 
 pub returns-then-not-has_commit : goal.returns-then-not-has_commit
-returns-then-not-has_commit c = no (λ l. isnt c.has_commit.ensures c.if-not-has_commit.true (commit_has c.args.self.now c.shared-stands.ensures.stands c.args.actor c.args.at c.args.sets.now c.args.ensured.now c.args.view c.args.commuted.now c.args.sends.now c.args.own c.args.reply.now l).0)
+returns-then-not-has_commit c = no (λ l. isnt c.has_commit.ensures c.if-not-has_commit.true (commit_has c.args.self.now c.shared-stands.ensures.stands c.args.actor c.args.end.at c.args.end.sets.now c.args.end.ensured.now c.args.end.view c.args.end.commuted.now c.args.end.sends.now c.args.own c.args.reply.now l).0)
 
 pub returns-in-Done : goal.returns-in-Done
-returns-in-Done c = subst (λ r. IsTrue c.committed.result ↔ LooksAt c.args.self.now c.args.actor (ask.Commit c.args.at c.args.sets.now c.args.ensured.now c.args.view c.args.commuted.now c.args.sends.now) c.args.own r) (sym c.in-Done.is) c.committed.ensures
+returns-in-Done c = subst (λ r. IsTrue c.committed.result ↔ LooksAt c.args.self.now c.args.actor (ask.Commit c.args.end.at c.args.end.sets.now c.args.end.ensured.now c.args.end.view c.args.end.commuted.now c.args.end.sends.now) c.args.own r) (sym c.in-Done.is) c.committed.ensures
 
 pub returns-in-Retry : goal.returns-in-Retry
-returns-in-Retry c = subst (λ r. IsTrue c.retried.result ↔ LooksAt c.args.self.now c.args.actor (ask.Commit c.args.at c.args.sets.now c.args.ensured.now c.args.view c.args.commuted.now c.args.sends.now) c.args.own r) (sym c.in-Retry.is) c.retried.ensures
+returns-in-Retry c = subst (λ r. IsTrue c.retried.result ↔ LooksAt c.args.self.now c.args.actor (ask.Commit c.args.end.at c.args.end.sets.now c.args.end.ensured.now c.args.end.view c.args.end.commuted.now c.args.end.sends.now) c.args.own r) (sym c.in-Retry.is) c.retried.ensures
 
 pub returns-in-Changed : goal.returns-in-Changed
-returns-in-Changed c = subst (λ r. IsTrue c.redone.result ↔ LooksAt c.args.self.now c.args.actor (ask.Commit c.args.at c.args.sets.now c.args.ensured.now c.args.view c.args.commuted.now c.args.sends.now) c.args.own r) (sym c.in-Changed.is) c.redone.ensures
+returns-in-Changed c = subst (λ r. IsTrue c.redone.result ↔ LooksAt c.args.self.now c.args.actor (ask.Commit c.args.end.at c.args.end.sets.now c.args.end.ensured.now c.args.end.view c.args.end.commuted.now c.args.end.sends.now) c.args.own r) (sym c.in-Changed.is) c.redone.ensures
 
 pub returns-in-AgentIsFailed : goal.returns-in-AgentIsFailed
-returns-in-AgentIsFailed c = subst (λ r. IsTrue c.refused.result ↔ LooksAt c.args.self.now c.args.actor (ask.Commit c.args.at c.args.sets.now c.args.ensured.now c.args.view c.args.commuted.now c.args.sends.now) c.args.own r) (sym c.in-AgentIsFailed.is) c.refused.ensures
+returns-in-AgentIsFailed c = subst (λ r. IsTrue c.refused.result ↔ LooksAt c.args.self.now c.args.actor (ask.Commit c.args.end.at c.args.end.sets.now c.args.end.ensured.now c.args.end.view c.args.end.commuted.now c.args.end.sends.now) c.args.own r) (sym c.in-AgentIsFailed.is) c.refused.ensures
 
 pub returns-in_default : goal.returns-in_default
-returns-in_default c = no (λ l. end_is c.args.reply.now (commit_is c.args.self.now c.shared-stands.ensures.stands c.args.actor c.args.at c.args.sets.now c.args.ensured.now c.args.view c.args.commuted.now c.args.sends.now c.args.own c.args.reply.now l) c.in_default.not-Done c.in_default.not-Retry c.in_default.not-Changed c.in_default.not-AgentIsFailed)
+returns-in_default c = no (λ l. end_is c.args.reply.now (commit_is c.args.self.now c.shared-stands.ensures.stands c.args.actor c.args.end.at c.args.end.sets.now c.args.end.ensured.now c.args.end.view c.args.end.commuted.now c.args.end.sends.now c.args.own c.args.reply.now l) c.in_default.not-Done c.in_default.not-Retry c.in_default.not-Changed c.in_default.not-AgentIsFailed)
 
 pub committed-requires : goal.committed-requires
 committed-requires c = c.has_commit.ensures.0 c.if-not-has_commit.false

@@ -12,7 +12,7 @@ use Rattle.txs_world_shared.specs.SharedState.{shared_of, numbered_book}
 use Rattle.txs_threads_replay.specs.Fits.{LooksAt}
 use Rattle.txs_threads_replay.specs.ByPlace.{place_of}
 use Rattle.txs_threads_replay.specs.Storing.{kept_in}
-use Rattle.txs_threads_replay.specs.declared.kept.Kept.{Kept}
+use Rattle.txs_threads_replay.specs.declared.kept.KeptEntry.{KeptEntry}
 use Rattle.txs_threads_replay.proofs.index.Index.fits.Goals as goal
 
 pub returns-in-Begun : goal.returns-in-Begun
@@ -33,4 +33,4 @@ returns-in-Closed c = subst (λ x. IsTrue c.closed.result ↔ LooksAt c.args.sel
 pub returns-in-Other : goal.returns-in-Other
 returns-in-Other c =
     subst (λ x. IsTrue c.fits_any.result ↔ LooksAt c.args.self.now c.args.actor (kept_in x).ask (place_of c.args.self.now.cells (shared_of c.args.self.now).books (kept_in x).at c.args.next (kept_in x).ask (kept_in x).reply) (kept_in x).reply) (sym c.in-Other.is)
-    (subst (λ (k : Kept). IsTrue c.fits_any.result ↔ LooksAt c.args.self.now c.args.actor k.ask (place_of c.args.self.now.cells (shared_of c.args.self.now).books k.at c.args.next k.ask k.reply) k.reply) c.deref.ensures c.fits_any.ensures)
+    (subst (λ (k : KeptEntry). IsTrue c.fits_any.result ↔ LooksAt c.args.self.now c.args.actor k.ask (place_of c.args.self.now.cells (shared_of c.args.self.now).books k.at c.args.next k.ask k.reply) k.reply) c.deref.ensures c.fits_any.ensures)

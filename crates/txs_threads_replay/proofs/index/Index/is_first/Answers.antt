@@ -16,7 +16,7 @@ use Rattle.txs_threads_replay.proofs.Parting.{none_some}
 use Rattle.txs_threads_replay.proofs.index.Index.is_first.Goals as goal
 
 pub returns-in-Some : goal.returns-in-Some
-returns-in-Some c = so c.same_action.ensures (λ e. c.in-Some.ensures.some ∙ ap Some e) (λ h. some_is (sym c.in-Some.ensures.some ∙ h))
+returns-in-Some c = so c.same_action.ensures.equal (λ e. c.in-Some.ensures.some ∙ ap Some e) (λ h. some_is (sym c.in-Some.ensures.some ∙ h))
 
 pub returns-in-None : goal.returns-in-None
 returns-in-None c = no (λ h. none_some (sym (c.next_action.ensures.none c.in-None.is) ∙ h))

@@ -18,16 +18,16 @@ use Rattle.txs_threads_replay.proofs.Indexing.{within}
 use Rattle.txs_threads_replay.proofs.index.Index.redone.Goals as goal
 
 pub returns-then-not-is_retry : goal.returns-then-not-is_retry
-returns-then-not-is_retry c = no (λ l. isnt (subst (λ es. IsTrue c.is_retry.result ↔ (nth es c.args.own ≡ Some (event_of c.args.actor (event.Retry c.args.view c.args.written true)))) c.events.ensures c.is_retry.ensures) c.if-not-is_retry.true (commit_there c.args.self.now c.shared-stands.ensures.stands c.args.actor c.args.at c.args.sets.now c.args.ensured.now c.args.view c.args.commuted.now c.args.sends.now c.args.own (reply.Changed c.args.written) tt l))
+returns-then-not-is_retry c = no (λ l. isnt (subst (λ es. IsTrue c.is_retry.result ↔ (nth es c.args.own ≡ Some (event_of c.args.actor (event.Retry c.args.end.view c.args.written true)))) c.events.ensures c.is_retry.ensures) c.if-not-is_retry.true (commit_there c.args.self.now c.shared-stands.ensures.stands c.args.actor c.args.end.at c.args.end.sets.now c.args.end.ensured.now c.args.end.view c.args.end.commuted.now c.args.end.sends.now c.args.own (reply.Changed c.args.written) tt l))
 
 pub may_end-requires : goal.may_end-requires
-may_end-requires c = (let lt = within _ c.args.own _ ((subst (λ es. IsTrue c.is_retry.result ↔ (nth es c.args.own ≡ Some (event_of c.args.actor (event.Retry c.args.view c.args.written true)))) c.events.ensures c.is_retry.ensures).0 c.if-not-is_retry.false) in omega (arith, lt))
+may_end-requires c = (let lt = within _ c.args.own _ ((subst (λ es. IsTrue c.is_retry.result ↔ (nth es c.args.own ≡ Some (event_of c.args.actor (event.Retry c.args.end.view c.args.written true)))) c.events.ensures c.is_retry.ensures).0 c.if-not-is_retry.false) in omega (arith, lt))
 
 pub returns-then-not-may_end : goal.returns-then-not-may_end
-returns-then-not-may_end c = no (λ l. false≢true (sym c.if-not-may_end.true ∙ c.may_end.ensures ∙ (commit_has c.args.self.now c.shared-stands.ensures.stands c.args.actor c.args.at c.args.sets.now c.args.ensured.now c.args.view c.args.commuted.now c.args.sends.now c.args.own (reply.Changed c.args.written) l).1))
+returns-then-not-may_end c = no (λ l. false≢true (sym c.if-not-may_end.true ∙ c.may_end.ensures ∙ (commit_has c.args.self.now c.shared-stands.ensures.stands c.args.actor c.args.end.at c.args.end.sets.now c.args.end.ensured.now c.args.end.view c.args.end.commuted.now c.args.end.sends.now c.args.own (reply.Changed c.args.written) l).1))
 
 pub returns : goal.returns
 returns c =
-    let there = (subst (λ es. IsTrue c.is_retry.result ↔ (nth es c.args.own ≡ Some (event_of c.args.actor (event.Retry c.args.view c.args.written true)))) c.events.ensures c.is_retry.ensures).0 c.if-not-is_retry.false in
+    let there = (subst (λ es. IsTrue c.is_retry.result ↔ (nth es c.args.own ≡ Some (event_of c.args.actor (event.Retry c.args.end.view c.args.written true)))) c.events.ensures c.is_retry.ensures).0 c.if-not-is_retry.false in
     let may = sym c.may_end.ensures ∙ c.if-not-may_end.false in
-    so (both_so (value_so c.is_nothing.ensures c.least_tested-tested.ensures) (value_so c.is_cell.ensures c.least_written-viewed.ensures)) (λ h. redo_to c.args.self.now c.shared-stands.ensures.stands c.args.actor c.args.at c.args.sets.now c.args.ensured.now c.args.view c.args.commuted.now c.args.sends.now c.args.own c.args.written c.requires there may h.0 h.1) (λ l. commit_found c.args.self.now c.shared-stands.ensures.stands c.args.actor c.args.at c.args.sets.now c.args.ensured.now c.args.view c.args.commuted.now c.args.sends.now c.args.own (reply.Changed c.args.written) l)
+    so (both_so (value_so c.is_nothing.ensures c.least_tested-tested.ensures) (value_so c.is_cell.ensures c.least_written-viewed.ensures)) (λ h. redo_to c.args.self.now c.shared-stands.ensures.stands c.args.actor c.args.end.at c.args.end.sets.now c.args.end.ensured.now c.args.end.view c.args.end.commuted.now c.args.end.sends.now c.args.own c.args.written c.requires there may h.0 h.1) (λ l. commit_found c.args.self.now c.shared-stands.ensures.stands c.args.actor c.args.end.at c.args.end.sets.now c.args.end.ensured.now c.args.end.view c.args.end.commuted.now c.args.end.sends.now c.args.own (reply.Changed c.args.written) l)

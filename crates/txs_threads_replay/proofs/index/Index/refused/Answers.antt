@@ -17,9 +17,9 @@ use Rattle.txs_world.specs.Store.{merged}
 use Rattle.txs_threads_replay.proofs.index.Index.refused.Goals as goal
 
 pub returns-then-not-is_refused : goal.returns-then-not-is_refused
-returns-then-not-is_refused c = no (λ l. isnt (subst (λ es. IsTrue c.is_refused.result ↔ (nth es c.args.own ≡ Some (event_of c.args.actor (event.Refused c.args.at c.args.view c.args.agent)))) c.events.ensures c.is_refused.ensures) c.if-not-is_refused.true (commit_there c.args.self.now c.shared-stands.ensures.stands c.args.actor c.args.at c.args.sets.now c.args.ensured.now c.args.view c.args.commuted.now c.args.sends.now c.args.own (reply.AgentIsFailed c.args.agent) tt l))
+returns-then-not-is_refused c = no (λ l. isnt (subst (λ es. IsTrue c.is_refused.result ↔ (nth es c.args.own ≡ Some (event_of c.args.actor (event.Refused c.args.end.at c.args.end.view c.args.agent)))) c.events.ensures c.is_refused.ensures) c.if-not-is_refused.true (commit_there c.args.self.now c.shared-stands.ensures.stands c.args.actor c.args.end.at c.args.end.sets.now c.args.end.ensured.now c.args.end.view c.args.end.commuted.now c.args.end.sends.now c.args.own (reply.AgentIsFailed c.args.agent) tt l))
 
 pub returns : goal.returns
 returns c =
-    let there = (subst (λ es. IsTrue c.is_refused.result ↔ (nth es c.args.own ≡ Some (event_of c.args.actor (event.Refused c.args.at c.args.view c.args.agent)))) c.events.ensures c.is_refused.ensures).0 c.if-not-is_refused.false in
-    so (both_so (both_so (value_so c.is_nothing.ensures c.least_tested-tested.ensures) (value_so c.is_nothing-2.ensures c.least_written-viewed.ensures)) (value_so c.is_cell.ensures c.first_failed-failed.ensures)) (λ h. refuse_to c.args.self.now c.shared-stands.ensures.stands c.args.actor c.args.at c.args.sets.now c.args.ensured.now c.args.view c.args.commuted.now c.args.sends.now c.args.own c.args.agent c.requires there h.0.0 h.0.1 h.1) (λ l. let f = commit_found c.args.self.now c.shared-stands.ensures.stands c.args.actor c.args.at c.args.sets.now c.args.ensured.now c.args.view c.args.commuted.now c.args.sends.now c.args.own (reply.AgentIsFailed c.args.agent) l in ((f.0, f.1), f.2))
+    let there = (subst (λ es. IsTrue c.is_refused.result ↔ (nth es c.args.own ≡ Some (event_of c.args.actor (event.Refused c.args.end.at c.args.end.view c.args.agent)))) c.events.ensures c.is_refused.ensures).0 c.if-not-is_refused.false in
+    so (both_so (both_so (value_so c.is_nothing.ensures c.least_tested-tested.ensures) (value_so c.is_nothing-2.ensures c.least_written-viewed.ensures)) (value_so c.is_cell.ensures c.first_failed-failed.ensures)) (λ h. refuse_to c.args.self.now c.shared-stands.ensures.stands c.args.actor c.args.end.at c.args.end.sets.now c.args.end.ensured.now c.args.end.view c.args.end.commuted.now c.args.end.sends.now c.args.own c.args.agent c.requires there h.0.0 h.0.1 h.1) (λ l. let f = commit_found c.args.self.now c.shared-stands.ensures.stands c.args.actor c.args.end.at c.args.end.sets.now c.args.end.ensured.now c.args.end.view c.args.end.commuted.now c.args.end.sends.now c.args.own (reply.AgentIsFailed c.args.agent) l in ((f.0, f.1), f.2))

@@ -1,0 +1,6 @@
+//! The program over any streams, where `run_threads` runs what is to be run by workers.
+#![tactic(auto)]
+
+pub mod play;
+
+pub use play::play_by_workers;

@@ -1,0 +1,67 @@
+//! Requests over any streams, with workers that are started by a handle.
+
+ghost use Rattle.std.specs.Prelude.{IfSome};
+ghost use Rattle.std.specs.Thread.{IsSync};
+ghost use Rattle.txs_cli.specs.Runner.{HasFailed, IsRunnable, RunsLawfully};
+ghost use Rattle.txs_cli.specs.Telling.{WorkedRequestTells};
+ghost use Rattle.txs_cli_audit.specs.Audit.{HasNoAnswer, IsRight};
+ghost use Rattle.txs_cli_report.specs.Told.{Told, Written};
+ghost use Rattle.txs_program.specs.Workers.{Runs};
+
+use std::alloc::Global;
+use std::io::{Read, Write};
+use std::sync::Wait;
+use std::thread::Threads;
+use txs_audit_answer::{AuditError, Verdict};
+use txs_cli::play_with;
+use txs_cli_request::Request;
+use txs_code_meaning::Verified;
+use txs_machine::{Entries, RunError};
+use txs_threads::{Gathered, OpenGate, run_threads};
+use txs_tree_meaning::Program;
+use txs_world_protocol::Report;
+use txs_world_shared::SharedState;
+
+/// Does what the request asks for, as `play_with` does; where that is a run by workers, `run_threads` makes it, with this handle and an open gate.
+pub fn play_by_workers<
+    T: Threads + Wait + Sync,
+    A: Fn(Global, &Program, &Report, u32, usize) -> Result<Verdict, AuditError>,
+    R: Read,
+    W: Write,
+    F: Write,
+>(
+    threads: &T,
+    alloc: Global,
+    auditor: &A,
+    request: &Request,
+    reader: &mut R,
+    writer: &mut W,
+    faults: &mut F,
+) -> u8
+    requires audit { (a : _) (p : _) (r : _) (n : _) (w : _) → A.pre auditor.now a p r n w }
+    requires right { (a : _) (p : _) (r : _) (n : _) (w : _) (v : _) → A.post auditor.now a p r n w v → IsRight p.now r.now n v }
+    ensures { IfSome (R.remaining reader.old) (λ input. (t : Told) × WorkedRequestTells (HasFailed Runs) (HasNoAnswer (A.post auditor.now)) input request.now t
+        × Written (W.contents writer.old) (W.contents writer.new) (F.contents faults.old) (F.contents faults.new) t result) }
+{
+    play_with(
+        alloc,
+        &|alloc: Global, code: &Verified, workers: usize, steps: u64| -> Result<
+            (SharedState, Entries),
+            RunError,
+        >
+            requires sync { IsSync T.row }
+            requires few { IsRunnable code.now }
+            ensures { RunsLawfully code.now steps result }
+        {
+            let Gathered { shared, report } = run_threads(
+                threads, alloc, code, workers, steps, &OpenGate,
+            )?;
+            Ok((shared, report))
+        },
+        auditor,
+        request,
+        reader,
+        writer,
+        faults,
+    )
+}
