@@ -1,7 +1,8 @@
 #!/usr/bin/env python3
 """audited.py [--long] [--seed N]
-Audits runs of the built program, by schedules and by workers: of each example, and of random scripts of one to four threads with refs, atoms
-and agents, also with few steps. Each audit has to agree. --long makes 500 scripts; else 60 are made. TXS names another program than
+Audits runs of the built program, by schedules and by workers: of each example, and of random scripts of one to four threads, also with few
+steps. These have refs, atoms and agents, of which some have validators. Each audit has to agree. No cell may have a value that its validator
+refuses, unless it opened with it. --long makes 500 scripts; else 60 are made. TXS names another program than
 crates/txs/out/txs. Its last line is 'N passed, M failed'."""
 import argparse
 import collections
@@ -16,7 +17,14 @@ EXAMPLES = os.path.join(trial.HERE, "..", "examples")
 FUNCTIONS = """(defn f [x y] (if (< x y) (+ x 1) (* y 2)))
 (defn bad [x] (quot x 0))
 (defn spin [x n] (loop [i 0 v x] (if (< i n) (recur (inc i) (+ v i)) v)))
+(defn small [x] (< x 12))
+(defn odd [x] (if (= 1 (mod x 2)) true nil))
+(defn slow [x] (loop [i 0] (if (< i 9) (recur (inc i)) (> x 2))))
+(defn part [x] (quot 9 (- x 7)))
 """
+# what validators accept, of whole numbers; `part` faults for the others, and `count` for all
+ACCEPTED = {"small": lambda x: x < 12, "odd": lambda x: x % 2 == 1, "slow": lambda x: x > 2, "part": lambda x: x != 7, "pos?": lambda x: x > 0,
+            "inc": lambda x: True, "nil?": lambda x: False, "count": lambda x: False}
 # what a transaction does; R, S are refs, G an agent, N a number
 INNER = ["(alter R inc)"] * 4 + ["(ref-set R (+ @S 1))"] * 2 + ["(commute R f N)"] * 3 + ["(ensure R)"] * 2 + ["(alter R + @S)"] * 2 + [
     "(commute R inc)", "(commute R bad)", "(when (< @R 20) (alter S spin 3))", "@R", "@S", "(send G f N)", "(send G f N)"]
@@ -30,7 +38,7 @@ class Maker:
 
     def __init__(self, seed):
         self.rng = random.Random(seed)
-        self.cells = {}
+        self.cells, self.validators, self.outer, self.modes = {}, {}, OUTER, ["", "", " :error-mode :continue"]
 
     def one(self, forms):
         """One of these forms for which there are cells, with names and numbers in it."""
@@ -42,17 +50,34 @@ class Maker:
                 named = re.sub(r"\b[RSAG]\b", lambda m: self.rng.choice(self.cells[m[0]]), form)
                 return re.sub(r"\bN\b", lambda m: str(self.rng.randint(0, 9)), named)
 
-    def script(self):
-        """A script of one to four threads."""
+    def script(self, most=4):
+        """A script of one thread, or up to so many."""
         many = self.rng.randint
         refs = ["r%d" % i for i in range(many(1, 3))]
         self.cells = {"R": refs, "S": refs, "A": ["a%d" % i for i in range(many(0, 2))], "G": ["g%d" % i for i in range(many(0, 2))]}
         opened = [("ref", it) for it in refs] + [("atom", it) for it in self.cells["A"]] + [("agent", it) for it in self.cells["G"]]
         self.rng.shuffle(opened)
-        ends = ["", "", " :error-mode :continue"]
-        lines = ["(def %s (%s %d%s))" % (name, kind, many(0, 9), self.rng.choice(ends) if kind == "agent" else "") for kind, name in opened]
-        threads = ["(future %s)" % " ".join(self.one(OUTER) for _ in range(many(1, 5))) for _ in range(many(1, 4))]
-        return "\n".join([*lines, FUNCTIONS, *threads])
+        values = {name: many(0, 9) for _, name in opened}
+        # each cell with a validator, by its opening value and what is accepted
+        self.validators = {}
+        lines = ["(def %s (%s %d%s))" % (name, kind, values[name], self.options(kind, name, values[name])) for kind, name in opened]
+        threads = ["(future %s)" % " ".join(self.one(self.outer) for _ in range(many(1, 5))) for _ in range(many(1, most))]
+        return "\n".join([FUNCTIONS, *lines, *threads])
+
+    def options(self, kind, name, value):
+        """The options of a cell, in some order."""
+        options = [self.rng.choice(self.modes)] if kind == "agent" else []
+        validator = self.rng.choice([None, None, "small", "small", "odd", *ACCEPTED])
+        if validator:
+            self.validators[name] = (value, ACCEPTED[validator])
+            options.append(" :validator " + validator)
+        self.rng.shuffle(options)
+        return "".join(options)
+
+    def is_valid(self, out):
+        """Whether each cell with a validator has its opening value, or one that is accepted."""
+        cells = dict(re.findall(r"^([rag]\d) (-?\d+)$", out.decode(), re.M))
+        return all(name in cells and (int(cells[name]) == value or accepts(int(cells[name]))) for name, (value, accepts) in self.validators.items())
 
     def turns(self, threads):
         """A schedule of the first thread, and of the second where there is one."""
@@ -60,12 +85,13 @@ class Maker:
         return ",".join("%s%d%s" % (rng.choice(["", "t"]), rng.randrange(min(2, threads)), rng.choice(["", "x3", "x9"])) for _ in range(rng.randint(0, 40)))
 
 
-def take(count, told, what, ran):
-    """Counts a run: its audit agrees."""
+def take(count, told, what, ran, is_valid=True):
+    """Counts a run: its audit agrees, and its cells are valid."""
     said = re.findall(rb"^audit [a-z ]+", ran.out, re.M)
     is_well = len(said) == 1 and said[0] in (b"audit agrees", b"audit agrees serial") and ran.status in (0, 3, 4)
-    count.take(what, is_well, ran)
+    count.take(what, is_well and is_valid, ran)
     told[said[0].decode() if len(said) == 1 else "none"] += 1
+    told["runs with a refused value"] += b" failed: InvalidState at " in ran.err
 
 
 def main():
@@ -88,9 +114,11 @@ def main():
             turns = maker.turns(text.count("(future "))
             steps = str(maker.rng.choice([30, 60, 100, 1000000, 1000000, 1000000]))
             for words in (["schedule", "--turns", turns], ["run", "--workers", str(1 + k % 5)]):
-                take(count, told, "script %d by %s with %s steps: %s" % (k, " ".join(words), steps, text), t.run([*words, "--audit", "--steps", steps], text.encode()))
+                ran = t.run([*words, "--cells", "--audit", "--steps", steps], text.encode())
+                take(count, told, "script %d by %s with %s steps: %s" % (k, " ".join(words), steps, text), ran, maker.is_valid(ran.out))
     print("audits: %s" % ", ".join("%d %s" % (many, what) for what, many in sorted(told.items())))
     count.end()
 
 
-main()
+if __name__ == "__main__":
+    main()

@@ -15,7 +15,7 @@ import trial
 DATA = os.path.join(trial.HERE, "..", "crates", "txs_test_examples", "data")
 OF_SCRIPTS = re.compile(r"refused (\d+) (\w+) at (\d+)\.\.(\d+)\n")
 OF_BYTES = re.compile(r"refused (3[1-6]) (\w+) at (\d+)\n")
-OF_CODE = re.compile(r"refused (4[1-8]) (\w+) in (fn|thread) (\d+) at (\d+)\n")
+OF_CODE = re.compile(r"refused (4[1-8]) (\w+) in (fn|thread|cell) (\d+) at (\d+)\n")
 # the code of (future (println 7))
 SEVEN = bytes.fromhex("545853310000000000010300000000000000070000000100000000000300000000000000001100000012"
                       "0a0001000000080000001318000000000000" "0014")
@@ -26,6 +26,9 @@ LARGER = [
     "(defn step [s x] (if (> x 2) (quot s 0) (+ s x)))"
     "(future (swap! a conj 2) (send g step 3) (println (ensured c)))".replace("(ensured c)", "(dosync (ensure c) (commute c + 1) @c)")
     + "(future (loop [i 0] (when (not= i 3) (send g step i) (recur (inc i)))) (reset! a [@a @c]))",
+    # the form of cells with validators
+    "(defn ok [x] (>= x 0)) (def r (ref 1 :validator ok)) (def a (atom nil)) (def g (agent 2 :error-mode :continue :validator pos?)) (def b (atom 3 :validator ok))"
+    "(future (dosync (alter r + 1) (commute r - 1) (send g - 2)) (reset! a (swap! b - 4)))",
 ]
 
 
@@ -138,10 +141,14 @@ def forms(t, count, is_long):
 
 
 # Forms that promise more than they have, up to a count, and what is said of them.
-HEAD = b"TXS1"
+HEAD, VALIDATED = b"TXS1", b"TXS2"
 PROMISES = [
     ("1,000 cells", HEAD + b"\x03\xe8", "refused 32 Truncated at 6\n"),
     ("1,001 cells", HEAD + b"\x03\xe9", "refused 36 TooLarge at 4\n"),
+    ("1,000 cells, of which one has a validator", VALIDATED + b"\x03\xe8", "refused 32 Truncated at 6\n"),
+    ("1,001 cells, of which one has a validator", VALIDATED + b"\x03\xe9", "refused 36 TooLarge at 4\n"),
+    ("a validator, and has no cell", VALIDATED + b"\0\0\x00\x0f\x42\x41", "refused 34 BadOperand at 3\n"),
+    ("a validator of its cell", VALIDATED + b"\0\1\0\0\1r\0", "refused 32 Truncated at 11\n"),
     ("1,000,000 constants", HEAD + b"\0\0\x00\x0f\x42\x40", "refused 32 Truncated at 10\n"),
     ("1,000,001 constants", HEAD + b"\0\0\x00\x0f\x42\x41", "refused 36 TooLarge at 6\n"),
     ("4,294,967,295 constants", HEAD + b"\0\0\xff\xff\xff\xff", "refused 36 TooLarge at 6\n"),
@@ -164,7 +171,7 @@ def promises(t, count, is_long):
         count.take("a form that promises %s" % what, is_well, "%s, a growth of %d bytes" % (ran, ran.counts["largest growth"]))
 
 
-TOKENS = ("( ) [ ] @ ( ) ( ) def defn future dosync ref atom agent alter commute ensure ref-set swap! reset! send loop recur let if when cond and or do "
+TOKENS = ("( ) [ ] @ ( ) ( ) def defn future dosync ref atom agent :validator pos? :error-mode alter commute ensure ref-set swap! reset! send loop recur let if when cond and or do "
           "println f g x y r a + - * = < inc conj nth 0 1 -1 9223372036854775807 9223372036854775808 nil true false :k \"s\" \"\\u00 ; , "
           "{ # ' \\a 1/2 1.5 ns x.y \x00 \xff \xc3\xa9 \xef\xbb\xbf").split(" ")
 
@@ -180,7 +187,7 @@ def texts(t, count, is_long):
         given.append(bytes(chance.randrange(256) for _ in range(chance.randrange(60))))
     for text, ran in zip(given, trial.each(lambda it: t.run(["check"], it), given)):
         count.take("a text, %r" % text, refusal_of(ran, text) is not False, ran)
-    given = [HEAD + it for it in given[-100:]] + given[-100:]
+    given = [head + it for head in (HEAD, VALIDATED, b"") for it in given[-100:]]
     for text, ran in zip(given, trial.each(lambda it: t.run(["dis", "--code"], it), given)):
         count.take("bytes as code, %r" % text, is_refused(ran, text), ran)
     script = b"(def r (ref 0)) (future (dosync (alter r inc)) (println @r)) (future (dosync (alter r + 2)))"

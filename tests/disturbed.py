@@ -17,6 +17,10 @@ SHARED = CELLS + (
     "(future (up 2) (send g + 10) (println :two \"text\"))"
     "(future (swap! a + 2) (loop [i 0 v []] (if (< i 40) (recur (inc i) (conj v i)) (println (count v)))))"
 )
+# the same cells with validators, in the end with the same values: what two more threads and one more action want is refused in any order
+CHECKED = SHARED.replace(CELLS, "(defn ok [x] (loop [i 0] (if (< i 2) (recur (inc i)) (>= x 0)))) (def r (ref 1 :validator ok)) (def a (atom 2 :validator pos?)) "
+                         "(def g (agent 0 :validator ok :error-mode :continue)) ").replace("(println :one)", "(send g - 100) (println :one)")
+CHECKED += "(future (dosync (alter r - 50) (send g inc)) (println :three)) (future (swap! a - 50) (println :four))"
 GROWING = "(def r (ref [])) (future (dosync (ref-set r (loop [i 0 v []] (if (< i 70) (recur (inc i) (conj v [i])) v)))) (println (nth @r 69)))"
 CASES = [
     ("check", "(future (println (loop [a 1 b 2] (if (= a 2) b (recur b a)))))"),
@@ -37,6 +41,10 @@ CASES = [
     ("run --cells --workers 2", SHARED),
     ("run --cells --workers 4", SHARED),
     ("run --cells --workers 2", GROWING + "(future nil)"),
+    ("dis", CHECKED),
+    ("schedule --cells --events", CHECKED),
+    ("run --cells --workers 2", CHECKED),
+    ("schedule --cells --audit", CHECKED),
     ("schedule --cells --audit", SHARED),
     ("run --cells --audit --workers 2", SHARED),
 ]
@@ -62,7 +70,7 @@ def is_stopped(ran, whole):
 
 
 def keeps_sums(ran):
-    """Whether the cells of SHARED are as some of its transactions and actions leave them, each whole or not at all."""
+    """Whether the cells of SHARED, or of CHECKED, are as some of its transactions and actions leave them, each whole or not at all."""
     cells = dict(re.findall(r"^([rag]) (-?\d+)$", ran.out.decode(), re.M))
     r, a, g = (int(cells[it]) for it in "rag")
     sent = {r - 1, r + 9} if b"agent g stopped" not in ran.err else {0, 1, 2, 3, 10, 11, 12, 13}

@@ -106,6 +106,44 @@ def runs(t, count, is_long):
     print("runs: %d, of which %d had to run a transaction again" % (many, retried))
 
 
+# Two threads want of an atom what it has but once, and then move between two refs; two more may follow them, but not both.
+REFUSED = """(defn covered [x] (loop [i 0] (if (< i 5) (recur (inc i)) (>= x 0))))
+(def a (ref 3 :validator covered)) (def b (ref 3 :validator covered)) (def n (atom 3 :validator covered)) (def log (agent 3 :validator covered))
+(defn move [from to k] (dosync (alter from - k) (alter to + k)))
+(future (swap! n - 2) (move a b 2) (println :zero))
+(future (swap! n - 2) (move a b 2) (println :one))
+(future (move b a 4) (send log - 2) (println :two))
+(future (move b a 4) (send log - 2) (println :three))
+"""
+WHO = [":zero", ":one", ":two", ":three"]
+
+
+def is_covered(ran):
+    """Whether what a run of it has left obeys its laws: no balance is negative, and each that would make it so failed."""
+    said = re.fullmatch(r"((?::\w+\n)*)a (\d+)\nb (\d+)\nn (\d+)\nlog (\d+)\n((?:\d+ \d+ [a-z-]+\n)*)audit agrees serial\n", ran.out.decode())
+    failed = re.findall(r"^thread (\d) failed: InvalidState at \d+\.\.\d+$", ran.err.decode(), re.M)
+    if not said or ran.status != 3 or len(failed) != ran.err.count(b"\n"):
+        return False
+    went = said[1].split()
+    others = [it for it in went if it in WHO[2:]]
+    kinds = collections.Counter(it.split()[2] for it in said[6].splitlines())
+    return (
+        went == [it for k, it in enumerate(WHO) if str(k) not in failed] and len(went) == 1 + len(others) and len(others) <= 1
+        and tuple(int(said[k]) for k in range(2, 6)) == ((5, 1, 1, 1) if others else (1, 5, 1, 3))
+        and (kinds["commit"], kinds["fail"], kinds["send"], kinds["act"]) == (1 + len(others), 2 - len(others), len(others), len(others))
+        and set(kinds) <= {"commit", "fail", "send", "act", "retry"}
+    )
+
+
+def refusals(t, count, is_long):
+    """Short runs by workers in which validators refuse values: which depends on who comes first."""
+    many, workers, followed = 5000 if is_long else 200, [2, 3, 4, 8], 0
+    for k, ran in enumerate(trial.each(lambda it: t.run(["run", "--cells", "--events", "--audit", "--workers", str(workers[it % 4])], REFUSED.encode()), range(many), 4)):
+        count.take("refusals %d" % k, is_covered(ran), ran)
+        followed += b"a 5\n" in ran.out
+    print("refusals: %d runs, in %d of which one could follow" % (many, followed))
+
+
 def memory_of(child, what):
     """The memory that a process has (VmRSS), or the most that it had (VmHWM), in KB."""
     try:
@@ -179,7 +217,7 @@ def again(t, count, is_long):
     print("again: %d runs in one process: %d KB in the first tenth of them, %d KB in the last" % (250 * rounds, first, last))
 
 
-PARTS = {"journals": journals, "runs": runs, "memory": memory, "sizes": sizes, "again": again}
+PARTS = {"journals": journals, "runs": runs, "refusals": refusals, "memory": memory, "sizes": sizes, "again": again}
 
 
 if __name__ == "__main__":

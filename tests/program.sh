@@ -86,6 +86,14 @@ for workers in 1 2 5; do
   is "an audit by $workers workers" "$(answer run --audit --workers "$workers" ensured.clj)" 'audit agrees serial||0'
   is "cells of each kind, and a fault, by $workers workers" "$(answer run --audit --workers "$workers" each.clj)" 'audit agrees serial|thread 1 failed: DivideByZero at 128..138|3'
 done
+printf '%s' '(def r (ref 1 :validator pos?)) (future (dosync (alter r dec)))' >checked.clj
+refusal='thread 0 failed: InvalidState at 40..62|3'
+for workers in 1 2 5; do
+  is "a value that a validator refuses, by $workers workers" "$(answer run --audit --cells --workers "$workers" checked.clj)" "$(printf 'r 1\naudit agrees serial')|$refusal"
+done
+is "code with a validator" "$(answer build checked.clj --out checked.bin)" '||0'
+is "it begins so" "$(head -c 4 checked.bin)" 'TXS2'
+is "its run" "$(answer run --code --cells checked.bin)" "r 1|$refusal"
 is "steps that don't suffice" "$(printf '(future (loop [] (recur)))' >spin.clj; answer run --audit --steps 1000 spin.clj)" 'audit agrees serial|thread 0 stopped: StepsSpent|4'
 is "more steps than an audit counts turns" "$(answer run --audit --steps 1000000000000 a.clj)" "$(printf '1\naudit agrees serial||0')"
 is "a script that is refused is not audited" "$(printf '(future [1 2)' >unopened.clj; answer run --audit unopened.clj)" '|refused 3 Unopened at 12..13|1'

@@ -74,7 +74,7 @@ pub thread_sync : IsSync thread_is.the_row
 thread_sync = recorded_sync (thread_is.the_field).row _ _ (thread_is.the_type).to_one (struct_sync (S.shape thread_is.the_type) (search (node_field_sync, span_sent.the_field_sync, crosses, sendable) depth 60 fits 20000))
 
 pub raw_sync : IsSync raw_is.the_row
-raw_sync = view_sync raw_in.the_row _ _ _ _ (recorded_sync (raw_in.the_field).row _ _ (raw_in.the_type).to_one (struct_sync (S.shape raw_in.the_type) (search (vec.the_sync, cell_definition_sync, crosses, sendable) depth 60 fits 20000, (search (vec.the_sync, function_sync, crosses, sendable) depth 60 fits 20000, (search (vec.the_sync, thread_sync, crosses, sendable) depth 60 fits 20000, tt)))))
+raw_sync = view_sync raw_in.the_row _ _ _ _ (recorded_sync (raw_in.the_field).row _ _ (raw_in.the_type).to_one (struct_sync (S.shape raw_in.the_type) (search (vec.the_sync, cell_definition_sync, crosses, sendable) depth 60 fits 20000, (search (vec.the_sync, span_sent.the_sync, crosses, sendable) depth 60 fits 20000, (search (vec.the_sync, function_sync, crosses, sendable) depth 60 fits 20000, (search (vec.the_sync, thread_sync, crosses, sendable) depth 60 fits 20000, tt))))))
 
 -- a program
 pub program_sync : IsSync program_is.the_row

@@ -27,7 +27,7 @@ one_sound ks (x ∷ xs) h (suc k) t e = one_sound ks xs h.1 k t e
 
 -- a thread of a sound program is sound
 pub source_sound : (p : PlainProgram) → Sound p → (k : ℕ) (t : PlainThread) → nth p.threads k ≡ Some t → SoundSource (source_of p t)
-source_sound p h k t e = record { functions = h.functions; main = (one_sound (known p.functions) p.threads h.threads k t e).0 }
+source_sound p h k t e = record { functions = h.functions; cells = h.cells; main = (one_sound (known p.functions) p.threads h.threads k t e).0 }
 
 -- what is said of the thread with this number
 pub source_told : (p : PlainProgram) (k : ℕ) (t : PlainThread) → nth p.threads k ≡ Some t → (P : ThreadSource → Type 0) → IfSome (thread_source p k) P → P (source_of p t)

@@ -93,7 +93,7 @@ sound_calls ks z f n at s =
     ∙ both (only (eqb s.function.parameters n) Arity at) (zoned z (Some s.function) at)
     (only_fine (eqb s.function.parameters n) Arity at (eq-eqb s.function.parameters n s.arity)) (may_zoned z s.function at s.zoned)
 
-called_sound : (ks : List Known) (c : Callee) (n : ℕ) (at : Span) → n ≤ 65535 → called ks c n at ≡ fine → SoundCallee ks c n
+pub called_sound : (ks : List Known) (c : Callee) (n : ℕ) (at : Span) → n ≤ 65535 → called ks c n at ≡ fine → SoundCallee ks c n
 called_sound ks (CoreOp op) n at le e = (only_true (takes op n) Arity at e, le)
 called_sound ks (Function f) n at le e = by_known (nth ks f) refl e
   where
@@ -106,7 +106,7 @@ called_sound ks (Function f) n at le e = by_known (nth ks f) refl e
       pure = only_true k.pure NotPure at (second (only (eqb k.parameters n) Arity at) (only k.pure NotPure at) e);
     }
 
-sound_called : (ks : List Known) (c : Callee) (n : ℕ) (at : Span) → SoundCallee ks c n → called ks c n at ≡ fine
+pub sound_called : (ks : List Known) (c : Callee) (n : ℕ) (at : Span) → SoundCallee ks c n → called ks c n at ≡ fine
 sound_called ks (CoreOp op) n at s = only_fine (takes op n) Arity at s.0
 sound_called ks (Function f) n at s =
     ap (λ o. only (accepts o n) Arity at >> only (is_pure o) NotPure at) s.found

@@ -1,5 +1,5 @@
 -- A program is sound exactly where nothing of it is refused, and it is refused for one reason.
-use Rattle.std.proofs.Common.{◌≡◌, ◌≢◌, ℕ, suc, ◌≤◌, ◌⊎◌, inl, inr, Bool, true, false, not, eqb, leb, if◌then◌else◌, ◌-◌, Option, List, [], ◌∷◌, ◌++◌, map, Some, None, Ok, Err, refl, sym, ap, ◌∙◌, subst}
+use Rattle.std.proofs.Common.{◌≡◌, ◌≢◌, ℕ, suc, ◌≤◌, ◌⊎◌, inl, inr, Bool, true, false, not, eqb, leb, if◌then◌else◌, ◌-◌, Option, List, [], ◌∷◌, ◌++◌, length, arith, map, Some, None, Ok, Err, refl, sym, ap, ◌∙◌, subst}
 use Rattle.txs_value_apply.specs.Core.{takes}
 use Rattle.txs_value_base.specs.Places.{nth}
 use Rattle.txs_value_base.specs.declared.fault.Span.{Span}
@@ -11,7 +11,7 @@ use Rattle.txs_value_base.specs.declared.op.Callee.{Callee}
 use Rattle.txs_value_base.specs.declared.op.Callee.TheVariants.{Core as CoreOp, Function}
 use Rattle.txs_tree_meaning.specs.Known.{Known, is_pure, known_of, known_from, known}
 use Rattle.txs_tree_meaning.specs.Scoped.{Scoped, ScopedFunctions, ScopedThreads}
-use Rattle.txs_tree_meaning.specs.Sound.{Sound, SoundFunctions, SoundThreads, nodes}
+use Rattle.txs_tree_meaning.specs.Sound.{Sound, SoundCells, SoundFunctions, SoundThreads, SoundValidator, nodes}
 use Rattle.txs_tree_meaning.specs.Tree.{Tree, Const, Local, If, Do, Let, Loop, Recur, Core, Call, VectorOf, Println, Dosync, Look, Put, Update, Send, Trees, none, more, count, PlainFunction, PlainThread, PlainProgram}
 use Rattle.txs_tree_meaning.specs.View.{functions_of, threads_of, program_of}
 use Rattle.txs_tree_meaning.specs.declared.node.Function.{Function as AFunction}
@@ -24,11 +24,13 @@ use Rattle.txs_check.specs.declared.place.Target.{Target}
 use Rattle.txs_check.specs.declared.place.Target.TheVariants.{Nowhere, Across, Nearest}
 use Rattle.txs_check.specs.declared.place.Zone.{Zone}
 use Rattle.txs_check.specs.declared.place.Zone.TheVariants.{InFunction, InFuture, InDosync}
-use Rattle.txs_check.specs.Refused.{Checked, fine, ◌>>◌, only, inner, across, operates, recurs, accepts, zoned, calls, called, placed, formed, applied, turned_in, in_turn, checked, checked_all, checked_do, Body, function_body, thread_body, in_order, checked_body, checked_bodies, ◌>>=◌, room, few, refusal, CheckStops}
+use Rattle.txs_check.specs.Refused.{Checked, fine, ◌>>◌, only, inner, across, operates, recurs, accepts, zoned, calls, called, placed, formed, applied, turned_in, in_turn, checked, checked_all, checked_do, Body, function_body, thread_body, in_order, checked_body, checked_bodies, validators_in, validates, Checkable, of_body, of_validator, together, checked_one, checked_each, ◌>>=◌, room, few, refusal, CheckStops}
+use Rattle.txs_check.specs.Walked.{walked}
 use Rattle.txs_check.proofs.Steps.{first, second, both, err_not_fine, Told, told_then, told_turn, told_only, told_kind}
-use Rattle.txs_check.proofs.Accepted.{accepted_sound, sound_accepted}
+use Rattle.txs_check.proofs.Accepted.{accepted_sound, sound_accepted, called_sound, sound_called}
 use Rattle.txs_check.proofs.Order.{order_accepted, accepted_order, total_order, room_few, few_room}
-use Rattle.txs_check.proofs.Same.{bodies_same, checked_front, known_front}
+use Rattle.txs_check.proofs.Same.{each_same, checked_front, known_front}
+use Rattle.txs_check.proofs.Walking.{walked_is, each_accepted, accepted_each}
 
 -- a function's body is checked among all functions as among those before it
 function_front : (ks : List Known) (f : PlainFunction) (fs : List PlainFunction) → ScopedFunctions ks (f ∷ fs) → checked_body (known_from ks (f ∷ fs)) (function_body f) ≡ checked_body ks (function_body f)
@@ -67,16 +69,41 @@ threads_accepted ks [] h = refl
 threads_accepted ks (t ∷ ts) h =
     both (checked_body ks (thread_body t)) (checked_bodies ks (map thread_body ts)) (sound_accepted ks InFuture Nowhere 0 t.body h.0.0) (threads_accepted ks ts h.1)
 
+validator_sound : (ks : List Known) (o : Option Callee) (at : Span) → validates ks o at ≡ fine → SoundValidator ks o
+validator_sound ks None at h = tt
+validator_sound ks (Some c) at h = called_sound ks c 1 at (omega arith) h
+
+sound_validator : (ks : List Known) (o : Option Callee) (at : Span) → SoundValidator ks o → validates ks o at ≡ fine
+sound_validator ks None at h = refl
+sound_validator ks (Some c) at h = sound_called ks c 1 at h
+
+cells_sound : (ks : List Known) (ds : List CellDefinition) (spans : List Span) → length spans ≡ length ds → checked_each ks (map of_validator (validators_in ds spans)) ≡ fine → SoundCells ks ds
+cells_sound ks [] spans e h = tt
+cells_sound ks (d ∷ ds) [] e h = absurd (omega (arith, e))
+cells_sound ks (d ∷ ds) (at ∷ ats) e h =
+    let x = validates ks d.validator at in
+    let y = checked_each ks (map of_validator (validators_in ds ats)) in
+    (validator_sound ks d.validator at (first x y h), cells_sound ks ds ats (omega (arith, e)) (second x y h))
+
+cells_accepted : (ks : List Known) (ds : List CellDefinition) (spans : List Span) → SoundCells ks ds → checked_each ks (map of_validator (validators_in ds spans)) ≡ fine
+cells_accepted ks [] spans h = refl
+cells_accepted ks (d ∷ ds) [] h = refl
+cells_accepted ks (d ∷ ds) (at ∷ ats) h =
+    both (validates ks d.validator at) (checked_each ks (map of_validator (validators_in ds ats))) (sound_validator ks d.validator at h.0) (cells_accepted ks ds ats h.1)
+
 pub fine_sound : (p : PlainProgram) → Scoped p → refusal p ≡ fine → Sound p
 fine_sound p s h =
     let ks = known p.functions in
     let bs = in_order p.functions p.threads in
-    let x = checked_bodies ks bs in
+    let vs = validators_in p.cells p.validator_spans in
+    let x = checked_each ks (together bs vs) in
     let y = few (room 200000 bs) in
-    let both_fine = order_accepted ks p.functions p.threads (first x y h) in
+    let each_fine = each_accepted ks bs vs (first x y h) in
+    let both_fine = order_accepted ks p.functions p.threads each_fine.0 in
     record {
       scoped = s;
       functions = functions_sound [] p.functions s.functions both_fine.0;
+      cells = cells_sound ks p.cells p.validator_spans s.placed each_fine.1;
       threads = threads_sound ks p.threads s.threads both_fine.1;
       few_nodes = subst (λ n. n ≤ 200000) (total_order p.functions p.threads) (few_room 200000 bs (second x y h));
     }
@@ -85,8 +112,9 @@ pub sound_fine : (p : PlainProgram) → Scoped p → Sound p → refusal p ≡ f
 sound_fine p s h =
     let ks = known p.functions in
     let bs = in_order p.functions p.threads in
-    both (checked_bodies ks bs) (few (room 200000 bs))
-    (accepted_order ks p.functions p.threads (functions_accepted [] p.functions s.functions h.functions) (threads_accepted ks p.threads h.threads))
+    let vs = validators_in p.cells p.validator_spans in
+    both (checked_each ks (together bs vs)) (few (room 200000 bs))
+    (accepted_each ks bs vs (accepted_order ks p.functions p.threads (functions_accepted [] p.functions s.functions h.functions) (threads_accepted ks p.threads h.threads)) (cells_accepted ks p.cells p.validator_spans h.cells))
     (room_few 200000 bs (subst (λ n. n ≤ 200000) (sym (total_order p.functions p.threads)) h.few_nodes))
 
 -- ---- no refusal is a want of memory
@@ -157,9 +185,17 @@ module _ (ks : List Known) where
     told_do z t (more e none) = told_checked z t e
     told_do z t (more e (more f rest)) = told_then (checked ks z (inner t) e) (checked_do ks z t (more f rest)) (told_checked z (inner t) e) (told_do z t (more f rest))
 
-  told_bodies : (bs : List Body) → Told (checked_bodies ks bs)
-  told_bodies [] = tt
-  told_bodies (b ∷ bs) = told_then (checked_body ks b) (checked_bodies ks bs) (told_checked b.zone b.target b.tree) (told_bodies bs)
+  told_validates : (o : Option Callee) (at : Span) → Told (validates ks o at)
+  told_validates None at = tt
+  told_validates (Some c) at = told_called ks c 1 at
+
+  told_one : (c : Checkable) → Told (checked_one ks c)
+  told_one (of_body b) = told_checked b.zone b.target b.tree
+  told_one (of_validator v) = told_validates v.callee v.span
+
+  told_each : (cs : List Checkable) → Told (checked_each ks cs)
+  told_each [] = tt
+  told_each (c ∷ cs) = told_then (checked_one ks c) (checked_each ks cs) (told_one c) (told_each cs)
 
 told_room : (left : ℕ) (bs : List Body) → Told (few (room left bs))
 told_room left [] = tt
@@ -173,7 +209,8 @@ pub told_refusal : (p : PlainProgram) → Told (refusal p)
 told_refusal p =
     let ks = known p.functions in
     let bs = in_order p.functions p.threads in
-    told_then (checked_bodies ks bs) (few (room 200000 bs)) (told_bodies ks bs) (told_room 200000 bs)
+    let cs = together bs (validators_in p.cells p.validator_spans) in
+    told_then (checked_each ks cs) (few (room 200000 bs)) (told_each ks cs) (told_room 200000 bs)
 
 pub no_want : (p : PlainProgram) (e : CheckError) → CheckStops p e → e.kind ≢ Memory
 no_want p e h = told_kind (refusal p) e (told_refusal p) h
@@ -196,9 +233,10 @@ pub not_both : (p : PlainProgram) (e : CheckError) → Scoped p → Sound p → 
 not_both p e s h g = err_not_fine (refusal p) e g (sound_fine p s h)
 
 -- the first refusal, by what the table of functions says
-pub refusal_of : (cells : List CellDefinition) (fs : List AFunction) (ts : List Thread) (ks : List Known) → bare ks ≡ bare (known (functions_of fs)) →
-    refusal (program_of (record { cells = cells; functions = fs; threads = ts }))
-    ≡ checked_bodies ks (in_order (functions_of fs) (threads_of ts)) >> few (room 200000 (in_order (functions_of fs) (threads_of ts)))
-refusal_of cells fs ts ks same =
+pub refusal_of : (cells : List CellDefinition) (spans : List Span) (fs : List AFunction) (ts : List Thread) (ks : List Known) → bare ks ≡ bare (known (functions_of fs)) →
+    refusal (program_of (record { cells = cells; validator_spans = spans; functions = fs; threads = ts }))
+    ≡ walked ks (in_order (functions_of fs) (threads_of ts)) (validators_in cells spans) >> few (room 200000 (in_order (functions_of fs) (threads_of ts)))
+refusal_of cells spans fs ts ks same =
     let bs = in_order (functions_of fs) (threads_of ts) in
-    ap (λ x. x >> few (room 200000 bs)) (sym (bodies_same (known (functions_of fs)) ks same bs))
+    let vs = validators_in cells spans in
+    ap (λ x. x >> few (room 200000 bs)) (sym (each_same (known (functions_of fs)) ks same (together bs vs)) ∙ sym (walked_is ks bs vs))

@@ -9,3 +9,5 @@ pub mod Rows
 pub mod Same
 pub mod Steps
 pub mod TrueRefusals
+mod Together
+mod Walking

@@ -10,8 +10,8 @@ use Rattle.txs_tree_meaning.specs.declared.node.Thread.{Thread}
 use Rattle.txs_tree_meaning.specs.Known.{Known}
 use Rattle.txs_check.specs.declared.place.Target.{Target}
 use Rattle.txs_check.specs.declared.place.Zone.{Zone}
-use Rattle.txs_check.specs.Refused.{fine, ◌>>◌, ◌>>=◌, inner, place_of, turned, turned_in, in_turn, checked, checked_all, checked_do, before, function_body, thread_body, in_order, checked_body, checked_bodies, taken, room}
-use Rattle.txs_check.proofs.Order.{bodies_append, room_append}
+use Rattle.txs_check.specs.Refused.{fine, ◌>>◌, ◌>>=◌, inner, place_of, turned, turned_in, in_turn, checked, checked_all, checked_do, before, function_body, thread_body, in_order, taken, room}
+use Rattle.txs_check.proofs.Order.{room_append}
 use Rattle.txs_check.proofs.Steps.{then_same}
 
 pub trees_left : (ns : List Node) (i : ℕ) (n : Node) → i < length ns → n ≡ get_or ns i n → trees_of (drop i ns) ≡ more (tree_of n) (trees_of (drop (i + 1) ns))
@@ -82,7 +82,7 @@ do_nothing ks z t (n ∷ ns) e = absurd (omega (arith, e))
 
 -- a step of a walk over the bodies in script order: the threads before the next function, and the function
 module _ (fs : List Function) (i : ℕ) (f : Function) (lt : i < length fs) (is : f ≡ get_or fs i f) (ts : List Thread) (n : ℕ) (many : n ≡ before f.span.from (threads_of ts)) where
-  order_of : in_order (functions_of (drop i fs)) (threads_of ts)
+  pub order_of : in_order (functions_of (drop i fs)) (threads_of ts)
       ≡ map thread_body (threads_of (take n ts)) ++ function_body (function_of f) ∷ in_order (functions_of (drop (i + 1) fs)) (threads_of (drop n ts))
   order_of =
       let g = function_of f in
@@ -91,10 +91,6 @@ module _ (fs : List Function) (i : ℕ) (f : Function) (lt : i < length fs) (is 
       ∙ ap (λ k. map thread_body (take k (threads_of ts)) ++ function_body g ∷ in_order rest (drop k (threads_of ts))) (sym many)
       ∙ ap (λ l. map thread_body l ++ function_body g ∷ in_order rest (drop n (threads_of ts))) (sym (threads_take n ts))
       ∙ ap (λ l. map thread_body (threads_of (take n ts)) ++ function_body g ∷ in_order rest l) (sym (threads_drop n ts))
-
-  pub bodies_step : (ks : List Known) → checked_bodies ks (in_order (functions_of (drop i fs)) (threads_of ts))
-      ≡ checked_bodies ks (map thread_body (threads_of (take n ts))) >> (checked_body ks (function_body (function_of f)) >> checked_bodies ks (in_order (functions_of (drop (i + 1) fs)) (threads_of (drop n ts))))
-  bodies_step ks = ap (λ l. checked_bodies ks l) order_of ∙ bodies_append ks (map thread_body (threads_of (take n ts))) (function_body (function_of f) ∷ in_order (functions_of (drop (i + 1) fs)) (threads_of (drop n ts)))
 
   pub room_step : (left : ℕ) → room left (in_order (functions_of (drop i fs)) (threads_of ts))
       ≡ room left (map thread_body (threads_of (take n ts))) >>= (λ x. taken x (tree_of f.body) f.span >>= (λ y. room y (in_order (functions_of (drop (i + 1) fs)) (threads_of (drop n ts)))))

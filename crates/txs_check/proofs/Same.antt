@@ -18,7 +18,7 @@ use Rattle.txs_check.specs.declared.place.Target.{Target}
 use Rattle.txs_check.specs.declared.place.Target.TheVariants.{Nearest}
 use Rattle.txs_check.specs.declared.place.Zone.{Zone}
 use Rattle.txs_check.specs.declared.place.Zone.TheVariants.{InFunction, InFuture, InDosync}
-use Rattle.txs_check.specs.Refused.{◌>>◌, only, inner, across, operates, recurs, accepts, zoned, calls, called, placed, formed, turned_in, in_turn, checked, checked_all, checked_do, Body, checked_bodies}
+use Rattle.txs_check.specs.Refused.{◌>>◌, only, inner, across, operates, recurs, accepts, zoned, calls, called, placed, formed, turned_in, in_turn, checked, checked_all, checked_do, validates, Checkable, of_body, of_validator, checked_one, checked_each}
 use Rattle.txs_check.specs.Signatures.{bare_one, bare, class_in, known_row, known_as}
 
 abbrev pub signature : ℕ → Class → Signature
@@ -178,9 +178,17 @@ module _ (ks ls : List Known) (same : bare ls ≡ bare ks) where
     do_same z t (more e none) = checked_same z t e
     do_same z t (more e (more f rest)) = λ i. checked_same z (inner t) e i >> do_same z t (more f rest) i
 
-  pub bodies_same : (bs : List Body) → checked_bodies ls bs ≡ checked_bodies ks bs
-  bodies_same [] = refl
-  bodies_same (b ∷ bs) = λ i. checked_same b.zone b.target b.tree i >> bodies_same bs i
+  validates_same : (o : Option Callee) (s : Span) → validates ls o s ≡ validates ks o s
+  validates_same None s = refl
+  validates_same (Some c) s = called_same c 1 s
+
+  one_same : (c : Checkable) → checked_one ls c ≡ checked_one ks c
+  one_same (of_body b) = checked_same b.zone b.target b.tree
+  one_same (of_validator v) = validates_same v.callee v.span
+
+  pub each_same : (cs : List Checkable) → checked_each ls cs ≡ checked_each ks cs
+  each_same [] = refl
+  each_same (c ∷ cs) = λ i. one_same c i >> each_same cs i
 
   pub known_same : (f : PlainFunction) → bare_one (known_of ls f) ≡ bare_one (known_of ks f)
   known_same f = λ i. record { parameters = f.parameters; inside = inside_same f.body i; outside = outside_same f.body i; pure = pure_same f.body i; levels = 0 }

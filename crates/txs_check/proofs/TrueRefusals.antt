@@ -1,5 +1,5 @@
 -- Each refusal is true of the program.
-use Rattle.std.proofs.Common.{◌≡◌, ℕ, suc, ◌<◌, ◌≤◌, ◌+◌, ◌-◌, ◌⊎◌, inl, inr, Bool, true, false, not, nat_eq, nat_le, Option, List, [], ◌∷◌, ◌++◌, Some, None, Ok, Err, refl, sym, ap, subst, arith, if◌then◌else◌}
+use Rattle.std.proofs.Common.{◌≡◌, ℕ, suc, ◌<◌, ◌≤◌, ◌+◌, ◌-◌, ◌⊎◌, inl, inr, Bool, true, false, not, nat_eq, nat_le, Option, List, [], ◌∷◌, ◌++◌, map, take, drop, zero, Some, None, Ok, Err, refl, sym, ap, subst, arith, if◌then◌else◌}
 use Rattle.std.proofs.lemmas.Bool.Decides.{nat_tests}
 use Rattle.txs_value_apply.specs.Core.{takes}
 use Rattle.txs_value_cell.specs.Forms.{rule}
@@ -14,7 +14,7 @@ use Rattle.txs_value_base.specs.declared.op.Callee.TheVariants.{Core as CoreOp, 
 use Rattle.txs_tree_meaning.specs.Known.{Known, is_pure, known}
 use Rattle.txs_tree_meaning.specs.Sound.{nodes}
 use Rattle.txs_tree_meaning.specs.Tree.{Tree, Mark, Const, Local, If, Do, Let, Loop, Recur, Core, Call, VectorOf, Println, Dosync, Look, Put, Update, Send, Trees, none, more, count, PlainProgram}
-use Rattle.txs_check.specs.Faulty.{IsAmong, is_first, is_later, IsLast, is_only, is_behind, IsBefore, is_now, is_then, Stands, as_whole, in_test, in_first, in_second, in_block, in_last, in_bound, in_let, in_start, in_loop, in_recur, in_operation, in_call, in_vector, in_line, in_transaction, in_looked, in_filled, in_value, in_updated, in_further, in_agent, in_sent, IsForm, it_looks, it_puts, it_updates, it_sends, HasApplied, in_update, in_action, HasFault, recurs_nowhere, recurs_before_end, recurs_across, recurs_with_others, operates_on_others, calls_with_others, applies_to_others, applies_impurely, calls_outside, stands_outside, calls_inside, stands_inside, prints_inside, FaultIn, IsBody, body_first, body_later, all_nodes, IsTrueOf, of_form, of_size}
+use Rattle.txs_check.specs.Faulty.{IsAmong, is_first, is_later, IsLast, is_only, is_behind, IsBefore, is_now, is_then, Stands, as_whole, in_test, in_first, in_second, in_block, in_last, in_bound, in_let, in_start, in_loop, in_recur, in_operation, in_call, in_vector, in_line, in_transaction, in_looked, in_filled, in_value, in_updated, in_further, in_agent, in_sent, IsForm, it_looks, it_puts, it_updates, it_sends, HasApplied, in_update, in_action, HasFault, recurs_nowhere, recurs_before_end, recurs_across, recurs_with_others, operates_on_others, calls_with_others, applies_to_others, applies_impurely, calls_outside, stands_outside, calls_inside, stands_inside, prints_inside, FaultIn, IsBody, body_first, body_later, IsValidator, validates_others, validates_impurely, FaultOfValidator, all_nodes, IsTrueOf, of_form, of_validator, of_size}
 use Rattle.txs_check.specs.declared.error.CheckError.{CheckError}
 use Rattle.txs_check.specs.declared.error.CheckErrorKind.{CheckErrorKind}
 use Rattle.txs_check.specs.declared.error.CheckErrorKind.TheVariants.{RecurCount, Arity, NotPure, InsideOnly, OutsideOnly, CodeTooLarge}
@@ -22,7 +22,8 @@ use Rattle.txs_check.specs.declared.place.Target.{Target}
 use Rattle.txs_check.specs.declared.place.Target.TheVariants.{Nowhere, Across, Nearest}
 use Rattle.txs_check.specs.declared.place.Zone.{Zone}
 use Rattle.txs_check.specs.declared.place.Zone.TheVariants.{InFunction, InFuture, InDosync}
-use Rattle.txs_check.specs.Refused.{Checked, ◌>>◌, only, inner, across, recurs, accepts, zoned, called, placed, formed, here, place_of, turned_in, in_turn, checked, checked_all, checked_do, Body, in_order, checked_bodies, ◌>>=◌, room, few, refusal, CheckStops}
+use Rattle.txs_check.specs.Refused.{Checked, ◌>>◌, only, inner, across, recurs, accepts, zoned, called, placed, formed, here, place_of, turned_in, in_turn, checked, checked_all, checked_do, Body, in_order, checked_body, Validator, validators_in, validates, of_body, of_validator as a_validator, earlier, together, checked_each, ◌>>=◌, room, few, refusal, CheckStops}
+use Rattle.txs_check.proofs.Walking.{each_append}
 
 -- this holds of the refusal, if there is one
 abbrev Holds : (CheckError → Type 0) → Checked → Type 0
@@ -261,13 +262,62 @@ module _ (ks : List Known) where
   abbrev InBodies : List Body → CheckError → Type 0
   InBodies bs err = (b : Body) × IsBody b bs × FaultIn ks b.zone b.target b.tree err
 
-  walked_bodies : (bs : List Body) → Holds (InBodies bs) (checked_bodies ks bs)
-  walked_bodies [] = tt
-  walked_bodies (b ∷ bs) =
-      let x = checked ks b.zone b.target b.tree in
-      holds_then (InBodies (b ∷ bs)) x (checked_bodies ks bs)
-      (holds_maps (FaultIn ks b.zone b.target b.tree) (InBodies (b ∷ bs)) x (λ err h. (b, body_first bs, h)) (walked b.zone b.target b.tree))
-      (holds_maps (InBodies bs) (InBodies (b ∷ bs)) (checked_bodies ks bs) (λ err h. (h.0, body_later b bs h.1, h.2)) (walked_bodies bs))
+  -- the first of these validators is refused
+  own_validator : (vs : List Validator) (o : Option Callee) (at : Span) → Holds (FaultOfValidator ks (record { callee = o; span = at } ∷ vs)) (validates ks o at)
+  own_validator vs None at = tt
+  own_validator vs (Some (CoreOp op)) at =
+      holds_only (FaultOfValidator ks (record { callee = Some (CoreOp op); span = at } ∷ vs)) (takes op 1) Arity at
+      (λ h. record { callee = CoreOp op; span = at; stands = inl refl; fault = validates_others h; place = refl })
+  own_validator vs (Some (Function f)) at =
+      let P = FaultOfValidator ks (record { callee = Some (Function f); span = at } ∷ vs) in
+      holds_then P (only (accepts (nth ks f) 1) Arity at) (only (is_pure (nth ks f)) NotPure at)
+      (holds_only P (accepts (nth ks f) 1) Arity at (λ h. record { callee = Function f; span = at; stands = inl refl; fault = validates_others h; place = refl }))
+      (holds_only P (is_pure (nth ks f)) NotPure at (λ h. record { callee = Function f; span = at; stands = inl refl; fault = validates_impurely f refl h; place = refl }))
+
+  among_more : (vs ws : List Validator) → ((v : Validator) → IsValidator v vs → IsValidator v ws) → (err : CheckError) → FaultOfValidator ks vs err → FaultOfValidator ks ws err
+  among_more vs ws into err h = record { callee = h.callee; span = h.span; stands = into (record { callee = Some h.callee; span = h.span }) h.stands; fault = h.fault; place = h.place }
+
+  in_take : (n : ℕ) (vs : List Validator) (v : Validator) → IsValidator v (take n vs) → IsValidator v vs
+  in_take zero vs v h = absurd h
+  in_take (suc n) [] v h = absurd h
+  in_take (suc n) (w ∷ ws) v (inl h) = inl h
+  in_take (suc n) (w ∷ ws) v (inr h) = inr (in_take n ws v h)
+
+  in_drop : (n : ℕ) (vs : List Validator) (v : Validator) → IsValidator v (drop n vs) → IsValidator v vs
+  in_drop zero vs v h = h
+  in_drop (suc n) [] v h = absurd h
+  in_drop (suc n) (w ∷ ws) v h = inr (in_drop n ws v h)
+
+  walked_validators : (vs : List Validator) → Holds (FaultOfValidator ks vs) (checked_each ks (map a_validator vs))
+  walked_validators [] = tt
+  walked_validators (v ∷ vs) =
+      let x = validates ks v.callee v.span in
+      let y = checked_each ks (map a_validator vs) in
+      holds_then (FaultOfValidator ks (v ∷ vs)) x y (own_validator vs v.callee v.span)
+      (holds_maps (FaultOfValidator ks vs) (FaultOfValidator ks (v ∷ vs)) y (among_more vs (v ∷ vs) (λ w h. inr h)) (walked_validators vs))
+
+  -- a fault in one of these bodies, or of one of these validators
+  abbrev InEach : List Body → List Validator → CheckError → Type 0
+  InEach bs vs err = InBodies bs err ⊎ FaultOfValidator ks vs err
+
+  each_later : (b : Body) (bs : List Body) (n : ℕ) (vs : List Validator) (err : CheckError) → InEach bs (drop n vs) err → InEach (b ∷ bs) vs err
+  each_later b bs n vs err (inl h) = inl (h.0, body_later b bs h.1, h.2)
+  each_later b bs n vs err (inr h) = inr (among_more (drop n vs) vs (in_drop n vs) err h)
+
+  walked_each : (bs : List Body) (vs : List Validator) → Holds (InEach bs vs) (checked_each ks (together bs vs))
+  walked_each [] vs = holds_maps (FaultOfValidator ks vs) (InEach [] vs) (checked_each ks (map a_validator vs)) (λ err h. inr h) (walked_validators vs)
+  walked_each (b ∷ bs) vs =
+      let n = earlier b.span.from vs in
+      let P = InEach (b ∷ bs) vs in
+      let x = checked_each ks (map a_validator (take n vs)) in
+      let y = checked_body ks b in
+      let z = checked_each ks (together bs (drop n vs)) in
+      subst (λ w. Holds P w) (sym (each_append ks (map a_validator (take n vs)) (of_body b ∷ together bs (drop n vs))))
+      (holds_then P x (y >> z)
+      (holds_maps (FaultOfValidator ks (take n vs)) P x (λ err h. inr (among_more (take n vs) vs (in_take n vs) err h)) (walked_validators (take n vs)))
+      (holds_then P y z
+      (holds_maps (FaultIn ks b.zone b.target b.tree) P y (λ err h. inl (b, body_first bs, h)) (walked b.zone b.target b.tree))
+      (holds_maps (InEach bs (drop n vs)) P z (each_later b bs n vs) (walked_each bs (drop n vs)))))
 
 -- these bodies have more nodes than are left, up to the one that is refused
 record TooMany (left : ℕ) (bs : List Body) (e : CheckError) : Type 0 where
@@ -314,6 +364,11 @@ pub refusals_are_true : (p : PlainProgram) (e : CheckError) → CheckStops p e �
 refusals_are_true p e is =
     let ks = known p.functions in
     let bs = in_order p.functions p.threads in
-    held (IsTrueOf p) (refusal p) e (holds_then (IsTrueOf p) (checked_bodies ks bs) (few (room 200000 bs))
-    (holds_maps (InBodies ks bs) (IsTrueOf p) (checked_bodies ks bs) (λ err h. of_form h.0 h.1 h.2) (walked_bodies ks bs))
+    let vs = validators_in p.cells p.validator_spans in
+    held (IsTrueOf p) (refusal p) e (holds_then (IsTrueOf p) (checked_each ks (together bs vs)) (few (room 200000 bs))
+    (holds_maps (InEach ks bs vs) (IsTrueOf p) (checked_each ks (together bs vs)) (λ err h. truly err h) (walked_each ks bs vs))
     (holds_maps (TooMany 200000 bs) (IsTrueOf p) (few (room 200000 bs)) (λ err h. of_size h.before h.body h.behind h.split h.many h.kind h.place) (too_many 200000 bs))) is
+  where
+    truly : (err : CheckError) → InEach (known p.functions) (in_order p.functions p.threads) (validators_in p.cells p.validator_spans) err → IsTrueOf p err
+    truly err (inl h) = of_form h.0 h.1 h.2
+    truly err (inr h) = of_validator h

@@ -1,5 +1,5 @@
--- What a refusal says of a program: a form that is in it has that fault, or its forms are too many.
-use Rattle.std.specs.Prelude.{◌≡◌, ◌<◌, ◌+◌, ℕ, suc, Bool, true, false, nat_eq, List, [], ◌∷◌, ◌++◌, Some}
+-- What a refusal says of a program: a form that stands in it or a cell's validator has that fault, or its forms are too many.
+use Rattle.std.specs.Prelude.{◌≡◌, ◌⊎◌, ◌<◌, ◌+◌, ℕ, suc, Bool, true, false, nat_eq, List, [], ◌∷◌, ◌++◌, Some}
 use Rattle.txs_value_apply.specs.Core.{takes}
 use Rattle.txs_value_cell.specs.Forms.{rule}
 use Rattle.txs_value_data.specs.Limits.{most_nodes}
@@ -10,13 +10,14 @@ use Rattle.txs_value_cell.specs.declared.form.LookForm.{LookForm}
 use Rattle.txs_value_cell.specs.declared.form.PutForm.{PutForm}
 use Rattle.txs_value_cell.specs.declared.form.Standing.TheVariants.{Inside, Outside}
 use Rattle.txs_value_cell.specs.declared.form.UpdateForm.{UpdateForm}
+use Rattle.txs_value_base.specs.declared.fault.Span.{Span}
 use Rattle.txs_value_base.specs.declared.op.Op.{Op}
 use Rattle.txs_value_base.specs.declared.op.Callee.{Callee}
 use Rattle.txs_value_base.specs.declared.op.Callee.TheVariants.{Core as CoreOp, Function}
 use Rattle.txs_tree_meaning.specs.Known.{Known, is_pure, known}
 use Rattle.txs_tree_meaning.specs.Sound.{nodes}
 use Rattle.txs_tree_meaning.specs.Tree.{Tree, Mark, If, Do, Let, Loop, Recur, Core, Call, VectorOf, Println, Dosync, Look, Put, Update, Send, Trees, none, more, count, PlainProgram}
-use Rattle.txs_check.specs.Refused.{inner, across, accepts, place_of, Body, in_order}
+use Rattle.txs_check.specs.Refused.{inner, across, accepts, place_of, Body, in_order, Validator, validators_in}
 use Rattle.txs_check.specs.declared.error.CheckError.{CheckError}
 use Rattle.txs_check.specs.declared.error.CheckErrorKind.{CheckErrorKind}
 use Rattle.txs_check.specs.declared.error.CheckErrorKind.TheVariants.{RecurNotTail, RecurCount, RecurAcrossDosync, Arity, NotPure, InsideOnly, OutsideOnly, CodeTooLarge}
@@ -127,13 +128,32 @@ pub data IsBody (b : Body) : List Body → Type 0 where
   body_first : (bs : List Body) → IsBody b (b ∷ bs)
   body_later : (c : Body) (bs : List Body) → IsBody b bs → IsBody b (c ∷ bs)
 
+-- a validator is one of these
+abbrev pub IsValidator : Validator → List Validator → Type 0
+IsValidator v [] = ⊥
+IsValidator v (w ∷ ws) = (v ≡ w) ⊎ IsValidator v ws
+
+-- A callee has the fault of this kind as a validator: it doesn't take one value, or is a function that isn't pure.
+pub data ValidatorFault (ks : List Known) (callee : Callee) : CheckErrorKind → Type 0 where
+  validates_others : callee_takes ks callee 1 ≡ false → ValidatorFault ks callee Arity
+  validates_impurely : (f : ℕ) → callee ≡ Function f → is_pure (nth ks f) ≡ false → ValidatorFault ks callee NotPure
+
+-- one of these validators has the fault, and the refusal's place
+pub record FaultOfValidator (ks : List Known) (vs : List Validator) (e : CheckError) : Type 0 where
+  pub callee : Callee
+  pub span : Span
+  pub stands : IsValidator (record { callee = Some callee; span = span }) vs
+  pub fault : ValidatorFault ks callee e.kind
+  pub place : e.at ≡ span
+
 -- how many nodes these bodies have together
 abbrev pub all_nodes : List Body → ℕ
 all_nodes [] = 0
 all_nodes (b ∷ bs) = nodes b.tree + all_nodes bs
 
--- The refusal is true of the program: a form of one of its bodies has that fault and that place; or with the body of that
--- place its bodies have more than 200,000 nodes.
+-- The refusal is true of the program: a form of one of its bodies has that fault and that place, or the validator of one of its cells has; or
+-- with the body of that place its bodies have more than 200,000 nodes.
 pub data IsTrueOf (p : PlainProgram) (e : CheckError) : Type 0 where
   of_form : (b : Body) → IsBody b (in_order p.functions p.threads) → FaultIn (known p.functions) b.zone b.target b.tree e → IsTrueOf p e
+  of_validator : FaultOfValidator (known p.functions) (validators_in p.cells p.validator_spans) e → IsTrueOf p e
   of_size : (before : List Body) (b : Body) (behind : List Body) → in_order p.functions p.threads ≡ before ++ b ∷ behind → most_nodes < all_nodes before + nodes b.tree → e.kind ≡ CodeTooLarge → e.at ≡ b.span → IsTrueOf p e

@@ -4,3 +4,4 @@ pub mod Order
 pub mod Refused
 pub mod Rows
 pub mod Signatures
+pub mod Walked

@@ -5,6 +5,7 @@ use Rattle.txs_value_cell.specs.Forms.{rule, may_stand}
 use Rattle.txs_value_data.specs.Limits.{most_nodes}
 use Rattle.txs_value_base.specs.Places.{nth}
 use Rattle.txs_value_base.specs.declared.fault.Span.{Span}
+use Rattle.txs_value_cell.specs.declared.cell.CellDefinition.{CellDefinition}
 use Rattle.txs_value_cell.specs.declared.form.CellForm.{CellForm}
 use Rattle.txs_value_cell.specs.declared.form.CellForm.TheVariants as form_of
 use Rattle.txs_value_cell.specs.declared.form.Standing.{Standing}
@@ -230,6 +231,50 @@ abbrev pub checked_bodies : List Known → List Body → Checked
 checked_bodies ks [] = fine
 checked_bodies ks (b ∷ bs) = checked_body ks b >> checked_bodies ks bs
 
+-- ---- the validators of cells
+
+-- a cell's validator, if it has one, and where it stands
+pub record Validator : Type 0 where
+  pub callee : Option Callee
+  pub span : Span
+
+-- those of these cells, which stand there
+abbrev pub validators_in : List CellDefinition → List Span → List Validator
+validators_in (c ∷ cs) (at ∷ ats) = record { callee = c.validator; span = at } ∷ validators_in cs ats
+validators_in _ _ = []
+
+-- a validator is applied to one value, as a form on a cell applies a callee
+abbrev pub validates : List Known → Option Callee → Span → Checked
+validates ks None at = fine
+validates ks (Some callee) at = called ks callee 1 at
+
+-- what is checked by itself: a body, or a cell's validator
+pub data Checkable : Type 0 where
+  of_body : Body → Checkable
+  of_validator : Validator → Checkable
+
+-- how many of the first validators stand before this place of the script
+abbrev pub earlier : ℕ → List Validator → ℕ
+earlier from [] = 0
+earlier from (v ∷ vs) = if nat_lt v.span.from from then suc (earlier from vs) else 0
+
+-- bodies and validators, each in script order, together in script order
+abbrev pub together : List Body → List Validator → List Checkable
+together [] vs = map of_validator vs
+together (b ∷ bs) vs = map of_validator (take (earlier b.span.from vs) vs) ++ of_body b ∷ together bs (drop (earlier b.span.from vs) vs)
+
+-- the first refusal in a body, or of a validator
+abbrev pub checked_one : List Known → Checkable → Checked
+checked_one ks (of_body b) = checked_body ks b
+checked_one ks (of_validator v) = validates ks v.callee v.span
+
+-- the first refusal in these, one after another
+abbrev pub checked_each : List Known → List Checkable → Checked
+checked_each ks [] = fine
+checked_each ks (c ∷ cs) = checked_one ks c >> checked_each ks cs
+
+-- ---- the size of a program
+
 -- how many of so many nodes are left after those of a body, and after those of all: the first body with more is refused
 abbrev pub taken : ℕ → Tree → Span → Result ℕ CheckError
 taken left e at = if nat_le (nodes e) left then Ok (left - nodes e) else Err (record { kind = CodeTooLarge; at = at })
@@ -250,11 +295,11 @@ abbrev pub few : Result ℕ CheckError → Checked
 few (Ok left) = fine
 few (Err e) = Err e
 
--- the first refusal of a program, if there is one: of a form in source order, and then of the size
+-- the first refusal of a program, if there is one: of a form or of a validator in source order, and then of the size
 abbrev pub refusal : PlainProgram → Checked
 refusal p =
     let bodies = in_order p.functions p.threads in
-    checked_bodies (known p.functions) bodies >> few (room most_nodes bodies)
+    checked_each (known p.functions) (together bodies (validators_in p.cells p.validator_spans)) >> few (room most_nodes bodies)
 
 -- the checks refuse the program so
 abbrev pub CheckStops : PlainProgram → CheckError → Type 0

@@ -5,8 +5,8 @@ ghost use Rattle.txs_tree_meaning.specs.Scoped.{Scoped};
 ghost use Rattle.txs_tree_meaning.specs.Sound.{Sound};
 ghost use Rattle.txs_tree_meaning.specs.Tree.{PlainFunction, PlainProgram, PlainThread};
 ghost use Rattle.txs_check.specs.Faulty.{IsTrueOf};
-ghost use Rattle.txs_check.specs.Order.{Ascend, functions_in, futures_in};
-ghost use Rattle.txs_check.specs.Refused.{CheckStops, fine, function_body, in_order, refusal, thread_body};
+ghost use Rattle.txs_check.specs.Order.{Ascend, EachAscends, bodies_in, functions_in, futures_in, only_validators};
+ghost use Rattle.txs_check.specs.Refused.{Body, CheckStops, Validator, fine, function_body, in_order, of_validator, refusal, thread_body, together};
 ghost use Rattle.txs_check.specs.declared.error.CheckError.{CheckError};
 ghost use Rattle.txs_check.specs.declared.error.CheckErrorKind.TheVariants.{Memory};
 
@@ -31,7 +31,15 @@ pub fn bodies_in_script_order()
     ensures ascend { (fs : List PlainFunction) (ts : List PlainThread) → Ascend (map function_body fs) → Ascend (map thread_body ts) → Ascend (in_order fs ts) }
 {}
 
-/// Each refusal is true of the program: a form that is at its place has that fault where it is, or
+/// Among the bodies stand the validators of cells: what is walked is all of both, each in their order; and where each of the two are in
+/// script order, so are both together.
+pub fn validators_in_script_order()
+    ensures bodies { (bs : List Body) (vs : List Validator) → bodies_in (together bs vs) ≡ bs }
+    ensures validators { (bs : List Body) (vs : List Validator) → only_validators (together bs vs) ≡ vs }
+    ensures ascend { (bs : List Body) (vs : List Validator) → Ascend bs → EachAscends (map of_validator vs) → EachAscends (together bs vs) }
+{}
+
+/// Each refusal is true of the program: a form that stands at its place has that fault where it stands, or the validator there has; or
 /// with the body at its place the program has too many nodes.
 pub fn refusals_are_true()
     ensures { (p : PlainProgram) (e : CheckError) → CheckStops p e → IsTrueOf p e }

@@ -12,6 +12,7 @@ mod parts;
 mod place;
 pub mod program;
 pub mod size;
+mod validators;
 mod walk;
 
 pub use callee::{FunctionTable, function_table, is_pure_callee};

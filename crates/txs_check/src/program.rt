@@ -11,6 +11,7 @@ use crate::bodies::{check_bodies, room_after_all};
 use crate::class::signatures_of;
 use crate::error::CheckError;
 use crate::law::sound_where_nothing_refuses;
+use crate::validators::Validators;
 use std::alloc::Global;
 use txs_tree_meaning::{Program, Raw};
 use txs_value_data::limits::MOST_NODES;
@@ -24,7 +25,11 @@ fn check_raw(alloc: Global, raw: &Raw) -> Result<(), CheckError>
     let functions = raw.functions();
     let threads = raw.threads();
     let signatures = signatures_of(alloc, functions)?;
-    check_bodies(signatures.as_slice(), functions, threads)?;
+    let validators = Validators {
+        cells: raw.cells(),
+        spans: raw.validator_spans(),
+    };
+    check_bodies(signatures.as_slice(), functions, threads, validators)?;
     room_after_all(MOST_NODES, functions, threads)?;
     // Laws that the proof uses; they do nothing when they run.
     sound_where_nothing_refuses();
@@ -37,7 +42,7 @@ fn check_raw(alloc: Global, raw: &Raw) -> Result<(), CheckError>
 ///
 /// # Errors
 /// `RecurNotTail`, `RecurCount`, `RecurAcrossDosync`, `Arity`, `NotPure`, `InsideOnly` and `OutsideOnly` at the
-/// form that is refused; `CodeTooLarge` at the definition or future with which the program has more than
+/// form that is refused, `Arity` and `NotPure` also at a cell's validator; `CodeTooLarge` at the definition or future with which the program has more than
 /// 200,000 nodes; `Memory`, at 0..0, where there was no memory for the checks.
 pub fn check(alloc: Global, raw: Raw) -> Result<Program, (Raw, CheckError)>
     ensures same { IfOk result (λ p. p ≡ raw) }

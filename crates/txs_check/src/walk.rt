@@ -64,7 +64,7 @@ fn is_pure(signature: Option<Signature>) -> bool
 }
 
 /// Whether a form on a cell may call this on so many arguments, the cell's value among them.
-fn check_callee(
+pub fn check_callee(
     signatures: &[Signature],
     callee: Callee,
     count: usize,

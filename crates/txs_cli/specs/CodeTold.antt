@@ -18,7 +18,7 @@ use Rattle.txs_cli_report.specs.Lines.{Script}
 use Rattle.txs_cli_report.specs.Told.{Told, RunTells, ListTells, cells_told, events_told}
 use Rattle.txs_verify.specs.Errors.{verify_number, verify_name}
 use Rattle.txs_verify.specs.declared.error.BodyName.{BodyName}
-use Rattle.txs_verify.specs.declared.error.BodyName.TheVariants.{Function, Thread}
+use Rattle.txs_verify.specs.declared.error.BodyName.TheVariants.{Function, Thread, Cell}
 
 -- ---- lines of the standard error
 
@@ -30,10 +30,11 @@ refused_front number name = codes "refused " ++ decimal number ++ codes " " ++ n
 abbrev pub at_number : List ℕ → ℕ → List ℕ
 at_number word n = word ++ decimal n ++ codes "\n"
 
--- where an instruction stands: " in fn F at P", or " in thread T at P"
+-- where an instruction stands: " in fn F at P", or " in thread T at P"; or a validator: " in cell K at 0"
 abbrev pub in_body : BodyName → ℕ → List ℕ
 in_body (Function n) at = codes " in fn " ++ decimal n ++ at_number (codes " at ") at
 in_body (Thread n) at = codes " in thread " ++ decimal n ++ at_number (codes " at ") at
+in_body (Cell n) at = codes " in cell " ++ decimal n ++ at_number (codes " at ") at
 
 -- The line of bytes that aren't taken as code: the place among the bytes, or that of the instruction. Of want of memory the program tells otherwise.
 abbrev pub load_line : LoadError → List ℕ

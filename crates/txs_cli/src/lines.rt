@@ -28,7 +28,7 @@ fn end_at(line: &mut Vec<u8>, word: &[u8], number: usize, at: usize) -> Result<(
     end_line(line, at)
 }
 
-/// Appends the line of a refusal: its number and its name, and its place in a body, or among the bytes where no body is named.
+/// Appends the line of a refusal: its number and its name, and its place in a body or a cell, or among the bytes where no body is named.
 fn write_line(
     line: &mut Vec<u8>,
     number: u8,
@@ -43,6 +43,7 @@ fn write_line(
     match body {
         Some(BodyName::Function(number)) => end_at(line, b" in fn ", number, at),
         Some(BodyName::Thread(number)) => end_at(line, b" in thread ", number, at),
+        Some(BodyName::Cell(number)) => end_at(line, b" in cell ", number, at),
         None => end_line(line, at),
     }
 }

@@ -184,7 +184,7 @@ static FORMS: [Row; 20] = [
 ];
 
 /// Of threads and cells.
-static THREADS: [Row; 13] = [
+static THREADS: [Row; 14] = [
     ("send-off send-via", "write `send`"),
     (
         "await await-for await1 shutdown-agents release-pending-sends",
@@ -208,7 +208,11 @@ static THREADS: [Row; 13] = [
         "write an atom, or a `loop` whose local changes",
     ),
     (
-        "add-watch remove-watch set-validator! get-validator ref-history-count ref-min-history ref-max-history io!",
+        "set-validator! get-validator",
+        "write `(def a (atom 0 :validator f))`, and so for a ref or an agent: a cell's validator stays as it is",
+    ),
+    (
+        "add-watch remove-watch ref-history-count ref-min-history ref-max-history io!",
         "take it out: a cell has its value alone",
     ),
     (

@@ -87,7 +87,7 @@ pub fn of_check(kind: CheckErrorKind) -> Option<&'static str>
             "Put the `loop` into the `dosync`, or the `recur` outside: a `recur` never crosses a `dosync`."
         }
         CheckErrorKind::Arity => {
-            "Give it as many arguments as it takes; the function of an `alter`, `commute`, `swap!` or `send` takes the cell's value as its first."
+            "Give it as many arguments as it takes; the function of an `alter`, `commute`, `swap!` or `send` takes the cell's value as its first, and a validator that value alone."
         }
         CheckErrorKind::NotPure => {
             "Give it a core operation or a pure function: one with no `println`, no `dosync` and no form on cells, also in what it calls."

@@ -123,7 +123,7 @@ fn on_symbol(alloc: Global, name: &str) -> Advice {
     about(
         alloc,
         name,
-        " is a function, and no value: name it where it is called, or after the cell of an `alter`, `commute`, `swap!` or `send`.",
+        " is a function, and no value: name it where it is called, after the cell of an `alter`, `commute`, `swap!` or `send`, or after `:validator`.",
     )
 }
 

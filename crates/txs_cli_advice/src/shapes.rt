@@ -18,15 +18,15 @@ static AT_TOP: [Row; 6] = [
     ),
     (
         "ref",
-        "Write `(def NAME (ref LITERAL))`, with no option after the literal: nothing is computed at the top of a script.",
+        "Write `(def NAME (ref LITERAL))`, with no option after the literal but one `:validator FUNCTION`: nothing is computed at the top of a script.",
     ),
     (
         "atom",
-        "Write `(def NAME (atom LITERAL))`, with no option after the literal: nothing is computed at the top of a script.",
+        "Write `(def NAME (atom LITERAL))`, with no option after the literal but one `:validator FUNCTION`: nothing is computed at the top of a script.",
     ),
     (
         "agent",
-        "Write `(def NAME (agent LITERAL))`, with no option after the literal but `:error-mode :continue` or `:error-mode :fail`.",
+        "Write `(def NAME (agent LITERAL))`, with no option after the literal but one `:validator FUNCTION`, and one `:error-mode :continue` or `:error-mode :fail`.",
     ),
 ];
 

@@ -3,8 +3,11 @@
 /// A byte, and what to do about a word of which it is one.
 type Row = (u8, &'static str);
 
-/// How code in its byte form begins.
+/// How code in its byte form begins whose cells have no validators.
 const MAGIC: &[u8] = b"TXS1";
+
+/// How code in its byte form begins a cell of which has one.
+const MAGIC_OF_VALIDATED: &[u8] = b"TXS2";
 
 /// What to do about such code where a script is wanted.
 const IS_CODE: &str =
@@ -216,7 +219,7 @@ pub(crate) fn of_token(word: &[u8]) -> Option<&'static str> {
 
 /// What to do about bytes that are no script, where they begin as code does.
 pub(crate) fn of_code(text: &[u8]) -> Option<&'static str> {
-    if text.starts_with(MAGIC) {
+    if text.starts_with(MAGIC) || text.starts_with(MAGIC_OF_VALIDATED) {
         Some(IS_CODE)
     } else {
         None

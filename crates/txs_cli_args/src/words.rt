@@ -12,7 +12,7 @@ const DEFAULT_STEPS: u64 = 100_000_000;
 const DEFAULT_WORKERS: u64 = 4;
 
 /// What `--version` says behind the program's name.
-const VERSION: &str = "0.1.0 (a profile of Clojure 1.11; byte form TXS1)";
+const VERSION: &str = "0.1.0 (a profile of Clojure 1.11; byte forms TXS1 and TXS2)";
 
 /// What stands below each text of help: what the statuses say, of which the highest that applies counts.
 const STATUSES: &str = "Statuses, of which the highest that applies counts:

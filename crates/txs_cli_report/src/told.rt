@@ -11,7 +11,7 @@ use crate::explain::{Script, write_explained};
 use std::alloc::{AllocError, Global};
 use txs_cli_advice::{
     OF_JOURNAL, OF_LIST, OF_MEMORY, OF_STEPS, of_check, of_fault, of_read, of_resolve, on_check,
-    on_read, on_resolve,
+    on_fault, on_read, on_resolve,
 };
 use txs_cli_plays::{WrongPlay, write_both, write_number};
 use txs_cli_request::RunOptions;
@@ -283,6 +283,18 @@ pub fn wrong_list(alloc: Global, list: Script<'_>, wrong: WrongPlay) -> Result<T
     Ok(told)
 }
 
+/// What to do about a fault: what is known by its span, else what is known by its kind. Where nothing is explained the script isn't
+/// looked at.
+fn fault_advice(alloc: Global, script: Script<'_>, fault: Fault) -> Result<String, AllocError> {
+    if script.file.is_none() {
+        return Ok(String::new(alloc));
+    }
+    match on_fault(alloc, script.text, fault)? {
+        Some(advice) => Ok(advice),
+        None => String::from_str(alloc, of_fault(fault.kind)),
+    }
+}
+
 /// Appends the line of one that failed, and what explains it.
 fn write_failed(
     errors: &mut Vec<u8>,
@@ -295,7 +307,8 @@ fn write_failed(
     write_front(errors, front)?;
     write_both(errors, b" failed: ", fault.kind.name().as_bytes())?;
     write_place(errors, fault.span)?;
-    explain(errors, script, Some(fault.span), of_fault(fault.kind))
+    let sentence = fault_advice(*errors.allocator(), script, fault)?;
+    explain(errors, script, Some(fault.span), sentence.as_str())
 }
 
 /// Appends the line of one that was stopped, and what explains it.

@@ -1,14 +1,13 @@
 -- The formats of instructions, bodies and code are exact.
-use Rattle.std.proofs.Common.{◌≡◌, ℕ, zero, suc, ◌-◌, ◌^◌, ◌<◌, Bool, true, false, List, [], ◌∷◌, length, map, Option, Some, None, refl, sym, ap, ◌∙◌, arith}
-use Rattle.std.specs.Prelude.{nat_lt, ◌==◌}
+use Rattle.std.proofs.Common.{◌≡◌, ℕ, zero, suc, ◌-◌, ◌^◌, ◌<◌, Bool, true, false, List, [], ◌∷◌, length, map, None, is_some, refl, sym, ap, arith}
+use Rattle.std.specs.Prelude.{◌==◌, ◌||◌}
+use Rattle.std.specs.List.{AllByRecursion}
 use Rattle.std.specs.Int.{w16, w32}
 use Rattle.std.proofs.lemmas.Bool.{eqb-true}
 use Rattle.txs_value_data.specs.Limits.{most_definitions, most_threads}
-use Rattle.txs_value_base.specs.Operations.{op_number}
 use Rattle.txs_value_cell.specs.declared.cell.CellDefinition.{CellDefinition}
 use Rattle.txs_value_base.specs.declared.fault.Span.{Span}
 use Rattle.txs_value_base.specs.declared.op.Callee.{Callee}
-use Rattle.txs_value_base.specs.declared.op.Callee.TheVariants as callee
 use Rattle.txs_value_data.specs.declared.value.CellKind.{CellKind}
 use Rattle.txs_value_data.specs.declared.value.Value.{Value}
 use Rattle.txs_code_meaning.specs.PlainCode.{CodeBody, PlainCode}
@@ -22,35 +21,17 @@ use Rattle.txs_code_decode.specs.declared.error.CodeErrorKind.{CodeErrorKind}
 use Rattle.txs_code_decode.specs.declared.error.CodeErrorKind.TheVariants.{BadMagic, BadOpcode, BadOperand}
 use Rattle.txs_code_decode.specs.declared.opcode.Opcode.{Opcode}
 use Rattle.txs_code_decode.specs.declared.opcode.Opcode.TheVariants as opcode
-use Rattle.txs_code_decode.specs.declared.tag.CalleeTag.{CalleeTag}
-use Rattle.txs_code_decode.specs.declared.tag.CalleeTag.TheVariants as callee_tag
-use Rattle.txs_code_decode.specs.CellForm.{cell_format, constant_format, kinds_of}
-use Rattle.txs_code_decode.specs.CodeForm.{paired, body_parts, body_of, parameters_format, body_format, instructions, all_instructions, bodies_format, functions_format, threads_format, most_instructions, magic, magic_format, cells_format, constants_format, program_format, code_format}
+use Rattle.txs_code_decode.specs.CellForm.{cell_format, constant_format, kinds_of, validator_format}
+use Rattle.txs_code_meaning.specs.Validating.{has_validator, is_validated}
+use Rattle.txs_code_decode.specs.CodeForm.{paired, body_parts, body_of, parameters_format, body_format, instructions, all_instructions, bodies_format, functions_format, threads_format, most_instructions, magic, magic_1, magic_2, magic_format, cells_format, told_cells_format, constants_format, program_format, code_format}
 use Rattle.txs_code_decode.specs.Format.{Format, byte, number, tested, one_of, only, pair, mapped, counted, tagged, SharingFits, sharing}
-use Rattle.txs_code_decode.specs.InstrForm.{operations, op_format, callee_tags, callee_byte, callee_tag_of, callee_op, callee_function, callee_body, callee_format, opcodes, opcode_byte, opcode_of, opcode_format, operand, operation, named, callee_and_count, operands, instr_format, span_format, placed_format}
+use Rattle.txs_code_decode.specs.InstrForm.{op_format, callee_format, opcodes, opcode_byte, opcode_of, opcode_format, operand, operation, named, callee_and_count, operands, instr_format, span_format, placed_format}
 use Rattle.txs_code_decode.specs.ValueForm.{must, below, at_most}
-use Rattle.txs_code_decode.proofs.Exact.{Exact, InOrder, byte_exact, tested_exact, one_of_exact, only_exact, pair_exact, mapped_exact, counted_exact, tagged_exact, sharing_exact}
-use Rattle.txs_code_decode.proofs.Lists.{in_order}
-use Rattle.txs_code_decode.proofs.ValueExact.{n16, n32, cell_exact, constant_exact}
+use Rattle.txs_code_decode.proofs.Exact.{Exact, InOrder, byte_exact, tested_exact, before_exact, one_of_exact, only_exact, pair_exact, mapped_exact, counted_exact, tagged_exact, sharing_exact}
+use Rattle.txs_code_decode.proofs.CellExact.{op_exact, callee_exact, cell_exact}
+use Rattle.txs_code_decode.proofs.ValueExact.{n16, n32, constant_exact}
 
 -- ---- instructions
-
-op_exact : Exact op_format
-unfolding op_format
-op_exact = one_of_exact byte operations op_number BadOperand byte_exact in_order
-
-callee_body_exact : (functions : ℕ) (t : CalleeTag) → Exact (callee_body functions t)
-callee_body_exact functions callee_tag.Core = mapped_exact callee.Core callee_op _ (one_of_exact _ operations op_number BadOperand n16 in_order) (λ op fits. refl)
-callee_body_exact functions callee_tag.Function = mapped_exact callee.Function callee_function _ (tested_exact _ (below functions) n16) (λ f fits. refl)
-
-callee_tells : (functions : ℕ) (t : CalleeTag) (c : Callee) → (callee_body functions t).fits c → callee_tag_of c ≡ t
-callee_tells functions callee_tag.Core c fits = ap callee_tag_of (sym fits.1)
-callee_tells functions callee_tag.Function c fits = ap callee_tag_of (sym fits.1)
-
-callee_exact : (functions : ℕ) → Exact (callee_format functions)
-unfolding callee_format
-callee_exact functions =
-    tagged_exact _ callee_tag_of (callee_body functions) (one_of_exact byte callee_tags callee_byte BadOperand byte_exact (refl, (refl, tt))) (callee_body_exact functions) (callee_tells functions)
 
 callee_count_exact : (functions : ℕ) (make : Callee → ℕ → Instr) → ((c : Callee) (n : ℕ) → (named (make c n) ≡ c) × (operand (make c n) ≡ n)) → Exact (callee_and_count functions make)
 callee_count_exact functions make back =
@@ -171,13 +152,43 @@ threads_exact ks fs left = bodies_exact most_threads (λ n. body_format true ks 
 
 -- ---- code
 
+must_hold : (kind : CodeErrorKind) (b : Bool) → must kind b ≡ None → b ≡ true
+must_hold kind true e = refl
+must_hold kind false e = absurd cc
+
+-- a number that is one of two is that of which it is known whether it is the second
+one_magic : (n : ℕ) (first second : Bool) → (n == magic_1) ≡ first → (n == magic_2) ≡ second → (first || second) ≡ true → magic second ≡ n
+one_magic n first true e f is = sym (eqb-true n magic_2 f)
+one_magic n true false e f is = sym (eqb-true n magic_1 e)
+one_magic n false false e f is = absurd cc
+
 magic_exact : Exact magic_format
 unfolding magic_format
-magic_exact = tested_exact (number w32) _ n32
+magic_exact =
+    mapped_exact _ magic _ (tested_exact (number w32) _ n32) (λ n fits. one_magic n (n == magic_1) (n == magic_2) refl refl (must_hold BadMagic (n == magic_1 || n == magic_2) fits.1))
 
-cells_exact : Exact cells_format
+cells_exact : (validated : Bool) → Exact (cells_format validated)
 unfolding cells_format
-cells_exact = counted_exact _ cell_format (tested_exact (number w16) (at_most 1000) n16) cell_exact
+cells_exact validated = counted_exact _ (cell_format validated) (tested_exact (number w16) (at_most 1000) n16) (cell_exact validated)
+
+told_cells_exact : (validated : Bool) → Exact (told_cells_format validated)
+unfolding told_cells_format
+told_cells_exact validated = before_exact 1 (cells_format validated) _ (cells_exact validated)
+
+-- a cell of code whose cells have no validators has none
+unvalidated : (c : CellDefinition) → (cell_format false).fits c → is_validated c ≡ false
+unfolding cell_format validator_format
+unvalidated c fits = ap is_some fits.0.1.1.1.1
+
+none_validated : (cells : List CellDefinition) → AllByRecursion (cell_format false).fits cells → has_validator cells ≡ false
+none_validated [] all = refl
+none_validated (c ∷ cells) all = rw (unvalidated c all.0) (none_validated cells all.1)
+
+-- cells tell what the magic told of them
+told_so : (validated : Bool) (cells : List CellDefinition) → (told_cells_format validated).fits cells → has_validator cells ≡ validated
+unfolding told_cells_format cells_format
+told_so true cells fits = must_hold BadOperand (has_validator cells) fits.1
+told_so false cells fits = none_validated cells fits.0.0.1.1
 
 constants_exact : (kinds : List CellKind) → Exact (constants_format kinds)
 unfolding constants_format
@@ -187,17 +198,9 @@ program_exact : (ks : ℕ) → Exact (program_format ks)
 unfolding program_format
 program_exact ks = pair_exact (functions_format ks) _ (functions_exact ks) (λ fs. threads_exact ks (length fs) (most_instructions - all_instructions fs))
 
-must_hold : (kind : CodeErrorKind) (b : Bool) → must kind b ≡ None → b ≡ true
-must_hold kind true e = refl
-must_hold kind false e = absurd cc
-
-magic_is : (n : ℕ) → magic_format.fits n → magic ≡ n
-unfolding magic_format
-magic_is n fits = sym (eqb-true n magic (must_hold BadMagic (n == magic) fits.1))
-
 pub code_exact : Exact code_format
 unfolding code_format
 code_exact =
     mapped_exact _ _ _
-    (pair_exact magic_format _ magic_exact (λ m. pair_exact cells_format _ cells_exact (λ cells. pair_exact (constants_format (kinds_of cells)) _ (constants_exact (kinds_of cells)) (λ ks. program_exact (length ks)))))
-    (λ p fits. ap (λ (n : ℕ). (n, p.1)) (magic_is p.0 fits.0))
+    (pair_exact magic_format _ magic_exact (λ validated. pair_exact (told_cells_format validated) _ (told_cells_exact validated) (λ cells. pair_exact (constants_format (kinds_of cells)) _ (constants_exact (kinds_of cells)) (λ ks. program_exact (length ks)))))
+    (λ p fits. ap (λ (b : Bool). (b, p.1)) (told_so p.0 p.1.0 fits.1.0))

@@ -1,13 +1,15 @@
 -- What decoding answers, of what reading all bytes gives.
-use Rattle.std.proofs.Common.{◌≡◌, ℕ, ◌++◌, List, length, Result, Ok, Err, IfErr, refl, sym, ap, subst, ◌∙◌}
+use Rattle.std.proofs.Common.{◌≡◌, ℕ, ◌++◌, Bool, true, false, List, length, Result, Ok, Err, IfErr, refl, sym, ap, subst, ◌∙◌}
 use Rattle.txs_code_meaning.specs.PlainCode.{PlainCode}
 use Rattle.txs_code_decode.specs.declared.error.CodeError.{CodeError}
 use Rattle.txs_code_decode.specs.declared.error.CodeErrorKind.TheVariants.{Memory}
 use Rattle.txs_code_decode.specs.declared.error.Stop.{Stop}
 use Rattle.txs_code_decode.specs.declared.error.Stop.TheVariants as stops
-use Rattle.txs_code_decode.specs.CodeForm.{Answers, HasForm, HasMagic, IsMemory, magic, at_place, code_format, decoded, error_of, form}
+use Rattle.txs_code_decode.specs.CodeForm.{Answers, HasForm, HasMagic, IsMemory, magic_1, magic_2, at_place, code_format, decoded, error_of, form}
 use Rattle.txs_code_decode.specs.Format.{Fails, number_at, whole}
+use Rattle.std.specs.Prelude.{◌==◌, ◌||◌}
 use Rattle.std.specs.Int.{w32, to_be_bytes}
+use Rattle.std.proofs.lemmas.Bool.{eqb-true}
 use Rattle.txs_code_decode.proofs.CodeExact.{code_exact}
 use Rattle.txs_code_decode.proofs.Exact.{IsBytes, number_exact, whole_again, whole_takes, wide32}
 use Rattle.txs_code_decode.proofs.FormLemmas.{code_form}
@@ -42,10 +44,15 @@ memory_so n stops.Memory e = tt
 memory_so n (stops.Refused r) e = e
 
 -- the bytes behind which memory may run out
-pub magic_read : (bytes rest : List ℕ) (n : ℕ) → IsBytes bytes → number_at w32 bytes ≡ Ok (n, rest) → n ≡ magic → HasMagic bytes
+pub magic_read : (bytes rest : List ℕ) (n : ℕ) → IsBytes bytes → number_at w32 bytes ≡ Ok (n, rest) → (n == magic_1 || n == magic_2) ≡ true → HasMagic bytes
 magic_read bytes rest n fits e is =
     let t = (number_exact w32 wide32).takes bytes (n, rest) fits e in
-    (rest, t.parts ∙ ap (λ (k : ℕ). to_be_bytes w32 k ++ rest) is)
+    one_of_two (n == magic_1) (n == magic_2) refl refl is t.parts
+  where
+    one_of_two : (first second : Bool) → (n == magic_1) ≡ first → (n == magic_2) ≡ second → (first || second) ≡ true → bytes ≡ to_be_bytes w32 n ++ rest → HasMagic bytes
+    one_of_two true second f g one parts = (false, rest, parts ∙ ap (λ (k : ℕ). to_be_bytes w32 k ++ rest) (eqb-true n magic_1 f))
+    one_of_two false true f g one parts = (true, rest, parts ∙ ap (λ (k : ℕ). to_be_bytes w32 k ++ rest) (eqb-true n magic_2 g))
+    one_of_two false false f g one parts = absurd cc
 
 pub behind_magic : {A : Type 0} (r : Result A Stop) (bytes : List ℕ) → HasMagic bytes → IfErr r (λ stop. IsMemory stop → HasMagic bytes)
 behind_magic (Ok x) bytes h = tt

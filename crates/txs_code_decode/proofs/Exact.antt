@@ -11,7 +11,7 @@ use Rattle.txs_value_base.specs.Places.{nth}
 use Rattle.txs_code_decode.specs.declared.error.CodeErrorKind.{CodeErrorKind}
 use Rattle.txs_code_decode.specs.declared.error.CodeErrorKind.TheVariants.{Truncated, Trailing}
 use Rattle.txs_code_decode.specs.declared.error.Refusal.{Refusal}
-use Rattle.txs_code_decode.specs.Format.{Read, refuse, ◌>>=◌, Test, judge, found, Format, byte_at, byte, bytes_at, some_bytes, limit, number_at, number, tested, one_of, only, never, pair, mapped, many_at, many, counted, tagged, sharing_form, SharingFits, sharing_at, sharing, whole}
+use Rattle.txs_code_decode.specs.Format.{Read, refuse, ◌>>=◌, Test, judge, judge_left, found, Format, byte_at, byte, bytes_at, some_bytes, limit, number_at, number, tested, tested_before, one_of, only, never, pair, mapped, many_at, many, counted, tagged, sharing_form, SharingFits, sharing_at, sharing, whole}
 
 abbrev pub IsBytes : List ℕ → Type 0
 IsBytes bytes = (i : ℕ) → get_or bytes i 0 < 256
@@ -158,6 +158,25 @@ tested_again {A} f test h a rest fits =
 
 pub tested_exact : {A : Type 0} (f : Format A) (test : Test A) → Exact f → Exact (tested f test)
 tested_exact f test h = record { takes = tested_takes f test h; again = tested_again f test h }
+
+judge_left_ok : {A : Type 0} (o : Option CodeErrorKind) (left : ℕ) (a : A) (rest : List ℕ) (x : A × List ℕ) → judge_left o left a rest ≡ Ok x → (o ≡ None) × ((a, rest) ≡ x)
+judge_left_ok None left a rest x e = (refl, ok_is (a, rest) x e)
+judge_left_ok (Some k) left a rest x e = absurd cc
+
+before_takes : {A : Type 0} (k : ℕ) (f : Format A) (test : Test A) → Exact f → (bytes : List ℕ) (z : A × List ℕ) → IsBytes bytes → (tested_before k f test).read bytes ≡ Ok z → Takes (tested_before k f test) bytes z
+before_takes {A} k f test h bytes z fits e =
+    let p = bind_ok (f.read bytes) (λ x. judge_left (test x.0) (length bytes + k) x.0 x.1) z e in
+    let t = h.takes bytes p.0 fits p.1 in
+    let j = judge_left_ok (test p.0.0) (length bytes + k) p.0.0 p.0.1 z p.2 in
+    subst (λ (z : A × List ℕ). Takes (tested_before k f test) bytes z) j.1 (record { parts = t.parts; rest = t.rest; fits = (t.fits, j.0) })
+
+before_again : {A : Type 0} (k : ℕ) (f : Format A) (test : Test A) → Exact f → (a : A) (rest : List ℕ) → (tested_before k f test).fits a → (tested_before k f test).read (f.form a ++ rest) ≡ Ok (a, rest)
+before_again {A} k f test h a rest fits =
+    ap (λ (r : Read A). r >>= λ x. judge_left (test x.0) (length (f.form a ++ rest) + k) x.0 x.1) (h.again a rest fits.0)
+    ∙ ap (λ (o : Option CodeErrorKind). judge_left o (length (f.form a ++ rest) + k) a rest) fits.1
+
+pub before_exact : {A : Type 0} (k : ℕ) (f : Format A) (test : Test A) → Exact f → Exact (tested_before k f test)
+before_exact k f test h = record { takes = before_takes k f test h; again = before_again k f test h }
 
 pub only_exact : {A : Type 0} (a : A) → Exact (only a)
 only_exact a = record {

@@ -1,6 +1,5 @@
 -- The bytes of the formats are those that are written.
 use Rattle.std.proofs.Common.{◌≡◌, ℕ, zero, suc, ◌+◌, ◌-◌, ◌^◌, ◌<◌, ◌≤◌, Bool, true, false, List, [], ◌∷◌, ◌++◌, length, map, get_or, take, Option, Some, None, refl, sym, ap, ◌∙◌, append_assoc, arith}
-use Rattle.std.specs.Prelude.{codes}
 use Rattle.std.specs.List.{flat_map, AllByRecursion}
 use Rattle.std.specs.Int.{Width, w16, w32, to_be_bytes}
 use Rattle.std.proofs.lemmas.List.Concat.{flat_map-cons}
@@ -20,8 +19,9 @@ use Rattle.txs_code_meaning.specs.declared.instr.Instr.{Instr}
 use Rattle.txs_code_meaning.specs.declared.instr.Instr.TheVariants as instr
 use Rattle.txs_code_meaning.specs.declared.instr.OpenForm.TheVariants as open_form
 use Rattle.txs_code_decode.specs.declared.error.CodeErrorKind.{CodeErrorKind}
-use Rattle.txs_code_decode.specs.CellForm.{kind_byte, mode_byte, kind_format, mode_format, constant_format, cell_format, kinds_of, cell_bytes, constant_bytes}
-use Rattle.txs_code_decode.specs.CodeForm.{paired, body_format, instructions, all_instructions, most_instructions, magic, magic_format, cells_format, constants_format, functions_format, threads_format, program_format, code_format, HasForm, counted_bytes, body_bytes, form, AreBodies, AreCells, AreConstants, IsSmall}
+use Rattle.txs_code_decode.specs.CellForm.{kind_byte, mode_byte, kind_format, mode_format, constant_format, cell_format, kinds_of, validator_bytes, validator_format, cell_bytes, constant_bytes}
+use Rattle.txs_code_meaning.specs.Validating.{has_validator}
+use Rattle.txs_code_decode.specs.CodeForm.{paired, body_format, instructions, all_instructions, most_instructions, magic_bytes, magic_format, cells_format, told_cells_format, constants_format, functions_format, threads_format, program_format, code_format, HasForm, counted_bytes, body_bytes, form, AreBodies, AreCells, AreConstants, IsSmall}
 use Rattle.txs_code_decode.specs.Format.{Format, sharing_form, SharingFits}
 use Rattle.txs_code_decode.specs.InstrForm.{op_format, callee_format, callee_bytes, opcode_format, instr_format, instr_bytes, span_format, placed_format, placed_bytes}
 use Rattle.txs_code_decode.specs.ValueForm.{tag_format, keyword_format, cell_name_format, text_format, value_format, name_bytes, value_bytes, row_bytes, IsWritable, AreWritable}
@@ -84,13 +84,26 @@ constant_writable : (cells : Bool) (kinds : List CellKind) (v : Value) → (cons
 unfolding constant_format
 constant_writable cells kinds v fits = value_writable cells kinds 32 (plain_of v) fits.0
 
-cell_form : (c : CellDefinition) → cell_format.fits c → cell_format.form c ≡ cell_bytes c
-unfolding cell_format kind_format mode_format cell_name_format
-cell_form c fits = ap (λ (bs : List ℕ). kind_byte c.kind ∷ mode_byte c.error_mode ∷ (name_bytes c.name ++ bs)) (constant_form false [] c.opening fits.0.1.1.1)
+callee_form : (fs : ℕ) (c : Callee) → (callee_format fs).form c ≡ callee_bytes c
+unfolding callee_format
+callee_form fs (callee.Core op) = refl
+callee_form fs (callee.Function f) = refl
 
-cell_writable : (c : CellDefinition) → cell_format.fits c → IsWritable (plain_of c.opening)
+validator_form : (validated : Bool) (v : Option Callee) → (validator_format validated).form v ≡ validator_bytes validated v
+unfolding validator_format
+validator_form false v = refl
+validator_form true None = refl
+validator_form true (Some f) = ap (λ (bs : List ℕ). 1 ∷ bs) (callee_form 1000 f)
+
+cell_form : (validated : Bool) (c : CellDefinition) → (cell_format validated).fits c → (cell_format validated).form c ≡ cell_bytes validated c
+unfolding cell_format kind_format mode_format cell_name_format
+cell_form validated c fits =
+    ap (λ (bs : List ℕ). kind_byte c.kind ∷ mode_byte c.error_mode ∷ (name_bytes c.name ++ (bs ++ (validator_format validated).form c.validator))) (constant_form false [] c.opening fits.0.1.1.1.0)
+    ∙ ap (λ (bs : List ℕ). kind_byte c.kind ∷ mode_byte c.error_mode ∷ (name_bytes c.name ++ (constant_bytes c.opening ++ bs))) (validator_form validated c.validator)
+
+cell_writable : (validated : Bool) (c : CellDefinition) → (cell_format validated).fits c → IsWritable (plain_of c.opening)
 unfolding cell_format
-cell_writable c fits = constant_writable false [] c.opening fits.0.1.1.1
+cell_writable validated c fits = constant_writable false [] c.opening fits.0.1.1.1.0
 
 -- ---- lists
 
@@ -113,11 +126,6 @@ all_at P (y ∷ xs) zero x all lt is = rw is all.0
 all_at P (y ∷ xs) (suc i) x all lt is = all_at P xs i x all.1 (omega (arith, lt)) is
 
 -- ---- instructions
-
-callee_form : (fs : ℕ) (c : Callee) → (callee_format fs).form c ≡ callee_bytes c
-unfolding callee_format
-callee_form fs (callee.Core op) = refl
-callee_form fs (callee.Function f) = refl
 
 instr_form : (ks fs : ℕ) (i : Instr) → (instr_format ks fs).form i ≡ instr_bytes i
 unfolding instr_format opcode_format op_format
@@ -187,43 +195,49 @@ bodies_short f h (suc n) left (b ∷ bs) fits = (h left b fits.0, bodies_short f
 
 -- code that has a form is small
 pub code_small : (c : PlainCode) → HasForm c → IsSmall c
-unfolding code_format cells_format constants_format program_format functions_format threads_format
+unfolding code_format told_cells_format cells_format constants_format program_format functions_format threads_format
 code_small c fits = record {
-  few_cells = fits.0.1.0.0.0.0;
+  few_cells = fits.0.1.0.0.0.0.0;
   few_constants = fits.0.1.1.0.0.0.0;
   few_functions = fits.0.1.1.1.0.0.0.0;
   few_threads = fits.0.1.1.1.1.0.0.0;
-  cells = all_map cell_format.fits (λ c. IsWritable (plain_of c.opening)) cell_writable c.cells fits.0.1.0.0.1.1;
+  cells = all_map (cell_format (has_validator c.cells)).fits (λ c. IsWritable (plain_of c.opening)) (cell_writable (has_validator c.cells)) c.cells fits.0.1.0.0.0.1.1;
   constants = all_map (constant_format true (kinds_of c.cells)).fits (λ v. IsWritable (plain_of v)) (constant_writable true (kinds_of c.cells)) c.constants fits.0.1.1.0.0.1.1;
   functions = bodies_short (body_format false (length c.constants) (length c.functions)) (body_short false (length c.constants) (length c.functions)) (length c.functions) most_instructions c.functions fits.0.1.1.1.0.0.1;
   threads = bodies_short (body_format true (length c.constants) (length c.functions)) (body_short true (length c.constants) (length c.functions)) (length c.threads) (most_instructions - all_instructions c.functions) c.threads fits.0.1.1.1.1.0.1;
 }
 
-together : (m : List ℕ) {a b c d a' b' c' d' : List ℕ} → a ≡ a' → b ≡ b' → c ≡ c' → d ≡ d' → m ++ (a ++ (b ++ (c ++ d))) ≡ m ++ (a' ++ (b' ++ (c' ++ d')))
-together m e f g h = λ i. m ++ (e i ++ (f i ++ (g i ++ h i)))
+together : {m a b c d m' a' b' c' d' : List ℕ} → m ≡ m' → a ≡ a' → b ≡ b' → c ≡ c' → d ≡ d' → m ++ (a ++ (b ++ (c ++ d))) ≡ m' ++ (a' ++ (b' ++ (c' ++ d')))
+together k e f g h = λ i. k i ++ (e i ++ (f i ++ (g i ++ h i)))
+
+magic_form : (validated : Bool) → magic_format.form validated ≡ magic_bytes validated
+unfolding magic_format
+magic_form false = refl
+magic_form true = refl
 
 -- the format's bytes of code are its form
 pub code_form : (c : PlainCode) → HasForm c → code_format.form c ≡ form c
-unfolding code_format magic_format cells_format constants_format program_format functions_format threads_format
+unfolding code_format told_cells_format cells_format constants_format program_format functions_format threads_format
 code_form c fits =
     let kinds = kinds_of c.cells in
     let ks = length c.constants in
     let fs = length c.functions in
-    together (codes "TXS1")
-    (ap (λ (bs : List ℕ). to_be_bytes w16 (length c.cells) ++ bs) (flat_form cell_format.form cell_bytes cell_format.fits cell_form c.cells fits.0.1.0.0.1.1))
+    let validated = has_validator c.cells in
+    together (magic_form validated)
+    (ap (λ (bs : List ℕ). to_be_bytes w16 (length c.cells) ++ bs) (flat_form (cell_format validated).form (cell_bytes validated) (cell_format validated).fits (cell_form validated) c.cells fits.0.1.0.0.0.1.1))
     (ap (λ (bs : List ℕ). to_be_bytes w32 ks ++ bs) (flat_form (constant_format true kinds).form constant_bytes (constant_format true kinds).fits (constant_form true kinds) c.constants fits.0.1.1.0.0.1.1))
     (ap (λ (bs : List ℕ). to_be_bytes w16 fs ++ bs) (bodies_form (body_format false ks fs) (body_form false ks fs) most_instructions c.functions))
     (ap (λ (bs : List ℕ). to_be_bytes w16 (length c.threads) ++ bs) (bodies_form (body_format true ks fs) (body_form true ks fs) (most_instructions - all_instructions c.functions) c.threads))
 
 -- the parts put one behind the other are the form
-pub code_put : (c : PlainCode) → (o0 o1 o2 o3 o4 : List ℕ) → o0 ≡ codes "TXS1" → o1 ≡ o0 ++ counted_bytes w16 cell_bytes c.cells
+pub code_put : (c : PlainCode) → (o0 o1 o2 o3 o4 : List ℕ) → o0 ≡ magic_bytes (has_validator c.cells) → o1 ≡ o0 ++ counted_bytes w16 (cell_bytes (has_validator c.cells)) c.cells
     → o2 ≡ o1 ++ counted_bytes w32 constant_bytes c.constants → o3 ≡ o2 ++ counted_bytes w16 body_bytes c.functions
     → o4 ≡ o3 ++ counted_bytes w16 body_bytes c.threads → o4 ≡ form c
 code_put c o0 o1 o2 o3 o4 e0 e1 e2 e3 e4 =
-    let a : List ℕ = counted_bytes w16 cell_bytes c.cells in
+    let a : List ℕ = counted_bytes w16 (cell_bytes (has_validator c.cells)) c.cells in
     let b : List ℕ = counted_bytes w32 constant_bytes c.constants in
     let d : List ℕ = counted_bytes w16 body_bytes c.functions in
     let f : List ℕ = counted_bytes w16 body_bytes c.threads in
-    let m : List ℕ = codes "TXS1" in
+    let m : List ℕ = magic_bytes (has_validator c.cells) in
     e4 ∙ ap (λ x. x ++ f) (e3 ∙ ap (λ x. x ++ d) (e2 ∙ ap (λ x. x ++ b) (e1 ∙ ap (λ x. x ++ a) e0)))
     ∙ append_assoc ((m ++ a) ++ b) d f ∙ append_assoc (m ++ a) b (d ++ f) ∙ append_assoc m a (b ++ (d ++ f))

@@ -22,11 +22,13 @@ use Rattle.txs_code_decode.specs.declared.opcode.Opcode.{Opcode}
 use Rattle.txs_code_decode.specs.declared.opcode.Opcode.TheVariants as opcode
 use Rattle.txs_code_decode.specs.declared.tag.CalleeTag.{CalleeTag}
 use Rattle.txs_code_decode.specs.declared.tag.CalleeTag.TheVariants as callee_tag
+use Rattle.txs_code_decode.specs.declared.tag.ValidatorTag.{ValidatorTag}
+use Rattle.txs_code_decode.specs.declared.tag.ValidatorTag.TheVariants as validator_tag
 use Rattle.txs_code_decode.specs.declared.tag.Tag.{Tag}
 use Rattle.txs_code_decode.specs.declared.tag.Tag.TheVariants as tag
-use Rattle.txs_code_decode.specs.CellForm.{kinds, kind_byte, modes, mode_byte, kind_format, mode_format, constant_format, cell_format, kinds_of}
-use Rattle.txs_code_decode.specs.CodeForm.{at_place, all_instructions, bodies_format, body_format, body_of, body_parts, cells_format, code_format, constants_format, decoded, functions_format, instructions, magic_format, most_instructions, parameters_format, program_format, refusal_of, threads_format}
-use Rattle.txs_code_decode.specs.Format.{Read, refuse, ◌>>=◌, Test, judge, found, Format, byte_at, byte, bytes_at, some_bytes, number_at, number, tested, one_of, only, never, pair, mapped, many_at, many, counted, tagged, sharing_at, sharing, whole}
+use Rattle.txs_code_decode.specs.CellForm.{kinds, kind_byte, modes, mode_byte, kind_format, mode_format, constant_format, validator_tags, validator_byte, validator_tag_of, validator_body, validator_format, cell_format, kinds_of}
+use Rattle.txs_code_decode.specs.CodeForm.{at_place, all_instructions, bodies_format, body_format, body_of, body_parts, cells_format, code_format, constants_format, decoded, functions_format, instructions, magic_format, most_instructions, parameters_format, program_format, refusal_of, threads_format, told_cells_format}
+use Rattle.txs_code_decode.specs.Format.{Read, refuse, ◌>>=◌, Test, judge, judge_left, found, Format, byte_at, byte, bytes_at, some_bytes, number_at, number, tested, tested_before, one_of, only, never, pair, mapped, many_at, many, counted, tagged, sharing_at, sharing, whole}
 use Rattle.txs_code_decode.specs.InstrForm.{callee_and_count, callee_body, callee_byte, callee_format, callee_tag_of, callee_tags, instr_format, op_format, opcode_format, opcode_of, opcodes, opcode_byte, operands, operations, placed_format, span_format}
 use Rattle.txs_code_decode.specs.Names.{names_cell, names_keyword}
 use Rattle.txs_code_decode.specs.ValueForm.{at_most, below, cell_name_format, keyword_format, name_over, tag_byte, tag_format, tag_of, tag_test, tags, text_format, value_body, value_format}
@@ -197,6 +199,35 @@ module _ {A : Type 0} (f : Format A) (test : Test A) (h : Stays f) where
   tested_stays : Stays (tested f test)
   tested_stays = record { by = record { on = tested_on; off = λ bytes more r e other. tested_off bytes more r other (bind_err (f.read bytes) (λ x. judge (test x.0) bytes x.0 x.1) r e) } }
 
+-- a field with a test that is told before it
+before_ok : {A : Type 0} (o : Option CodeErrorKind) (n m : ℕ) (more : List ℕ) (a : A) (rest : List ℕ) (x : A × List ℕ) → judge_left o n a rest ≡ Ok x → judge_left o m a (rest ++ more) ≡ Ok (with_more more x)
+before_ok None n m more a rest x e = ap (λ y. Ok (with_more more y)) (ok_is (a, rest) x e)
+before_ok (Some k) n m more a rest x e = absurd cc
+
+before_err : {A : Type 0} (o : Option CodeErrorKind) (n m : ℕ) (more : List ℕ) (a : A) (rest : List ℕ) (r : Refusal) → m ≡ n + length more → judge_left o n a rest ≡ Err r → judge_left o m a (rest ++ more) ≡ Err (further more r)
+before_err None n m more a rest r longer e = absurd cc
+before_err {A} (Some kind) n m more a rest r longer e =
+    ap (λ k. Err (record { kind = kind; left = k })) longer ∙ ap (λ s. Err (further more s)) (err_is {A = A × List ℕ} (record { kind = kind; left = n }) r e)
+
+module _ {A : Type 0} (k : ℕ) (f : Format A) (test : Test A) (h : Stays f) where
+  before_by : (bytes more : List ℕ) (x : A × List ℕ) → f.read bytes ≡ Ok x → (tested_before k f test).read (bytes ++ more) ≡ judge_left (test x.0) (length (bytes ++ more) + k) x.0 (x.1 ++ more)
+  before_by bytes more x e = ap (λ (r : Read A). r >>= λ y. judge_left (test y.0) (length (bytes ++ more) + k) y.0 y.1) (h.by.on bytes more x e)
+
+  before_on : (bytes more : List ℕ) (z : A × List ℕ) → (tested_before k f test).read bytes ≡ Ok z → (tested_before k f test).read (bytes ++ more) ≡ Ok (with_more more z)
+  before_on bytes more z e =
+      let p = bind_ok (f.read bytes) (λ x. judge_left (test x.0) (length bytes + k) x.0 x.1) z e in
+      before_by bytes more p.0 p.1 ∙ before_ok (test p.0.0) (length bytes + k) (length (bytes ++ more) + k) more p.0.0 p.0.1 z p.2
+
+  before_off : (bytes more : List ℕ) (r : Refusal) → (r.kind ≡ Truncated → ⊥) → (f.read bytes ≡ Err r) ⊎ ((x : A × List ℕ) × (f.read bytes ≡ Ok x) × (judge_left (test x.0) (length bytes + k) x.0 x.1 ≡ Err r)) → (tested_before k f test).read (bytes ++ more) ≡ Err (further more r)
+  before_off bytes more r other (inl e) = ap (λ (s : Read A). s >>= λ y. judge_left (test y.0) (length (bytes ++ more) + k) y.0 y.1) (h.by.off bytes more r e other)
+  before_off bytes more r other (inr p) =
+      before_by bytes more p.0 p.1 ∙ before_err (test p.0.0) (length bytes + k) (length (bytes ++ more) + k) more p.0.0 p.0.1 r (omega (arith, length-append bytes more)) p.2
+
+  before_stays : Stays (tested_before k f test)
+  before_stays = record {
+    by = record { on = before_on; off = λ bytes more r e other. before_off bytes more r other (bind_err (f.read bytes) (λ x. judge_left (test x.0) (length bytes + k) x.0 x.1) r e) };
+  }
+
 -- one of a list
 found_ok : {A : Type 0} (kind : CodeErrorKind) (o : Option A) (bytes more rest : List ℕ) (x : A × List ℕ) → found kind o bytes rest ≡ Ok x → found kind o (bytes ++ more) (rest ++ more) ≡ Ok (with_more more x)
 found_ok kind None bytes more rest x e = absurd cc
@@ -295,21 +326,7 @@ constant_stays : (cells : Bool) (kinds : List CellKind) → Stays (constant_form
 unfolding constant_format
 constant_stays cells kinds = mapped_stays value_of plain_of _ (value_stays cells kinds 32)
 
--- ---- cells
-
-kind_stays : Stays kind_format
-unfolding kind_format
-kind_stays = one_stays byte kinds kind_byte BadOperand byte_stays
-
-mode_stays : (kind : CellKind) → Stays (mode_format kind)
-unfolding mode_format
-mode_stays kind = one_stays byte (modes kind) mode_byte BadOperand byte_stays
-
-cell_stays : Stays cell_format
-unfolding cell_format
-cell_stays = mapped_stays _ _ _ (pair_stays kind_format _ kind_stays (λ kind. pair_stays (mode_format kind) _ (mode_stays kind) (λ mode. pair_stays cell_name_format _ cell_name_stays (λ name. constant_stays false []))))
-
--- ---- instructions
+-- ---- callees
 
 op_stays : Stays op_format
 unfolding op_format
@@ -322,6 +339,33 @@ callee_body_stays functions callee_tag.Function = mapped_stays _ _ (tested (numb
 callee_stays : (functions : ℕ) → Stays (callee_format functions)
 unfolding callee_format
 callee_stays functions = tagged_stays _ callee_tag_of (callee_body functions) (one_stays byte callee_tags callee_byte BadOperand byte_stays) (callee_body_stays functions)
+
+-- ---- cells
+
+validator_body_stays : (t : ValidatorTag) → Stays (validator_body t)
+validator_body_stays validator_tag.Nothing = only_stays None
+validator_body_stays validator_tag.Callee = mapped_stays _ _ (callee_format most_definitions) (callee_stays most_definitions)
+
+validator_stays : (validated : Bool) → Stays (validator_format validated)
+unfolding validator_format
+validator_stays false = only_stays None
+validator_stays true = tagged_stays _ validator_tag_of validator_body (one_stays byte validator_tags validator_byte BadOperand byte_stays) validator_body_stays
+
+kind_stays : Stays kind_format
+unfolding kind_format
+kind_stays = one_stays byte kinds kind_byte BadOperand byte_stays
+
+mode_stays : (kind : CellKind) → Stays (mode_format kind)
+unfolding mode_format
+mode_stays kind = one_stays byte (modes kind) mode_byte BadOperand byte_stays
+
+cell_stays : (validated : Bool) → Stays (cell_format validated)
+unfolding cell_format
+cell_stays validated =
+    mapped_stays _ _ _
+    (pair_stays kind_format _ kind_stays (λ kind. pair_stays (mode_format kind) _ (mode_stays kind) (λ mode. pair_stays cell_name_format _ cell_name_stays (λ name. pair_stays (constant_format false []) _ (constant_stays false []) (λ opening. validator_stays validated)))))
+
+-- ---- instructions
 
 counted_callee_stays : (functions : ℕ) (make : Callee → ℕ → Instr) → Stays (callee_and_count functions make)
 counted_callee_stays functions make = mapped_stays _ _ _ (pair_stays (callee_format functions) (λ c. number w16) (callee_stays functions) (λ c. number_stays w16))
@@ -398,11 +442,15 @@ threads_stay ks fs left = bodies_stay most_threads (λ n. body_format true ks fs
 
 magic_stays : Stays magic_format
 unfolding magic_format
-magic_stays = tested_stays (number w32) _ (number_stays w32)
+magic_stays = mapped_stays _ _ _ (tested_stays (number w32) _ (number_stays w32))
 
-cells_stay : Stays cells_format
+cells_stay : (validated : Bool) → Stays (cells_format validated)
 unfolding cells_format
-cells_stay = counted_stays _ cell_format (tested_stays (number w16) (at_most 1000) (number_stays w16)) cell_stays
+cells_stay validated = counted_stays _ (cell_format validated) (tested_stays (number w16) (at_most 1000) (number_stays w16)) (cell_stays validated)
+
+told_cells_stay : (validated : Bool) → Stays (told_cells_format validated)
+unfolding told_cells_format
+told_cells_stay validated = before_stays 1 (cells_format validated) _ (cells_stay validated)
 
 constants_stay : (kinds : List CellKind) → Stays (constants_format kinds)
 unfolding constants_format
@@ -416,7 +464,7 @@ code_stays : Stays code_format
 unfolding code_format
 code_stays =
     mapped_stays _ _ _
-    (pair_stays magic_format _ magic_stays (λ m. pair_stays cells_format _ cells_stay (λ cells. pair_stays (constants_format (kinds_of cells)) _ (constants_stay (kinds_of cells)) (λ ks. program_stays (length ks)))))
+    (pair_stays magic_format _ magic_stays (λ validated. pair_stays (told_cells_format validated) _ (told_cells_stay validated) (λ cells. pair_stays (constants_format (kinds_of cells)) _ (constants_stay (kinds_of cells)) (λ ks. program_stays (length ks)))))
 
 -- ---- all bytes
 

@@ -1,3 +1,4 @@
+pub mod CellExact
 pub mod CellLemmas
 pub mod CodeExact
 pub mod Decoded

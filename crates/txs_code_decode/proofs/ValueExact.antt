@@ -1,19 +1,17 @@
--- The formats of names, texts, values and cells are exact, as each that they are put together from.
+-- The formats of names, texts and values are exact, as each that they are put together from.
 use Rattle.std.proofs.Common.{◌≡◌, ℕ, zero, suc, ◌^◌, ◌<◌, Bool, true, false, List, [], ◌∷◌, length, Option, Some, None, refl, sym, ap, ◌∙◌, arith}
 use Rattle.std.specs.Int.{w16, w32, w64}
 use Rattle.std.proofs.lemmas.Int.{of_z-to_z}
 use mir.Val.{to_z, of_z}
 use Rattle.txs_value_data.specs.PlainValue.{PlainValue, PlainValues, nil, truth, int, key, text, vector, cell, end, more, plain_row, plain_list}
 use Rattle.txs_value_data.specs.View.{plain_of, value_of}
-use Rattle.txs_value_cell.specs.declared.cell.ErrorMode.TheVariants.{Fail, Continue}
 use Rattle.txs_value_data.specs.declared.value.CellKind.{CellKind}
-use Rattle.txs_value_data.specs.declared.value.CellKind.TheVariants.{Ref, Atom, Agent}
 use Rattle.txs_value_data.specs.declared.value.Value.{Value}
 use Rattle.txs_value_data.specs.declared.value.Value.TheVariants.{Nil, Truth, Int, Key, Text, Vector, Cell}
-use Rattle.txs_code_decode.specs.declared.error.CodeErrorKind.TheVariants.{BadOpcode, BadOperand}
+use Rattle.txs_code_decode.specs.declared.error.CodeErrorKind.TheVariants.{BadOpcode}
 use Rattle.txs_code_decode.specs.declared.tag.Tag.{Tag}
 use Rattle.txs_code_decode.specs.declared.tag.Tag.TheVariants as tag
-use Rattle.txs_code_decode.specs.CellForm.{kinds, kind_byte, modes, mode_byte, kind_format, mode_format, constant_format, cell_format}
+use Rattle.txs_code_decode.specs.CellForm.{constant_format}
 use Rattle.txs_code_decode.specs.Format.{Format, byte, some_bytes, number, tested, one_of, only, never, pair, mapped, counted, tagged}
 use Rattle.txs_code_decode.specs.Names.{names_cell, names_keyword}
 use Rattle.txs_code_decode.specs.ValueForm.{name_over, keyword_format, cell_name_format, text_format, tags, tag_byte, tag_of, tag_test, tag_format, int_of, key_of, text_of, items_of, cell_number, cell_at, value_body, value_over, value_format}
@@ -35,7 +33,7 @@ keyword_exact : Exact keyword_format
 unfolding keyword_format
 keyword_exact = name_exact names_keyword
 
-cell_name_exact : Exact cell_name_format
+pub cell_name_exact : Exact cell_name_format
 unfolding cell_name_format
 cell_name_exact = name_exact names_cell
 
@@ -114,23 +112,3 @@ value_again (Key bs) = refl
 value_again (Text bs) = refl
 value_again (Vector ds) = ap Vector (plain_row_again ds)
 value_again (Cell c) = refl
-
--- ---- cells
-
-kind_exact : Exact kind_format
-unfolding kind_format
-kind_exact = one_of_exact byte kinds kind_byte BadOperand byte_exact (refl, (refl, (refl, tt)))
-
-modes_in_order : (kind : CellKind) → InOrder mode_byte 0 (modes kind)
-modes_in_order Ref = (refl, tt)
-modes_in_order Atom = (refl, tt)
-modes_in_order Agent = (refl, (refl, tt))
-
-mode_exact : (kind : CellKind) → Exact (mode_format kind)
-unfolding mode_format
-mode_exact kind = one_of_exact byte (modes kind) mode_byte BadOperand byte_exact (modes_in_order kind)
-
-pub cell_exact : Exact cell_format
-unfolding cell_format
-cell_exact =
-    mapped_exact _ _ _ (pair_exact _ _ kind_exact (λ kind. pair_exact _ _ (mode_exact kind) (λ mode. pair_exact _ _ cell_name_exact (λ name. constant_exact false [])))) (λ p fits. refl)

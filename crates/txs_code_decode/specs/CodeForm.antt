@@ -1,5 +1,5 @@
 -- The byte form of code: a magic, the cells, the constants, the functions, the threads.
-use Rattle.std.specs.Prelude.{◌≡◌, ℕ, zero, suc, ◌+◌, ◌-◌, ◌<◌, ◌^◌, ◌==◌, Bool, true, false, List, [], ◌∷◌, ◌++◌, length, map, codes, Option, Some, None, Result, Ok, Err}
+use Rattle.std.specs.Prelude.{◌≡◌, ℕ, zero, suc, ◌+◌, ◌-◌, ◌<◌, ◌^◌, ◌==◌, Bool, true, false, not, ◌||◌, List, [], ◌∷◌, ◌++◌, length, map, codes, Option, Some, None, Result, Ok, Err}
 use Rattle.std.specs.List.{flat_map, AllByRecursion}
 use Rattle.std.specs.Int.{Width, w16, w32, to_be_bytes}
 use Rattle.txs_value_data.specs.Limits.{most_definitions, most_threads}
@@ -16,8 +16,9 @@ use Rattle.txs_code_decode.specs.declared.error.Refusal.{Refusal}
 use Rattle.txs_code_decode.specs.declared.error.Stop.{Stop}
 use Rattle.txs_code_decode.specs.declared.error.Stop.TheVariants as stops
 use Rattle.txs_code_decode.specs.CellForm.{cell_format, constant_format, kinds_of, cell_bytes, constant_bytes}
+use Rattle.txs_code_meaning.specs.Validating.{has_validator}
 use Rattle.txs_code_decode.specs.Errors.{out_of_memory}
-use Rattle.txs_code_decode.specs.Format.{Format, byte, number, tested, pair, mapped, counted, sharing, whole}
+use Rattle.txs_code_decode.specs.Format.{Format, byte, number, tested, tested_before, pair, mapped, counted, sharing, whole}
 use Rattle.txs_code_decode.specs.InstrForm.{placed_format, placed_bytes}
 use Rattle.txs_code_decode.specs.ValueForm.{IsWritable, must, at_most}
 
@@ -80,17 +81,30 @@ threads_format constants functions left = bodies_format most_threads (λ n. body
 
 -- ---- code
 
--- `TXS1` as a number
-abbrev pub magic : ℕ
-magic = 1415074609
+-- `TXS1` as a number, with which code begins whose cells have no validators
+abbrev pub magic_1 : ℕ
+magic_1 = 1415074609
 
--- the first four bytes
-unfoldable pub magic_format : Format ℕ
-magic_format = tested (number w32) (λ n. must BadMagic (n == magic))
+-- `TXS2` as a number, with which code begins a cell of which has one
+abbrev pub magic_2 : ℕ
+magic_2 = 1415074610
 
--- the cells
-unfoldable pub cells_format : Format (List CellDefinition)
-cells_format = counted (tested (number w16) (at_most most_definitions)) cell_format
+-- the number with which code begins whose cells have validators or not
+abbrev pub magic : Bool → ℕ
+magic false = magic_1
+magic true = magic_2
+
+-- the first four bytes, which tell whether cells have validators
+unfoldable pub magic_format : Format Bool
+magic_format = mapped (λ n. n == magic_2) magic (tested (number w32) (λ n. must BadMagic (n == magic_1 || n == magic_2)))
+
+-- the cells, which have validators or not
+unfoldable pub cells_format : Bool → Format (List CellDefinition)
+cells_format validated = counted (tested (number w16) (at_most most_definitions)) (cell_format validated)
+
+-- The cells, of which one has a validator where the magic says so. Where none has, it is the last byte of the magic that is refused.
+unfoldable pub told_cells_format : Bool → Format (List CellDefinition)
+told_cells_format validated = tested_before 1 (cells_format validated) (λ cells. must BadOperand (not validated || has_validator cells))
 
 -- the constants, where cells are of these kinds
 unfoldable pub constants_format : List CellKind → Format (List Value)
@@ -105,8 +119,8 @@ unfoldable pub code_format : Format PlainCode
 code_format =
     mapped
     (λ p. record { cells = p.1.0; constants = p.1.1.0; functions = p.1.1.1.0; threads = p.1.1.1.1 })
-    (λ c. (magic, (c.cells, (c.constants, (c.functions, c.threads)))))
-    (pair magic_format (λ m. pair cells_format (λ cells. pair (constants_format (kinds_of cells)) (λ ks. program_format (length ks)))))
+    (λ c. (has_validator c.cells, (c.cells, (c.constants, (c.functions, c.threads)))))
+    (pair magic_format (λ validated. pair (told_cells_format validated) (λ cells. pair (constants_format (kinds_of cells)) (λ ks. program_format (length ks)))))
 
 -- Code has a byte form: its counts are within their limits, its names and texts such as are read, its spans in order, and constants,
 -- cells, functions and operations that it names are there.
@@ -123,10 +137,16 @@ counted_bytes w f xs = to_be_bytes w (length xs) ++ flat_map f xs
 abbrev pub body_bytes : CodeBody → List ℕ
 body_bytes b = b.parameters ∷ b.locals ∷ counted_bytes w32 placed_bytes (paired b.instrs b.spans)
 
--- The byte form of code: `TXS1`, the cells, the constants, the functions, the threads, each behind its count.
+-- the bytes with which code begins whose cells have validators or not
+abbrev pub magic_bytes : Bool → List ℕ
+magic_bytes false = codes "TXS1"
+magic_bytes true = codes "TXS2"
+
+-- The byte form of code: `TXS1`, or `TXS2` where a cell has a validator, and the cells, the constants, the functions, the threads, each
+-- behind its count.
 abbrev pub form : PlainCode → List ℕ
 form code =
-    codes "TXS1" ++ (counted_bytes w16 cell_bytes code.cells ++ (counted_bytes w32 constant_bytes code.constants ++ (counted_bytes w16 body_bytes code.functions ++ counted_bytes w16 body_bytes code.threads)))
+    magic_bytes (has_validator code.cells) ++ (counted_bytes w16 (cell_bytes (has_validator code.cells)) code.cells ++ (counted_bytes w32 constant_bytes code.constants ++ (counted_bytes w16 body_bytes code.functions ++ counted_bytes w16 body_bytes code.threads)))
 
 -- ---- what can be written
 
@@ -175,7 +195,7 @@ decoded bytes = at_place (length bytes) (whole code_format bytes)
 
 -- the bytes begin as those of code do
 abbrev pub HasMagic : List ℕ → Type 0
-HasMagic bytes = (rest : List ℕ) × (bytes ≡ codes "TXS1" ++ rest)
+HasMagic bytes = (validated : Bool) × (rest : List ℕ) × (bytes ≡ magic_bytes validated ++ rest)
 
 -- a stop is answered as running out of memory
 abbrev pub IsMemory : Stop → Type 0

@@ -1,5 +1,5 @@
 -- Formats: what bytes spell a value, and what reading them from left to right gives. A format is put together from fields.
-use Rattle.std.specs.Prelude.{◌≡◌, ℕ, zero, suc, ◌-◌, ◌*◌, ◌<◌, ◌^◌, Bool, true, false, nat_lt, ◌==◌, if◌then◌else◌, List, [], ◌∷◌, ◌++◌, length, take, drop, Option, Some, None, Result, Ok, Err}
+use Rattle.std.specs.Prelude.{◌≡◌, ℕ, zero, suc, ◌+◌, ◌-◌, ◌*◌, ◌<◌, ◌^◌, Bool, true, false, nat_lt, ◌==◌, if◌then◌else◌, List, [], ◌∷◌, ◌++◌, length, take, drop, Option, Some, None, Result, Ok, Err}
 use Rattle.std.specs.List.{flat_map, AllByRecursion}
 use Rattle.std.specs.Int.{Width, byte_len, from_be_bytes, to_be_bytes}
 use Rattle.txs_value_base.specs.Places.{nth}
@@ -31,6 +31,11 @@ Test A = A → Option CodeErrorKind
 abbrev pub judge : {A : Type 0} → Option CodeErrorKind → List ℕ → A → List ℕ → Read A
 judge None bytes x rest = Ok (x, rest)
 judge (Some kind) bytes x rest = refuse kind bytes
+
+-- the same, where the refusal says how many bytes were left
+abbrev pub judge_left : {A : Type 0} → Option CodeErrorKind → ℕ → A → List ℕ → Read A
+judge_left None left x rest = Ok (x, rest)
+judge_left (Some kind) left x rest = Err (record { kind = kind; left = left })
 
 -- A format of the values of a type: the bytes that spell a value, the values that it is for, and what reading gives.
 pub record Format (A : Type 0) : Type 1 where
@@ -79,7 +84,15 @@ tested f test = record {
   read = λ bytes. f.read bytes >>= λ x. judge (test x.0) bytes x.0 x.1;
 }
 
--- what was found, or the refusal of the field that says it
+-- a field with a test, which refuses it so many bytes before its first
+abbrev pub tested_before : {A : Type 0} → ℕ → Format A → Test A → Format A
+tested_before k f test = record {
+  form = f.form;
+  fits = λ a. f.fits a × (test a ≡ None);
+  read = λ bytes. f.read bytes >>= λ x. judge_left (test x.0) (length bytes + k) x.0 x.1;
+}
+
+-- what was found, or the refusal of the field that tells it
 abbrev pub found : {A : Type 0} → CodeErrorKind → Option A → List ℕ → List ℕ → Read A
 found kind None bytes rest = refuse kind bytes
 found kind (Some a) bytes rest = Ok (a, rest)

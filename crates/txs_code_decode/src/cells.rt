@@ -3,12 +3,15 @@
 ghost use Rattle.std.specs.Prelude.{◌≡◌, true};
 ghost use Rattle.txs_value_base.specs.Places.{nth};
 ghost use Rattle.txs_code_decode.specs.Format.{Gives, many_at};
-ghost use Rattle.txs_code_decode.specs.CellForm.{kinds, kinds_of, kind_format, modes, mode_format, constant_format, cell_format};
+ghost use Rattle.txs_code_decode.specs.CellForm.{kinds, kinds_of, kind_format, modes, mode_format, constant_format, cell_format, validator_format};
 
 use crate::error::{CodeErrorKind, Stop, refused};
 use crate::fields::{name_at, room_for, u8_at};
+use crate::operands::callee_at;
+use crate::tag::ValidatorTag;
 use crate::values::{LEVELS, value_at};
 use std::alloc::Global;
+use txs_value_base::Callee;
 use txs_value_cell::{CellDefinition, ErrorMode};
 use txs_value_data::{CellKind, Value};
 
@@ -50,10 +53,31 @@ fn constant_at<'a>(
     value_at(alloc, cells, defined, LEVELS, bytes)
 }
 
-/// A cell.
+/// The validator of a cell or none, where cells of the code have validators.
+#[tactic(auto, unfolding(crate::specs::CellForm::validator_format))]
+fn validator_at(validated: bool, bytes: &[u8]) -> Result<(Option<Callee>, &[u8]), Stop>
+    ensures { Gives (λ x. (x.0, x.1.now)) result ((validator_format validated).read bytes.now) }
+{
+    if !validated {
+        return Ok((None, bytes));
+    }
+    match u8_at(bytes) {
+        Ok((byte, rest)) => match ValidatorTag::from_byte(byte) {
+            None => Err(refused(CodeErrorKind::BadOperand, bytes)),
+            Some(ValidatorTag::Nothing) => Ok((None, rest)),
+            Some(ValidatorTag::Callee) => match callee_at(1000, rest) {
+                Ok((callee, rest)) => Ok((Some(callee), rest)),
+                Err(stop) => Err(stop),
+            },
+        },
+        Err(stop) => Err(stop),
+    }
+}
+
+/// A cell, where cells of the code have validators or not.
 #[tactic(auto, unfolding(crate::specs::CellForm::cell_format, crate::specs::CellForm::kind_format, crate::specs::CellForm::mode_format, crate::specs::ValueForm::cell_name_format))]
-fn cell_at(alloc: Global, bytes: &[u8]) -> Result<(CellDefinition, &[u8]), Stop>
-    ensures { Gives (λ x. (x.0, x.1.now)) result (cell_format.read bytes.now) }
+fn cell_at(alloc: Global, validated: bool, bytes: &[u8]) -> Result<(CellDefinition, &[u8]), Stop>
+    ensures { Gives (λ x. (x.0, x.1.now)) result ((cell_format validated).read bytes.now) }
 {
     let (byte, behind) = u8_at(bytes)?;
     let Some(kind) = kind_of(byte) else {
@@ -65,34 +89,38 @@ fn cell_at(alloc: Global, bytes: &[u8]) -> Result<(CellDefinition, &[u8]), Stop>
     };
     match name_at(alloc, true, rest) {
         Ok((name, rest)) => match constant_at(alloc, false, &[], rest) {
-            Ok((opening, rest)) => {
-                let cell = CellDefinition {
-                    kind,
-                    name,
-                    opening,
-                    error_mode,
-                    validator: None,
-                };
-                Ok((cell, rest))
-            }
+            Ok((opening, rest)) => match validator_at(validated, rest) {
+                Ok((validator, rest)) => {
+                    let cell = CellDefinition {
+                        kind,
+                        name,
+                        opening,
+                        error_mode,
+                        validator,
+                    };
+                    Ok((cell, rest))
+                }
+                Err(stop) => Err(stop),
+            },
             Err(stop) => Err(stop),
         },
         Err(stop) => Err(stop),
     }
 }
 
-/// So many cells.
+/// So many cells, where cells of the code have validators or not.
 pub(crate) fn some_cells_at(
     alloc: Global,
+    validated: bool,
     count: u16,
     bytes: &[u8],
 ) -> Result<(Vec<CellDefinition>, &[u8]), Stop>
-    ensures { Gives (λ x. (x.0.items, x.1.now)) result (many_at cell_format.read count bytes.now) }
+    ensures { Gives (λ x. (x.0.items, x.1.now)) result (many_at (cell_format validated).read count bytes.now) }
 {
     let mut cells = room_for(alloc, bytes.len().min(usize::from(count)), bytes)?;
     let mut rest = bytes;
     for _ in 0..count {
-        match cell_at(alloc, rest) {
+        match cell_at(alloc, validated, rest) {
             Ok((cell, after)) => {
                 cells.push(cell)?;
                 rest = after;

@@ -1,6 +1,6 @@
 //! Why bytes are no code, and where.
 
-ghost use Rattle.std.specs.Prelude.{◌≡◌, length};
+ghost use Rattle.std.specs.Prelude.{◌≡◌, ◌+◌, length};
 ghost use Rattle.txs_code_decode.specs.Errors.{code_error_number, code_error_name};
 ghost use Rattle.txs_code_decode.specs.declared.error.Stop.TheVariants as stops;
 
@@ -104,6 +104,16 @@ impl<T: Drop> From<AllocFailed<T>> for Stop {
     fn from(_: AllocFailed<T>) -> Stop {
         Stop::Memory
     }
+}
+
+/// The refusal of the byte before these bytes, which are part of more.
+pub(crate) fn refused_before(kind: CodeErrorKind, bytes: &[u8]) -> Stop
+    ensures { result ≡ stops.Refused (record { kind = kind; left = length bytes.now + 1 }) }
+{
+    Stop::Refused(Refusal {
+        kind,
+        left: bytes.len() + 1,
+    })
 }
 
 /// The refusal of the field with which these bytes begin.

@@ -77,7 +77,7 @@ fn wide_op_at(bytes: &[u8]) -> Result<(Op, &[u8]), Stop>
 
 /// A callee, where there are so many functions.
 #[tactic(auto, unfolding(crate::specs::InstrForm::callee_format))]
-fn callee_at(functions: usize, bytes: &[u8]) -> Result<(Callee, &[u8]), Stop>
+pub(crate) fn callee_at(functions: usize, bytes: &[u8]) -> Result<(Callee, &[u8]), Stop>
     ensures { Gives (λ x. (x.0, x.1.now)) result ((callee_format functions).read bytes.now) }
 {
     match u8_at(bytes) {

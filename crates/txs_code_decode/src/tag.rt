@@ -2,6 +2,7 @@
 
 ghost use Rattle.std.specs.Prelude.{◌≡◌};
 ghost use Rattle.txs_value_base.specs.Places.{nth};
+ghost use Rattle.txs_code_decode.specs.CellForm.{validator_tags};
 ghost use Rattle.txs_code_decode.specs.InstrForm.{callee_tags};
 ghost use Rattle.txs_code_decode.specs.ValueForm.{tags};
 
@@ -23,6 +24,13 @@ pub(crate) enum Tag {
 pub(crate) enum CalleeTag {
     Core,
     Function,
+}
+
+/// Whether a cell has a validator.
+#[derive(Clone, Copy)]
+pub(crate) enum ValidatorTag {
+    Nothing,
+    Callee,
 }
 
 impl Tag {
@@ -52,6 +60,19 @@ impl CalleeTag {
         match byte {
             0 => Some(CalleeTag::Core),
             1 => Some(CalleeTag::Function),
+            _ => None,
+        }
+    }
+}
+
+impl ValidatorTag {
+    /// The tag of this byte, if there is one.
+    pub(crate) fn from_byte(byte: u8) -> Option<ValidatorTag>
+        ensures { result ≡ nth validator_tags byte }
+    {
+        match byte {
+            0 => Some(ValidatorTag::Nothing),
+            1 => Some(ValidatorTag::Callee),
             _ => None,
         }
     }

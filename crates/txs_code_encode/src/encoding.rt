@@ -5,16 +5,17 @@ ghost use Rattle.std.specs.Prelude.{◌≡◌, ◌<◌, ◌^◌, ◌++◌, lengt
 ghost use Rattle.std.specs.Int.{w16, w32};
 ghost use Rattle.txs_code_meaning.specs.declared.instr.Instr.TheVariants as instr;
 ghost use Rattle.txs_code_decode.specs.CellForm.{cell_bytes, constant_bytes, kind_byte, mode_byte};
-ghost use Rattle.txs_code_decode.specs.CodeForm.{AreBodies, AreCells, AreConstants, FormOf, HasForm, IsSmall, body_bytes, counted_bytes, form};
+ghost use Rattle.txs_code_meaning.specs.Validating.{has_validator};
+ghost use Rattle.txs_code_decode.specs.CodeForm.{AreBodies, AreCells, AreConstants, FormOf, HasForm, IsSmall, body_bytes, counted_bytes, form, magic_bytes};
 ghost use Rattle.txs_code_decode.specs.ValueForm.{IsWritable};
 ghost use Rattle.txs_value_data.specs.View.{plain_of};
 
 use crate::same::same_code;
 use crate::small::is_small;
-use crate::written::{put_behind, put_name, put_placed, put_value};
+use crate::written::{put_behind, put_name, put_placed, put_validator, put_value};
 use std::alloc::{AllocError, Global};
 use txs_code_decode::{CodeErrorKind, decode};
-use txs_code_meaning::{Body, Code, Instr};
+use txs_code_meaning::{Body, Code, Instr, has_validator};
 use txs_value_base::Span;
 use txs_value_cell::{CellDefinition, ErrorMode};
 use txs_value_data::{CellKind, Value};
@@ -40,25 +41,26 @@ fn mode_byte(mode: ErrorMode) -> u8
     }
 }
 
-/// Appends a cell.
-fn put_cell(cell: &CellDefinition, out: &mut Vec<u8>) -> Result<(), AllocError>
+/// Appends a cell, where cells of the code have validators or not.
+fn put_cell(validated: bool, cell: &CellDefinition, out: &mut Vec<u8>) -> Result<(), AllocError>
     requires { IsWritable (plain_of cell.now.opening) }
-    ensures { OnOk result (out.new.items ≡ out.old.items ++ cell_bytes cell.now) }
+    ensures { OnOk result (out.new.items ≡ out.old.items ++ cell_bytes validated cell.now) }
 {
     put_behind(kind_byte(cell.kind), &[mode_byte(cell.error_mode)], out)?;
     put_name(&cell.name, out)?;
-    put_value(&cell.opening, out)
+    put_value(&cell.opening, out)?;
+    put_validator(validated, cell.validator, out)
 }
 
 /// Appends cells behind their count.
-fn put_cells(cells: &[CellDefinition], out: &mut Vec<u8>) -> Result<(), AllocError>
+fn put_cells(validated: bool, cells: &[CellDefinition], out: &mut Vec<u8>) -> Result<(), AllocError>
     requires few { length cells.now < 2 ^ 16 }
     requires writable { AreCells cells.now }
-    ensures { OnOk result (out.new.items ≡ out.old.items ++ counted_bytes w16 cell_bytes cells.now) }
+    ensures { OnOk result (out.new.items ≡ out.old.items ++ counted_bytes w16 (cell_bytes validated) cells.now) }
 {
     out.extend_from_slice(&(cells.len() as u16).to_be_bytes())?;
     for cell in cells {
-        put_cell(cell, out)?;
+        put_cell(validated, cell, out)?;
     }
     Ok(())
 }
@@ -115,14 +117,26 @@ fn put_bodies(bodies: &[Body], out: &mut Vec<u8>) -> Result<(), AllocError>
     Ok(())
 }
 
+/// The bytes with which code begins whose cells have validators or not.
+fn magic(validated: bool) -> &'static [u8]
+    ensures { result.now ≡ magic_bytes validated }
+{
+    if validated {
+        return b"TXS2";
+    }
+    b"TXS1"
+}
+
 /// The bytes of code, part behind part: of code that has a form, its form.
 fn written(alloc: Global, code: &Code) -> Result<Vec<u8>, AllocError>
     requires { IsSmall code.now }
     ensures { IfOk result (λ bytes. bytes.items ≡ form code.now) }
 {
     let mut out = Vec::new(alloc);
-    out.extend_from_slice(b"TXS1")?;
-    put_cells(code.cells(), &mut out)?;
+    let cells = code.cells();
+    let validated = has_validator(cells);
+    out.extend_from_slice(magic(validated))?;
+    put_cells(validated, cells, &mut out)?;
     put_constants(code.constants(), &mut out)?;
     put_bodies(code.functions(), &mut out)?;
     put_bodies(code.threads(), &mut out)?;

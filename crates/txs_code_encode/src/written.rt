@@ -3,6 +3,7 @@
 ghost use Rattle.std.specs.Prelude.{◌≡◌, ◌++◌, ◌∷◌, OnOk};
 ghost use Rattle.txs_value_data.specs.PlainValue.{plain_row};
 ghost use Rattle.txs_value_data.specs.View.{plain_of};
+ghost use Rattle.txs_code_decode.specs.CellForm.{validator_bytes};
 ghost use Rattle.txs_code_decode.specs.InstrForm.{callee_bytes, instr_bytes, opcode_byte, opcode_of, operand_bytes, placed_bytes, span_bytes};
 ghost use Rattle.txs_code_decode.specs.ValueForm.{AreWritable, IsWritable, name_bytes, row_bytes, value_bytes};
 
@@ -75,6 +76,26 @@ fn put_callee(callee: Callee, out: &mut Vec<u8>) -> Result<(), AllocError>
     match callee {
         Callee::Core(op) => put_behind(0, &u16::from(op.number()).to_be_bytes(), out),
         Callee::Function(function) => put_behind(1, &function.to_be_bytes(), out),
+    }
+}
+
+/// Appends the validator of a cell or none, where cells of the code have validators.
+pub(crate) fn put_validator(
+    validated: bool,
+    validator: Option<Callee>,
+    out: &mut Vec<u8>,
+) -> Result<(), AllocError>
+    ensures { OnOk result (out.new.items ≡ out.old.items ++ validator_bytes validated validator) }
+{
+    if !validated {
+        return Ok(());
+    }
+    match validator {
+        None => put_behind(0, &[], out),
+        Some(callee) => {
+            out.push(1)?;
+            put_callee(callee, out)
+        }
     }
 }
 

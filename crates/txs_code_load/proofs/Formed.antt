@@ -18,7 +18,8 @@ use Rattle.txs_code_meaning.specs.declared.instr.Instr.TheVariants as instr
 use Rattle.txs_code_decode.specs.declared.error.CodeErrorKind.{CodeErrorKind}
 use Rattle.txs_code_decode.specs.declared.error.CodeErrorKind.TheVariants.{BadOperand, TooLarge}
 use Rattle.txs_code_decode.specs.CellForm.{cell_format, constant_format, kinds_of}
-use Rattle.txs_code_decode.specs.CodeForm.{paired, body_format, instructions, all_instructions, most_instructions, cells_format, constants_format, functions_format, threads_format, program_format, code_format, HasForm}
+use Rattle.txs_code_meaning.specs.Validating.{has_validator}
+use Rattle.txs_code_decode.specs.CodeForm.{paired, body_format, instructions, all_instructions, most_instructions, cells_format, told_cells_format, constants_format, functions_format, threads_format, program_format, code_format, HasForm}
 use Rattle.txs_code_decode.specs.Format.{SharingFits}
 use Rattle.txs_code_decode.specs.InstrForm.{instr_format, placed_format}
 use Rattle.txs_code_decode.specs.ValueForm.{must, tag_format, value_format}
@@ -130,27 +131,27 @@ constants_held : (defs : List CellDefinition) (vs : List Value) → AllByRecursi
 constants_held defs [] all = tt
 constants_held defs (v ∷ vs) all = (constant_held defs true v all.0, constants_held defs vs all.1)
 
-opening_held : (c : CellDefinition) → cell_format.fits c → HoldsDefined [] (plain_of c.opening)
+opening_held : (validated : Bool) (c : CellDefinition) → (cell_format validated).fits c → HoldsDefined [] (plain_of c.opening)
 unfolding cell_format
-opening_held c fits = constant_held [] false c.opening fits.0.1.1.1
+opening_held validated c fits = constant_held [] false c.opening fits.0.1.1.1.0
 
-openings_held : (cells : List CellDefinition) → AllByRecursion cell_format.fits cells → OpeningsNameNone cells
-openings_held [] all = tt
-openings_held (c ∷ cells) all = (opening_held c all.0, openings_held cells all.1)
+openings_held : (validated : Bool) (cells : List CellDefinition) → AllByRecursion (cell_format validated).fits cells → OpeningsNameNone cells
+openings_held validated [] all = tt
+openings_held validated (c ∷ cells) all = (opening_held validated c all.0, openings_held validated cells all.1)
 
 -- ---- code
 
 -- the parts of code that has a form
 record IsFormed (code : PlainCode) : Type 0 where
-  pub cells : AllByRecursion cell_format.fits code.cells
+  pub cells : AllByRecursion (cell_format (has_validator code.cells)).fits code.cells
   pub constants : AllByRecursion (constant_format true (kinds_of code.cells)).fits code.constants
   pub functions : SharingFits instructions (body_format false (length code.constants) (length code.functions)) (length code.functions) most_instructions code.functions
   pub threads : SharingFits instructions (body_format true (length code.constants) (length code.functions)) (length code.threads) (most_instructions - all_instructions code.functions) code.threads
 
 formed : (code : PlainCode) → HasForm code → IsFormed code
-unfolding code_format cells_format constants_format program_format functions_format threads_format
+unfolding code_format told_cells_format cells_format constants_format program_format functions_format threads_format
 formed code fits = record {
-  cells = fits.0.1.0.0.1.1;
+  cells = fits.0.1.0.0.0.1.1;
   constants = fits.0.1.1.0.0.1.1;
   functions = fits.0.1.1.1.0.0.1;
   threads = fits.0.1.1.1.1.0.1;
@@ -174,12 +175,12 @@ in_form code fits =
 pub own_cells : (code : PlainCode) → HasForm code → NamesOwnCells code
 own_cells code fits =
     let f = formed code fits in
-    record { constants = constants_held code.cells code.constants f.constants; openings = openings_held code.cells f.cells }
+    record { constants = constants_held code.cells code.constants f.constants; openings = openings_held (has_validator code.cells) code.cells f.cells }
 
 -- it has few cells
 pub few_cells : (code : PlainCode) → HasForm code → length code.cells ≤ 1000
-unfolding code_format cells_format
-few_cells code fits = leb-true (length code.cells) 1000 (must_hold TooLarge (nat_le (length code.cells) 1000) fits.0.1.0.0.0.1)
+unfolding code_format told_cells_format cells_format
+few_cells code fits = leb-true (length code.cells) 1000 (must_hold TooLarge (nat_le (length code.cells) 1000) fits.0.1.0.0.0.0.1)
 
 -- and few threads
 pub few_threads : (code : PlainCode) → HasForm code → length code.threads ≤ 64

@@ -5,14 +5,19 @@ use Rattle.txs_world_protocol.specs.declared.ask.Ask.{Ask}
 use Rattle.txs_world_protocol.specs.declared.ask.Ask.TheVariants as ask
 use Rattle.txs_world_protocol.specs.declared.ask.Reply.{Reply}
 use Rattle.txs_frame.specs.Frame.{commuted, set_writes, set_ref}
+use Rattle.txs_frame.specs.Phase.{tasks_of, to_write}
 use Rattle.txs_frame.specs.declared.frame.Commute.{Commute}
+use Rattle.txs_frame.specs.declared.phase.Task.{Task}
+use Rattle.txs_frame.specs.declared.phase.Task.TheVariants.{Redoes, Validates}
 use Rattle.txs_value_apply.specs.Core.{core, vector_of}
+use Rattle.txs_value_cell.specs.Cells.{validator_at}
 use Rattle.txs_value_cell.specs.Forms.{rule, cell_of}
 use Rattle.txs_value_data.specs.Limits.{reruns}
-use Rattle.txs_value_base.specs.Places.{nth}
+use Rattle.txs_value_base.specs.Places.{nth, fault_at}
 use Rattle.txs_value_cell.specs.declared.action.Action.{Action}
 use Rattle.txs_value_base.specs.declared.fault.Fault.{Fault}
 use Rattle.txs_value_base.specs.declared.fault.FaultKind.{FaultKind}
+use Rattle.txs_value_base.specs.declared.fault.FaultKind.TheVariants.{InvalidState}
 use Rattle.txs_value_base.specs.declared.fault.Span.{Span}
 use Rattle.txs_value_cell.specs.declared.form.CellForm.{CellForm}
 use Rattle.txs_value_cell.specs.declared.form.CellForm.TheVariants as form
@@ -29,7 +34,7 @@ use Rattle.txs_value_data.specs.declared.value.Value.{Value}
 use Rattle.txs_code_meaning.specs.declared.instr.OpenForm.{OpenForm}
 use Rattle.txs_code_meaning.specs.declared.instr.OpenForm.TheVariants as open_form
 use Rattle.txs_code_meaning.specs.ActorState.{ActorState, Reception, Replied, Unreplied, receives, asks, StepResult, Continue, Break, Redo, Await, Malformed, on_step, step_of, Reading, Says, SaysRetry, SaysNothing, read_as, heard, read_point, just_done, value_there, newest_value, views, Verdict, Landed, Outdated, Undone, Denied, commit_verdict, opened, swap_verdict, send_verdict, sent, Taken, handed_out, begun, begin, fail, buffered_or, look, paired, viewed, view, commit, peek, SwapInHand, open_atom, close_swap, break_swap, reset_atom, send_now, take_action, finish, cell_at, read_cell, read, set_own, assign_cell, assign, RefUpdate, Alters, Commutes, update_form, kept_open, open_update, close_own, close_update, open_swap, send_action, send_to, print, InHand, send_or_hold}
-use Rattle.txs_code_meaning.specs.Machine.{PlainInstr, Push, Load, Store, Pop, Jump, JumpFalse, CoreOf, CallOf, Return, MakeVector, PrintOf, TxBegin, TxEnd, LookOf, PutOf, OpenOf, CloseOf, SendOf, Halt, TakeOf, RunOf, FinishOf, ThreadCode, fetch, Frame, Savepoint, Activity, Outside, Restarting, Running, Applying, Swapping, is_inside, Configuration, Turned, Ended, Failed, Asking, Unfinished, Stuck, and_then, told, raise, try_more, rerun, retried, on, found, on_top, on_args, on_args_of, on_two, gives, starts, begins, decided, lands, settles, arguments_of, applies, ends, returns_to, opens_ref, opens_atom, opens, swap_decided, closes_swap, closes, started, runs_callee, runs, act, turn, run, ends_with}
+use Rattle.txs_code_meaning.specs.Machine.{PlainInstr, Push, Load, Store, Pop, Jump, JumpFalse, CoreOf, CallOf, Return, MakeVector, PrintOf, TxBegin, TxEnd, LookOf, PutOf, OpenOf, CloseOf, SendOf, Halt, TakeOf, RunOf, FinishOf, ThreadCode, fetch, Frame, Savepoint, Activity, Outside, Restarting, Running, Applying, Swapping, is_inside, Configuration, Turned, Ended, Failed, Asking, Unfinished, Stuck, and_then, told, raise, try_more, rerun, retried, on, found, on_top, on_args, on_args_of, on_two, gives, starts, begins, decided, lands, settles, arguments_of, applies, ends, returns_to, opens_ref, opens_atom, opens, swap_decided, closes_swap, closes, started, runs_callee, runs, act, turn, run, ends_with, validates, where_accepted, where_valid, works, puts, finishes, Destination, to_stack, to_commutes, to_validation, stack_after, doing_after, state_after, staying, first_place, rested}
 use Rattle.txs_code_meaning.specs.Opening.{given}
 
 module _ (ys : List Exchange) where
@@ -305,26 +310,54 @@ module _ (ys : List Exchange) where
   lands_more : (left : ℕ) (from : Savepoint) (ws : Writes) (c : Configuration) → More (lands left from ws c) (lands left from ws (given ys c))
   lands_more left from ws c = on_more c.doing (commit ws c.state) (commit ws (later c.state)) _ _ (commit_more ws c.state) (λ v s. decided_more v left from c s)
 
-  settles_more : (cs : List CellId) (left : ℕ) (from : Savepoint) (c : Configuration) → More (settles cs left from c) (settles cs left from (given ys c))
-  settles_more [] left from c = lands_more left from [] c
-  settles_more (d ∷ cs) left from c = on_more c.doing (view c.state) (view (later c.state)) _ _ (view_more c.state) (λ ws s. refl)
-
-  applies_more : (code : ThreadCode) (f : Callee) (left : ℕ) (from : Savepoint) (k : Commute) (work : List Commute) (ws : Writes) (c : Configuration) → More (applies code f left from k work ws c) (applies code f left from k work ws (given ys c))
+  applies_more : (code : ThreadCode) (f : Callee) (left : ℕ) (from : Savepoint) (k : Commute) (work : List Task) (ws : Writes) (c : Configuration) → More (applies code f left from k work ws c) (applies code f left from k work ws (given ys c))
   applies_more code (callee.Core op) left from k work ws c = on_more c.doing _ _ _ _ (step_of_more (core op (arguments_of k ws)) from.span c.state) (λ v s. refl)
   applies_more code (callee.Function f) left from k work ws c = refl
+
+  validates_more : (code : ThreadCode) (f : Callee) (v : Value) (span : Span) (c : Configuration) → More (validates code f v span c) (validates code f v span (given ys c))
+  validates_more code (callee.Core op) v span c = on_more c.doing _ _ _ _ (step_of_more (core op (v ∷ [])) span c.state) (λ a s. refl)
+  validates_more code (callee.Function f) v span c = refl
+
+  accepted_more : (code : ThreadCode) (o : Option Bool) (f : Callee) (v : Value) (span : Span) (c : Configuration) (a b : Configuration → Turned Configuration)
+      → ((c1 : Configuration) → More (a c1) (b (given ys c1))) → More (where_accepted code o f v span c a) (where_accepted code o f v span (given ys c) b)
+  accepted_more code None f v span c a b k = validates_more code f v span c
+  accepted_more code (Some true) f v span c a b k = k (record c { state = record c.state { accepted = None } })
+  accepted_more code (Some false) f v span c a b k = raise_more c.doing (fault_at InvalidState span) (record c.state { accepted = None })
+
+  valid_more : (code : ThreadCode) (o : Option Callee) (v : Value) (span : Span) (c : Configuration) (a b : Configuration → Turned Configuration)
+      → ((c1 : Configuration) → More (a c1) (b (given ys c1))) → More (where_valid code o v span c a) (where_valid code o v span (given ys c) b)
+  valid_more code None v span c a b k = k c
+  valid_more code (Some f) v span c a b k = accepted_more code c.state.accepted f v span c a b k
+
+  works_more : (code : ThreadCode) (left : ℕ) (from : Savepoint) (work : List Task) (ws : Writes) (c : Configuration) → More (works code left from work ws c) (works code left from work ws (given ys c))
+  works_more code left from [] ws c = lands_more left from ws c
+  works_more code left from (Redoes k ∷ work) ws c = applies_more code k.callee left from k work ws c
+  works_more code left from (Validates r f ∷ work) ws c =
+      let go : Configuration → Turned Configuration = λ c1. works code left from work ws (staying (Applying left from work ws) c1.state c1) in
+      accepted_more code c.state.accepted f (to_write ws c.state.done r.number) from.span (staying (Applying left from (Validates r f ∷ work) ws) c.state c) go go (λ c1. works_more code left from work ws (staying (Applying left from work ws) c1.state c1))
+
+  settles_more : (code : ThreadCode) (cs : List CellId) (left : ℕ) (from : Savepoint) (c : Configuration) → More (settles code cs left from c) (settles code cs left from (given ys c))
+  settles_more code [] left from c = works_more code left from (tasks_of code.validators c.state.done) [] c
+  settles_more code (d ∷ cs) left from c = on_more c.doing (view c.state) (view (later c.state)) _ _ (view_more c.state) (λ ws s. refl)
 
   ends_more : (code : ThreadCode) (doing : Activity) (c : Configuration) → More (ends code doing c) (ends code doing (given ys c))
   ends_more code Outside c = tt
   ends_more code (Restarting left) c = tt
   ends_more code (Running left (suc inner) from) c = refl
-  ends_more code (Running left zero from) c = settles_more (commuted c.state.done) left from c
-  ends_more code (Applying left from [] ws) c = lands_more left from ws c
-  ends_more code (Applying left from (k ∷ work) ws) c = applies_more code k.callee left from k work ws c
+  ends_more code (Running left zero from) c = settles_more code (commuted c.state.done) left from c
+  ends_more code (Applying left from work ws) c = works_more code left from work ws c
   ends_more code (Swapping swap from) c = tt
 
   returns_more : (frames : List Frame) (v : Value) (c : Configuration) → More (returns_to frames v c) (returns_to frames v (given ys c))
   returns_more [] v c = tt
-  returns_more (f ∷ frames) v c = refl
+  returns_more (f ∷ frames) v c =
+      let back : ActorState → Turned Configuration = λ s. Unfinished (record { body = f.body; place = f.place; stack = stack_after f.awaits v f.stack; locals = f.locals; frames = frames; doing = doing_after f.awaits v c.doing; state = s }) in
+      ap back (same f.awaits)
+    where
+      same : (d : Destination) → state_after d v (later c.state) ≡ later (state_after d v c.state)
+      same to_stack = refl
+      same to_commutes = refl
+      same to_validation = refl
 
   opens_ref_more : (u : RefUpdate) (span : Span) (vs : List Value) (cell : Value) (rest : List Value) (c : Configuration) → More (opens_ref u span vs cell rest c) (opens_ref u span vs cell rest (given ys c))
   opens_ref_more u span vs cell rest c = on_more c.doing _ _ _ _ (open_update_more u (is_inside c.doing) span cell vs c.state) (λ v s. refl)
@@ -347,17 +380,33 @@ module _ (ys : List Exchange) where
   swap_decided_more Undone from w rest c s = tt
   swap_decided_more Denied from w rest c s = tt
 
-  closes_swap_more : (doing : Activity) (w : Value) (rest : List Value) (c : Configuration) → More (closes_swap doing w rest c) (closes_swap doing w rest (given ys c))
-  closes_swap_more (Swapping swap from) w rest c = on_more c.doing _ _ _ _ (close_swap_more swap w c.state) (λ v s. swap_decided_more v from w rest c s)
-  closes_swap_more Outside w rest c = tt
-  closes_swap_more (Restarting left) w rest c = tt
-  closes_swap_more (Running left inner from) w rest c = tt
-  closes_swap_more (Applying left from work values) w rest c = tt
+  closes_swap_more : (code : ThreadCode) (doing : Activity) (w : Value) (rest : List Value) (c : Configuration) → More (closes_swap code doing w rest c) (closes_swap code doing w rest (given ys c))
+  closes_swap_more code (Swapping swap from) w rest c =
+      let go : Configuration → Turned Configuration = λ c1. on c1.doing (close_swap swap w c1.state) (λ verdict s. swap_decided verdict from w rest c1 s) in
+      valid_more code (validator_at code.validators swap.cell.number) w from.span c go go (λ c1. on_more c1.doing _ _ _ _ (close_swap_more swap w c1.state) (λ v s. swap_decided_more v from w rest c1 s))
+  closes_swap_more code Outside w rest c = tt
+  closes_swap_more code (Restarting left) w rest c = tt
+  closes_swap_more code (Running left inner from) w rest c = tt
+  closes_swap_more code (Applying left from work values) w rest c = tt
 
-  closes_more : (form : UpdateForm) (span : Span) (w cell : Value) (rest : List Value) (c : Configuration) → More (closes form span w cell rest c) (closes form span w cell rest (given ys c))
-  closes_more update.Alter span w cell rest c = gives_more c rest _ _ (close_update_more span cell w c.state)
-  closes_more update.Commute span w cell rest c = gives_more c rest _ _ (close_update_more span cell w c.state)
-  closes_more update.Swap span w cell rest c = closes_swap_more c.doing w rest c
+  puts_more : (code : ThreadCode) (f : PutForm) (span : Span) (w cell : Value) (rest : List Value) (c : Configuration) → More (puts code f span w cell rest c) (puts code f span w cell rest (given ys c))
+  puts_more code RefSet span w cell rest c = gives_more c rest _ _ (assign_more RefSet (is_inside c.doing) span cell w c.state)
+  puts_more code Reset span w cell rest c =
+      let go : CellId → Configuration → Turned Configuration = λ a c1. gives c1 rest (assign_cell Reset (is_inside c.doing) span w a c1.state) in
+      on_more c.doing _ _ (λ a s. where_valid code (validator_at code.validators a.number) w span c (go a)) (λ a s. where_valid code (validator_at code.validators a.number) w span (given ys c) (go a))
+      (step_of_more (cell_of (rule (form.Put Reset)) (is_inside c.doing) cell) span c.state)
+      (λ a s. valid_more code (validator_at code.validators a.number) w span c (go a) (go a) (λ c1. gives_more c1 rest _ _ (assign_cell_more Reset (is_inside c.doing) span w a c1.state)))
+
+  finishes_more : (code : ThreadCode) (g : CellId) (o : Option InHand) (v : Value) (c : Configuration) → More (finishes code g o v c) (finishes code g o v (given ys c))
+  finishes_more code g None v c = tt
+  finishes_more code g (Some h) v c =
+      let go : Configuration → Turned Configuration = λ c1. told (finish g (Ok v) c1.state) (λ s. Unfinished (first_place [] (rested s))) in
+      valid_more code (validator_at code.validators h.action.agent.number) v h.action.span c go go (λ c1. told_more _ _ _ _ (finish_more g (Ok v) c1.state) (λ s. refl))
+
+  closes_more : (code : ThreadCode) (form : UpdateForm) (span : Span) (w cell : Value) (rest : List Value) (c : Configuration) → More (closes code form span w cell rest c) (closes code form span w cell rest (given ys c))
+  closes_more code update.Alter span w cell rest c = gives_more c rest _ _ (close_update_more span cell w c.state)
+  closes_more code update.Commute span w cell rest c = gives_more c rest _ _ (close_update_more span cell w c.state)
+  closes_more code update.Swap span w cell rest c = closes_swap_more code c.doing w rest c
 
   started_more : (g : CellId) (o : Option Taken) (c : Configuration) (s : ActorState) → More (started g o c s) (started g o (given ys c) (later s))
   started_more g None c s = refl
@@ -387,14 +436,14 @@ module _ (ys : List Exchange) where
   act_more code (Some (TxBegin span)) c = begins_more c.doing span c
   act_more code (Some TxEnd) c = ends_more code c.doing c
   act_more code (Some (LookOf form span)) c = top_more c.stack _ _ (λ cell rest. gives_more c rest _ _ (read_more form (is_inside c.doing) span cell c.state))
-  act_more code (Some (PutOf form span)) c = two_more c.stack _ _ (λ w cell rest. gives_more c rest _ _ (assign_more form (is_inside c.doing) span cell w c.state))
+  act_more code (Some (PutOf form span)) c = two_more c.stack _ _ (λ w cell rest. puts_more code form span w cell rest c)
   act_more code (Some (OpenOf form args span)) c = args_of_more args c.stack _ _ (λ vs cell rest. opens_more form span vs cell rest c)
-  act_more code (Some (CloseOf form span)) c = two_more c.stack _ _ (λ w cell rest. closes_more form span w cell rest c)
+  act_more code (Some (CloseOf form span)) c = two_more c.stack _ _ (λ w cell rest. closes_more code form span w cell rest c)
   act_more code (Some (SendOf callee args span)) c = args_of_more args c.stack _ _ (λ vs cell rest. gives_more c rest _ _ (send_more (is_inside c.doing) span cell callee vs c.state))
   act_more code (Some Halt) c = refl
   act_more code (Some (TakeOf g)) c = on_more c.doing _ _ _ _ (take_more g c.state) (λ o s. started_more g o c s)
   act_more code (Some RunOf) c = top_more c.stack _ _ (λ v rest. runs_more code c.state.acting v rest c)
-  act_more code (Some (FinishOf g)) c = top_more c.stack _ _ (λ v rest. told_more _ _ _ _ (finish_more g (Ok v) c.state) (λ s. refl))
+  act_more code (Some (FinishOf g)) c = top_more c.stack _ _ (λ v rest. finishes_more code g c.state.acting v c)
 
   then_more : (t u : Turned Configuration) (f g : Configuration → Turned Configuration) → More t u → ((d : Configuration) → More (f d) (g (given ys d))) → More (and_then t f) (and_then u g)
   then_more (Ended s) u f g e k = ap (λ r. and_then r g) e

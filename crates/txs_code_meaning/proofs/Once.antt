@@ -5,14 +5,19 @@ use Rattle.txs_world_protocol.specs.declared.ask.Ask.{Ask}
 use Rattle.txs_world_protocol.specs.declared.ask.Ask.TheVariants as ask
 use Rattle.txs_world_protocol.specs.declared.ask.Reply.{Reply}
 use Rattle.txs_frame.specs.Frame.{commuted, set_writes, set_ref}
+use Rattle.txs_frame.specs.Phase.{tasks_of, to_write}
 use Rattle.txs_frame.specs.declared.frame.Commute.{Commute}
+use Rattle.txs_frame.specs.declared.phase.Task.{Task}
+use Rattle.txs_frame.specs.declared.phase.Task.TheVariants.{Redoes, Validates}
 use Rattle.txs_value_apply.specs.Core.{core, vector_of}
+use Rattle.txs_value_cell.specs.Cells.{validator_at}
 use Rattle.txs_value_cell.specs.Forms.{rule, cell_of}
 use Rattle.txs_value_data.specs.Limits.{reruns}
 use Rattle.txs_value_base.specs.Places.{nth, fault_at}
 use Rattle.txs_value_cell.specs.declared.action.Action.{Action}
 use Rattle.txs_value_base.specs.declared.fault.Fault.{Fault}
 use Rattle.txs_value_base.specs.declared.fault.FaultKind.{FaultKind}
+use Rattle.txs_value_base.specs.declared.fault.FaultKind.TheVariants.{InvalidState}
 use Rattle.txs_value_base.specs.declared.fault.Span.{Span}
 use Rattle.txs_value_cell.specs.declared.form.CellForm.TheVariants as form
 use Rattle.txs_value_cell.specs.declared.form.LookForm.{LookForm}
@@ -30,7 +35,7 @@ use Rattle.txs_code_meaning.specs.declared.instr.OpenForm.{OpenForm}
 use Rattle.txs_code_meaning.specs.declared.instr.OpenForm.TheVariants as open_form
 use Rattle.txs_code_meaning.specs.ActorState.{ActorState, Reception, Replied, Unreplied, receives, asks, StepResult, Continue, Break, Redo, Await, Malformed, on_step, step_of, Reading, Says, SaysRetry, SaysNothing, read_as, heard, read_point, just_done, value_there, newest_value, views, Verdict, Landed, Outdated, Undone, Denied, commit_verdict, opened, swap_verdict, send_verdict, sent, Taken, handed_out, begun, begin, fail, buffered_or, look, paired, viewed, view, commit, peek, SwapInHand, open_atom, close_swap, break_swap, reset_atom, send_now, take_action, finish, read_cell, read, set_own, assign_cell, assign, RefUpdate, Alters, Commutes, update_form, kept_open, open_update, close_own, close_update, open_swap, send_to, print, InHand, send_or_hold, now_holding, send_action}
 use Rattle.txs_code_meaning.specs.Laws.{TakesOne, TurnTakesOne, MaySend, SendsLawfully, AsksOnce}
-use Rattle.txs_code_meaning.specs.Machine.{PlainInstr, Push, Load, Store, Pop, Jump, JumpFalse, CoreOf, CallOf, Return, MakeVector, PrintOf, TxBegin, TxEnd, LookOf, PutOf, OpenOf, CloseOf, SendOf, Halt, TakeOf, RunOf, FinishOf, ThreadCode, fetch, Frame, Savepoint, Activity, Outside, Restarting, Running, Applying, Swapping, is_inside, Configuration, Turned, told, raise, try_more, rerun, retried, on, found, on_top, on_args, on_args_of, on_two, gives, starts, begins, decided, lands, settles, arguments_of, applies, ends, returns_to, opens_ref, opens_atom, opens, swap_decided, closes_swap, closes, started, runs_callee, runs, act, ends_with}
+use Rattle.txs_code_meaning.specs.Machine.{PlainInstr, Push, Load, Store, Pop, Jump, JumpFalse, CoreOf, CallOf, Return, MakeVector, PrintOf, TxBegin, TxEnd, LookOf, PutOf, OpenOf, CloseOf, SendOf, Halt, TakeOf, RunOf, FinishOf, ThreadCode, fetch, Frame, Savepoint, Activity, Outside, Restarting, Running, Applying, Swapping, is_inside, Configuration, Turned, Unfinished, told, raise, try_more, rerun, retried, on, found, on_top, on_args, on_args_of, on_two, gives, starts, begins, decided, lands, settles, arguments_of, applies, ends, returns_to, opens_ref, opens_atom, opens, swap_decided, closes_swap, closes, started, runs_callee, runs, act, ends_with, validates, where_accepted, where_valid, works, puts, finishes, Destination, to_stack, to_commutes, to_validation, state_after, staying, first_place, rested}
 
 -- ---- steps
 
@@ -421,26 +426,52 @@ decided_once before Denied left from c s h = h
 lands_once : (left : ℕ) (from : Savepoint) (ws : Writes) (c : Configuration) → TurnTakesOne c.state.todo (lands left from ws c)
 lands_once left from ws c = on_once c.state.todo c.doing (commit ws c.state) _ (commit_once ws c.state) (λ v s h. decided_once c.state.todo v left from c s h)
 
-settles_once : (cs : List CellId) (left : ℕ) (from : Savepoint) (c : Configuration) → TurnTakesOne c.state.todo (settles cs left from c)
-settles_once [] left from c = lands_once left from [] c
-settles_once (d ∷ cs) left from c = on_once c.state.todo c.doing (view c.state) _ (view_once c.state) (λ ws s h. h)
-
-applies_once : (code : ThreadCode) (f : Callee) (left : ℕ) (from : Savepoint) (k : Commute) (work : List Commute) (ws : Writes) (c : Configuration) → TurnTakesOne c.state.todo (applies code f left from k work ws c)
+applies_once : (code : ThreadCode) (f : Callee) (left : ℕ) (from : Savepoint) (k : Commute) (work : List Task) (ws : Writes) (c : Configuration) → TurnTakesOne c.state.todo (applies code f left from k work ws c)
 applies_once code (callee.Core op) left from k work ws c = on_once c.state.todo c.doing _ _ (step_of_once (core op (arguments_of k ws)) from.span c.state) (λ v s h. h)
 applies_once code (callee.Function f) left from k work ws c = takes_none c.state.todo
+
+validates_once : (code : ThreadCode) (f : Callee) (v : Value) (span : Span) (c : Configuration) → TurnTakesOne c.state.todo (validates code f v span c)
+validates_once code (callee.Core op) v span c = on_once c.state.todo c.doing _ _ (step_of_once (core op (v ∷ [])) span c.state) (λ a s h. h)
+validates_once code (callee.Function f) v span c = takes_none c.state.todo
+
+accepted_once : (code : ThreadCode) (o : Option Bool) (f : Callee) (v : Value) (span : Span) (c : Configuration) (go : Configuration → Turned Configuration)
+    → ((c1 : Configuration) → c1.state.todo ≡ c.state.todo → TurnTakesOne c.state.todo (go c1)) → TurnTakesOne c.state.todo (where_accepted code o f v span c go)
+accepted_once code None f v span c go k = validates_once code f v span c
+accepted_once code (Some true) f v span c go k = k (record c { state = record c.state { accepted = None } }) refl
+accepted_once code (Some false) f v span c go k = raise_once c.doing (fault_at InvalidState span) (record c.state { accepted = None })
+
+valid_once : (code : ThreadCode) (o : Option Callee) (v : Value) (span : Span) (c : Configuration) (go : Configuration → Turned Configuration)
+    → ((c1 : Configuration) → c1.state.todo ≡ c.state.todo → TurnTakesOne c.state.todo (go c1)) → TurnTakesOne c.state.todo (where_valid code o v span c go)
+valid_once code None v span c go k = k c refl
+valid_once code (Some f) v span c go k = accepted_once code c.state.accepted f v span c go k
+
+works_once : (code : ThreadCode) (left : ℕ) (from : Savepoint) (work : List Task) (ws : Writes) (c : Configuration) → TurnTakesOne c.state.todo (works code left from work ws c)
+works_once code left from [] ws c = lands_once left from ws c
+works_once code left from (Redoes k ∷ work) ws c = applies_once code k.callee left from k work ws c
+works_once code left from (Validates r f ∷ work) ws c =
+    accepted_once code c.state.accepted f (to_write ws c.state.done r.number) from.span (staying (Applying left from (Validates r f ∷ work) ws) c.state c) (λ c1. works code left from work ws (staying (Applying left from work ws) c1.state c1))
+    (λ c1 e. subst (λ before. TurnTakesOne before (works code left from work ws (staying (Applying left from work ws) c1.state c1))) e (works_once code left from work ws (staying (Applying left from work ws) c1.state c1)))
+
+settles_once : (code : ThreadCode) (cs : List CellId) (left : ℕ) (from : Savepoint) (c : Configuration) → TurnTakesOne c.state.todo (settles code cs left from c)
+settles_once code [] left from c = works_once code left from (tasks_of code.validators c.state.done) [] c
+settles_once code (d ∷ cs) left from c = on_once c.state.todo c.doing (view c.state) _ (view_once c.state) (λ ws s h. h)
 
 ends_once : (code : ThreadCode) (doing : Activity) (c : Configuration) → TurnTakesOne c.state.todo (ends code doing c)
 ends_once code Outside c = tt
 ends_once code (Restarting left) c = tt
 ends_once code (Running left (suc inner) from) c = takes_none c.state.todo
-ends_once code (Running left zero from) c = settles_once (commuted c.state.done) left from c
-ends_once code (Applying left from [] ws) c = lands_once left from ws c
-ends_once code (Applying left from (k ∷ work) ws) c = applies_once code k.callee left from k work ws c
+ends_once code (Running left zero from) c = settles_once code (commuted c.state.done) left from c
+ends_once code (Applying left from work ws) c = works_once code left from work ws c
 ends_once code (Swapping swap from) c = tt
 
 returns_once : (frames : List Frame) (v : Value) (c : Configuration) → TurnTakesOne c.state.todo (returns_to frames v c)
 returns_once [] v c = tt
-returns_once (f ∷ frames) v c = takes_none c.state.todo
+returns_once (f ∷ frames) v c = by f.awaits
+  where
+    by : (d : Destination) → TakesOne c.state.todo (state_after d v c.state).todo
+    by to_stack = takes_none c.state.todo
+    by to_commutes = takes_none c.state.todo
+    by to_validation = takes_none c.state.todo
 
 opens_ref_once : (u : RefUpdate) (span : Span) (vs : List Value) (cell : Value) (rest : List Value) (c : Configuration) → TurnTakesOne c.state.todo (opens_ref u span vs cell rest c)
 opens_ref_once u span vs cell rest c = on_once c.state.todo c.doing _ _ (open_update_once u (is_inside c.doing) span cell vs c.state) (λ v s h. h)
@@ -463,17 +494,38 @@ swap_decided_once before Outdated from w rest c s h = h
 swap_decided_once before Undone from w rest c s h = tt
 swap_decided_once before Denied from w rest c s h = tt
 
-closes_swap_once : (doing : Activity) (w : Value) (rest : List Value) (c : Configuration) → TurnTakesOne c.state.todo (closes_swap doing w rest c)
-closes_swap_once (Swapping swap from) w rest c = on_once c.state.todo c.doing _ _ (close_swap_once swap w c.state) (λ v s h. swap_decided_once c.state.todo v from w rest c s h)
-closes_swap_once Outside w rest c = tt
-closes_swap_once (Restarting left) w rest c = tt
-closes_swap_once (Running left inner from) w rest c = tt
-closes_swap_once (Applying left from work values) w rest c = tt
+swap_closed_once : (swap : SwapInHand) (from : Savepoint) (w : Value) (rest : List Value) (c : Configuration) → TurnTakesOne c.state.todo (on c.doing (close_swap swap w c.state) (λ verdict s. swap_decided verdict from w rest c s))
+swap_closed_once swap from w rest c = on_once c.state.todo c.doing _ _ (close_swap_once swap w c.state) (λ v s h. swap_decided_once c.state.todo v from w rest c s h)
 
-closes_once : (by : UpdateForm) (span : Span) (w cell : Value) (rest : List Value) (c : Configuration) → TurnTakesOne c.state.todo (closes by span w cell rest c)
-closes_once update.Alter span w cell rest c = gives_once c rest _ (close_update_once span cell w c.state)
-closes_once update.Commute span w cell rest c = gives_once c rest _ (close_update_once span cell w c.state)
-closes_once update.Swap span w cell rest c = closes_swap_once c.doing w rest c
+closes_swap_once : (code : ThreadCode) (doing : Activity) (w : Value) (rest : List Value) (c : Configuration) → TurnTakesOne c.state.todo (closes_swap code doing w rest c)
+closes_swap_once code (Swapping swap from) w rest c =
+    valid_once code (validator_at code.validators swap.cell.number) w from.span c (λ c1. on c1.doing (close_swap swap w c1.state) (λ verdict s. swap_decided verdict from w rest c1 s))
+    (λ c1 e. subst (λ before. TurnTakesOne before (on c1.doing (close_swap swap w c1.state) (λ verdict s. swap_decided verdict from w rest c1 s))) e (swap_closed_once swap from w rest c1))
+closes_swap_once code Outside w rest c = tt
+closes_swap_once code (Restarting left) w rest c = tt
+closes_swap_once code (Running left inner from) w rest c = tt
+closes_swap_once code (Applying left from work values) w rest c = tt
+
+puts_once : (code : ThreadCode) (by : PutForm) (span : Span) (w cell : Value) (rest : List Value) (c : Configuration) → TurnTakesOne c.state.todo (puts code by span w cell rest c)
+puts_once code RefSet span w cell rest c = gives_once c rest _ (assign_once RefSet (is_inside c.doing) span cell w c.state)
+puts_once code Reset span w cell rest c = by (cell_of (rule (form.Put Reset)) (is_inside c.doing) cell)
+  where
+    by : (r : Result CellId FaultKind) → TurnTakesOne c.state.todo (on c.doing (step_of r span c.state) (λ a s. where_valid code (validator_at code.validators a.number) w span c (λ c1. gives c1 rest (assign_cell Reset (is_inside c.doing) span w a c1.state))))
+    by (Ok a) =
+        valid_once code (validator_at code.validators a.number) w span c (λ c1. gives c1 rest (assign_cell Reset (is_inside c.doing) span w a c1.state))
+        (λ c1 e. subst (λ before. TurnTakesOne before (gives c1 rest (assign_cell Reset (is_inside c.doing) span w a c1.state))) e (gives_once c1 rest _ (assign_cell_once Reset (is_inside c.doing) span w a c1.state)))
+    by (Err k) = raise_once c.doing (fault_at k span) c.state
+
+finishes_once : (code : ThreadCode) (g : CellId) (o : Option InHand) (v : Value) (c : Configuration) → TurnTakesOne c.state.todo (finishes code g o v c)
+finishes_once code g None v c = tt
+finishes_once code g (Some h) v c =
+    valid_once code (validator_at code.validators h.action.agent.number) v h.action.span c (λ c1. told (finish g (Ok v) c1.state) (λ s. Unfinished (first_place [] (rested s))))
+    (λ c1 e. subst (λ before. TurnTakesOne before (told (finish g (Ok v) c1.state) (λ s. Unfinished (first_place [] (rested s))))) e (told_once c1.state.todo _ _ (finish_once g (Ok v) c1.state) (λ s q. q)))
+
+closes_once : (code : ThreadCode) (by : UpdateForm) (span : Span) (w cell : Value) (rest : List Value) (c : Configuration) → TurnTakesOne c.state.todo (closes code by span w cell rest c)
+closes_once code update.Alter span w cell rest c = gives_once c rest _ (close_update_once span cell w c.state)
+closes_once code update.Commute span w cell rest c = gives_once c rest _ (close_update_once span cell w c.state)
+closes_once code update.Swap span w cell rest c = closes_swap_once code c.doing w rest c
 
 send_once : (doing : Activity) → MaySend doing → (span : Span) (v : Value) (f : Callee) (vs : List Value) (s : ActorState) (go : Value → ActorState → Turned Configuration) → GoesOn s.todo go → TurnTakesOne s.todo (on doing (send_to (is_inside doing) span v f vs s) go)
 send_once Outside ok span v f vs s go k = by (cell_of (rule form.Send) false v)
@@ -518,14 +570,14 @@ act_once code (Some (PrintOf args)) c ok = args_once c.state.todo args c.stack [
 act_once code (Some (TxBegin span)) c ok = begins_once c.doing span c
 act_once code (Some TxEnd) c ok = ends_once code c.doing c
 act_once code (Some (LookOf by span)) c ok = top_once c.state.todo c.stack _ (λ cell rest. gives_once c rest _ (read_once by (is_inside c.doing) span cell c.state))
-act_once code (Some (PutOf by span)) c ok = two_once c.state.todo c.stack _ (λ w cell rest. gives_once c rest _ (assign_once by (is_inside c.doing) span cell w c.state))
+act_once code (Some (PutOf by span)) c ok = two_once c.state.todo c.stack _ (λ w cell rest. puts_once code by span w cell rest c)
 act_once code (Some (OpenOf by args span)) c ok = args_of_once c.state.todo args c.stack _ (λ vs cell rest. opens_once by span vs cell rest c)
-act_once code (Some (CloseOf by span)) c ok = two_once c.state.todo c.stack _ (λ w cell rest. closes_once by span w cell rest c)
+act_once code (Some (CloseOf by span)) c ok = two_once c.state.todo c.stack _ (λ w cell rest. closes_once code by span w cell rest c)
 act_once code (Some (SendOf f args span)) c ok = args_of_once c.state.todo args c.stack _ (λ vs cell rest. send_once c.doing ok span cell f vs c.state _ (λ v s h. h))
 act_once code (Some Halt) c ok = takes_none c.state.todo
 act_once code (Some (TakeOf g)) c ok = on_once c.state.todo c.doing _ _ (take_once g c.state) (λ o s h. started_once c.state.todo g o c s h)
 act_once code (Some RunOf) c ok = top_once c.state.todo c.stack _ (λ v rest. runs_once code c.state.acting v rest c)
-act_once code (Some (FinishOf g)) c ok = top_once c.state.todo c.stack _ (λ v rest. told_once c.state.todo _ _ (finish_once g (Ok v) c.state) (λ s h. h))
+act_once code (Some (FinishOf g)) c ok = top_once c.state.todo c.stack _ (λ v rest. finishes_once code g c.state.acting v c)
 
 -- no turn asks twice
 pub turn_asks_once : AsksOnce

@@ -50,6 +50,8 @@ pub record ActorState : Type 0 where
   pub commuting : Option Commute
   -- the action that an agent runs
   pub acting : Option InHand
+  -- whether the validator that was applied last accepts its value, until that is looked at
+  pub accepted : Option Bool
   -- the ask that has no answer yet
   pub wants : Option Ask
 

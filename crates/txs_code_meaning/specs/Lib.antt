@@ -7,4 +7,5 @@ pub mod Opening
 pub mod OwnCells
 pub mod PlainCode
 pub mod Spans
+pub mod Validating
 pub mod WellTyped

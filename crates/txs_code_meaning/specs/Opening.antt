@@ -8,7 +8,7 @@ use Rattle.txs_code_meaning.specs.Machine.{ThreadCode, locals_of, agent_code, Co
 
 -- an actor's state before its first turn, with the exchanges to come
 abbrev pub fresh : List Exchange → ActorState
-fresh todo = record { todo = todo; printed = []; at = 0; view = 0; done = empty_frame; commuting = None; acting = None; wants = None }
+fresh todo = record { todo = todo; printed = []; at = 0; view = 0; done = empty_frame; commuting = None; acting = None; accepted = None; wants = None }
 
 -- where an actor begins
 abbrev pub opening : ThreadCode → List Exchange → Configuration

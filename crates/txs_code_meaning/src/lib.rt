@@ -7,9 +7,11 @@ pub mod code;
 pub mod fusing;
 pub mod instr;
 pub mod law;
+pub mod validating;
 pub mod verified;
 
 pub use code::{Body, Code};
 pub use fusing::{Arithmetic, Comparison, Fused};
 pub use instr::{Instr, OpenForm};
+pub use validating::has_validator;
 pub use verified::Verified;

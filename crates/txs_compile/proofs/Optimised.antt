@@ -1,7 +1,8 @@
 -- The code of an optimised program: what it names, follows and sends.
-use Rattle.std.proofs.Common.{◌≡◌, ◌++◌, ℕ, List, [], ◌∷◌, ℤ, sym, subst}
+use Rattle.std.proofs.Common.{◌≡◌, ◌++◌, ℕ, List, [], ◌∷◌, ℤ, sym, ap, subst}
 use Rattle.std.specs.List.{AllByRecursion}
 use Rattle.txs_value_data.specs.PlainValue.{PlainValue, vector, plain_row}
+use Rattle.txs_value_cell.specs.Cells.{validators_of}
 use Rattle.txs_value_cell.specs.declared.cell.CellDefinition.{CellDefinition}
 use Rattle.txs_value_data.specs.declared.value.Value.{Value}
 use Rattle.txs_tree_meaning.specs.Known.{known}
@@ -165,7 +166,7 @@ module _ (limit : ℕ) (p q : PlainProgram) (same : q ≡ optimised limit p) whe
       follows behaves law = law (codes_of code) limit p sound (behaves code (optimised limit p) (optimised_sound limit p sound) is_made)
 
       pub agents_follow : CodeOfActionsBehaves → OptimisedFollowsAgents → FollowsAgents (library_of code) p.functions
-      agents_follow behaves law = law (library_of code) limit p sound (behaves code (optimised limit p) (optimised_sound limit p sound) is_made)
+      agents_follow behaves law = law (library_of code) limit p sound (ap validators_of is_made.cells) (behaves code (optimised limit p) (optimised_sound limit p sound) is_made)
 
       pub sends : SoundProgramSendsSound → CodeOfProgramSendsSound → CodesSendSound p.functions (codes_of code)
       sends of_sound law =

@@ -25,6 +25,7 @@ use Rattle.txs_resolve_scope.specs.declared.scope.Definition.{Definition}
 use Rattle.txs_resolve_scope.specs.declared.scope.Definition.TheVariants.{Constant, Cell as ACell, Function as AFunction}
 use Rattle.txs_resolve_scope.specs.Scope.{Scope, Entry, Meaning, a_form, dotted, a_local, the_current, defined_as, operation, unknown, or_form, or_local, or_defined, or_unknown, meaning, definition_of, local_number, is_current, with_name, form_name, form_names, operations, is_dot, with_local}
 use Rattle.txs_resolve.specs.declared.definition.CellSort.{CellSort}
+use Rattle.txs_resolve.specs.declared.definition.Validation.{Validation}
 use Rattle.txs_resolve_expand.specs.declared.error.ResolveError.{ResolveError}
 use Rattle.txs_resolve_expand.specs.declared.error.ResolveErrorKind.TheVariants.{TooMany}
 use Rattle.txs_resolve_expand.specs.declared.shapes.Change.{Change}
@@ -39,7 +40,7 @@ use Rattle.txs_resolve_expand.specs.Expansions.{alone, body, expand_once, form_a
 use Rattle.txs_resolve_expand.specs.Expressions.{Answer, Bound, Special, row, one_part, putting, choice, binding, changing, Core as ACore, whole, parted, Resolver, spot_at, spot_mark, in_room, some_room, narrow, symbol_node, leaf_node, leaf_value, callee_of, flag, sequence_node, are_wanted, choice_node, single_node, is_wanted, change_node, binding_node, core_of, bound_name, named_all, named_bindings, put_together, made, resolved, named}
 use Rattle.txs_resolve_body.specs.Literals.{literal, literals}
 use Rattle.txs_resolve_expand.specs.Namespace.{behind_namespace}
-use Rattle.txs_resolve.specs.Names.{State, nothing, program, new_name, Defining, defining_of, new_cell, with_definition, defined_as_one, NamedForm, named_form, defined_at, parameters, Written, written, with_function, function, with_thread, future, top_level, step, steps, Resolves}
+use Rattle.txs_resolve.specs.Names.{State, nothing, program, new_name, Defining, defining_of, new_cell, validator_named, validator_place, with_definition, entered, defined_as_one, NamedForm, named_form, defined_at, parameters, Written, written, with_function, function, with_thread, future, top_level, step, steps, Resolves}
 use Rattle.txs_resolve.proofs.Scoping.{Every, then_every, one_every, two_every, three_every, if_every}
 use Rattle.txs_gen.specs.Generated.{constants_of, constants_in, constants_of_functions, constants_of_threads}
 use Rattle.txs_gen.specs.OwnCells.{ProgramNamesOwnCells}
@@ -376,15 +377,15 @@ record StateNames (s : State) : Type 0 where
   threads : NameDefined s.cells (constants_of_threads s.threads)
   openings : OpeningsNameNone s.cells
 
-definition_names : (sort : Option CellSort) (s : State) (name : List ℕ) (v : Value) → NamesNone v → StateNames s → StateNames (with_definition sort s name v)
-definition_names None s name v n h = record {
+definition_names : (sort : Option CellSort) (s : State) (name : List ℕ) (v : Value) (validation : Validation) → NamesNone v → StateNames s → StateNames (with_definition sort s name v validation)
+definition_names None s name v validation n h = record {
   defined = entries_more s.cells s.defined (record { name = name; what = Constant v }) h.defined (names_front [] s.cells v n);
   functions = h.functions;
   threads = h.threads;
   openings = h.openings;
 }
-definition_names (Some sort) s name v n h =
-    let d = new_cell name sort v in
+definition_names (Some sort) s name v validation n h =
+    let d = new_cell name sort v validation.callee in
     let one = d ∷ [] in
     record {
       defined = entries_more (s.cells ++ one) s.defined (record { name = name; what = ACell (record { kind = sort.kind; number = length s.cells }) }) (are_named_front s.cells one s.defined h.defined) (kind_last s.cells d);
@@ -396,9 +397,11 @@ definition_names (Some sort) s name v n h =
 one_names : (s : State) (name : List ℕ) (at span : Span) (o : Option Defining) → StateNames s → Every StateNames (defined_as_one s name at span o)
 one_names s name at span None h = tt
 one_names s name at span (Some d) h =
-    if_every StateNames (nat_lt s.defs most_definitions) (literal most_depth d.value >>= λ v. new_name s.defined name at >>= λ n. Ok (with_definition d.sort s n v)) (record { kind = TooMany; at = span })
-    (λ _. two_every NamesNone Any StateNames (literal most_depth d.value) (new_name s.defined name at) (λ v n. with_definition d.sort s n v) (literal_none most_depth d.value) (any (new_name s.defined name at))
-    (λ v n k _. definition_names d.sort s n v k h))
+    let at_validator = validator_place span d.validator in
+    if_every StateNames (nat_lt s.defs most_definitions) (entered s name at span d) (record { kind = TooMany; at = span })
+    (λ _. three_every NamesNone Any Any StateNames (literal most_depth d.value) (validator_named s.defined span d.validator) (new_name s.defined name at) (λ v callee n. with_definition d.sort s n v (record { callee = callee; at = at_validator }))
+    (literal_none most_depth d.value) (any (validator_named s.defined span d.validator)) (any (new_name s.defined name at))
+    (λ v callee n k _ _. definition_names d.sort s n v (record { callee = callee; at = at_validator }) k h))
 
 defined_names : (s : State) (span : Span) (o : Option NamedForm) → StateNames s → Every StateNames (defined_at s span o)
 defined_names s span None h = tt

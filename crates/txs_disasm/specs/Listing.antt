@@ -1,5 +1,5 @@
 -- The listing of code: a line for each cell, each constant, each body and each instruction.
-use Rattle.std.specs.Prelude.{ℕ, suc, List, [], ◌∷◌, ◌++◌, codes, decimal}
+use Rattle.std.specs.Prelude.{ℕ, suc, List, [], ◌∷◌, ◌++◌, Option, Some, None, codes, decimal}
 use Rattle.txs_value_base.specs.Operations.{op_name}
 use Rattle.txs_value_data.specs.Printed.{printed}
 use Rattle.txs_value_data.specs.View.{plain_of}
@@ -38,7 +38,7 @@ kind_name Ref = codes "ref"
 kind_name Atom = codes "atom"
 kind_name Agent = codes "agent"
 
--- what is at the end of a cell's line: that it continues after an action that faulted
+-- what stands behind a cell's opening value: that it goes on after an action that faulted
 abbrev pub mode_words : ErrorMode → List ℕ
 mode_words Fail = []
 mode_words Continue = codes " continue"
@@ -76,6 +76,11 @@ abbrev pub callee_words : Callee → List ℕ
 callee_words (callee.Core op) = codes " core" ++ word (op_name op)
 callee_words (callee.Function f) = codes " fn" ++ number f
 
+-- what stands at the end of the line of a cell with a validator: the callee
+abbrev pub validator_words : Option Callee → List ℕ
+validator_words None = []
+validator_words (Some f) = codes " validator" ++ callee_words f
+
 -- the operands of an instruction, in the order of the byte form: an operation by its name, a callee as above, all else by number
 abbrev pub operands : Instr → List ℕ
 operands (instr.Const k) = number k
@@ -106,9 +111,9 @@ at_span span = codes " @" ++ decimal span.from ++ codes ".." ++ decimal span.to
 
 -- ---- lines
 
--- the line of a cell: its number, its kind, its name, and its opening value as `println` writes it
+-- the line of a cell: its number, its kind, its name, its opening value as `println` writes it, and its validator
 abbrev pub cell_line : ℕ → CellDefinition → List ℕ
-cell_line k cell = codes "cell" ++ number k ++ word (kind_name cell.kind) ++ word cell.name ++ word (printed (plain_of cell.opening)) ++ mode_words cell.error_mode ++ codes "\n"
+cell_line k cell = codes "cell" ++ number k ++ word (kind_name cell.kind) ++ word cell.name ++ word (printed (plain_of cell.opening)) ++ mode_words cell.error_mode ++ validator_words cell.validator ++ codes "\n"
 
 -- the line of a constant: its number, and its value as `println` writes it
 abbrev pub constant_line : ℕ → Value → List ℕ

@@ -3,9 +3,9 @@
 ghost use Rattle.std.specs.Prelude.{◌≡◌, ◌++◌, decimal, OnOk};
 ghost use Rattle.txs_value_data.specs.Printed.{printed};
 ghost use Rattle.txs_value_data.specs.View.{plain_of};
-ghost use Rattle.txs_disasm.specs.Listing.{at_span, body_head, body_line, callee_words, cell_line, constant_line, instr_line, operands, word};
+ghost use Rattle.txs_disasm.specs.Listing.{at_span, body_head, body_line, callee_words, cell_line, constant_line, instr_line, operands, validator_words, word};
 
-use crate::names::{cell_end, instr_name, kind_name};
+use crate::names::{instr_name, kind_name, mode_words};
 use itoa::Buffer;
 use std::alloc::AllocError;
 use txs_code_meaning::{Body, Instr, OpenForm};
@@ -46,6 +46,19 @@ fn put_callee(callee: Callee, out: &mut Vec<u8>) -> Result<(), AllocError>
             put_word(op.name(), out)
         }
         Callee::Function(function) => put_number(b" fn ", u64::from(function), out),
+    }
+}
+
+/// Appends the validator of a cell, if it has one.
+fn put_validator(validator: Option<Callee>, out: &mut Vec<u8>) -> Result<(), AllocError>
+    ensures { OnOk result (out.new.items ≡ out.old.items ++ validator_words validator) }
+{
+    match validator {
+        None => Ok(()),
+        Some(callee) => {
+            out.extend_from_slice(b" validator")?;
+            put_callee(callee, out)
+        }
     }
 }
 
@@ -103,7 +116,9 @@ pub(crate) fn put_cell(
     put_word(cell.name.as_bytes(), out)?;
     out.push(b' ')?;
     write_text(&cell.opening, out)?;
-    out.extend_from_slice(cell_end(cell.error_mode))
+    out.extend_from_slice(mode_words(cell.error_mode))?;
+    put_validator(cell.validator, out)?;
+    out.extend_from_slice(b"\n")
 }
 
 /// Appends the line of a constant.

@@ -1,6 +1,6 @@
 //! The names that a listing has for kinds of cells and for instructions.
 
-ghost use Rattle.std.specs.Prelude.{◌≡◌, ◌++◌, codes};
+ghost use Rattle.std.specs.Prelude.{◌≡◌};
 ghost use Rattle.txs_disasm.specs.Listing.{instr_name, kind_name, mode_words};
 
 use txs_code_meaning::{Instr, OpenForm};
@@ -18,13 +18,13 @@ pub(crate) fn kind_name(kind: CellKind) -> &'static [u8]
     }
 }
 
-/// What is at the end of a cell's line, up to its last byte.
-pub(crate) fn cell_end(mode: ErrorMode) -> &'static [u8]
-    ensures { result.now ≡ mode_words mode ++ codes "\n" }
+/// What stands behind a cell's opening value, of its error mode.
+pub(crate) fn mode_words(mode: ErrorMode) -> &'static [u8]
+    ensures { result.now ≡ mode_words mode }
 {
     match mode {
-        ErrorMode::Fail => b"\n",
-        ErrorMode::Continue => b" continue\n",
+        ErrorMode::Fail => b"",
+        ErrorMode::Continue => b" continue",
     }
 }
 

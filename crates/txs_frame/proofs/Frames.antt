@@ -10,7 +10,7 @@ use Rattle.txs_value_data.specs.declared.value.CellId.{CellId}
 use Rattle.txs_value_data.specs.declared.value.CellKind.{CellKind}
 use Rattle.txs_value_data.specs.declared.value.CellKind.TheVariants.{Ref}
 use Rattle.txs_value_data.specs.declared.value.Value.{Value}
-use Rattle.txs_frame.specs.Frame.{PlainTxFrame, empty_frame, with_cell, with_cells, has_number, outside_of, is_set, is_commuted, commuted, set_writes, set_ref, ensure_ref, commute_ref, SetAnswers}
+use Rattle.txs_frame.specs.Frame.{PlainTxFrame, empty_frame, with_cell, with_cells, has_number, outside_of, is_set, is_commuted, commuted, set_writes, cells_in, written, set_ref, ensure_ref, commute_ref, SetAnswers}
 use Rattle.txs_frame.specs.declared.frame.Commute.{Commute}
 use Rattle.txs_frame.specs.declared.frame.SetError.{SetError}
 use Rattle.txs_frame.specs.declared.frame.SetError.TheVariants.{SetAfterCommute, Memory}
@@ -18,7 +18,7 @@ use Rattle.txs_frame.specs.declared.own.How.{How}
 use Rattle.txs_frame.specs.declared.own.How.TheVariants as how
 use Rattle.txs_frame.specs.declared.own.Own.{Own}
 use Rattle.txs_frame.specs.Kept.{Ascends, item_of, with_item, number_of, cell_number, ref_cell, was_set, was_commuted, was_commuted_if, with_commute, how_of, only_commuted, cells_by, writes_by, writes_of, work_of, IsKept, IsPlaceOf, how_at, put_at}
-use Rattle.txs_frame.proofs.Owns.{flag, has_by, writes_with, cells_more, cells_steady, commuted_by, set_by}
+use Rattle.txs_frame.proofs.Owns.{flag, has_by, writes_with, cells_more, cells_steady, commuted_by, set_by, all_cells, all_by, cells_in_by}
 use Rattle.txs_frame.proofs.Places.{ascends_with, cell_joins, cell_stays, cells_ascend, get_there}
 
 -- ---- what is looked up
@@ -209,3 +209,12 @@ commuted_is os es cs ss h = sym (ap (outside_of (cells_by was_set os)) h.commute
 
 pub writes_is : (os : List Own) (es : List CellId) (cs : List Commute) (ss : List Action) → IsKept os es cs → writes_by was_set os ≡ set_writes (work_of os es cs ss)
 writes_is os es cs ss h = sym (set_by os h.own)
+
+pub written_is : (os : List Own) (es : List CellId) (cs : List Commute) (ss : List Action) → IsKept os es cs → all_cells os ≡ written (work_of os es cs ss)
+written_is os es cs ss h =
+    sym (
+    ap (λ (ws : Writes). with_cells (cells_in ws) (commuted (work_of os es cs ss))) (set_by os h.own)
+    ∙ ap (λ (ds : List CellId). with_cells ds (commuted (work_of os es cs ss))) (cells_in_by was_set os)
+    ∙ ap (with_cells (cells_by was_set os)) (sym (commuted_is os es cs ss h))
+    ∙ all_by 0 os h.own
+    )

@@ -1,11 +1,11 @@
 -- What the own values of a frame say of its refs.
-use Rattle.std.proofs.Common.{◌≡◌, ℕ, suc, ◌<◌, ◌==◌, ◌||◌, Bool, true, false, if◌then◌else◌, List, [], ◌∷◌, ◌++◌, Option, Some, None, refl, sym, ap, ◌∙◌, arith}
+use Rattle.std.proofs.Common.{◌≡◌, ℕ, suc, ◌<◌, ◌==◌, ◌||◌, Bool, true, false, if◌then◌else◌, List, [], ◌∷◌, ◌++◌, map, Option, Some, None, refl, sym, ap, ◌∙◌, arith}
 use Rattle.std.specs.Prelude.{nat_lt}
-use Rattle.std.proofs.lemmas.Bool.{lt-ltb, ltb-true, eq-eqb, eqb-true, ne_eqb}
+use Rattle.std.proofs.lemmas.Bool.{lt-ltb, le-ltb, ltb-true, eq-eqb, eqb-true, ne_eqb}
 use Rattle.txs_world_protocol.specs.Ask.{buffered, with_write}
 use Rattle.txs_value_data.specs.declared.value.CellId.{CellId}
 use Rattle.txs_value_data.specs.declared.value.Value.{Value}
-use Rattle.txs_frame.specs.Frame.{with_cell, has_number, outside_of, writes_to}
+use Rattle.txs_frame.specs.Frame.{with_cell, with_cells, has_number, outside_of, writes_to, cells_in}
 use Rattle.txs_frame.specs.declared.own.How.{How}
 use Rattle.txs_frame.specs.declared.own.How.TheVariants as how
 use Rattle.txs_frame.specs.declared.own.Own.{Own}
@@ -185,3 +185,50 @@ writes_by_append f (o ∷ os) ps = test (f o.how) (writes_by_append f os ps)
     test : (b : Bool) → writes_by f (os ++ ps) ≡ writes_by f os ++ writes_by f ps → (if b then (ref_cell o.number, o.value) ∷ writes_by f (os ++ ps) else writes_by f (os ++ ps)) ≡ (if b then (ref_cell o.number, o.value) ∷ writes_by f os else writes_by f os) ++ writes_by f ps
     test true rest = ap (λ ws. (ref_cell o.number, o.value) ∷ ws) rest
     test false rest = rest
+
+-- ---- what is written
+
+-- all refs of own values
+abbrev pub all_cells : List Own → List CellId
+all_cells os = map (λ o. ref_cell o.number) os
+
+in_front : (f : How → Bool) (l : ℕ) (os : List Own) (k : ℕ) (ds : List CellId) → Ascends number_of l os → k < l → with_cells (ref_cell k ∷ ds) (cells_by f os) ≡ ref_cell k ∷ with_cells ds (cells_by f os)
+in_front f l [] k ds up lt = refl
+in_front f l (o ∷ os) k ds up lt = let less : k < o.number = (let g = up.0 in omega (arith, g, lt)) in test (f o.how) (λ es. in_front f (suc o.number) os k es up.1 (omega (arith, less)))
+  where
+    less : k < o.number
+    less = let g = up.0 in omega (arith, g, lt)
+
+    skips : with_cell (ref_cell k ∷ ds) (ref_cell o.number) ≡ ref_cell k ∷ with_cell ds (ref_cell o.number)
+    skips =
+        ap (λ y. if y then ref_cell k ∷ ds else if nat_lt o.number k then ref_cell o.number ∷ ref_cell k ∷ ds else ref_cell k ∷ with_cell ds (ref_cell o.number)) (ne_eqb k o.number (less_differs k o.number less))
+        ∙ ap (λ y. if y then ref_cell o.number ∷ ref_cell k ∷ ds else ref_cell k ∷ with_cell ds (ref_cell o.number)) (le-ltb o.number k (let h = less in omega (arith, h)))
+
+    test : (b : Bool) → ((es : List CellId) → with_cells (ref_cell k ∷ es) (cells_by f os) ≡ ref_cell k ∷ with_cells es (cells_by f os))
+        → with_cells (ref_cell k ∷ ds) (if b then ref_cell o.number ∷ cells_by f os else cells_by f os) ≡ ref_cell k ∷ with_cells ds (if b then ref_cell o.number ∷ cells_by f os else cells_by f os)
+    test true more = ap (λ (x : List CellId). with_cells x (cells_by f os)) skips ∙ more (with_cell ds (ref_cell o.number))
+    test false more = more ds
+
+-- those that were set, and those others that were commuted, are all
+pub all_by : (l : ℕ) (os : List Own) → Ascends number_of l os → with_cells (cells_by was_set os) (cells_by only_commuted os) ≡ all_cells os
+all_by l [] up = refl
+all_by l (o ∷ os) up = test o.how (all_by (suc o.number) os up.1)
+  where
+    test : (h : How) → with_cells (cells_by was_set os) (cells_by only_commuted os) ≡ map (λ x. ref_cell x.number) os
+        → with_cells (if was_set h then ref_cell o.number ∷ cells_by was_set os else cells_by was_set os) (if only_commuted h then ref_cell o.number ∷ cells_by only_commuted os else cells_by only_commuted os)
+        ≡ ref_cell o.number ∷ map (λ x. ref_cell x.number) os
+    test how.Set more = in_front only_commuted (suc o.number) os o.number (cells_by was_set os) up.1 (omega arith) ∙ ap (λ (x : List CellId). ref_cell o.number ∷ x) more
+    test how.Both more = in_front only_commuted (suc o.number) os o.number (cells_by was_set os) up.1 (omega arith) ∙ ap (λ (x : List CellId). ref_cell o.number ∷ x) more
+    test how.Commuted more =
+        ap (λ (x : List CellId). with_cells x (cells_by only_commuted os)) (before_all was_set (suc o.number) os o.number up.1 (omega arith))
+        ∙ in_front only_commuted (suc o.number) os o.number (cells_by was_set os) up.1 (omega arith)
+        ∙ ap (λ (x : List CellId). ref_cell o.number ∷ x) more
+
+-- the refs of writes are those of their own values
+pub cells_in_by : (f : How → Bool) (os : List Own) → cells_in (writes_by f os) ≡ cells_by f os
+cells_in_by f [] = refl
+cells_in_by f (o ∷ os) = test (f o.how) (cells_in_by f os)
+  where
+    test : (b : Bool) → cells_in (writes_by f os) ≡ cells_by f os → cells_in (if b then (ref_cell o.number, o.value) ∷ writes_by f os else writes_by f os) ≡ (if b then ref_cell o.number ∷ cells_by f os else cells_by f os)
+    test true more = ap (λ (x : List CellId). ref_cell o.number ∷ x) more
+    test false more = more

@@ -1,17 +1,21 @@
--- What holds of a commute phase from its beginning on.
-use Rattle.std.proofs.Common.{◌≡◌, ℕ, zero, suc, ◌<◌, ◌≤◌, ◌==◌, Bool, true, false, if◌then◌else◌, List, [], ◌∷◌, ◌++◌, length, map, take, set, get_or, Option, Some, None, Result, Ok, Err, is_some, refl, sym, ap, subst, ◌∙◌, arith}
+-- What holds of a transaction's end from its beginning on.
+use Rattle.std.proofs.Common.{◌≡◌, ℕ, zero, suc, ◌+◌, slice_index_or, ◌<◌, ◌≤◌, ◌==◌, Bool, true, false, if◌then◌else◌, List, [], ◌∷◌, ◌++◌, length, map, take, set, get_or, Option, Some, None, Result, Ok, Err, is_some, refl, sym, ap, subst, ◌∙◌, arith}
 use Rattle.std.specs.Prelude.{nat_lt, drop}
 use Rattle.std.specs.List.{slice_get}
-use Rattle.std.proofs.lemmas.Bool.{eq-eqb, eqb-true, false≢true}
+use Rattle.std.proofs.lemmas.Bool.{eq-eqb, eqb-true, ltb-true, ltb-false, false≢true}
 use Rattle.txs_world_protocol.specs.Ask.{Writes, buffered, with_write}
 use Rattle.txs_value_base.specs.declared.op.Callee.{Callee}
 use Rattle.txs_value_data.specs.declared.value.CellId.{CellId}
 use Rattle.txs_value_data.specs.declared.value.Value.{Value}
 use Rattle.txs_value_data.specs.declared.value.Value.TheVariants.{Nil}
-use Rattle.txs_frame.specs.Frame.{PlainTxFrame, with_cell, with_cells, has_number, outside_of, refs_of, commuted, commutes_of, by_ref, phase_work}
+use Rattle.txs_frame.specs.Frame.{PlainTxFrame, with_cell, with_cells, has_number, outside_of, refs_of, commuted, written, commutes_of, by_ref, phase_work}
 use Rattle.txs_frame.specs.Kept.{Ascends, IsPlaceOf, item_of, with_item, cell_number}
-use Rattle.txs_frame.specs.Phase.{blank, filled, next_callee, value_or_nil, write_number, AreViewed, IsPhase}
+use Rattle.txs_frame.specs.Phase.{with_validation, validations, tasks_of, blank, filled, callee_of, next_callee, value_or_nil, first_of, to_write, write_number, behind_next, IsViewed, AreViewed, IsPhase}
 use Rattle.txs_frame.specs.declared.frame.Commute.{Commute}
+use Rattle.txs_frame.specs.declared.phase.Task.{Task}
+use Rattle.txs_frame.specs.declared.phase.Task.TheVariants.{Redoes, Validates}
+use Rattle.txs_value_cell.specs.Cells.{Validators, validators_of, validator_at}
+use Rattle.txs_value_cell.specs.declared.cell.CellDefinition.{CellDefinition}
 use Rattle.txs_frame.proofs.Places.{ascends_with, cells_ascend, get_there}
 
 -- ---- lists by ascending number
@@ -86,26 +90,59 @@ blank_there [] = tt
 blank_there (c ∷ cs) =
     (ap (λ (b : Bool). is_some (if b then Some (c, Nil) else item_of write_number (blank cs) c.number)) (eq-eqb c.number c.number refl), there_all (c, Nil) (blank cs) cs (blank_there cs))
 
-viewed_of : (ws : Writes) (k : ℕ) (cs : List Commute) → is_some (item_of write_number ws k) ≡ true → AreViewed ws (commutes_of k cs)
+Redone : Writes → List Commute → Type 0
+Redone ws cs = AreViewed ws (map Redoes cs)
+
+viewed_of : (ws : Writes) (k : ℕ) (cs : List Commute) → is_some (item_of write_number ws k) ≡ true → Redone ws (commutes_of k cs)
+unfolding Redone
 viewed_of ws k [] h = tt
 viewed_of ws k (c ∷ cs) h = test (c.cell.number == k) refl (viewed_of ws k cs h)
   where
-    test : (b : Bool) → (c.cell.number == k) ≡ b → AreViewed ws (commutes_of k cs) → AreViewed ws (if b then c ∷ commutes_of k cs else commutes_of k cs)
+    test : (b : Bool) → (c.cell.number == k) ≡ b → AreViewed ws (map Redoes (commutes_of k cs)) → AreViewed ws (map Redoes (if b then c ∷ commutes_of k cs else commutes_of k cs))
     test true e more = (subst (λ m. is_some (item_of write_number ws m) ≡ true) (sym (eqb-true c.cell.number k e)) h, more)
     test false e more = more
 
-viewed_both : (ws : Writes) (ks js : List Commute) → AreViewed ws ks → AreViewed ws js → AreViewed ws (ks ++ js)
-viewed_both ws [] js h g = g
-viewed_both ws (k ∷ ks) js h g = (h.0, viewed_both ws ks js h.1 g)
+redone_both : (ws : Writes) (ks js : List Commute) → Redone ws ks → Redone ws js → Redone ws (ks ++ js)
+unfolding Redone
+redone_both ws [] js h g = g
+redone_both ws (k ∷ ks) js h g = (h.0, redone_both ws ks js h.1 g)
 
-viewed_all : (ws : Writes) (ds : List CellId) (cs : List Commute) → AreThere ws ds → AreViewed ws (by_ref ds cs)
-unfolding AreThere
-viewed_all ws [] cs h = tt
-viewed_all ws (d ∷ ds) cs h = viewed_both ws (commutes_of d.number cs) (by_ref ds cs) (viewed_of ws d.number cs h.0) (viewed_all ws ds cs h.1)
+redone_all : (ws : Writes) (ds : List CellId) (cs : List Commute) → AreThere ws ds → Redone ws (by_ref ds cs)
+unfolding AreThere Redone
+redone_all ws [] cs h = tt
+redone_all ws (d ∷ ds) cs h = redone_both ws (commutes_of d.number cs) (by_ref ds cs) (viewed_of ws d.number cs h.0) (redone_all ws ds cs h.1)
+
+viewed_both : (ws : Writes) (xs ys : List Task) → AreViewed ws xs → AreViewed ws ys → AreViewed ws (xs ++ ys)
+viewed_both ws [] ys h g = g
+viewed_both ws (x ∷ xs) ys h g = (h.0, viewed_both ws xs ys h.1 g)
+
+validations_viewed : (ws : Writes) (vs : Validators) (cs : List CellId) → AreViewed ws (validations vs cs)
+validations_viewed ws vs [] = tt
+validations_viewed ws vs (c ∷ cs) = test (validator_at vs c.number) (validations_viewed ws vs cs)
+  where
+    test : (o : Option Callee) → AreViewed ws (validations vs cs) → AreViewed ws (with_validation c o (validations vs cs))
+    test None more = more
+    test (Some f) more = (tt, more)
 
 -- the phase of a transaction, before its refs are viewed
-pub begins : (w : PlainTxFrame) → IsPhase (blank (commuted w)) (phase_work w)
-begins w = record { ascends = blank_ascends 0 (commuted w) (commuted_ascend w); viewed = viewed_all (blank (commuted w)) (commuted w) w.commutes (blank_there (commuted w)) }
+pub begins : (vs : Validators) (w : PlainTxFrame) → IsPhase (blank (commuted w)) (tasks_of vs w)
+unfolding Redone
+begins vs w =
+    let ws = blank (commuted w) in
+    record {
+      ascends = blank_ascends 0 (commuted w) (commuted_ascend w);
+      viewed = viewed_both ws (map Redoes (phase_work w)) (validations vs (written w)) (redone_all ws (commuted w) w.commutes (blank_there (commuted w))) (validations_viewed ws vs (written w));
+    }
+
+-- validators, ref by ref
+pub validations_more : (vs : Validators) (ds : List CellId) (d : CellId) → validations vs (ds ++ d ∷ []) ≡ validations vs ds ++ with_validation d (validator_at vs d.number) []
+validations_more vs [] d = refl
+validations_more vs (e ∷ ds) d = test (validator_at vs e.number) (validations_more vs ds d)
+  where
+    test : (o : Option Callee) → validations vs (ds ++ d ∷ []) ≡ validations vs ds ++ with_validation d (validator_at vs d.number) []
+        → with_validation e o (validations vs (ds ++ d ∷ [])) ≡ with_validation e o (validations vs ds) ++ with_validation d (validator_at vs d.number) []
+    test None more = more
+    test (Some f) more = ap (λ (xs : List Task). Validates e f ∷ xs) more
 
 -- ---- values that are viewed
 
@@ -123,18 +160,19 @@ filled_there (w ∷ ws) (v ∷ vs) k e = test (w.0.number == k) (filled_there ws
     test true same = refl
     test false same = same
 
-filled_viewed : (ws : Writes) (vs : List Value) (ks : List Commute) → length vs ≡ length ws → AreViewed ws ks → AreViewed (filled ws vs) ks
+filled_viewed : (ws : Writes) (vs : List Value) (ks : List Task) → length vs ≡ length ws → AreViewed ws ks → AreViewed (filled ws vs) ks
 filled_viewed ws vs [] e h = tt
-filled_viewed ws vs (k ∷ ks) e h = (filled_there ws vs k.cell.number e ∙ h.0, filled_viewed ws vs ks e h.1)
+filled_viewed ws vs (Redoes k ∷ ks) e h = (filled_there ws vs k.cell.number e ∙ h.0, filled_viewed ws vs ks e h.1)
+filled_viewed ws vs (Validates c f ∷ ks) e h = (tt, filled_viewed ws vs ks e h.1)
 
-pub fills : (ws : Writes) (vs : List Value) (ks : List Commute) → length vs ≡ length ws → IsPhase ws ks → IsPhase (filled ws vs) ks
+pub fills : (ws : Writes) (vs : List Value) (ks : List Task) → length vs ≡ length ws → IsPhase ws ks → IsPhase (filled ws vs) ks
 fills ws vs ks e h = record { ascends = filled_ascends 0 ws vs h.ascends; viewed = filled_viewed ws vs ks e h.viewed }
 
 -- ---- a ref's value
 
-pub written : (ws : Writes) (c : CellId) (v : Value) → with_write ws c v ≡ with_item write_number ws (c, v)
-written [] c v = refl
-written (w ∷ ws) c v = ap (λ (zs : Writes). if w.0.number == c.number then (c, v) ∷ ws else if nat_lt c.number w.0.number then (c, v) ∷ w ∷ ws else w ∷ zs) (written ws c v)
+pub write_joins : (ws : Writes) (c : CellId) (v : Value) → with_write ws c v ≡ with_item write_number ws (c, v)
+write_joins [] c v = refl
+write_joins (w ∷ ws) c v = ap (λ (zs : Writes). if w.0.number == c.number then (c, v) ∷ ws else if nat_lt c.number w.0.number then (c, v) ∷ w ∷ ws else w ∷ zs) (write_joins ws c v)
 
 -- the value of a write, if there is one
 pub value_in : Option (CellId × Value) → Option Value
@@ -163,13 +201,19 @@ no_write ws k r i p e =
     let q : IsPlaceOf write_number ws k (Err i) = subst (IsPlaceOf write_number ws k) e p in
     ap value_or_nil (buffered_in ws k ∙ ap value_in q.is)
 
-stay_viewed : (ws : Writes) (y : CellId × Value) (ks : List Commute) → AreViewed ws ks → AreViewed (with_item write_number ws y) ks
+stay_viewed : (ws : Writes) (y : CellId × Value) (ks : List Task) → AreViewed ws ks → AreViewed (with_item write_number ws y) ks
 stay_viewed ws y [] h = tt
-stay_viewed ws y (k ∷ ks) h = (stays_there write_number ws y k.cell.number h.0, stay_viewed ws y ks h.1)
+stay_viewed ws y (Validates c f ∷ ks) h = (tt, stay_viewed ws y ks h.1)
+stay_viewed ws y (Redoes k ∷ ks) h = (stays_there write_number ws y k.cell.number h.0, stay_viewed ws y ks h.1)
 
-pub gives : (ws : Writes) (k : Commute) (ks : List Commute) (v : Value) → IsPhase ws (k ∷ ks) → IsPhase (with_write ws k.cell v) ks
+-- the phase behind its next task
+pub accepts : (ws : Writes) (xs : List Task) → IsPhase ws xs → IsPhase ws (behind_next xs)
+accepts ws [] h = h
+accepts ws (x ∷ xs) h = record { ascends = h.ascends; viewed = h.viewed.1 }
+
+pub gives : (ws : Writes) (k : Commute) (ks : List Task) (v : Value) → IsPhase ws (Redoes k ∷ ks) → IsPhase (with_write ws k.cell v) ks
 gives ws k ks v h =
-    subst (λ (zs : Writes). IsPhase zs ks) (sym (written ws k.cell v)) (record {
+    subst (λ (zs : Writes). IsPhase zs ks) (sym (write_joins ws k.cell v)) (record {
       ascends = ascends_with write_number 0 ws (k.cell, v) h.ascends (omega arith);
       viewed = stay_viewed ws (k.cell, v) ks h.viewed.1;
     })
@@ -182,20 +226,32 @@ some_left [] (suc i) h = absurd (omega (arith, h))
 some_left (x ∷ xs) zero h = omega arith
 some_left (x ∷ xs) (suc i) h = let g = some_left xs i h in omega (arith, g)
 
--- the callee of a commute, if there is one
-pub callee_in : Option Commute → Option Callee
+-- the callee of a task, if there is one
+pub callee_in : Option Task → Option Callee
 callee_in None = None
-callee_in (Some k) = Some k.callee
+callee_in (Some x) = Some (callee_of x)
 
-pub next_at : (ks : List Commute) (i : ℕ) → callee_in (slice_get ks i) ≡ next_callee (drop i ks)
+pub next_at : (ks : List Task) (i : ℕ) → callee_in (slice_get ks i) ≡ next_callee (drop i ks)
 unfolding callee_in
 next_at [] zero = refl
 next_at [] (suc i) = refl
 next_at (k ∷ ks) zero = refl
 next_at (k ∷ ks) (suc i) = next_at ks i
 
--- where no callee is next no commute is left
-pub none_left : (ks : List Commute) → next_callee ks ≡ None → ks ≡ []
+-- the first task, if there is one
+pub first_task : List Task → Option Task
+first_task [] = None
+first_task (x ∷ xs) = Some x
+
+pub task_at : (ks : List Task) (i : ℕ) → slice_get ks i ≡ first_task (drop i ks)
+unfolding first_task
+task_at [] zero = refl
+task_at [] (suc i) = refl
+task_at (k ∷ ks) zero = refl
+task_at (k ∷ ks) (suc i) = task_at ks i
+
+-- where no callee is next no task is left
+pub none_left : (ks : List Task) → next_callee ks ≡ None → ks ≡ []
 none_left [] e = refl
 none_left (k ∷ ks) e = absurd (false≢true (sym (ap (λ (o : Option Callee). is_some o) e)))
 
@@ -203,8 +259,8 @@ callee_or : Callee → Option Callee → Callee
 callee_or d None = d
 callee_or d (Some c) = c
 
--- the commute whose callee is next, and those behind it
-pub next_left : (ks : List Commute) (c : Callee) → next_callee ks ≡ Some c → (k : Commute) × (rest : List Commute) × (ks ≡ k ∷ rest) × (k.callee ≡ c)
+-- the task whose callee is next, and those behind it
+pub next_left : (ks : List Task) (c : Callee) → next_callee ks ≡ Some c → (k : Task) × (rest : List Task) × (ks ≡ k ∷ rest) × (callee_of k ≡ c)
 unfolding callee_or
 next_left [] c e = absurd (false≢true (ap (λ (o : Option Callee). is_some o) e))
 next_left (k ∷ ks) c e = (k, ks, refl, ap (callee_or c) e)
@@ -308,3 +364,55 @@ filling_goes_on old vs left new v ws w same e h is =
 pub filling_ends : (old : Writes) (vs left : List Value) (ws : Writes) → length left ≡ 0 → IsFilling old vs left ws → ws ≡ filled old vs
 unfolding IsFilling filled_from
 filling_ends old vs left ws e h = h.2 ∙ ap (λ n. filled_from n old vs) e
+
+-- ---- validators
+
+there_is : (ds : List CellDefinition) (k : ℕ) (d : CellDefinition) → k < length ds → (slice_index_or ds k d).validator ≡ validator_at (validators_of ds) k
+there_is [] k d h = absurd (omega (arith, h))
+there_is (x ∷ ds) zero d h = refl
+there_is (x ∷ ds) (suc k) d h = there_is ds k d (omega (arith, h))
+
+none_is : (ds : List CellDefinition) (k : ℕ) → length ds ≤ k → None ≡ validator_at (validators_of ds) k
+none_is [] zero h = refl
+none_is [] (suc k) h = refl
+none_is (x ∷ ds) zero h = absurd (omega (arith, h))
+none_is (x ∷ ds) (suc k) h = none_is ds k (omega (arith, h))
+
+pub validator_found : (ds : List CellDefinition) (k : ℕ) (d : CellDefinition) → nat_lt k (length ds) ≡ true → (slice_index_or ds k d).validator ≡ validator_at (validators_of ds) k
+validator_found ds k d h = there_is ds k d (ltb-true k (length ds) h)
+
+pub no_validator : (ds : List CellDefinition) (k : ℕ) → nat_lt k (length ds) ≡ false → None ≡ validator_at (validators_of ds) k
+no_validator ds k h = none_is ds k (ltb-false k (length ds) h)
+
+-- ---- the tasks behind the next one
+
+behind_by : (xs : List Task) (n : ℕ) → behind_next (drop n xs) ≡ drop (suc n) xs
+behind_by [] zero = refl
+behind_by [] (suc n) = refl
+behind_by (x ∷ xs) zero = refl
+behind_by (x ∷ xs) (suc n) = behind_by xs n
+
+pub behind_drop : (xs : List Task) (n : ℕ) → behind_next (drop n xs) ≡ drop (n + 1) xs
+behind_drop xs n = let e : suc n ≡ n + 1 = omega arith in behind_by xs n ∙ ap (λ m. drop m xs) e
+
+next_by : (xs : List Task) (n : ℕ) (d : Task) → n < length xs → drop n xs ≡ slice_index_or xs n d ∷ drop (suc n) xs
+next_by [] n d h = absurd (omega (arith, h))
+next_by (x ∷ xs) zero d h = refl
+next_by (x ∷ xs) (suc n) d h = next_by xs n d (omega (arith, h))
+
+-- a task that is there, and those behind it
+pub next_task : (xs : List Task) (n : ℕ) (d : Task) → nat_lt n (length xs) ≡ true → drop n xs ≡ slice_index_or xs n d ∷ drop (n + 1) xs
+next_task xs n d h = let e : suc n ≡ n + 1 = omega arith in next_by xs n d (ltb-true n (length xs) h) ∙ ap (λ m. slice_index_or xs n d ∷ drop m xs) e
+
+-- what a ref is to get, where its commutes made a value, and where they didn't
+pub write_made : (ws : Writes) (w : PlainTxFrame) (k : ℕ) (r : Result ℕ ℕ) (i : ℕ) (x : CellId × Value) → IsPlaceOf write_number ws k r → r ≡ Ok i → x ≡ get_or ws i x → to_write ws w k ≡ x.1
+unfolding value_in
+write_made ws w k r i x p e is =
+    let q : IsPlaceOf write_number ws k (Ok i) = subst (IsPlaceOf write_number ws k) e p in
+    ap (λ (o : Option Value). value_or_nil (first_of o (buffered w.values k))) (buffered_in ws k ∙ ap value_in (q.is ∙ get_there ws i x q.within ∙ ap Some (sym is)))
+
+pub write_set : (ws : Writes) (w : PlainTxFrame) (k : ℕ) (r : Result ℕ ℕ) (i : ℕ) (o : Option Value) → IsPlaceOf write_number ws k r → r ≡ Err i → o ≡ buffered w.values k → to_write ws w k ≡ value_or_nil o
+unfolding value_in
+write_set ws w k r i o p e is =
+    let q : IsPlaceOf write_number ws k (Err i) = subst (IsPlaceOf write_number ws k) e p in
+    ap (λ (a : Option Value). value_or_nil (first_of a (buffered w.values k))) (buffered_in ws k ∙ ap value_in q.is) ∙ ap value_or_nil (sym is)

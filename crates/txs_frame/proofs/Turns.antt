@@ -1,14 +1,14 @@
 -- What is made of lists item by item, with one item more.
-use Rattle.std.proofs.Common.{◌≡◌, ◌⊎◌, ℕ, ◌+◌, ◌<◌, ◌==◌, Bool, true, false, if◌then◌else◌, List, [], ◌∷◌, ◌++◌, inl, inr, length, take, get_or, sym, ap, ◌∙◌}
+use Rattle.std.proofs.Common.{◌≡◌, ◌⊎◌, ℕ, ◌+◌, ◌<◌, ◌==◌, Bool, true, false, if◌then◌else◌, List, [], ◌∷◌, ◌++◌, inl, inr, length, map, take, get_or, sym, ap, ◌∙◌}
 use Rattle.std.proofs.lemmas.Bool.{eq-eqb, ne_eqb}
-use Rattle.std.proofs.lemmas.List.{append-nil, take_more}
+use Rattle.std.proofs.lemmas.List.{append-nil, take_more, map-append}
 use Rattle.txs_frame.specs.Frame.{commutes_of}
 use Rattle.txs_frame.specs.declared.frame.Commute.{Commute}
 use Rattle.txs_frame.specs.declared.own.How.{How}
 use Rattle.txs_frame.specs.declared.own.How.TheVariants as how
 use Rattle.txs_frame.specs.declared.own.Own.{Own}
 use Rattle.txs_frame.specs.Kept.{cells_by, writes_by, ref_cell, was_set, only_commuted}
-use Rattle.txs_frame.proofs.Owns.{cells_by_append, writes_by_append}
+use Rattle.txs_frame.proofs.Owns.{all_cells, cells_by_append, writes_by_append}
 use Rattle.txs_frame.proofs.Phases.{commutes_append}
 
 -- what was set was not only commuted
@@ -56,3 +56,8 @@ module _ (k : ℕ) (cs : List Commute) (i : ℕ) (c : Commute) (lt : i < length 
 
   pub commutes_stay : (c.cell.number ≡ k → ⊥) → commutes_of k (take (i + 1) cs) ≡ commutes_of k (take i cs)
   commutes_stay e = commutes_next ∙ ap (λ (b : Bool). commutes_of k (take i cs) ++ (if b then c ∷ [] else [])) (ne_eqb c.cell.number k e) ∙ append-nil (commutes_of k (take i cs))
+
+module _ (os : List Own) (i : ℕ) (o : Own) (lt : i < length os) (is : o ≡ get_or os i o) where
+  -- one ref more of all
+  pub all_cells_more : all_cells (take (i + 1) os) ≡ all_cells (take i os) ++ ref_cell o.number ∷ []
+  all_cells_more = ap (λ (xs : List Own). map (λ x. ref_cell x.number) xs) (one_more os i o lt is) ∙ map-append (λ x. ref_cell x.number) (take i os) (o ∷ [])

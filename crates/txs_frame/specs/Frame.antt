@@ -76,6 +76,14 @@ commuted w = outside_of w.sets (refs_of w.commutes)
 abbrev pub set_writes : PlainTxFrame → Writes
 set_writes w = writes_to w.sets w.values
 
+-- the cells of writes
+abbrev pub cells_in : Writes → List CellId
+cells_in ws = map (λ w. w.0) ws
+
+-- the refs that a transaction writes: those that it set, and those others that it commuted, ascending
+abbrev pub written : PlainTxFrame → List CellId
+written w = with_cells (cells_in (set_writes w)) (commuted w)
+
 -- ---- what a transaction does
 
 -- A ref is set, unless it was commuted: Clojure's `ref-set` and `alter` say "Can't set after commute".

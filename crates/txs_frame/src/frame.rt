@@ -2,7 +2,7 @@
 
 ghost use Rattle.std.specs.Prelude.{◌≡◌, ◌||◌, ◌++◌, ◌∷◌, [], option_copied, is_some, IfOk, OnOk, OnErr};
 ghost use Rattle.txs_world_protocol.specs.Ask.{buffered};
-ghost use Rattle.txs_frame.specs.Frame.{PlainTxFrame, empty_frame, is_set, is_commuted, set_ref, ensure_ref, commute_ref, hold_send, commuted, commutes_of, by_ref, phase_work, set_writes, with_cell, SetAnswers};
+ghost use Rattle.txs_frame.specs.Frame.{PlainTxFrame, empty_frame, is_set, is_commuted, set_ref, ensure_ref, commute_ref, hold_send, commuted, commutes_of, by_ref, phase_work, set_writes, written, with_cell, SetAnswers};
 ghost use Rattle.txs_frame.specs.Kept.{Ascends, IsPlaceOf, cell_number, ref_cell, cells_by, writes_by, was_set, only_commuted};
 ghost use Rattle.txs_value_data.specs.declared.value.CellKind.TheVariants.{Ref as a_ref};
 ghost use Rattle.txs_frame.specs.declared.frame.SetError.TheVariants.{Memory as no_memory};
@@ -265,6 +265,17 @@ impl TxFrame {
             }
         }
         Ok(writes)
+    }
+
+    /// The refs that the transaction writes, those that it set and those that it commuted, by ascending number.
+    pub fn written(&self) -> Result<Vec<CellId>, AllocError>
+        ensures { IfOk result (λ refs. refs.items ≡ written self.now) }
+    {
+        let mut refs = Vec::with_capacity(self.alloc, self.own.len())?;
+        for own in &self.own {
+            refs.push_reserved(ref_cell(own.number));
+        }
+        Ok(refs)
     }
 
     /// The refs that were set, by ascending number.

@@ -10,4 +10,4 @@ mod own;
 pub mod phase;
 
 pub use frame::{Commute, SetError, TxFrame};
-pub use phase::Phase;
+pub use phase::{Phase, Task, validator_of};

@@ -4,11 +4,14 @@ use Rattle.std.proofs.Math.Seq.{drop-cons}
 use Rattle.std.proofs.lemmas.List.{append-nil, drop_all}
 use Rattle.std.specs.List.{range_with_len}
 use Rattle.txs_value_base.specs.Places.{nth}
+use Rattle.txs_value_base.specs.declared.op.Callee.{Callee}
+use Rattle.txs_value_base.specs.declared.op.Callee.TheVariants.{Core as CoreOp, Function as FunctionOf}
+use Rattle.txs_value_cell.specs.Cells.{Validators, validators_of}
 use Rattle.txs_value_cell.specs.declared.cell.CellDefinition.{CellDefinition}
 use Rattle.txs_value_base.specs.declared.fault.Span.{Span}
 use Rattle.txs_value_data.specs.declared.value.Value.{Value}
 use Rattle.txs_tree_meaning.specs.Known.{Known, inside_in, outside_in, pure_in, known_of, known_from, known}
-use Rattle.txs_tree_meaning.specs.Sound.{Zone, in_function, in_thread, SoundTree, SoundFunction, SoundFunctions, SoundThreads, nodes_of_functions}
+use Rattle.txs_tree_meaning.specs.Sound.{Zone, in_function, in_thread, SoundTree, SoundFunction, SoundFunctions, SoundThreads, SoundValidator, SoundCells, nodes_of_functions}
 use Rattle.txs_tree_meaning.specs.Tree.{Tree, PlainFunction, PlainThread, PlainProgram}
 use Rattle.txs_tree_meaning.specs.View.{function_of, functions_of, thread_of, threads_of}
 use Rattle.txs_tree_meaning.specs.declared.node.Function.{Function}
@@ -18,7 +21,7 @@ use Rattle.txs_code_meaning.specs.declared.instr.Instr.TheVariants.{Return, Halt
 use Rattle.txs_code_meaning.specs.Machine.{PlainInstr, PlainBody}
 use Rattle.txs_code_meaning.specs.Machine as machine
 use Rattle.txs_code_meaning.specs.PlainCode.{CodeBody, PlainCode, parameters_of, plain_instr, plain_instrs}
-use Rattle.txs_code_meaning.specs.WellTyped.{Functions, FunctionKind, Owner, a_function, a_thread, plain, IsLawful, Fits, FitsStage, WellTyped, WellTypedBody, WellTypedFunctions, WellTypedThreads, Depths, Stages}
+use Rattle.txs_code_meaning.specs.WellTyped.{Functions, FunctionKind, Owner, a_function, a_thread, plain, IsLawful, Fits, FitsStage, WellTyped, WellTypedBody, WellTypedFunctions, WellTypedThreads, WellTypedValidators, Depths, Stages}
 use Rattle.txs_theorem_threads.proofs.Functions.{at_end, free_tree, known_front, nth_below}
 use Rattle.txs_gen.specs.Bodies.{fresh, finished, made_at, functions_from, function_rooms, threads_from, thread_rooms}
 use Rattle.txs_gen.specs.Emission.{Emission, AreLawful, emits, instrs_of, stored, top}
@@ -217,6 +220,19 @@ map_length : {A : Type 0} (g : Known → A) (ks : List Known) → length (map g 
 map_length g [] = refl
 map_length g (k ∷ ks) = ap suc (map_length g ks)
 
+-- a validator that is sound is well typed
+validator_typed : (ks : List Known) (o : Option Callee) (vs : Validators) → SoundValidator ks o → WellTypedValidators (record { parameters = map takes_many ks; kinds = map kind_of ks }) vs → WellTypedValidators (record { parameters = map takes_many ks; kinds = map kind_of ks }) (o ∷ vs)
+validator_typed ks None vs h rest = rest
+validator_typed ks (Some (CoreOp op)) vs h rest = (h.0, tt, rest)
+validator_typed ks (Some (FunctionOf f)) vs h rest =
+    let told = told_of ks ks (length (map takes_many ks)) (λ g k e. (omega (arith, nth_below ks g k e, map_length takes_many ks), e)) f h.function h.found in
+    ((told.0, told.1 ∙ ap (λ n. Some n) h.arity), (kind_of h.function, told.2, h.pure), rest)
+
+-- so are those of sound cells
+validators_typed : (ks : List Known) (ds : List CellDefinition) → SoundCells ks ds → WellTypedValidators (record { parameters = map takes_many ks; kinds = map kind_of ks }) (validators_of ds)
+validators_typed ks [] h = tt
+validators_typed ks (d ∷ ds) h = validator_typed ks d.validator (validators_of ds) h.0 (validators_typed ks ds h.1)
+
 abbrev tells_of : List ℕ → List FunctionKind → Functions
 tells_of ps is = record { parameters = ps; kinds = is }
 
@@ -242,7 +258,7 @@ module _ (zs : List CellDefinition) (fs : List PlainFunction) (ts : List PlainTh
       let n = length (constants_of_functions fs) in
       let m = length (constants_of_threads ts) in
       let from : n ≡ 0 + n = omega arith in
-      let q : IsCodeOf (code_from zs fs ts) (record { functions = fs; cells = zs; threads = ts }) = record {
+      let q : IsCodeOf (code_from zs fs ts) (record { functions = fs; cells = zs; validator_spans = p.validator_spans; threads = ts }) = record {
         cells = refl;
         functions = subst (λ l. AreFunctionsOf l all_constants (functions_from fs 0) fs) (all_parameters fs) functions_are.are;
         threads = subst (λ l. AreBodiesOf l all_constants (threads_from ts n) ts) (all_parameters fs) threads_are.are;
@@ -253,17 +269,19 @@ module _ (zs : List CellDefinition) (fs : List PlainFunction) (ts : List PlainTh
             ∙ range_append 0 n m
             ∙ ap (λ k. range_with_len 0 k) (sym (length-append (constants_of_functions fs) (constants_of_threads ts)));
       } in
-      subst (λ x. IsCodeOf (code_from zs fs ts) (record { functions = p.functions; cells = p.cells; threads = x })) (sym c)
-      (subst (λ x. IsCodeOf (code_from zs fs ts) (record { functions = p.functions; cells = x; threads = ts })) (sym a)
-      (subst (λ x. IsCodeOf (code_from zs fs ts) (record { functions = x; cells = zs; threads = ts })) (sym b) q))
+      subst (λ x. IsCodeOf (code_from zs fs ts) (record { functions = p.functions; cells = p.cells; validator_spans = p.validator_spans; threads = x })) (sym c)
+      (subst (λ x. IsCodeOf (code_from zs fs ts) (record { functions = p.functions; cells = x; validator_spans = p.validator_spans; threads = ts })) (sym a)
+      (subst (λ x. IsCodeOf (code_from zs fs ts) (record { functions = x; cells = zs; validator_spans = p.validator_spans; threads = ts })) (sym b) q))
 
-  pub code_well_typed : WellTyped (code_from zs fs ts) (function_rooms fs) (thread_rooms ts)
+  pub code_well_typed : SoundCells (known fs) zs → WellTyped (code_from zs fs ts) (function_rooms fs) (thread_rooms ts)
   unfolding all_constants
-  code_well_typed =
+  code_well_typed cells =
       let n = length (constants_of_functions fs) in
       let is = known_map kind_of [] fs in
       record {
         kinds = is;
+        validators = subst (λ l. WellTypedValidators (tells_of (parameters_of (functions_from fs 0)) l) (validators_of zs)) (all_kinds fs)
+            (subst (λ l. WellTypedValidators (tells_of l (map kind_of (known fs))) (validators_of zs)) (all_parameters fs) (validators_typed (known fs) zs cells));
         functions = subst (λ l. WellTypedFunctions (tells_of (parameters_of (functions_from fs 0)) l) 0 all_constants (functions_from fs 0) is (function_rooms fs)) (all_kinds fs)
             (subst (λ l. WellTypedFunctions (tells_of l (map kind_of (known fs))) 0 all_constants (functions_from fs 0) is (function_rooms fs)) (all_parameters fs) functions_are.typed);
         threads = subst (λ l. WellTypedThreads (tells_of (parameters_of (functions_from fs 0)) l) all_constants (threads_from ts n) (thread_rooms ts)) (all_kinds fs)

@@ -4,7 +4,7 @@ use Rattle.txs_value_data.specs.declared.value.Value.{Value}
 use Rattle.txs_value_base.specs.Places.{nth}
 use Rattle.txs_tree_meaning.proofs.Callable.{missing, same_some}
 use Rattle.txs_tree_meaning.specs.Known.{known}
-use Rattle.txs_tree_meaning.specs.Sound.{SoundFunctions, SoundThreads}
+use Rattle.txs_tree_meaning.specs.Sound.{SoundFunctions, SoundCells, SoundThreads}
 use Rattle.txs_tree_meaning.specs.Tree.{PlainFunction, PlainThread, PlainProgram}
 use Rattle.txs_code_meaning.specs.Machine.{PlainBody, ThreadCode}
 use Rattle.txs_code_meaning.specs.PlainCode.{CodeBody, PlainCode, parameters_of, plain_bodies, thread_code}
@@ -14,7 +14,7 @@ use Rattle.txs_gen.specs.CodeFollows.{CodeFollows, CodeOfProgramBehaves}
 use Rattle.txs_gen.specs.Gen.{function_code, body_code, functions_code, generated}
 use Rattle.txs_gen.specs.Generated.{AreFunctionsOf, AreBodiesOf, IsBodyOf}
 use Rattle.txs_gen.proofs.Ends.{code_behaves}
-use Rattle.txs_value_cell.specs.Cells.{Validators, validators_of}
+use Rattle.txs_value_cell.specs.Cells.{validators_of}
 use Rattle.txs_value_cell.specs.declared.cell.CellDefinition.{CellDefinition}
 
 abbrev with_main : List PlainBody → List CellDefinition → PlainBody → ThreadCode
@@ -38,7 +38,7 @@ threads_are code p (b ∷ bs) [] c e h = absurd h
 threads_are code p (b ∷ bs) (t ∷ ts) c e h =
     ap (λ x. x ∷ map (λ b. thread_code code b) bs) (thread_is code p b t c e h.0) ∙ ap (λ l. generated (source_of p t) ∷ l) (threads_are code p bs ts c e h.1)
 
-module _ (p : PlainProgram) (functions : SoundFunctions [] p.functions) where
+module _ (p : PlainProgram) (functions : SoundFunctions [] p.functions) (cells : SoundCells (known p.functions) p.cells) where
   abbrev code_for : PlainThread → ThreadCode
   code_for t = generated (source_of p t)
 
@@ -51,14 +51,14 @@ module _ (p : PlainProgram) (functions : SoundFunctions [] p.functions) where
   each_behaves (u ∷ ts) sound zero c t e k =
       let one : code_for u ≡ c = same_some (code_for u) c e in
       let two : u ≡ t = same_some u t k in
-      subst (λ x. Behaves c (source_of p x)) two (subst (λ x. Behaves x (source_of p u)) one (code_behaves (source_of p u) (record { functions = functions; main = sound.0.0 })))
+      subst (λ x. Behaves c (source_of p x)) two (subst (λ x. Behaves x (source_of p u)) one (code_behaves (source_of p u) (record { functions = functions; cells = cells; main = sound.0.0 })))
   each_behaves (u ∷ ts) sound (suc i) c t e k = each_behaves ts sound.1 i c t e k
 
 pub code_of_program_behaves : CodeOfProgramBehaves
 code_of_program_behaves code p sound h =
     subst (λ l. BehavesAll l p) (sym (threads_are code p code.threads p.threads h.cells h.functions h.threads)) (record {
-      as_many = as_many p sound.functions p.threads;
-      each = each_behaves p sound.functions p.threads sound.threads;
+      as_many = as_many p sound.functions sound.cells p.threads;
+      each = each_behaves p sound.functions sound.cells p.threads sound.threads;
     })
 
 pub code_follows : GeneratedFollows → CodeFollows

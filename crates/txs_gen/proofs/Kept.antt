@@ -1,5 +1,5 @@
--- What the body of a transaction keeps: that the callee of each commute is pure; and which steps ask and do nothing else.
-use Rattle.std.proofs.Common.{◌≡◌, ℕ, Bool, true, false, List, [], ◌∷◌, Option, Some, None, Result, Ok, Err, refl, sym, subst, if◌then◌else◌, inl}
+-- What the body of a transaction keeps: the callee of each commute is pure, and no validator's answer is left; and which steps only ask.
+use Rattle.std.proofs.Common.{◌≡◌, ℕ, Bool, true, false, List, [], ◌∷◌, Option, Some, None, Result, Ok, Err, refl, sym, ap, ◌∙◌, subst, if◌then◌else◌, inl}
 use Rattle.txs_world_protocol.specs.Ask.{Writes, buffered, Exchange, same_ask}
 use Rattle.txs_world_protocol.specs.declared.ask.Ask.{Ask}
 use Rattle.txs_world_protocol.specs.declared.ask.Ask.TheVariants as ask
@@ -8,7 +8,7 @@ use Rattle.txs_world_protocol.specs.declared.ask.Reply.TheVariants as reply
 use Rattle.txs_frame.specs.Frame.{commuted, set_writes, is_commuted, with_cell}
 use Rattle.txs_frame.specs.declared.frame.Commute.{Commute}
 use Rattle.txs_world_protocol.specs.Ask.{with_write}
-use Rattle.txs_value_cell.specs.Cells.{Validators}
+use Rattle.txs_value_cell.specs.Cells.{Validators, validator_at}
 use Rattle.txs_value_cell.specs.Forms.{rule, cell_of}
 use Rattle.txs_value_base.specs.declared.fault.FaultKind.{FaultKind}
 use Rattle.txs_value_base.specs.declared.fault.FaultKind.TheVariants.{SetAfterCommute}
@@ -27,11 +27,13 @@ use Rattle.txs_tree_meaning.specs.Known.{known}
 use Rattle.txs_tree_meaning.specs.Meaning.{Completion, Completes, Recurs, Faults, Retries, Waits, OutOfTurns, Invalid, bind, closed, Applies, apply, eval, call_at}
 use Rattle.txs_tree_meaning.specs.Sound.{SoundFunctions}
 use Rattle.txs_tree_meaning.specs.Tree.{Tree, PlainFunction}
-use Rattle.txs_code_meaning.specs.ActorState.{ActorState, Reception, Replied, Unreplied, receives, asks, StepResult, Continue, Break, Redo, Await, Malformed, on_step, step_of, Reading, Says, SaysRetry, SaysNothing, read_as, heard, read_point, just_done, value_there, views, commit_verdict, swap_verdict, begun, begin, fail, buffered_or, look, paired, viewed, view, commit, SwapInHand, close_swap, break_swap, read_cell, read, set_own, assign_cell, assign, RefUpdate, Alters, Commutes, update_form, kept_open, open_update, close_own, close_update, send_to, print}
-use Rattle.txs_theorem_threads.specs.OnReplies.{res, updates, updates_ref, on_replies}
+use Rattle.txs_code_meaning.specs.ActorState.{ActorState, Reception, Replied, Unreplied, receives, asks, StepResult, Continue, Break, Redo, Await, Malformed, on_step, step_of, Reading, Says, SaysRetry, SaysNothing, read_as, heard, read_point, just_done, value_there, views, commit_verdict, swap_verdict, begun, begin, fail, buffered_or, look, with_first, paired, viewed, view, commit, SwapInHand, close_swap, break_swap, cell_at, read_cell, read, set_own, assign_cell, assign, RefUpdate, Alters, Commutes, update_form, kept_open, open_update, close_own, close_update, send_to, print}
+use Rattle.txs_theorem_threads.specs.OnReplies.{res, updates, updates_ref, accepts, puts, on_replies}
+use Rattle.txs_theorem_threads.proofs.Accepted.{validated_related}
 use Rattle.txs_theorem_threads.proofs.Callees.{Rules, Keeps, IsPure, pure_callees, function_callees}
 use Rattle.txs_theorem_threads.proofs.Quiet.{AllCommutes, commutes_both}
-use Rattle.txs_theorem_threads.proofs.Related.{Link, Related, Alike, CallsAlike, eval_related, calls_related}
+use Rattle.txs_theorem_threads.proofs.Related.{Link, Related, Applied, Alike, CallsAlike, eval_related, calls_related}
+use Rattle.txs_gen.proofs.Checks.{Rise, numbers, numbers_in, rise_written}
 use Rattle.txs_gen.proofs.Steps.{Asked}
 
 -- ---- asks
@@ -165,15 +167,16 @@ abbrev IfOpen : (Callee → Type 0) → Option Commute → Type 0
 IfOpen P None = Unit {0}
 IfOpen P (Some o) = P o.callee
 
--- each commute of the transaction has such a callee, and so has the one that is open
+-- Each commute of the transaction has such a callee, and so has the one that is open; no validator's answer is left; and the values of
+-- its own ascend.
 abbrev pub Kept : (Callee → Type 0) → ActorState → Type 0
-Kept P s = AllCommutes P s.done.commutes × IfOpen P s.commuting
+Kept P s = AllCommutes P s.done.commutes × IfOpen P s.commuting × (s.accepted ≡ None) × Rise 0 (numbers_in s.done.values)
 
--- so it is where a step goes on
+-- so it is where a step goes on; where the transaction has to run again, no validator's answer is left
 abbrev pub KeptStep : {A : Type 0} → (Callee → Type 0) → StepResult A → Type 0
 KeptStep P (Continue a s) = Kept P s
 KeptStep P (Break f s) = Unit {0}
-KeptStep P (Redo s) = Unit {0}
+KeptStep P (Redo s) = s.accepted ≡ None
 KeptStep P (Await s) = Unit {0}
 KeptStep P Malformed = Unit {0}
 
@@ -182,10 +185,112 @@ abbrev pub KeptAfter : {A : Type 0} → (Callee → Type 0) → Completion Actor
 KeptAfter P (Completes a s) = Kept P s
 KeptAfter P (Recurs vs s) = Kept P s
 KeptAfter P (Faults f s) = Unit {0}
-KeptAfter P (Retries s) = Unit {0}
+KeptAfter P (Retries s) = s.accepted ≡ None
 KeptAfter P (Waits s) = Unit {0}
 KeptAfter P (OutOfTurns s) = Unit {0}
 KeptAfter P Invalid = Unit {0}
+
+-- ---- no validator's answer is left
+
+abbrev ReceivedClear : Reception → Type 0
+ReceivedClear (Replied r s) = s.accepted ≡ None
+ReceivedClear (Unreplied s) = Unit {0}
+
+abbrev StepCleared : {A : Type 0} → StepResult A → Type 0
+StepCleared (Continue a s) = s.accepted ≡ None
+StepCleared (Break f s) = Unit {0}
+StepCleared (Redo s) = s.accepted ≡ None
+StepCleared (Await s) = Unit {0}
+StepCleared Malformed = Unit {0}
+
+asks_clear : (q : Ask) (s : ActorState) → s.accepted ≡ None → ReceivedClear (asks q s)
+unfolding asks
+asks_clear q s h = go s.todo
+  where
+    go : (l : List Exchange) → ReceivedClear (receives q s l)
+    go [] = tt
+    go (x ∷ l) = test (same_ask q x.ask)
+      where
+        test : (b : Bool) → ReceivedClear (if b then Replied x.reply (record s { todo = l }) else Unreplied (record s { wants = Some q }))
+        test true = h
+        test false = tt
+
+reading_clear : {A : Type 0} (r : Reading A) (s : ActorState) → s.accepted ≡ None → StepCleared (read_as r s)
+reading_clear (Says a) s h = h
+reading_clear SaysRetry s h = h
+reading_clear SaysNothing s h = tt
+
+-- ---- views
+
+-- the refs of a view are those that were commuted and not set
+abbrev pub ViewsAll : StepResult Writes → Type 0
+ViewsAll (Continue ws s) = numbers_in ws ≡ numbers (commuted s.done)
+ViewsAll (Break f s) = Unit {0}
+ViewsAll (Redo s) = Unit {0}
+ViewsAll (Await s) = Unit {0}
+ViewsAll Malformed = Unit {0}
+
+abbrev PairedAre : List ℕ → Option Writes → Type 0
+PairedAre ns None = Unit {0}
+PairedAre ns (Some ws) = numbers_in ws ≡ ns
+
+paired_are : (cs : List CellId) (vs : List Value) → PairedAre (numbers cs) (paired cs vs)
+paired_are [] [] = refl
+paired_are [] (v ∷ vs) = tt
+paired_are (c ∷ cs) [] = tt
+paired_are (c ∷ cs) (v ∷ vs) = go (paired cs vs) (paired_are cs vs)
+  where
+    go : (o : Option Writes) → PairedAre (numbers cs) o → PairedAre (c.number ∷ numbers cs) (with_first c v o)
+    go None h = tt
+    go (Some ws) h = ap (λ l. c.number ∷ l) h
+
+-- these are the refs that were commuted and not set
+abbrev HasCommuted : {A : Type 0} → List CellId → StepResult A → Type 0
+HasCommuted cs (Continue a s) = commuted s.done ≡ cs
+HasCommuted cs (Break f s) = Unit {0}
+HasCommuted cs (Redo s) = Unit {0}
+HasCommuted cs (Await s) = Unit {0}
+HasCommuted cs Malformed = Unit {0}
+
+abbrev ReceivedCommuted : List CellId → Reception → Type 0
+ReceivedCommuted cs (Replied r s) = commuted s.done ≡ cs
+ReceivedCommuted cs (Unreplied s) = Unit {0}
+
+asks_commuted : (q : Ask) (s : ActorState) → ReceivedCommuted (commuted s.done) (asks q s)
+unfolding asks
+asks_commuted q s = go s.todo
+  where
+    go : (l : List Exchange) → ReceivedCommuted (commuted s.done) (receives q s l)
+    go [] = tt
+    go (x ∷ l) = test (same_ask q x.ask)
+      where
+        test : (b : Bool) → ReceivedCommuted (commuted s.done) (if b then Replied x.reply (record s { todo = l }) else Unreplied (record s { wants = Some q }))
+        test true = refl
+        test false = tt
+
+reading_commuted : {A : Type 0} (cs : List CellId) (r : Reading A) (s : ActorState) → commuted s.done ≡ cs → HasCommuted cs (read_as r s)
+reading_commuted cs (Says a) s e = e
+reading_commuted cs SaysRetry s e = tt
+reading_commuted cs SaysNothing s e = tt
+
+viewed_all : (q : ℕ) (cs : List CellId) (o : Option Writes) (s : ActorState) → commuted s.done ≡ cs → PairedAre (numbers cs) o → ViewsAll (viewed q o s)
+viewed_all q cs None s e h = tt
+viewed_all q cs (Some ws) s e h = h ∙ ap numbers (sym e)
+
+pub view_all : (s : ActorState) → ViewsAll (view s)
+unfolding view
+view_all s = received (asks (ask.View (commuted s.done)) s) (asks_commuted (ask.View (commuted s.done)) s)
+  where
+    go : (x : StepResult (ℕ × List Value)) → HasCommuted (commuted s.done) x → ViewsAll (on_step x (λ y t. viewed y.0 (paired (commuted s.done) y.1) t))
+    go (Continue y t) e = viewed_all y.0 (commuted s.done) (paired (commuted s.done) y.1) t e (paired_are (commuted s.done) y.1)
+    go (Break f t) e = tt
+    go (Redo t) e = tt
+    go (Await t) e = tt
+    go Malformed e = tt
+
+    received : (x : Reception) → ReceivedCommuted (commuted s.done) x → ViewsAll (on_step (heard views x) (λ y t. viewed y.0 (paired (commuted s.done) y.1) t))
+    received (Replied r t) e = go (read_as (views r) t) (reading_commuted (commuted s.done) (views r) t e)
+    received (Unreplied t) e = tt
 
 module _ (P : Callee → Type 0) where
   abbrev KeptReception : Reception → Type 0
@@ -206,7 +311,7 @@ module _ (P : Callee → Type 0) where
 
   reading_kept : {A : Type 0} (r : Reading A) (s : ActorState) → Kept P s → KeptStep P (read_as r s)
   reading_kept (Says a) s h = h
-  reading_kept SaysRetry s h = tt
+  reading_kept SaysRetry s h = h.2
   reading_kept SaysNothing s h = tt
 
   heard_kept : {A : Type 0} (reads : Reply → Reading A) (x : Reception) → KeptReception x → KeptStep P (heard reads x)
@@ -219,7 +324,7 @@ module _ (P : Callee → Type 0) where
   then_kept : {A B : Type 0} (x : StepResult A) (go : A → ActorState → StepResult B) → KeptStep P x → ((a : A) (s : ActorState) → Kept P s → KeptStep P (go a s)) → KeptStep P (on_step x go)
   then_kept (Continue a s) go h k = k a s h
   then_kept (Break f s) go h k = tt
-  then_kept (Redo s) go h k = tt
+  then_kept (Redo s) go h k = h
   then_kept (Await s) go h k = tt
   then_kept Malformed go h k = tt
 
@@ -227,17 +332,21 @@ module _ (P : Callee → Type 0) where
   step_kept (Ok a) span s h = h
   step_kept (Err k) span s h = tt
 
-  -- a transaction that begins has no commutes
-  pub begin_kept : (s : ActorState) → KeptStep P (begin s)
+  -- a transaction that begins has no commutes and no values
+  pub begin_kept : (s : ActorState) → s.accepted ≡ None → KeptStep P (begin s)
   unfolding begin
-  begin_kept s = go (heard read_point (asks ask.Begin s))
+  begin_kept s clear = received (asks ask.Begin s) (asks_clear ask.Begin s clear)
     where
-      go : (x : StepResult ℕ) → KeptStep P (on_step x begun)
-      go (Continue p s1) = (tt, tt)
-      go (Break f s1) = tt
-      go (Redo s1) = tt
-      go (Await s1) = tt
-      go Malformed = tt
+      go : (x : StepResult ℕ) → StepCleared x → KeptStep P (on_step x begun)
+      go (Continue p s1) e = (tt, tt, e, tt)
+      go (Break f s1) e = tt
+      go (Redo s1) e = e
+      go (Await s1) e = tt
+      go Malformed e = tt
+
+      received : (x : Reception) → ReceivedClear x → KeptStep P (on_step (heard read_point x) begun)
+      received (Replied r s1) e = go (read_as (read_point r) s1) (reading_clear (read_point r) s1 e)
+      received (Unreplied s1) e = tt
 
   viewed_kept : (q : ℕ) (o : Option Writes) (s : ActorState) → Kept P s → KeptStep P (viewed q o s)
   viewed_kept q None s h = tt
@@ -273,7 +382,7 @@ module _ (P : Callee → Type 0) where
     where
       test : (b : Bool) → KeptStep P (on_step (step_of (if b then Err SetAfterCommute else Ok (record s.done { values = with_write s.done.values c v; sets = with_cell s.done.sets c })) span s) (λ w s1. Continue v (record s1 { done = w })))
       test true = tt
-      test false = h
+      test false = (h.0, h.1, h.2, rise_written s.done.values c v h.3)
 
   assign_cell_kept : (f : PutForm) (span : Span) (v : Value) (c : CellId) (s : ActorState) → Kept P s → KeptStep P (assign_cell f true span v c s)
   assign_cell_kept RefSet span v c s h = set_kept span v c s h
@@ -295,11 +404,11 @@ module _ (P : Callee → Type 0) where
   open_update_kept : (u : RefUpdate) (span : Span) (v : Value) (vs : List Value) (s : ActorState) → Names u → Kept P s → KeptStep P (open_update u true span v vs s)
   open_update_kept u span v vs s w h =
       then_kept (step_of (cell_of (rule (form.Update (update_form u))) true v) span s) _ (step_kept (cell_of (rule (form.Update (update_form u))) true v) span s h)
-      (λ c s1 k. then_kept (look c s1) _ (look_kept c s1 k) (λ x s2 l. (l.0, open_kept u c vs w)))
+      (λ c s1 k. then_kept (look c s1) _ (look_kept c s1 k) (λ x s2 l. (l.0, open_kept u c vs w, l.2, l.3)))
 
   close_own_kept : (o : Option Commute) (span : Span) (w : Value) (c : CellId) (s : ActorState) → IfOpen P o → Kept P s → KeptStep P (close_own o span w c s)
   close_own_kept None span w c s q h = set_kept span w c s h
-  close_own_kept (Some o) span w c s q h = (commutes_both P s.done.commutes (record { cell = c; callee = o.callee; args = o.args } ∷ []) h.0 (q, tt), tt)
+  close_own_kept (Some o) span w c s q h = (commutes_both P s.done.commutes (record { cell = c; callee = o.callee; args = o.args } ∷ []) h.0 (q, tt), tt, h.2, rise_written s.done.values c w h.3)
 
   close_update_kept : (span : Span) (v w : Value) (s : ActorState) → Kept P s → KeptStep P (close_update span v w s)
   close_update_kept span v w s h =
@@ -317,7 +426,7 @@ module _ (P : Callee → Type 0) where
   res_kept : {A : Type 0} (x : StepResult A) → KeptStep P x → KeptAfter P (res x)
   res_kept (Continue a s) h = h
   res_kept (Break f s) h = tt
-  res_kept (Redo s) h = tt
+  res_kept (Redo s) h = h
   res_kept (Await s) h = tt
   res_kept Malformed h = tt
 
@@ -325,7 +434,7 @@ module _ (P : Callee → Type 0) where
   bind_kept (Completes a s) go h k = k a s h
   bind_kept (Recurs vs s) go h k = tt
   bind_kept (Faults f s) go h k = tt
-  bind_kept (Retries s) go h k = tt
+  bind_kept (Retries s) go h k = h
   bind_kept (Waits s) go h k = tt
   bind_kept (OutOfTurns s) go h k = tt
   bind_kept Invalid go h k = tt
@@ -337,11 +446,11 @@ module _ (P : Callee → Type 0) where
     faults = λ s t. Unit {0};
     waits = λ s o. Unit {0};
     out_of_turns = λ s o. Unit {0};
-    retries = λ s o. Unit {0};
+    retries = λ s o. s.accepted ≡ None;
     invalid = λ b. Unit {0};
     waits_loose = λ s h o. tt;
     out_of_turns_loose = λ s h o. tt;
-    retries_loose = λ s h o. tt;
+    retries_loose = λ s h o. h;
     faults_of = λ s t h. tt;
     out_of_turns_of = λ s t h. tt;
     invalid_both = tt;
@@ -353,7 +462,7 @@ module _ (P : Callee → Type 0) where
   self_related (Completes a s) h = (refl, (refl, h))
   self_related (Recurs vs s) h = (refl, (refl, h))
   self_related (Faults f s) h = (refl, tt)
-  self_related (Retries s) h = tt
+  self_related (Retries s) h = h
   self_related (Waits s) h = tt
   self_related (OutOfTurns s) h = tt
   self_related Invalid h = tt
@@ -363,7 +472,7 @@ module _ (P : Callee → Type 0) where
   related_kept (Completes a s) h = h.1.1
   related_kept (Recurs vs s) h = h.1.1
   related_kept (Faults f s) h = tt
-  related_kept (Retries s) h = tt
+  related_kept (Retries s) h = h
   related_kept (Waits s) h = tt
   related_kept (OutOfTurns s) h = tt
   related_kept Invalid h = tt
@@ -395,12 +504,23 @@ module _ (P : Callee → Type 0) where
   updates_kept validators update.Commute span c callee vs f s w hf h = update_kept (Commutes callee) span c callee vs f s w hf h
   updates_kept validators update.Swap span c callee vs f s w hf h = tt
 
+  -- no atom is reset in a transaction
+  puts_kept : (validators : Validators) (form : PutForm) (span : Span) (c v : Value) (f : Applies ActorState) (s : ActorState) → Applied ActorState ActorState link f f → Kept P s → KeptAfter P (puts validators form true span c v f s)
+  unfolding link
+  puts_kept validators RefSet span c v f s a h = res_kept (assign RefSet true span c v s) (assign_kept RefSet span c v s h)
+  puts_kept validators Reset span c v f s a h =
+      bind_kept (res (cell_at (form.Put Reset) true span c s)) (λ d s1. bind (accepts validators f d span v s1) (λ w s2. res (assign_cell Reset true span w d s2))) (res_kept (cell_at (form.Put Reset) true span c s) (step_kept (cell_of (rule (form.Put Reset)) true c) span s h))
+      (λ d s1 k. bind_kept (accepts validators f d span v s1) (λ w s2. res (assign_cell Reset true span w d s2))
+      (related_kept (accepts validators f d span v s1) (validated_related ActorState ActorState link f f a (validator_at validators d.number) span v s1 s1 (refl, k))) (λ w s2 l. tt))
+
   alike : (validators : Validators) (call : Bool → ℕ → List Value → ActorState → Completion ActorState Value) (n : ℕ) → Alike ActorState ActorState link (on_replies validators) (on_replies validators) call call n n Inside rules
   unfolding link
   alike validators call n = record {
     print = λ inside vs s t m r. along (λ x. (on_replies validators).print inside vs x) s t r (λ k. subst (λ b. KeptAfter P (res (print b vs s))) (sym m) (res_kept (print true vs s) (print_kept vs s)));
     look = λ form inside m c s t may i r. along (λ x. (on_replies validators).look form inside m c x) s t r (λ k. subst (λ b. KeptAfter P (res (read form b m.span c s))) (sym i) (res_kept (read form true m.span c s) (read_kept form m.span c s k)));
-    put = λ form inside m c w s t may i applied r. along (λ x. (on_replies validators).put form inside m c w (apply (call inside) m.span) x) s t r (λ k. subst (λ b. KeptAfter P (res (assign form b m.span c w s))) (sym i) (res_kept (assign form true m.span c w s) (assign_kept form m.span c w s k)));
+    put = λ form inside m c w s t may i applied r.
+        along (λ x. (on_replies validators).put form inside m c w (apply (call inside) m.span) x) s t r
+        (λ k. subst (λ b. KeptAfter P (puts validators form b m.span c w (apply (call inside) m.span) s)) (sym i) (puts_kept validators form m.span c w (apply (call inside) m.span) s (applied (λ f. tt)) k));
     update = λ form inside m c callee vs s t may i p applied r.
         along (λ x. (on_replies validators).update form inside m c callee vs (apply (call inside) m.span) x) s t r
         (λ k. subst (λ b. KeptAfter P (updates validators form b m.span c callee vs (apply (call inside) m.span) s)) (sym i)

@@ -1,6 +1,8 @@
 pub mod Actions
 pub mod Bodies
 pub mod Calls
+pub mod Checks
+pub mod Clear
 pub mod CodesFollow
 pub mod Emissions
 pub mod Ends
@@ -13,3 +15,4 @@ pub mod Sends
 pub mod Simulates
 pub mod Steps
 pub mod Tries
+pub mod Validated

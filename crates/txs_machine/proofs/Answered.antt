@@ -13,7 +13,7 @@ use Rattle.txs_machine_transaction.specs.Transaction.{is_running}
 use Rattle.txs_machine_transaction.specs.declared.state.Pending.{Pending}
 use Rattle.txs_machine_transaction.specs.declared.state.Pending.TheVariants.{Begin, Read, Ensure, Open, View, Reset, Send, Swap, Close, Commit, Fail, Broke, Take, Finish}
 use Rattle.txs_machine_transaction.specs.declared.state.Transaction.{Transaction}
-use Rattle.txs_machine_transaction.specs.declared.state.Transaction.TheVariants.{Outside, Restarting, Running, Applying, Evaluating, Swapping}
+use Rattle.txs_machine_transaction.specs.declared.state.Transaction.TheVariants.{Outside, Restarting, Running, Applying, Evaluating, Swapping, Judging, Weighing}
 use Rattle.txs_machine_actor.specs.declared.role.Role.{Role}
 use Rattle.txs_machine_actor.specs.declared.role.Role.TheVariants.{Thread, Attending, Acting}
 use Rattle.txs_machine_actor.proofs.Replies.{by_reply}
@@ -52,6 +52,8 @@ again_leaves a (Applying zero from phase) = ends a _ (outcome.Failed _) refl ref
 again_leaves a (Applying (suc left) from phase) = goes a _ refl refl refl refl refl
 again_leaves a (Evaluating left from phase aside) = goes a _ refl refl refl refl refl
 again_leaves a (Swapping c p from) = goes a _ refl refl refl refl refl
+again_leaves a (Judging aside) = goes a _ refl refl refl refl refl
+again_leaves a (Weighing c p from aside) = goes a _ refl refl refl refl refl
 
 end_leaves : (a : PlainActor) (tx : Transaction) → Leaves a (end_again a tx)
 end_leaves a Outside = goes a _ refl refl refl refl refl
@@ -62,6 +64,8 @@ end_leaves a (Applying zero from phase) = ends a _ (outcome.Failed _) refl refl 
 end_leaves a (Applying (suc left) from phase) = goes a _ refl refl refl refl refl
 end_leaves a (Evaluating left from phase aside) = goes a _ refl refl refl refl refl
 end_leaves a (Swapping c p from) = goes a _ refl refl refl refl refl
+end_leaves a (Judging aside) = goes a _ refl refl refl refl refl
+end_leaves a (Weighing c p from aside) = goes a _ refl refl refl refl refl
 
 refuse_leaves : (a : PlainActor) (tx : Transaction) → Leaves a (refuse a tx)
 refuse_leaves a Outside = goes a _ refl refl refl refl refl
@@ -70,6 +74,8 @@ refuse_leaves a (Running left inner from) = ends a _ (outcome.Failed _) refl ref
 refuse_leaves a (Applying left from phase) = ends a _ (outcome.Failed _) refl refl refl refl refl tt
 refuse_leaves a (Evaluating left from phase aside) = goes a _ refl refl refl refl refl
 refuse_leaves a (Swapping c p from) = goes a _ refl refl refl refl refl
+refuse_leaves a (Judging aside) = goes a _ refl refl refl refl refl
+refuse_leaves a (Weighing c p from aside) = goes a _ refl refl refl refl refl
 
 views_leaves : (a : PlainActor) (phase : PlainPhase) (q : ℕ) (vs : List Value) (tx : Transaction) → Leaves a (views a phase q vs tx)
 views_leaves a phase q vs Outside = goes a _ refl refl refl refl refl
@@ -78,11 +84,13 @@ views_leaves a phase q vs (Running left inner from) = goes a _ refl refl refl re
 views_leaves a phase q vs (Applying left from before) = goes a _ refl refl refl refl refl
 views_leaves a phase q vs (Evaluating left from before aside) = goes a _ refl refl refl refl refl
 views_leaves a phase q vs (Swapping c p from) = goes a _ refl refl refl refl refl
+views_leaves a phase q vs (Judging aside) = goes a _ refl refl refl refl refl
+views_leaves a phase q vs (Weighing c p from aside) = goes a _ refl refl refl refl refl
 
 anew_leaves : (a : PlainActor) (role : Role) → Leaves a (attends_anew a role)
 anew_leaves a Thread = goes a _ refl refl refl refl refl
 anew_leaves a (Attending g o) = goes a _ refl refl refl refl refl
-anew_leaves a (Acting h aside) = goes a _ refl refl refl refl refl
+anew_leaves a (Acting h judges aside) = goes a _ refl refl refl refl refl
 
 full_leaves : (a : PlainActor) (p : Pending) → Leaves a (answered_for a p reply.Full)
 full_leaves a (Begin left from) = ends a _ outcome.JournalFull refl refl refl refl refl tt

@@ -245,11 +245,13 @@ module _ (code : PlainCode) (kinds : List FunctionKind) (n : ℕ) (none : nth co
       go (tx.Applying left from phase) c i = first_pure (home_of a.role) a (0, 0) g.base b there c i
       go (tx.Evaluating left from phase aside) c i = i.1
       go (tx.Swapping d p from) c i = first_pure (home_of a.role) a (0, 0) g.base b there c i
+      go (tx.Judging aside) c i = i.1
+      go (tx.Weighing d p from aside) c i = i.1
 
   home_acts : (r : Role) → (home_of r ≡ [] → ⊥) → is_acting (acting_of r) ≡ true
   home_acts Thread h = absurd (h refl)
   home_acts (Attending i o) h = absurd (h refl)
-  home_acts (Acting x aside) h = refl
+  home_acts (Acting x judges aside) h = refl
 
   -- so it runs an action
   goes_acting : (b : CodeBody) (a : PlainActor) → a.number ≡ n → body_at code a.number a.body ≡ Some b → GoesOn code kinds b a → is_acting (acting_of a.role) ≡ true
@@ -267,11 +269,13 @@ module _ (code : PlainCode) (kinds : List FunctionKind) (n : ℕ) (none : nth co
       go k (tx.Applying left from phase) c i w = not_first a (0, 0) g.base b there c i
       go k (tx.Evaluating left from phase aside) c i w = let s = w.0 in not_first (record a { body = aside.body; frames = aside.frames }) (0, 0) s.base s.stands.code_body s.stands.is s.callers s.is_first
       go k (tx.Swapping d p from) c i w = not_first a (0, 0) g.base b there c i
+      go k (tx.Judging aside) c i w = let s = w.0 in not_first (record a { body = aside.body; frames = aside.frames }) (0, 0) s.base s.stands.code_body s.stands.is s.callers s.is_first
+      go k (tx.Weighing d p from aside) c i w = not_first (record a { body = aside.body; frames = aside.frames }) (0, 0) w.base w.stands.code_body w.stands.is w.callers w.is_first
 
 acts_for : (code : PlainCode) (kinds : List FunctionKind) (k : ℕ) (g : CellId) (r : Role) → ActsFor code kinds k g r → (is_acting (acting_of r) ≡ true) × IsActorOf code k g
 acts_for code kinds k g Thread w = absurd w
 acts_for code kinds k g (Attending h o) w = absurd w
-acts_for code kinds k g (Acting x aside) w = (refl, subst (IsActorOf code k) (sym w.0) w.1.actor)
+acts_for code kinds k g (Acting x judges aside) w = (refl, subst (IsActorOf code k) (sym w.0) w.1.actor)
 
 -- ---- its asks
 
@@ -292,7 +296,7 @@ module _ (code : PlainCode) (g : CellId) (k : ℕ) (at : IsAgentAt code g k) (a 
   at_own : (h : CellId) → AttendsAt code h a → Resting
   at_own h (waits is) = inl (ap (λ (x : PlainActor). x.body) is, ap (λ (x : PlainActor). x.place) is)
   at_own h (has_taken x v may is) = inr (ap (λ (y : PlainActor). is_acting (acting_of y.role)) is)
-  at_own h (has_value x v is) = inr (ap (λ (y : PlainActor). is_acting (acting_of y.role)) is)
+  at_own h (has_value x v is mine) = inr (ap (λ (y : PlainActor). is_acting (acting_of y.role)) is)
 
   free_at : (h : CellId) (o : Option Outcome) (p : Option Pending) → o ≡ None → p ≡ None → AttendsOn code h a o p → AttendsAt code h a
   free_at h None None e f w = w
@@ -559,7 +563,7 @@ agents_outside home t e = subst (λ x. IsAgents (activity_of home x)) (sym e) tt
 anew_free : (a : PlainActor) (r : Role) → a.tx ≡ tx.Outside → is_acting (acting_of r) ≡ true → IsAgents (configuration_of (attends_anew a r)).doing × (holds_one (attends_anew a r) ≡ false)
 anew_free a Thread u e = absurd (false≢true e)
 anew_free a (Attending h o) u e = (agents_outside [] a.tx u, refl)
-anew_free a (Acting x aside) u e = (agents_outside [] a.tx u, refl)
+anew_free a (Acting x judges aside) u e = (agents_outside [] a.tx u, refl)
 
 module _ (taken : List Bool) (g : CellId) (a : PlainActor) (within : g.number < length taken) (outside : a.tx ≡ tx.Outside) where
   takes_synced : a.role ≡ Attending g None → is_taken taken g ≡ false → (r : Reply) → MayAnswer (ask.Take g) r → IsSynced (taken_after (ask.Take g) r taken) g (answered_for a (pending.Take g) r)

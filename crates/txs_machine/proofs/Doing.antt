@@ -7,11 +7,13 @@ use Rattle.txs_world_protocol.specs.declared.ask.Reply.{Reply}
 use Rattle.txs_frame.specs.Frame.{set_ref}
 use Rattle.txs_frame.specs.declared.frame.Commute.{Commute}
 use Rattle.txs_value_apply.specs.Core.{core, vector_of}
+use Rattle.txs_value_cell.specs.Cells.{validator_at}
 use Rattle.txs_value_cell.specs.Forms.{rule, cell_of}
 use Rattle.txs_value_base.specs.Places.{nth, fault_at}
 use Rattle.txs_value_cell.specs.declared.action.Action.{Action}
 use Rattle.txs_value_base.specs.declared.fault.Fault.{Fault}
 use Rattle.txs_value_base.specs.declared.fault.FaultKind.{FaultKind}
+use Rattle.txs_value_base.specs.declared.fault.FaultKind.TheVariants.{InvalidState}
 use Rattle.txs_value_base.specs.declared.fault.Span.{Span}
 use Rattle.txs_value_cell.specs.declared.form.CellForm.TheVariants as form
 use Rattle.txs_value_cell.specs.declared.form.LookForm.{LookForm}
@@ -26,8 +28,8 @@ use Rattle.txs_value_data.specs.declared.value.CellId.{CellId}
 use Rattle.txs_value_data.specs.declared.value.Value.{Value}
 use Rattle.txs_code_meaning.specs.declared.instr.OpenForm.{OpenForm}
 use Rattle.txs_code_meaning.specs.declared.instr.OpenForm.TheVariants as open_form
-use Rattle.txs_code_meaning.specs.ActorState.{ActorState, Reading, receives, asks, StepResult, Continue, Break, Redo, Await, Malformed, on_step, step_of, heard, just_done, read_point, value_there, newest_value, opened, SwapInHand, send_verdict, handed_out, begun, Verdict, Landed, Outdated, Undone, Denied, Taken, begin, buffered_or, look, peek, open_atom, reset_atom, send_now, sent, take_action, finish, read_cell, read, set_own, assign_cell, assign, RefUpdate, Alters, Commutes, update_form, open_update, close_own, close_update, send_action, send_to, print, InHand, send_or_hold, now_holding}
-use Rattle.txs_code_meaning.specs.Machine.{PlainInstr, Push, Load, Store, Pop, Jump, JumpFalse, CoreOf, CallOf, Return, MakeVector, PrintOf, TxBegin, TxEnd, LookOf, PutOf, OpenOf, CloseOf, SendOf, Halt, TakeOf, RunOf, FinishOf, ThreadCode, agent_code, fetch, Destination, to_stack, to_commutes, Frame, Activity, Outside, Restarting, Running, Applying, Swapping, is_inside, Configuration, ahead, Turned, Ended, Failed, Asking, Unfinished, Stuck, told, raise, retried, on, found, on_top, on_args, on_args_of, on_two, gives, begins, ends, doing_after, returns_to, opens_ref, opens_atom, opens, closes_swap, closes, started, runs_callee, runs, act, turn, Library, ends_with}
+use Rattle.txs_code_meaning.specs.ActorState.{ActorState, Reading, receives, asks, StepResult, Continue, Break, Redo, Await, Malformed, on_step, step_of, heard, just_done, read_point, value_there, newest_value, opened, SwapInHand, send_verdict, handed_out, begun, Verdict, Landed, Outdated, Undone, Denied, Taken, begin, buffered_or, look, peek, open_atom, reset_atom, send_now, sent, take_action, finish, read_cell, read, set_own, assign_cell, assign, RefUpdate, Alters, Commutes, update_form, open_update, close_own, close_update, send_action, send_to, print, InHand, send_or_hold, now_holding, cell_at}
+use Rattle.txs_code_meaning.specs.Machine.{PlainInstr, Push, Load, Store, Pop, Jump, JumpFalse, CoreOf, CallOf, Return, MakeVector, PrintOf, TxBegin, TxEnd, LookOf, PutOf, OpenOf, CloseOf, SendOf, Halt, TakeOf, RunOf, FinishOf, ThreadCode, agent_code, fetch, Destination, to_stack, to_commutes, Frame, Activity, Outside, Restarting, Running, Applying, Swapping, is_inside, Configuration, ahead, Turned, Ended, Failed, Asking, Unfinished, Stuck, told, raise, retried, on, found, on_top, on_args, on_args_of, on_two, gives, begins, ends, doing_after, returns_to, opens_ref, opens_atom, opens, closes_swap, closes, started, runs_callee, runs, act, turn, Library, ends_with, to_validation, validates, where_accepted, where_valid, puts, finishes, state_after, first_place, rested}
 use Rattle.txs_machine.specs.Running.{IsAgents, is_acting}
 
 -- an ask that is no end of a transaction or a swap, good or bad
@@ -223,6 +225,13 @@ returned_same to_commutes v (Restarting left) ag = absurd ag
 returned_same to_commutes v (Running left inner from) ag = absurd ag
 returned_same to_commutes v (Applying left from work values) ag = absurd ag
 returned_same to_commutes v (Swapping swap from) ag = absurd ag
+returned_same to_validation v doing ag = refl
+
+-- and whether an action is run
+acting_same : (a : Destination) (v : Value) (s : ActorState) → is_acting (state_after a v s).acting ≡ is_acting s.acting
+acting_same to_stack v s = refl
+acting_same to_commutes v s = refl
+acting_same to_validation v s = refl
 
 module _ (code : ThreadCode) (c : Configuration) (ag : IsAgents c.doing) (none_left : c.state.todo ≡ []) where
   abbrev acting : Bool
@@ -233,6 +242,31 @@ module _ (code : ThreadCode) (c : Configuration) (ag : IsAgents c.doing) (none_l
 
   gives_keeps : (rest : List Value) (r : StepResult Value) → IsCalm acting r → Keeps c.doing acting (gives c rest r)
   gives_keeps rest r h = on_keeps c.doing acting c.doing r (λ v s. Unfinished (ahead (v ∷ rest) s c)) ag h (λ v s k. (refl, k.1))
+
+  -- what continues with a value that its validator looked at
+  abbrev NextKeeps : (Configuration → Turned Configuration) → Type 0
+  NextKeeps go = (s : ActorState) → RestsSo acting s → Keeps c.doing acting (go (record c { state = s }))
+
+  validates_keep : (f : Callee) (v : Value) (span : Span) → Keeps c.doing acting (validates code f v span c)
+  validates_keep (callee.Core op) v span = on_keeps c.doing acting c.doing (step_of (core op (v ∷ [])) span c.state) _ ag (result_calm acting (core op (v ∷ [])) span c.state e) (λ answer s k. (refl, k.1))
+  validates_keep (callee.Function f) v span = (refl, refl)
+
+  accepted_keep : (o : Option Bool) (f : Callee) (v : Value) (span : Span) (go : Configuration → Turned Configuration) → NextKeeps go → Keeps c.doing acting (where_accepted code o f v span c go)
+  accepted_keep None f v span go k = validates_keep f v span
+  accepted_keep (Some true) f v span go k = k (record c.state { accepted = None }) e
+  accepted_keep (Some false) f v span go k = raise_keeps c.doing acting c.doing (fault_at InvalidState span) (record c.state { accepted = None }) ag e
+
+  valid_keep : (o : Option Callee) (v : Value) (span : Span) (go : Configuration → Turned Configuration) → NextKeeps go → Keeps c.doing acting (where_valid code o v span c go)
+  valid_keep None v span go k = k c.state e
+  valid_keep (Some f) v span go k = accepted_keep c.state.accepted f v span go k
+
+  puts_keep : (f : PutForm) (span : Span) (w cell : Value) (rest : List Value) → Keeps c.doing acting (puts code f span w cell rest c)
+  puts_keep RefSet span w cell rest = gives_keeps rest (assign RefSet (is_inside c.doing) span cell w c.state) (assign_calm acting RefSet (is_inside c.doing) span cell w c.state e)
+  puts_keep Reset span w cell rest =
+      on_keeps c.doing acting c.doing (cell_at (form.Put Reset) (is_inside c.doing) span cell c.state) _ ag (result_calm acting (cell_of (rule (form.Put Reset)) (is_inside c.doing) cell) span c.state e)
+      (λ a s k. valid_keep (validator_at code.validators a.number) w span (λ c1. gives c1 rest (assign_cell Reset (is_inside c.doing) span w a c1.state))
+      (λ t x. on_keeps c.doing acting c.doing (assign_cell Reset (is_inside c.doing) span w a t) (λ v s1. Unfinished (ahead (v ∷ rest) s1 (record c { state = t }))) ag
+      (assign_cell_calm acting Reset (is_inside c.doing) span w a t x) (λ v s1 k1. (refl, k1.1))))
 
   -- a transaction that would begin asks for its read point
   starts_keep : (go : Unit {0} → ActorState → Turned Configuration) → Keeps c.doing acting (on c.doing (begin c.state) go)
@@ -255,7 +289,7 @@ module _ (code : ThreadCode) (c : Configuration) (ag : IsAgents c.doing) (none_l
 
   returns_keep : (frames : List Frame) (v : Value) → Keeps c.doing acting (returns_to frames v c)
   returns_keep [] v = tt
-  returns_keep (f ∷ frames) v = (returned_same f.awaits v c.doing ag, refl)
+  returns_keep (f ∷ frames) v = (returned_same f.awaits v c.doing ag, acting_same f.awaits v c.state)
 
   -- a swap that would begin asks for the atom's value
   swaps_keep : (span : Span) (x : Result CellId FaultKind) (go : SwapInHand × Value → ActorState → Turned Configuration) → Keeps c.doing acting (on c.doing (on_step (step_of x span c.state) open_atom) go)
@@ -278,14 +312,14 @@ module _ (code : ThreadCode) (c : Configuration) (ag : IsAgents c.doing) (none_l
   opens_keep (open_form.Commute k) span vs cell rest = opens_ref_keep (Commutes k) span vs cell rest
   opens_keep (open_form.Swap k) span vs cell rest = opens_atom_keep c.doing span vs cell rest
 
-  closes_swap_keep : (doing : Activity) (w : Value) (rest : List Value) → IsAgents doing → Keeps c.doing acting (closes_swap doing w rest c)
+  closes_swap_keep : (doing : Activity) (w : Value) (rest : List Value) → IsAgents doing → Keeps c.doing acting (closes_swap code doing w rest c)
   closes_swap_keep (Swapping swap from) w rest k = absurd k
   closes_swap_keep Outside w rest k = tt
   closes_swap_keep (Restarting left) w rest k = tt
   closes_swap_keep (Running left inner from) w rest k = tt
   closes_swap_keep (Applying left from work values) w rest k = tt
 
-  closes_keep : (f : UpdateForm) (span : Span) (w cell : Value) (rest : List Value) → Keeps c.doing acting (closes f span w cell rest c)
+  closes_keep : (f : UpdateForm) (span : Span) (w cell : Value) (rest : List Value) → Keeps c.doing acting (closes code f span w cell rest c)
   closes_keep update.Alter span w cell rest = gives_keeps rest (close_update span cell w c.state) (close_calm acting span cell w c.state e)
   closes_keep update.Commute span w cell rest = gives_keeps rest (close_update span cell w c.state) (close_calm acting span cell w c.state e)
   closes_keep update.Swap span w cell rest = closes_swap_keep c.doing w rest ag
@@ -303,6 +337,12 @@ module _ (code : ThreadCode) (c : Configuration) (ag : IsAgents c.doing) (none_l
       by (callee.Core op) = gives_keeps rest (step_of (core op (v ∷ x.action.args)) x.action.span c.state) (result_calm acting (core op (v ∷ x.action.args)) x.action.span c.state e)
       by (callee.Function f) = (refl, refl)
 
+  finishes_keep : (g : CellId) (o : Option InHand) (v : Value) → Keeps c.doing acting (finishes code g o v c)
+  finishes_keep g None v = tt
+  finishes_keep g (Some x) v =
+      valid_keep (validator_at code.validators x.action.agent.number) v x.action.span (λ c1. told (finish g (Ok v) c1.state) (λ s. Unfinished (first_place [] (rested s))))
+      (λ t k. finish_keeps c.doing acting g (Ok v) t _ k)
+
   act_keeps : (i : Option PlainInstr) → Keeps c.doing acting (act code i c)
   act_keeps None = tt
   act_keeps (Some (Push v)) = (refl, refl)
@@ -319,14 +359,14 @@ module _ (code : ThreadCode) (c : Configuration) (ag : IsAgents c.doing) (none_l
   act_keeps (Some (TxBegin span)) = begins_keep span c.doing ag
   act_keeps (Some TxEnd) = ends_keep c.doing ag
   act_keeps (Some (LookOf f span)) = top_keeps c.doing acting c.stack _ (λ cell rest. gives_keeps rest (read f (is_inside c.doing) span cell c.state) (read_calm acting f (is_inside c.doing) span cell c.state e))
-  act_keeps (Some (PutOf f span)) = two_keep c.doing acting c.stack _ (λ w cell rest. gives_keeps rest (assign f (is_inside c.doing) span cell w c.state) (assign_calm acting f (is_inside c.doing) span cell w c.state e))
+  act_keeps (Some (PutOf f span)) = two_keep c.doing acting c.stack _ (λ w cell rest. puts_keep f span w cell rest)
   act_keeps (Some (OpenOf f n span)) = args_of_keep c.doing acting n c.stack _ (λ vs cell rest. opens_keep f span vs cell rest)
   act_keeps (Some (CloseOf f span)) = two_keep c.doing acting c.stack _ (λ w cell rest. closes_keep f span w cell rest)
   act_keeps (Some (SendOf f n span)) = args_of_keep c.doing acting n c.stack _ (λ vs cell rest. gives_keeps rest (send_to (is_inside c.doing) span cell f vs c.state) (send_to_calm acting (is_inside c.doing) span cell f vs c.state e))
   act_keeps (Some Halt) = tt
   act_keeps (Some (TakeOf g)) = takes_keep g _
   act_keeps (Some RunOf) = top_keeps c.doing acting c.stack _ (λ v rest. runs_keep c.state.acting v rest)
-  act_keeps (Some (FinishOf g)) = top_keeps c.doing acting c.stack _ (λ v rest. finish_keeps c.doing acting g (Ok v) c.state _ e)
+  act_keeps (Some (FinishOf g)) = top_keeps c.doing acting c.stack _ (λ v rest. finishes_keep g c.state.acting v)
 
   pub turn_keeps : Keeps c.doing (is_acting c.state.acting) (turn code c)
   turn_keeps = act_keeps (fetch code c.body c.place)

@@ -13,7 +13,7 @@ use Rattle.txs_value_data.specs.Limits.{most_events}
 use Rattle.txs_code_meaning.specs.Machine.{ThreadCode, Configuration, Turned, Ended, Failed, Asking, Unfinished, turn}
 use Rattle.txs_code_meaning.specs.PlainCode.{PlainCode}
 use Rattle.txs_machine_actor.specs.Laws.{ActorsRun}
-use Rattle.txs_machine_actor.specs.PlainActor.{PlainActor, MayAnswer, Stops, answered, unanswered, configuration_of, state_of, code_of, standing, Awaits, HasRun}
+use Rattle.txs_machine_actor.specs.PlainActor.{PlainActor, MayAnswer, Stops, answered, unanswered, configuration_of, state_of, code_of, standing, SameBut, Awaits, HasRun}
 use Rattle.txs_machine_actor.specs.Turns.{Answers, Moves, TurnsFrom, Turns, GoesOnAfter, TurnsOf}
 use Rattle.txs_machine_actor.specs.declared.outcome.Turn.{Turn}
 use Rattle.txs_machine_actor.specs.declared.outcome.Turn.TheVariants as turned
@@ -129,7 +129,7 @@ module _ (code : PlainCode) (k : ℕ) where
   step_leads a b (turned.Ended outcome.JournalFull) st n at free t = absurd t
   step_leads a b (turned.Ended outcome.Memory) st n at free t =
       moved_to st (IsStopped k run.Memory) _ (turned.Ended outcome.Memory) b refl (stop_is st run.Memory (configuration_of a) at free) refl refl (t.1.number ∙ n)
-      (t.1.outcome, (configuration_of a, at, sym t.0, refl))
+      (t.1.outcome, (configuration_of a, at, t.0, refl))
 
   move_leads : (a b : PlainActor) (r : Turn) (may : Bool) (st : State) → a.number ≡ k → (st.actors k).at ≡ Unfinished (configuration_of a) → (st.actors k).stopped ≡ None → Moves code a may r b → LeadsTo st r b
   move_leads a b r true st n at free t = step_leads a b r st n at free t
@@ -279,7 +279,7 @@ module _ (code : PlainCode) (k : ℕ) where
         (record {
           number = leaves.number ∙ number;
           waits = free;
-          placed = subst (λ o. IsPlacedAs (answered a reply.Full) o x.at (Some run.JournalFull)) (sym (full_stops a q asks)) (c, at, awaits.here ∙ sym stays, refl);
+          placed = subst (λ o. IsPlacedAs (answered a reply.Full) o x.at (Some run.JournalFull)) (sym (full_stops a q asks)) (c, at, subst (SameBut c.state) (sym stays) awaits.here, refl);
           ran = laws.stops code (map exchange_of es) a q reply.Full going asks may tt ran;
           traced = ap places_of (as_before g p left placed_so) ∙ traced ∙ sym (traced_same left);
           full = λ y. (let m = full_at laws code k books (map exchange_of es) a q number going asks may past ran in
@@ -305,7 +305,7 @@ module _ (code : PlainCode) (k : ℕ) where
         (record {
           number = leaves.number ∙ number;
           waits = free;
-          placed = subst (λ o. IsPlacedAs (answered a reply.Memory) o x.at (Some run.Memory)) (sym (memory_stops a q asks)) (c, at, awaits.here ∙ sym stays, refl);
+          placed = subst (λ o. IsPlacedAs (answered a reply.Memory) o x.at (Some run.Memory)) (sym (memory_stops a q asks)) (c, at, subst (SameBut c.state) (sym stays) awaits.here, refl);
           ran = laws.stops code (map exchange_of es) a q reply.Memory going asks may tt ran;
           traced = ap places_of placed_so ∙ traced;
           full = λ y. absurd (subst Unfilled y (subst Unfilled (sym (memory_stops a q asks)) tt));

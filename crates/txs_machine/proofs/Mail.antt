@@ -28,7 +28,7 @@ use Rattle.txs_theorem_runs.proofs.Lawful.{run_known}
 use Rattle.txs_theorem_runs.proofs.Sent.{AllSuch, CodeSendsSuch, next_such, run_sends}
 use Rattle.txs_theorem_runs.proofs.ServedKnown.{BookKnown}
 use Rattle.txs_theorem_runs.proofs.Told.{fresh_stands}
-use Rattle.txs_theorem_runs.proofs.Typed.{Body, sends_pure, typed_stands}
+use Rattle.txs_theorem_runs.proofs.Typed.{Body, sends_pure, typed_stands, typed_validators}
 use Rattle.txs_world_shared.specs.SharedState.{PlainShared}
 use Rattle.txs_machine.specs.RunOver.{books_of}
 use Rattle.txs_machine.specs.Running.{IsRunOf}
@@ -188,7 +188,7 @@ module _ (code : PlainCode) (k : ℕ) (main : CodeBody) (there : nth code.thread
   send_applies : (m : ℕ) (xs : List Exchange) (c : Configuration) → run (thread_code code main) m (opening (thread_code code main) xs) ≡ Unfinished c → (f : Callee) (n : ℕ) (span : Span) → fetch (thread_code code main) c.body c.place ≡ Some (SendOf f n span) → CanApply fs f n
   send_applies m xs c e f n span i =
       let t = send_takes c.body c.place f n span i in
-      can_apply code w.kinds t.0 f n t.1 (sends_pure code main w.kinds function_body main_body m xs c e f n span i)
+      can_apply code w.kinds t.0 f n t.1 (sends_pure code main w.kinds function_body (typed_validators code main w.kinds (validators_of code.cells) w.validators) main_body m xs c e f n span i)
 
 body_there : (bs : List CodeBody) (k : ℕ) → k < length bs → (b : CodeBody) × (nth bs k ≡ Some b)
 body_there [] k h = absurd (omega (arith, h))

@@ -25,12 +25,6 @@ use Rattle.txs_code_meaning.proofs.Acts.{run_more}
 use Rattle.txs_code_meaning.specs.Opening.{given, opening}
 use Rattle.txs_code_meaning.specs.PlainCode.{CodeBody, PlainCode, function_codes}
 use Rattle.txs_code_meaning.specs.WellTyped.{WellTyped}
-use Rattle.txs_theorem_threads.specs.Follows.{Follows}
-use Rattle.txs_theorem_threads.specs.RepliesFit.{Out, RepliesFit, Explained}
-use Rattle.txs_theorem_threads.specs.RepliesFitTo.{FittingToFits}
-use Rattle.txs_tree_meaning.specs.Meaning.{Completion}
-use Rattle.txs_tree_meaning.specs.Thread.{ThreadState, thread_meaning}
-use Rattle.txs_tree_meaning.specs.Tree.{ThreadSource}
 use Rattle.txs_machine_actor.specs.Laws.{ActorsRun}
 use Rattle.txs_machine_actor.specs.PlainActor.{PlainActor, MayAnswer, Stops, answered, unanswered, configuration_of, state_of, code_of, stands_at, standing, Awaits, AsksLast, HasAsked, HasRun, HasCome, HasEndedSo, own_body, HandsOut}
 use Rattle.txs_machine_actor.specs.Turns.{IsNew, OneStep, Answers, Moves, TurnsFrom, Turns, GoesOnAfter, TurnsOf}
@@ -48,7 +42,7 @@ use Rattle.txs_world_book.specs.Served.{cells_of, Served}
 use Rattle.txs_world.specs.Store.{serve}
 use Rattle.txs_value_data.specs.Limits.{most_events}
 use Rattle.txs_theorem_runs.specs.Invariant.{SharedStands}
-use Rattle.txs_theorem_runs.specs.Laws.{with_book, ToldFits, ServedIsTold}
+use Rattle.txs_theorem_runs.specs.Laws.{with_book, ServedIsTold}
 use Rattle.txs_theorem_runs.specs.Run.{entry}
 use Rattle.txs_theorem_runs.specs.Shared.{Shared, is_atom, has_atom, atom_of, serve_atom, book_for, serve_on, may_ask, may_close}
 use Rattle.txs_theorem_runs.specs.Staged.{StagedCode, TurnIsStaged, IsStaged, StagedFrom, stage_of}
@@ -69,7 +63,6 @@ use Rattle.txs_theorem_runs.proofs.OneActor.{MayView, idle_view, went_view}
 use Rattle.txs_theorem_runs.proofs.ServedKnown.{BookKnown}
 use Rattle.txs_world_shared.specs.SharedState as shared
 use Rattle.txs_world_shared.specs.SharedState.{PlainShared, shared_of, numbered_book, is_lawful, answer_to, IsAfter, TakesMemoryFor}
-use Rattle.txs_machine.specs.Followed.{ActorsExplained, told}
 use Rattle.txs_machine.specs.Lawfully.{HasStood, RunLawfully}
 use Rattle.txs_machine.proofs.Lawfully.{ask_lawful, heard_lawfully, heard_stood, is_below, others_lawfully, others_stood}
 use Rattle.txs_machine.proofs.Answered.{Leaves, answer_leaves, full_stops, memory_stops, stop_ends}
@@ -262,7 +255,7 @@ step_asked code before a b (turned.Ended (outcome.Failed f)) t w =
 step_asked code before a b (turned.Ended outcome.StepsSpent) t w = absurd t
 step_asked code before a b (turned.Ended outcome.JournalFull) t w = absurd t
 step_asked code before a b (turned.Ended outcome.Memory) t w =
-    waits_on (code_of code a.number) before a b t.1.counted w (subst (λ (s : ActorState). Prints w.waiting.printed s) (sym t.0) w.printed)
+    waits_on (code_of code a.number) before a b t.1.counted w (prints_as w.waiting.printed a b (sym (ap (λ (s : ActorState). s.printed) t.0)) w.printed)
 
 move_asked : (code : PlainCode) (before : List Entry) (a b : PlainActor) (r : Turn) (may : Bool) → Moves code a may r b → AskedOn (code_of code a.number) before a → AskedOn (code_of code a.number) before b
 move_asked code before a b r true t w = step_asked code before a b r t w

@@ -2,10 +2,8 @@
 use Rattle.std.proofs.Common.{◌≡◌, ◌<◌, ℕ, zero, suc, false, List, [], ◌∷◌, ◌++◌, length, Option, Some, None, refl, sym, ap, ◌∙◌, subst, arith}
 use Rattle.std.proofs.lemmas.List.{append-nil}
 use Rattle.txs_world_protocol.specs.SeenEvent.{SeenEvent}
-use Rattle.txs_world_protocol.specs.declared.event.Event.{Event}
 use Rattle.txs_world_protocol.specs.declared.event.Outcome.{Outcome}
 use Rattle.txs_world_protocol.specs.declared.event.Outcome.TheVariants as outcome
-use Rattle.txs_world_protocol.specs.declared.event.Place.{Place}
 use Rattle.txs_value_base.specs.Places.{nth}
 use Rattle.txs_value_cell.specs.Cells.{Validators, validators_of}
 use Rattle.txs_value_data.specs.declared.value.Value.{Value}
@@ -18,18 +16,16 @@ use Rattle.txs_tree_meaning.specs.Tree.{PlainFunction, PlainThread, PlainProgram
 use Rattle.txs_theorem_threads.specs.FollowsAll.{source_of}
 use Rattle.txs_theorem_threads.specs.Noted.{txs_of}
 use Rattle.txs_theorem_threads.specs.RepliesFit.{HasEatenAll}
-use Rattle.txs_world_book.specs.Book.{opening}
-use Rattle.txs_world_book.specs.Served.{cells_of}
 use Rattle.txs_theorem_runs.specs.Shared.{Shared}
 use Rattle.txs_theorem_runs.specs.Told as told_by
 use Rattle.txs_theorem_runs.specs.Told.{seen_of}
 use Rattle.txs_theorem_runs.specs.Transactions.{SaidOf}
 use Rattle.txs_theorem_serial.specs.Serial.{RunsOf, Noted, EndsNoted}
-use Rattle.txs_theorem_serial.specs.Whole.{all_covered, serial_if_covered, ThreadDid, OneByOne}
+use Rattle.txs_theorem_serial.specs.Whole.{all_covered, serial_if_covered, ThreadDid}
 use Rattle.txs_theorem_serial.proofs.Noting.{threads_note}
 use Rattle.txs_theorem_serial.proofs.Together.{commits_serial, runs_are_serial}
 use Rattle.txs_machine.specs.RunOver.{places_of}
-use Rattle.txs_machine.specs.RunTheorem.{meant_by, ExplainsSo, ExplainsThread, Explains, ExplainsAll}
+use Rattle.txs_machine.specs.RunTheorem.{meant_by, ExplainsSo, ExplainsThread, Explains}
 use Rattle.txs_machine.specs.Serial.{transactions, SaidOfAll, CoveredAreSerial, InOrder, ReportsAreSerial}
 use Rattle.txs_world_protocol.specs.declared.report.ActorReport.{ActorReport}
 
@@ -108,7 +104,7 @@ module _ (p : PlainProgram) (sh : Shared) (rans : List ActorReport) (sound : Sou
       let es = seen_of p.cells sh.books (places_of ran.trace.items) in
       let m = meant_by p t sh.books ran.trace.items x.turns in
       let main = sound_thread p.functions p.threads k t sound.threads there in
-      let noted = threads_note s x.turns es (record { functions = sound.functions; main = main.0 }) marks.functions (marked_thread p.threads k t marks.threads there) in
+      let noted = threads_note s x.turns es (record { functions = sound.functions; cells = sound.cells; main = main.0 }) marks.functions (marked_thread p.threads k t marks.threads there) in
       record { traced = x.traced; runs = runs_of p.functions (validators_of p.cells) x.turns es m (explained_up ran.outcome ran.printed.items m x.means) noted; calm = x.calm }
 
   covered_serial : SaidOfAll (λ n. serial_if_covered p.functions n p.cells sh.books) p sh rans e

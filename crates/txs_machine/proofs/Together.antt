@@ -382,6 +382,7 @@ module _ (traced : RunTraced) (code : PlainCode) (limit : ℕ) (s : PlainShared)
         agents_run = λ g has. (
             let a = agent_acts code g (subst (λ cs. has_agent (cells_of cs) g ≡ true) same has) in
             ap (code_of code) (ap (λ n. world.actor_of n (cells_of p.cells) g) (sym threads) ∙ ap (λ cs. world.actor_of (length code.threads) (cells_of cs) g) same ∙ a.2) ∙ (agent_at code a.0 g a.1).acts);
+        validators = ap validators_of (sym same);
       }
 
       whole : ReportExplained p (library_of code) (run_of code h.run.turns)

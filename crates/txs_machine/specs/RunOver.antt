@@ -7,18 +7,11 @@ use Rattle.txs_world_protocol.specs.declared.event.Event.{Event}
 use Rattle.txs_world_protocol.specs.declared.event.Outcome.{Outcome}
 use Rattle.txs_world_protocol.specs.declared.event.Outcome.TheVariants.{StepsSpent, JournalFull}
 use Rattle.txs_value_cell.specs.declared.cell.CellDefinition.{CellDefinition}
-use Rattle.txs_value_data.specs.declared.value.Value.{Value}
-use Rattle.txs_frame.specs.Frame.{empty_frame}
-use Rattle.txs_tree_meaning.specs.Meaning.{Completion}
-use Rattle.txs_tree_meaning.specs.Thread.{ThreadState, thread_meaning}
-use Rattle.txs_tree_meaning.specs.Tree.{ThreadSource}
 use Rattle.txs_code_meaning.specs.ActorState.{ActorState}
 use Rattle.txs_code_meaning.specs.Machine.{ThreadCode, Asking, run}
 use Rattle.txs_code_meaning.specs.Opening.{opening as opens}
 use Rattle.txs_code_meaning.specs.PlainCode.{PlainCode}
-use Rattle.txs_theorem_threads.specs.Follows.{Follows}
-use Rattle.txs_theorem_threads.specs.RepliesFit.{Explained}
-use Rattle.txs_machine_actor.specs.PlainActor.{PlainActor, HasRun, AsksLast, MayAnswer, Stops, answered, unanswered, configuration_of, state_of, code_of, stating, standing, stands_at}
+use Rattle.txs_machine_actor.specs.PlainActor.{PlainActor, HasRun, AsksLast, MayAnswer, Stops, answered, unanswered, configuration_of, state_of, code_of, stands_at}
 use Rattle.txs_value_data.specs.Limits.{most_events}
 use Rattle.txs_theorem_runs.specs.Printed.{Prints}
 use Rattle.txs_theorem_runs.specs.Stages.{Stage, AsksIn, stage_after}

@@ -61,7 +61,7 @@ meant_by p t books trace n = thread_meaning (source_of p t) n (seen_of p.cells b
 -- A source's meaning explains a thread that has printed these bytes, and ended so if it has: one that was stopped, or hasn't ended, has printed a
 -- part of what the source means.
 abbrev pub ExplainsSo : Option Outcome → List ℕ → Completion ThreadState Value → Type 0
-ExplainsSo o out r = Explained (standing o (stating out 0 0 empty_frame None None) (stating out 0 0 empty_frame None None)) r
+ExplainsSo o out r = Explained (standing o (stating out 0 0 empty_frame None None None) (stating out 0 0 empty_frame None None None)) r
 
 -- What the source means on all that a thread did but the last, up to where it needs that one, for some bound on its loops, the thread has
 -- printed, and maybe more. Of one that did nothing this says nothing.

@@ -14,7 +14,7 @@ use Rattle.txs_value_data.specs.declared.value.CellId.{CellId}
 use Rattle.txs_code_meaning.specs.ActorState.{InHand}
 use Rattle.txs_code_meaning.specs.Machine.{Activity, Outside, Restarting, Running, Applying, Swapping, Configuration, Turned, Ended, Failed, Unfinished}
 use Rattle.txs_code_meaning.specs.PlainCode.{PlainCode}
-use Rattle.txs_machine_actor.specs.PlainActor.{PlainActor, HasRun, IsActorOf, Lives, MayAnswer, answered, code_of, configuration_of, state_of, unanswered}
+use Rattle.txs_machine_actor.specs.PlainActor.{PlainActor, HasRun, IsActorOf, Lives, MayAnswer, answered, code_of, configuration_of, state_of, unanswered, SameBut}
 use Rattle.txs_world_book.specs.Book.{has_agent, actor_of, is_empty}
 use Rattle.txs_world_book.specs.Served.{cells_of}
 use Rattle.txs_world.specs.Store.{is_taken, next_action}
@@ -42,14 +42,14 @@ abbrev pub run_of : PlainCode → List run.Play → run.State
 run_of code ys = after_turns code ys (run.opens code.cells (code_of code))
 
 -- An actor that continues is where a run's actor is; one that is done or has failed has ended so there; one that was stopped is there stopped, and
--- has printed and written what that one has.
+-- has printed and written what that one has: its state is that one's, but for a validator's answer.
 abbrev pub IsPlacedAs : PlainActor → Option Outcome → Turned Configuration → Option Stop → Type 0
 IsPlacedAs a None at why = (at ≡ Unfinished (configuration_of a)) × (why ≡ None)
 IsPlacedAs a (Some outcome.Done) at why = (at ≡ Ended (state_of a)) × (why ≡ None)
 IsPlacedAs a (Some (outcome.Failed f)) at why = (at ≡ Failed f (state_of a)) × (why ≡ None)
 IsPlacedAs a (Some outcome.StepsSpent) at why = (at ≡ Unfinished (configuration_of a)) × (why ≡ Some TurnsSpent)
-IsPlacedAs a (Some outcome.JournalFull) at why = (c : Configuration) × (at ≡ Unfinished c) × (c.state ≡ state_of a) × (why ≡ Some JournalFull)
-IsPlacedAs a (Some outcome.Memory) at why = (c : Configuration) × (at ≡ Unfinished c) × (c.state ≡ state_of a) × (why ≡ Some Memory)
+IsPlacedAs a (Some outcome.JournalFull) at why = (c : Configuration) × (at ≡ Unfinished c) × SameBut c.state (state_of a) × (why ≡ Some JournalFull)
+IsPlacedAs a (Some outcome.Memory) at why = (c : Configuration) × (at ≡ Unfinished c) × SameBut c.state (state_of a) × (why ≡ Some Memory)
 
 -- The k-th actor, with this trace, is a run's k-th actor: it asks nothing, is where that one is, has done what the machine does on that one's entries, and its trace has
 -- the places of the events that they added; where it was stopped for a full book, the book for its ask is full.

@@ -4,7 +4,8 @@ ghost use Rattle.txs_machine.specs.Followed.{ActorsFollow, ActorsExplained};
 ghost use Rattle.txs_machine.specs.Serial.{CoveredAreSerial, ReportsAreSerial};
 
 /// An actor is where the machine's meaning comes to, from the opening of its thread: so many turns are
-/// so many instructions.
+/// so many instructions. Where the actor was stopped, the machine may still hold a validator's answer at which the
+/// instruction has looked. Only the instruction that asks for an answer looks at it.
 pub fn actors_follow()
     ensures { ActorsFollow }
 {}

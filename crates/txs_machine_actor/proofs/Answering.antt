@@ -1,5 +1,5 @@
 -- An actor can take the answers that it may have, and can go on after them.
-use Rattle.std.proofs.Common.{◌≡◌, ℕ, zero, suc, ◌+◌, ◌-◌, ◌<◌, ◌≤◌, Bool, List, [], length, Option, Some, None, refl, sym, ap, ◌∙◌, subst, arith, ◌⊎◌, inl, inr}
+use Rattle.std.proofs.Common.{◌≡◌, ℕ, zero, suc, ◌+◌, ◌-◌, ◌<◌, ◌≤◌, Bool, true, false, List, [], ◌∷◌, length, Option, Some, None, refl, sym, ap, ◌∙◌, subst, arith, ◌⊎◌, inl, inr}
 use Rattle.txs_world_protocol.specs.Ask.{Writes}
 use Rattle.txs_world_protocol.specs.declared.ask.Reply.{Reply}
 use Rattle.txs_world_protocol.specs.declared.ask.Reply.TheVariants.{At, Is, Done, Opened, Full, Memory}
@@ -28,18 +28,20 @@ use Rattle.txs_machine_loop.specs.Ready.{Setting, swaps_of, Ready}
 use Rattle.txs_machine_loop.specs.Values.{last_of, put_under}
 use Rattle.txs_machine_loop.proofs.Lists.{nth_index}
 use Rattle.txs_machine_loop.proofs.Ready.{here_of}
-use Rattle.txs_machine_actor.specs.PlainActor.{PlainActor, home_of, stops_as, asked_for, unanswered, MayAnswer, MayAnswerIf, begins_again, run_again, ends_again, opens_again, end_again, refuse, views, answered_for, answered_if, answered, functions_of, setting_of, Began, BeganAnew, BeganWell, swaps_in, NoneAside, AllApply, open_of, GoesOn, AsksWell, CanGoOn, Runs, attends_anew, ActsFor, attending_at, waits, AttendsOn, Attends, Lives, OpenApplies}
+use Rattle.txs_machine_actor.specs.PlainActor.{PlainActor, home_of, stops_as, asked_for, unanswered, MayAnswer, MayAnswerIf, begins_again, run_again, ends_again, opens_again, end_again, refuse, views, answered_for, answered_if, answered, functions_of, setting_of, Began, BeganAnew, BeganWell, swaps_in, NoneAside, AllApply, AllCanDo, WaitsAs, open_of, GoesOn, AsksWell, CanGoOn, Runs, attends_anew, ActsFor, attending_at, waits, AttendsOn, Attends, Lives, OpenApplies}
 use Rattle.txs_machine_transaction.specs.Asks.{applied_in, ask_for}
 use Rattle.txs_machine_transaction.specs.Transaction.{is_running, depth_in, IsSwapping}
-use Rattle.txs_machine_actor.specs.Turns.{TakesAnswer}
+use Rattle.txs_code_meaning.specs.Validating.{has_validator}
+use Rattle.txs_value_cell.specs.Cells.{validators_of}
+use Rattle.txs_machine_actor.specs.Turns.{TakesAnswer, HasJudged}
 use Rattle.txs_machine_transaction.specs.declared.state.Savepoint.{Savepoint}
 use Rattle.txs_machine_transaction.specs.declared.state.Transaction.{Transaction}
-use Rattle.txs_machine_transaction.specs.declared.state.Transaction.TheVariants.{Outside, Restarting, Running, Applying, Evaluating, Swapping}
+use Rattle.txs_machine_transaction.specs.declared.state.Transaction.TheVariants.{Outside, Restarting, Running, Applying, Evaluating, Swapping, Judging, Weighing}
 use Rattle.txs_machine_transaction.specs.declared.state.Pending.{Pending}
 use Rattle.txs_machine_transaction.specs.declared.state.Pending.TheVariants as pending
 use Rattle.txs_machine_actor.specs.declared.role.Role.{Role}
 use Rattle.txs_machine_actor.specs.declared.role.Role.TheVariants.{Thread, Attending, Acting}
-use Rattle.txs_machine_actor.proofs.Applying.{all_by_ref, length_blank, well_behind, callers_none, began_none, swap_none, swapless}
+use Rattle.txs_machine_actor.proofs.Applying.{AllLook, tasks_do, typed_look, length_blank, well_behind, callers_none, began_none, swap_none, swapless}
 use Rattle.txs_machine_actor.proofs.Landing.{look_ready, begin_ready, end_ready, no_own_swap, open_stands, open_ready, put_stands, put_ready, send_stands, send_ready, close_stands, close_ready}
 use Rattle.txs_machine_actor.proofs.Replies.{by_reply}
 
@@ -50,7 +52,8 @@ pub record Going (d : PlainCode) (kinds : List FunctionKind) (k : ℕ) (x : Plai
   pub is : body_at d k x.body ≡ Some body
   pub goes : CanGoOn d kinds body x x.outcome x.pending
 
-module _ (d : PlainCode) (kinds : List FunctionKind) (b : CodeBody) (a : PlainActor) (is : body_at d a.number a.body ≡ Some b) where
+module _ (d : PlainCode) (kinds : List FunctionKind) (b : CodeBody) (a : PlainActor) (is : body_at d a.number a.body ≡ Some b)
+    (look : AllLook (functions_of d kinds) (has_validator d.cells) (validators_of d.cells)) where
   -- the actor after an answer can go on, or has ended
   abbrev After : PlainActor → Type 0
   After x = Going d kinds a.number x ⊎ Attends d x
@@ -111,6 +114,8 @@ module _ (d : PlainCode) (kinds : List FunctionKind) (b : CodeBody) (a : PlainAc
   swap_again_goes (Applying left from phase) s e g w = absurd s
   swap_again_goes (Evaluating left from phase aside) s e g w = absurd s
   swap_again_goes (Swapping c p from) s e g w = opens_goes from e g w
+  swap_again_goes (Judging aside) s e g w = absurd s
+  swap_again_goes (Weighing c p from aside) s e g w = absurd s
 
   again_goes : (t : Transaction) → a.outcome ≡ None → GoesOn d kinds b a → BeganWell d kinds a.number home t → After (run_again a t)
   again_goes Outside e g w = stays_so e g
@@ -119,6 +124,8 @@ module _ (d : PlainCode) (kinds : List FunctionKind) (b : CodeBody) (a : PlainAc
   again_goes (Applying left from phase) e g w = begins_goes left from e g w
   again_goes (Evaluating left from phase aside) e g w = stays_so e g
   again_goes (Swapping c p from) e g w = stays_so e g
+  again_goes (Judging aside) e g w = stays_so e g
+  again_goes (Weighing c p from aside) e g w = stays_so e g
 
   ends_goes : (left : ℕ) (from : Savepoint) → a.outcome ≡ None → (g : GoesOn d kinds b a) → NoneAside a.tx → g.base.0 + g.own.0 ≡ 1 → g.base.1 + g.own.1 ≡ 0 → 1 ≤ a.steps → BeganAnew d kinds a.number home from → After (ends_again a left from)
   ends_goes zero from e g u c z le w = ends_so (outcome.Failed (fault_at RetryLimit from.span))
@@ -133,6 +140,8 @@ module _ (d : PlainCode) (kinds : List FunctionKind) (b : CodeBody) (a : PlainAc
   end_again_goes (Applying left from phase) e g u c z le w = ends_goes left from e g u c z le w
   end_again_goes (Evaluating left from phase aside) e g u c z le w = stays_so e g
   end_again_goes (Swapping x p from) e g u c z le w = opens_goes from e g w
+  end_again_goes (Judging aside) e g u c z le w = stays_so e g
+  end_again_goes (Weighing x p from aside) e g u c z le w = stays_so e g
 
   refuse_goes : (t : Transaction) → a.outcome ≡ None → GoesOn d kinds b a → After (refuse a t)
   refuse_goes Outside e g = stays_so e g
@@ -141,10 +150,12 @@ module _ (d : PlainCode) (kinds : List FunctionKind) (b : CodeBody) (a : PlainAc
   refuse_goes (Applying left from phase) e g = ends_so (outcome.Failed (fault_at AgentFailed from.span))
   refuse_goes (Evaluating left from phase aside) e g = stays_so e g
   refuse_goes (Swapping c p from) e g = stays_so e g
+  refuse_goes (Judging aside) e g = stays_so e g
+  refuse_goes (Weighing c p from aside) e g = stays_so e g
 
   -- the commutes are applied from now on
   views_goes : (t : Transaction) (phase : PlainPhase) (q : ℕ) (vs : List Value) → a.outcome ≡ None → (g : GoesOn d kinds b a) → NoneAside a.tx → g.base.0 + g.own.0 ≡ 1 → g.base.1 + g.own.1 ≡ 0 → 1 ≤ a.steps → BeganWell d kinds a.number home t → nth b.instrs a.place ≡ Some instr.TxEnd
-      → AllApply (functions_of d kinds) phase.work
+      → AllCanDo (functions_of d kinds) (has_validator d.cells) phase.work
       → After (views a phase q vs t)
   views_goes Outside phase q vs e g u c z le w is_end all = stays_so e g
   views_goes (Restarting left) phase q vs e g u c z le w is_end all = stays_so e g
@@ -154,6 +165,8 @@ module _ (d : PlainCode) (kinds : List FunctionKind) (b : CodeBody) (a : PlainAc
   views_goes (Applying left from before) phase q vs e g u c z le w is_end all = stays_so e g
   views_goes (Evaluating left from before aside) phase q vs e g u c z le w is_end all = stays_so e g
   views_goes (Swapping x p from) phase q vs e g u c z le w is_end all = stays_so e g
+  views_goes (Judging aside) phase q vs e g u c z le w is_end all = stays_so e g
+  views_goes (Weighing x p from aside) phase q vs e g u c z le w is_end all = stays_so e g
 
   full_ends : (p : Pending) → After (answered_for a p Full)
   full_ends (pending.Begin left from) = ends_so outcome.JournalFull
@@ -223,9 +236,7 @@ module _ (d : PlainCode) (kinds : List FunctionKind) (b : CodeBody) (a : PlainAc
   goes_home : (ag : CellId) → a.outcome ≡ None → AllApply (functions_of d kinds) a.done.commutes → OpenApplies (functions_of d kinds) a.commuting → a.tx ≡ Outside → (r : Role) → ActsFor d kinds a.number ag r → Attends d (attends_anew a r)
   goes_home ag e all can out Thread w = absurd w
   goes_home ag e all can out (Attending h o) w = absurd w
-  goes_home ag e all can out (Acting h aside) w =
-      let there : PlainStack → Transaction → PlainActor = λ y t. record (attends_anew a (Acting h y)) { tx = t } in
-      let stood : PlainStack → Transaction → Type 0 = λ y t. there y t ≡ attending_at (there y t) h.agent None 0 [] in
+  goes_home ag e all can out (Acting h judges aside) w =
       let typed = w.1.typed.typed in
       let same : kinds ≡ typed.kinds = sym w.1.typed.same in
       record {
@@ -239,8 +250,29 @@ module _ (d : PlainCode) (kinds : List FunctionKind) (b : CodeBody) (a : PlainAc
         roomy = w.1.roomy;
         commutes = subst (λ (y : List FunctionKind). AllApply (functions_of d y) a.done.commutes) same all;
         opened = subst (λ (y : List FunctionKind). OpenApplies (functions_of d y) a.commuting) same can;
-        attends = subst (λ (o : Option Outcome). AttendsOn d h.agent (there aside a.tx) o None) (sym e) (waits (subst (λ (y : PlainStack). stood y a.tx) (sym w.1.is) (subst (λ (t : Transaction). stood (record { body = 0; locals = 0; place = 2; values = []; room = aside.room; frames = [] }) t) (sym out) refl)));
+        attends = subst (λ (o : Option Outcome). AttendsOn d h.agent (there judges aside a.tx) o None) (sym e) (waits (stood_so judges w.1.is));
       }
+    where
+      there : Bool → PlainStack → Transaction → PlainActor
+      there j y t = record (attends_anew a (Acting h j y)) { tx = t }
+
+      Stood : Bool → PlainStack → Transaction → Type 0
+      Stood j y t = there j y t ≡ attending_at (there j y t) h.agent None 0 []
+
+      -- an agent's own body with these values
+      own : List Value → PlainStack
+      own vs = record { body = 0; locals = 0; place = 2; values = vs; room = aside.room; frames = [] }
+
+      stood_so : (j : Bool) → WaitsAs j aside → Stood j aside a.tx
+      stood_so false q = subst (λ (y : PlainStack). Stood false y a.tx) (sym q) (subst (λ (t : Transaction). Stood false (own []) t) (sym out) refl)
+      stood_so true q = subst (λ (y : PlainStack). Stood true y a.tx) (sym q.1) (subst (λ (t : Transaction). Stood true (own (q.0 ∷ [])) t) (sym out) refl)
+
+  -- the value that an agent's validator looked at is there
+  judged_by : (ag : CellId) (r : Role) → ActsFor d kinds a.number ag r → HasJudged r
+  judged_by ag Thread w = absurd w
+  judged_by ag (Attending h o) w = absurd w
+  judged_by ag (Acting h false aside) w = tt
+  judged_by ag (Acting h true aside) w = subst (λ (y : PlainStack). 0 < length y.values) (sym w.1.is.1) (omega arith)
 
   pub takes : (p : Pending) (inside : Bool) (at view : ℕ) (ws : Writes) (r : Reply) → AsksWell d kinds b a p → MayAnswer (ask_for p inside at view ws a.done) r → TakesAnswer a (length b.instrs) (Some p) r
   takes p inside at view ws r w m =
@@ -282,7 +314,7 @@ module _ (d : PlainCode) (kinds : List FunctionKind) (b : CodeBody) (a : PlainAc
         breaks = λ c p f i k. tt;
         takes = λ ag i n x v k. absurd k.1;
         idles = λ ag i k. absurd k.1;
-        finishes = λ ag new i k. tt;
+        finishes = λ ag new i k. judged_by ag a.role k.0;
         full = λ q i k. full_taken q;
         memory = λ q i k. memory_taken q;
       }) p inside at view ws r m w
@@ -327,7 +359,7 @@ module _ (d : PlainCode) (kinds : List FunctionKind) (b : CodeBody) (a : PlainAc
         opens_again = λ c n kept i x k. again_goes a.tx e k.0 k.0.began;
         views = λ phase i q vs f k.
             let le = k.0.shallow in
-            views_goes a.tx phase q vs e k.0 k.1.3 (k.0.counted ∙ k.1.1) (k.0.swaps ∙ unswapped k.1.1) (omega (arith, le, k.1.1)) k.0.began k.1.0 (subst (λ (x : PlainPhase). AllApply (functions_of d kinds) x.work) (sym k.1.2) (all_by_ref (functions_of d kinds) (commuted a.done) a.done.commutes k.0.commutes));
+            views_goes a.tx phase q vs e k.0 k.1.3 (k.0.counted ∙ k.1.1) (k.0.swaps ∙ unswapped k.1.1) (omega (arith, le, k.1.1)) k.0.began k.1.0 (subst (λ (x : PlainPhase). AllCanDo (functions_of d kinds) (has_validator d.cells) x.work) (sym k.1.2) (tasks_do (functions_of d kinds) (has_validator d.cells) (validators_of d.cells) look a.done k.0.commutes));
         resets = λ c v i k.
             let g = k.0 in
             goes_so (answered_for a (pending.Reset c v) Done) refl e refl refl
@@ -384,14 +416,14 @@ module _ (d : PlainCode) (kinds : List FunctionKind) (b : CodeBody) (a : PlainAc
 
 -- the actor can take its answer
 pub takes_answer : (d : PlainCode) (a : PlainActor) (r : Reply) (u : Runs d a) → MayAnswerIf (unanswered a) r → TakesAnswer a (length u.body.instrs) a.pending r
-takes_answer d a r u m = take_by d u.kinds u.body a u.is a.outcome a.pending r u.goes m
+takes_answer d a r u m = take_by d u.kinds u.body a u.is (typed_look (functions_of d u.kinds) d.cells u.validators) a.outcome a.pending r u.goes m
 
 -- the actor after its answer runs
 pub answered_runs : (d : PlainCode) (a : PlainActor) (r : Reply) → Runs d a → MayAnswerIf (unanswered a) r → Lives d (answered a r)
-answered_runs d a r u m = by (land_by d u.kinds u.body a u.is a.outcome a.pending r refl u.goes m)
+answered_runs d a r u m = by (land_by d u.kinds u.body a u.is (typed_look (functions_of d u.kinds) d.cells u.validators) a.outcome a.pending r refl u.goes m)
   where
     by : Going d u.kinds a.number (answered a r) ⊎ Attends d (answered a r) → Lives d (answered a r)
-    by (inl g) = inl (record { kinds = u.kinds; rooms = u.rooms; functions = u.functions; body = g.body; is = ap (λ k. body_at d k (answered a r).body) g.number ∙ g.is; goes = g.goes })
+    by (inl g) = inl (record { kinds = u.kinds; rooms = u.rooms; functions = u.functions; validators = u.validators; body = g.body; is = ap (λ k. body_at d k (answered a r).body) g.number ∙ g.is; goes = g.goes })
     by (inr g) = inr g
 
 -- the actor can take its answer, where the body that was looked up is lent

@@ -1,5 +1,5 @@
 -- An agent in its own body: what its turns come to, and where it goes on after an answer.
-use Rattle.std.proofs.Common.{◌≡◌, ℕ, suc, ◌+◌, ◌-◌, ◌<◌, ◌≤◌, Bool, List, [], ◌∷◌, ◌++◌, length, reverse, Option, Some, None, Result, Ok, Err, refl, sym, ap, ◌∙◌, subst, arith, inl, inr}
+use Rattle.std.proofs.Common.{◌≡◌, ℕ, suc, ◌+◌, ◌-◌, ◌<◌, ◌≤◌, Bool, true, false, List, [], ◌∷◌, ◌++◌, length, reverse, Option, Some, None, Result, Ok, Err, refl, sym, ap, ◌∙◌, subst, arith, inl, inr}
 use Rattle.std.proofs.lemmas.Bool.{lt-ltb, le-ltb}
 use Rattle.std.proofs.lemmas.List.{length-append, take_all, drop_all}
 use Rattle.txs_world_protocol.specs.Ask.{Exchange}
@@ -15,7 +15,9 @@ use Rattle.txs_code_meaning.specs.Opening.{given, opening}
 use Rattle.txs_frame.specs.declared.frame.Commute.{Commute}
 use Rattle.txs_value_apply.specs.Core.{Answer, core}
 use Rattle.txs_value_base.specs.Places.{nth, fault_at}
+use Rattle.txs_value_cell.specs.Cells.{validators_of, validator_at}
 use Rattle.txs_value_cell.specs.declared.action.Action.{Action}
+use Rattle.txs_value_base.specs.declared.fault.FaultKind.TheVariants.{InvalidState}
 use Rattle.txs_value_base.specs.declared.fault.Fault.{Fault}
 use Rattle.txs_value_base.specs.declared.op.Callee.{Callee}
 use Rattle.txs_value_base.specs.declared.op.Callee.TheVariants as callee
@@ -23,7 +25,7 @@ use Rattle.txs_value_base.specs.declared.op.Op.{Op}
 use Rattle.txs_value_data.specs.declared.value.CellId.{CellId}
 use Rattle.txs_value_data.specs.declared.value.Value.{Value}
 use Rattle.txs_code_meaning.specs.ActorState.{InHand, StepResult, step_of, Taken, finish}
-use Rattle.txs_code_meaning.specs.Machine.{PlainInstr, PlainBody, ThreadCode, fetch, Frame, to_stack, locals_of, nils, agent_code, Configuration, Turned, Asking, Unfinished, turn, on, started, told, first_place, rested, runs_callee}
+use Rattle.txs_code_meaning.specs.Machine.{PlainInstr, PlainBody, ThreadCode, fetch, Frame, to_stack, to_validation, locals_of, nils, agent_code, Configuration, Turned, Asking, Unfinished, turn, on, started, told, first_place, rested, runs_callee, where_accepted, where_valid}
 use Rattle.txs_code_meaning.specs.Machine as machine
 use Rattle.txs_code_meaning.specs.PlainCode.{PlainCode, CodeBody, parameters_of, library_of}
 use Rattle.txs_code_meaning.specs.WellTyped.{FunctionKind, plain, a_function, IsTable, IsStaging, IsPureFunction, WellTypedFunctions, WellTyped}
@@ -36,7 +38,7 @@ use Rattle.txs_machine_actor.specs.Paces.{MayStep, IsOver}
 use Rattle.txs_machine_actor.specs.PlainActor.{PlainActor, state_of, configuration_of, code_of, IsActorOf, ServesWell, in_hand, asked_for, unanswered, MayAnswerIf, stops_as, stands_at, answered, answered_if, answered_for, attends_anew, kind_or_pure, owner_of, functions_of, setting_of, CalledIn, IsPureBody, CanApply, AllApply, OpenApplies, ActsFor, AsksWell, GoesOn, CanGoOn, Runs, attending_at, MayRun, HandsOut, MayBreak, BreaksAt, AttendsAt, waits, has_taken, has_value, AttendsFor, AttendsOn, Attends, Lives, Awaits}
 use Rattle.txs_machine_transaction.specs.Asks.{ask_for, applied_in}
 use Rattle.txs_machine_transaction.specs.Transaction.{is_running}
-use Rattle.txs_machine_actor.specs.Turns.{IsNew, OneStep, Answers, Moves, TurnsFrom, Turns, AsksFor, TakesAnswer, IsAttending, OperatedAs, Operates, begins_acting, BeginsActing, CanApplyFor, AppliesFor, CanAttend, AttendsSo}
+use Rattle.txs_machine_actor.specs.Turns.{IsNew, OneStep, Answers, Moves, TurnsFrom, Turns, AsksFor, TakesAnswer, IsAttending, OperatedAs, Operates, begins_acting, BeginsActing, CanApplyFor, AppliesFor, CanAttend, AttendsSo, CanCheck, CanJudge, check_of, verdict, AnsweredFor, begins_judging, BeginsJudging, JudgesFor, HandedBy, Hands, HasJudged}
 use Rattle.txs_machine_actor.specs.declared.outcome.Turn.{Turn}
 use Rattle.txs_machine_actor.specs.declared.outcome.Turn.TheVariants as turned
 use Rattle.txs_machine_transaction.specs.declared.state.Pending.{Pending}
@@ -44,6 +46,7 @@ use Rattle.txs_machine_transaction.specs.declared.state.Pending.TheVariants as p
 use Rattle.txs_machine_transaction.specs.declared.state.Transaction.TheVariants.{Outside}
 use Rattle.txs_machine_actor.specs.declared.role.Role.{Role}
 use Rattle.txs_machine_actor.specs.declared.role.Role.TheVariants.{Thread, Attending, Acting}
+use Rattle.txs_machine_actor.proofs.Applying.{typed_look}
 use Rattle.txs_machine_actor.proofs.Calling.{parameters_at, parameters_from, function_at, kind_at, table_too}
 use Rattle.txs_machine_actor.proofs.Effects.{finishes, takes as takes_so, it}
 use Rattle.txs_machine_actor.proofs.Meaning.{stated, configuration, body_in}
@@ -101,23 +104,23 @@ moves_so d a c r e lt h =
 module _ (d : PlainCode) (function_rooms thread_rooms : List ℕ) (typed : WellTyped d function_rooms thread_rooms) (n : ℕ) (was : List ℕ) (p seen : ℕ) (done : PlainTxFrame) (kept : Option Commute) (limit room : ℕ) (g : CellId)
     (actor : IsActorOf d n g) (roomy : 0 < room) (commutes : AllApply (functions_of d typed.kinds) done.commutes) (opened : OpenApplies (functions_of d typed.kinds) kept) where
   -- the agent's actor in its own body
-  abbrev pub own : ℕ → Option InHand → List Value → ℕ → Option Pending → PlainActor
-  own at o vs s q = it n (Attending g o) 0 [] 0 at vs was p seen done kept s limit room Outside q
+  abbrev pub own_as : Option Bool → ℕ → Option InHand → List Value → ℕ → Option Pending → PlainActor
+  own_as acc at o vs s q = it n (Attending g o) 0 [] 0 at vs was p seen done kept acc s limit room Outside q
 
   abbrev ac : ThreadCode
   ac = agent_code (library_of d) g
 
   -- the machine there
-  abbrev at_own : ℕ → Option InHand → List Value → List Exchange → Configuration
-  at_own at o stack xs = configuration 0 at stack [] [] machine.Outside (stated xs was p seen done kept o)
+  abbrev at_own_as : Option Bool → ℕ → Option InHand → List Value → List Exchange → Configuration
+  at_own_as acc at o stack xs = configuration 0 at stack [] [] machine.Outside (stated xs was p seen done kept o acc)
 
   -- a turn of the agent's code is one of the actor's
   turned_so : (c : Configuration) (r : Turned Configuration) → turn ac c ≡ r → turn (code_of d n) c ≡ r
   turned_so c r e = ap (λ (t : ThreadCode). turn t c) actor ∙ e
 
   -- such an actor can go on
-  attends_by : (at : ℕ) (o : Option InHand) (vs : List Value) (s : ℕ) (q : Option Pending) → AttendsFor d g (own at o vs s q) q → Attends d (own at o vs s q)
-  attends_by at o vs s q w = record {
+  attends_by : (acc : Option Bool) (at : ℕ) (o : Option InHand) (vs : List Value) (s : ℕ) (q : Option Pending) → AttendsFor d g (own_as acc at o vs s q) q → Attends d (own_as acc at o vs s q)
+  attends_by acc at o vs s q w = record {
     function_rooms = function_rooms;
     thread_rooms = thread_rooms;
     typed = typed;
@@ -132,8 +135,8 @@ module _ (d : PlainCode) (function_rooms thread_rooms : List ℕ) (typed : WellT
   }
 
   -- one that was stopped
-  stopped_by : (at : ℕ) (o : Option InHand) (vs : List Value) (s : ℕ) (x : Outcome) → Attends d (stops_as (own at o vs s None) x)
-  stopped_by at o vs s x = record {
+  stopped_by : (acc : Option Bool) (at : ℕ) (o : Option InHand) (vs : List Value) (s : ℕ) (x : Outcome) → Attends d (stops_as (own_as acc at o vs s None) x)
+  stopped_by acc at o vs s x = record {
     function_rooms = function_rooms;
     thread_rooms = thread_rooms;
     typed = typed;
@@ -147,7 +150,14 @@ module _ (d : PlainCode) (function_rooms thread_rooms : List ℕ) (typed : WellT
     attends = tt;
   }
 
-  module _ (s : ℕ) (lt : s < limit) where
+  module _ (acc : Option Bool) (s : ℕ) (lt : s < limit) where
+    -- with this answer of a validator
+    abbrev own : ℕ → Option InHand → List Value → ℕ → Option Pending → PlainActor
+    own at o vs m q = own_as acc at o vs m q
+
+    abbrev at_own : ℕ → Option InHand → List Value → List Exchange → Configuration
+    at_own at o stack xs = at_own_as acc at o stack xs
+
     -- what a turn came to
     abbrev Comes : ℕ → Option InHand → List Value → Turn → PlainActor → Type 0
     Comes at o vs r c = Turns d (own at o vs s None) r c × Lives d c
@@ -160,12 +170,12 @@ module _ (d : PlainCode) (function_rooms thread_rooms : List ℕ) (typed : WellT
     breaks_in at o vs h = subst (λ (t : ThreadCode). BreaksAt t (configuration_of (own at o vs s None))) (sym actor) h
 
     -- want of memory, in an action or where one is handed in
-    no_memory : (at : ℕ) (o : Option InHand) (vs us : List Value) → Breaks at → (x : Outcome) (c : PlainActor) → x ≡ outcome.Memory → c ≡ stops_as (own at o us (s + 1) None) outcome.Memory → Comes at o vs (turned.Ended x) c
-    no_memory at o vs us breaks x c e h =
-        let b = stops_as (own at o us (s + 1) None) outcome.Memory in
+    no_memory : (at : ℕ) (o : Option InHand) (vs us : List Value) (acc1 : Option Bool) → Breaks at → (x : Outcome) (c : PlainActor) → x ≡ outcome.Memory → c ≡ stops_as (own_as acc1 at o us (s + 1) None) outcome.Memory → Comes at o vs (turned.Ended x) c
+    no_memory at o vs us acc1 breaks x c e h =
+        let b = stops_as (own_as acc1 at o us (s + 1) None) outcome.Memory in
         let t : Turns d (own at o vs s None) (turned.Ended outcome.Memory) b = moves_so d (own at o vs s None) b (turned.Ended outcome.Memory) refl lt (refl, record { number = refl; outcome = refl; unanswered = refl; counted = refl; limited = refl }, breaks_in at o vs breaks) in (
           subst (λ (y : Outcome). Turns d (own at o vs s None) (turned.Ended y) c) (sym e) (subst (λ (y : PlainActor). Turns d (own at o vs s None) (turned.Ended outcome.Memory) y) (sym h) t),
-          subst (λ (y : PlainActor). Lives d y) (sym h) (inr (stopped_by at o us (s + 1) outcome.Memory)),
+          subst (λ (y : PlainActor). Lives d y) (sym h) (inr (stopped_by acc1 at o us (s + 1) outcome.Memory)),
         )
 
     -- a turn that went
@@ -183,7 +193,7 @@ module _ (d : PlainCode) (function_rooms thread_rooms : List ℕ) (typed : WellT
     takes_one (turned.Asks q) c h =
         let b = own 0 None [] (s + 1) (Some (pending.Take g)) in
         let go : List Exchange → StepResult (Option Taken) → Turned Configuration = λ xs x. on machine.Outside x (λ o s1. started g o (at_own 0 None [] xs) s1) in
-        let k = takes_so n (Attending g None) 0 [] 0 0 [] was p seen done kept (s + 1) limit room g Outside go (λ s1. refl) (λ xs m x v. refl) (λ xs. refl) in
+        let k = takes_so n (Attending g None) 0 [] 0 0 [] was p seen done kept acc (s + 1) limit room g Outside go (λ s1. refl) (λ xs m x v. refl) (λ xs. refl) in
         let awaits : Awaits (code_of d n) (configuration_of (own 0 None [] s None)) b (ask.Take g) = record {
           here = refl;
           asks = turned_so (configuration_of (own 0 None [] s None)) (Asking (record (state_of b) { wants = Some (ask.Take g) })) k.now;
@@ -193,18 +203,18 @@ module _ (d : PlainCode) (function_rooms thread_rooms : List ℕ) (typed : WellT
         let t : Turns d (own 0 None [] s None) (turned.Asks (ask.Take g)) b = moves_so d (own 0 None [] s None) b (turned.Asks (ask.Take g)) refl lt (awaits, record { number = refl; outcome = refl; unanswered = refl; counted = refl; limited = refl }) in
         let some_steps : 0 < s + 1 = omega arith in (
           subst (λ (y : Ask). Turns d (own 0 None [] s None) (turned.Asks y) c) (sym h.0) (subst (λ (y : PlainActor). Turns d (own 0 None [] s None) (turned.Asks (ask.Take g)) y) (sym h.1) t),
-          subst (λ (y : PlainActor). Lives d y) (sym h.1) (inr (attends_by 0 None [] (s + 1) (Some (pending.Take g)) (refl, refl, some_steps))),
+          subst (λ (y : PlainActor). Lives d y) (sym h.1) (inr (attends_by acc 0 None [] (s + 1) (Some (pending.Take g)) (refl, refl, some_steps))),
         )
 
     -- it hands in what an action came to
-    hands_one : (at : ℕ) (x : InHand) (v : Value) (new : Result Value Fault) → Breaks at
-        → ((xs : List Exchange) → turn ac (at_own at (Some x) (v ∷ []) xs) ≡ told (finish g new (stated xs was p seen done kept (Some x))) (λ s1. Unfinished (first_place [] (rested s1))))
-        → (r : Turn) (c : PlainActor) → AsksFor (own at (Some x) [] (s + 1) None) (pending.Finish g new) r c → Comes at (Some x) (v ∷ []) r c
-    hands_one at x v new breaks w turned.Went c h = absurd h
-    hands_one at x v new breaks w (turned.Ended y) c h = no_memory at (Some x) (v ∷ []) [] breaks y c h.1 h.2
-    hands_one at x v new breaks w (turned.Asks q) c h =
-        let b = own at (Some x) [] (s + 1) (Some (pending.Finish g new)) in
-        let k = finishes n (Attending g (Some x)) 0 [] 0 at [] was p seen done kept (s + 1) limit room g new Outside refl in
+    hands_one : (at : ℕ) (x : InHand) (v : Value) (new : Result Value Fault) (acc1 : Option Bool) → Breaks at
+        → ((xs : List Exchange) → turn ac (at_own at (Some x) (v ∷ []) xs) ≡ told (finish g new (stated xs was p seen done kept (Some x) acc1)) (λ s1. Unfinished (first_place [] (rested s1))))
+        → (r : Turn) (c : PlainActor) → AsksFor (own_as acc1 at (Some x) [] (s + 1) None) (pending.Finish g new) r c → Comes at (Some x) (v ∷ []) r c
+    hands_one at x v new acc1 breaks w turned.Went c h = absurd h
+    hands_one at x v new acc1 breaks w (turned.Ended y) c h = no_memory at (Some x) (v ∷ []) [] acc1 breaks y c h.1 h.2
+    hands_one at x v new acc1 breaks w (turned.Asks q) c h =
+        let b = own_as acc1 at (Some x) [] (s + 1) (Some (pending.Finish g new)) in
+        let k = finishes n (Attending g (Some x)) 0 [] 0 at [] was p seen done kept acc1 (s + 1) limit room g new Outside refl in
         let awaits : Awaits (code_of d n) (configuration_of (own at (Some x) (v ∷ []) s None)) b (ask.Finish g new []) = record {
           here = refl;
           asks = turned_so (configuration_of (own at (Some x) (v ∷ []) s None)) (Asking (record (state_of b) { wants = Some (ask.Finish g new []) })) (w [] ∙ k.now);
@@ -213,12 +223,159 @@ module _ (d : PlainCode) (function_rooms thread_rooms : List ℕ) (typed : WellT
         } in
         let t : Turns d (own at (Some x) (v ∷ []) s None) (turned.Asks (ask.Finish g new [])) b = moves_so d (own at (Some x) (v ∷ []) s None) b (turned.Asks (ask.Finish g new [])) refl lt (awaits, record { number = refl; outcome = refl; unanswered = refl; counted = refl; limited = refl }) in (
           subst (λ (y : Ask). Turns d (own at (Some x) (v ∷ []) s None) (turned.Asks y) c) (sym h.0) (subst (λ (y : PlainActor). Turns d (own at (Some x) (v ∷ []) s None) (turned.Asks (ask.Finish g new [])) y) (sym h.1) t),
-          subst (λ (y : PlainActor). Lives d y) (sym h.1) (inr (attends_by at (Some x) [] (s + 1) (Some (pending.Finish g new)) (refl, x, refl))),
+          subst (λ (y : PlainActor). Lives d y) (sym h.1) (inr (attends_by acc1 at (Some x) [] (s + 1) (Some (pending.Finish g new)) (refl, x, refl))),
         )
 
-    -- the value of an action
-    gives_one : (x : InHand) (v : Value) (r : Turn) (c : PlainActor) → AsksFor (own 2 (Some x) [] (s + 1) None) (pending.Finish g (Ok v)) r c → Comes 2 (Some x) (v ∷ []) r c
-    gives_one x v r c h = hands_one 2 x v (Ok v) (machine.FinishOf g, refl, tt) (λ xs. refl) r c h
+    -- ---- the value of an action
+
+    module _ (x : InHand) (v : Value) where
+      -- the validator of the agent that the action was sent to
+      abbrev judge_of : Option Callee
+      judge_of = validator_at (validators_of d.cells) x.action.agent.number
+
+      -- what is done with a value that may be handed in
+      abbrev hands_on : Configuration → Turned Configuration
+      hands_on c1 = told (finish g (Ok v) c1.state) (λ s1. Unfinished (first_place [] (rested s1)))
+
+      -- what the machine does, by that validator
+      abbrev finishes_by : Option Callee → List Exchange → Turned Configuration
+      finishes_by o xs = where_valid ac o v x.action.span (at_own 2 (Some x) (v ∷ []) xs) hands_on
+
+      -- and by what it answered
+      abbrev accepted_by : Callee → List Exchange → Option Bool → Turned Configuration
+      accepted_by f xs o = where_accepted ac o f v x.action.span (at_own 2 (Some x) (v ∷ []) xs) hands_on
+
+      -- what is handed in
+      abbrev handing : CellId → Result Value Fault → Option Bool → List Exchange → Turned Configuration
+      handing h new acc1 xs = told (finish h new (stated xs was p seen done kept (Some x) acc1)) (λ s1. Unfinished (first_place [] (rested s1)))
+
+      -- it is handed in, where there is no validator, or the validator has accepted it
+      gives_one : (acc1 : Option Bool) → ((xs : List Exchange) → finishes_by judge_of xs ≡ handing g (Ok v) acc1 xs) → (r : Turn) (c : PlainActor) → AsksFor (own_as acc1 2 (Some x) [] (s + 1) None) (pending.Finish g (Ok v)) r c → Comes 2 (Some x) (v ∷ []) r c
+      gives_one acc1 w r c h = hands_one 2 x v (Ok v) acc1 (machine.FinishOf g, refl, tt) w r c h
+
+      -- a fault of the validator, or that it refuses the value, is handed in
+      faults_one : (mine : x.agent ≡ g) (f : Fault) (acc1 : Option Bool) → ((xs : List Exchange) → finishes_by judge_of xs ≡ handing x.agent (Err f) acc1 xs) → (r : Turn) (c : PlainActor) → AsksFor (own_as acc1 2 (Some x) [] (s + 1) None) (pending.Finish x.agent (Err f)) r c
+          → Comes 2 (Some x) (v ∷ []) r c
+      faults_one mine f acc1 w r c h =
+          hands_one 2 x v (Err f) acc1 (machine.FinishOf g, refl, tt) (λ xs. w xs ∙ ap (λ (y : CellId). handing y (Err f) acc1 xs) mine) r c
+          (subst (λ (y : CellId). AsksFor (own_as acc1 2 (Some x) [] (s + 1) None) (pending.Finish y (Err f)) r c) mine h)
+
+      -- a validator of this code takes one value, and is pure
+      can_judge : (f : Callee) → judge_of ≡ Some f → CanApply (functions_of d typed.kinds) f 0
+      can_judge f e = (typed_look (functions_of d typed.kinds) d.cells typed.validators x.action.agent.number f e).1
+
+      judges_so : (f : Callee) → CanApply (functions_of d typed.kinds) f 0 → CanJudge d f
+      judges_so (callee.Core op) can = can
+      judges_so (callee.Function m) can =
+          let y = parameters_from d.functions m 1 can.1 in
+          record {
+            body = y.0;
+            is_body = y.1;
+            parameters = (function_at (functions_of d typed.kinds) 0 d.constants d.functions typed.kinds function_rooms m y.0 typed.functions y.1).typed.parameters;
+            many = some (sym can.1 ∙ parameters_at d.functions m y.0 y.1);
+          }
+
+      can_check : (o : Option Callee) → judge_of ≡ o → CanCheck d (check_of o v x.action.span)
+      can_check None e = tt
+      can_check (Some f) e = judges_so f (can_judge f e)
+
+      -- a validator that is an operation
+      judged_one : (mine : x.agent ≡ g) (op : Op) → acc ≡ None → judge_of ≡ Some (callee.Core op) → (y : Answer) → core op (v ∷ []) ≡ y → (r : Turn) (c : PlainActor) → AnsweredFor (own 2 (Some x) (v ∷ []) (s + 1) None) x.action.span y r c → Comes 2 (Some x) (v ∷ []) r c
+      judged_one mine op free e y q r c h = by_answer y (λ xs. comes_to y q xs) h
+        where
+          -- what the machine does, by the operation's answer
+          does : Answer → List Exchange → Turned Configuration
+          does z xs = on machine.Outside (step_of z x.action.span (stated xs was p seen done kept (Some x) acc)) (λ answer s1. Unfinished (record (at_own 2 (Some x) (v ∷ []) xs) { state = machine.answered answer s1 }))
+
+          comes_to : (z : Answer) → core op (v ∷ []) ≡ z → (xs : List Exchange) → finishes_by judge_of xs ≡ does z xs
+          comes_to z k xs = ap (λ (o : Option Callee). finishes_by o xs) e ∙ ap (accepted_by (callee.Core op) xs) free ∙ ap (λ (z1 : Answer). does z1 xs) k
+
+          by_answer : (z : Answer) → ((xs : List Exchange) → finishes_by judge_of xs ≡ does z xs) → AnsweredFor (own 2 (Some x) (v ∷ []) (s + 1) None) x.action.span z r c → Comes 2 (Some x) (v ∷ []) r c
+          by_answer (Ok w) k m =
+              went_so 2 (Some x) (v ∷ []) r c (own_as (verdict w) 2 (Some x) (v ∷ []) (s + 1) None) m.0 m.1 (k [])
+              (record { number = refl; outcome = refl; unanswered = refl; counted = refl; limited = refl }) (inr (attends_by (verdict w) 2 (Some x) (v ∷ []) (s + 1) None (has_value x v refl mine)))
+          by_answer (Err k1) k m = faults_one mine (fault_at k1 x.action.span) acc k r c m
+
+      -- a validator that is a function
+      abbrev judge_vals : CodeBody → List Value
+      judge_vals b1 = (v ∷ []) ++ nils (b1.locals - b1.parameters)
+
+      abbrev judging_at : PlainStack → PlainActor
+      judging_at st = begins_judging (own 2 (Some x) (v ∷ []) (s + 1) None) st (Attending g (Some x))
+
+      judging_means : (f : ℕ) → acc ≡ None → judge_of ≡ Some (callee.Function f) → (b1 : CodeBody) → nth d.functions f ≡ Some b1 → b1.parameters ≤ b1.locals → 1 ≡ b1.parameters → (room1 : ℕ)
+          → finishes_by judge_of [] ≡ Unfinished (configuration_of (judging_at (begun f b1 (v ∷ []) room1)))
+      judging_means f free e b1 is_b1 within many room1 =
+          let many_vals : length (judge_vals b1) ≡ b1.locals = length-append (v ∷ []) (nils (b1.locals - b1.parameters)) ∙ omega (arith, many, length_nils (b1.locals - b1.parameters), within) in
+          let frs : List Frame = record { body = 0; place = 2; stack = v ∷ []; locals = []; awaits = to_validation } ∷ [] in
+          let at_this : List Value → List Value → Turned Configuration = λ stack locals. Unfinished (configuration (suc f) 0 stack locals frs machine.Outside (stated [] was p seen done kept (Some x) acc)) in
+          ap (λ (o : Option Callee). finishes_by o []) e
+          ∙ ap (accepted_by (callee.Function f) []) free
+          ∙ ap (λ (o : Option PlainBody). at_this [] (locals_of o (v ∷ []))) (body_in (parameters_of d.functions) d.constants d.functions f b1 is_b1)
+          ∙ ap (λ (y : ℕ). at_this [] ((v ∷ []) ++ nils (b1.locals - y))) many
+          ∙ ap (λ (y : List Value). at_this y (judge_vals b1)) (sym (ap reverse (drop_all b1.locals (judge_vals b1) (omega (arith, many_vals)))))
+          ∙ ap (λ (y : List Value). at_this (stack_in b1.locals (judge_vals b1)) y) (sym (take_all b1.locals (judge_vals b1) (omega (arith, many_vals))))
+
+      judging_goes : (mine : x.agent ≡ g) (f : ℕ) → IsPureFunction typed.kinds f → (b1 : CodeBody) → nth d.functions f ≡ Some b1 → b1.parameters ≤ b1.locals → 1 ≡ b1.parameters → (most : ℕ) → Needs d f most
+          → GoesOn d typed.kinds b1 (judging_at (begun f b1 (v ∷ []) (b1.locals + most)))
+      judging_goes mine f pure b1 is_b1 within many most needs =
+          let many_vals : length (judge_vals b1) ≡ b1.locals = length-append (v ∷ []) (nils (b1.locals - b1.parameters)) ∙ omega (arith, many, length_nils (b1.locals - b1.parameters), within) in
+          record {
+            own = (0, 0);
+            base = (0, 0);
+            ready = begun_ready d typed.kinds function_rooms typed.functions f b1 most (b1.locals + most) (judge_vals b1) is_b1 needs (omega arith) many_vals;
+            enters = pure_enters d typed.kinds function_rooms typed.functions f pure;
+            callers = refl;
+            is_first = (tt, pure_body d typed.kinds function_rooms typed.functions f pure);
+            counted = refl;
+            swaps = refl;
+            began = tt;
+            shallow = omega arith;
+            commutes = commutes;
+            opened = opened;
+            serves = record { typed = record { function_rooms = function_rooms; thread_rooms = thread_rooms; typed = typed; same = refl }; actor = subst (λ (y : CellId). IsActorOf d n y) (sym mine) actor; is = (v, refl); roomy = roomy };
+            applies = tt;
+          }
+
+      judging_one : (mine : x.agent ≡ g) (f : ℕ) → acc ≡ None → judge_of ≡ Some (callee.Function f) → (r : Turn) (c : PlainActor) → BeginsJudging d (own 2 (Some x) (v ∷ []) (s + 1) None) f v r c → Comes 2 (Some x) (v ∷ []) r c
+      judging_one mine f free e turned.Went c h =
+          let can = can_judge (callee.Function f) e in
+          let i = h.1 in
+          let b1 = i.0 in
+          let many : 1 ≡ b1.parameters = some (sym can.1 ∙ parameters_at d.functions f b1 i.2) in
+          let within = (function_at (functions_of d typed.kinds) 0 d.constants d.functions typed.kinds function_rooms f b1 typed.functions i.2).typed.parameters in
+          let c0 = judging_at (begun f b1 (v ∷ []) (b1.locals + i.1)) in
+          went_so 2 (Some x) (v ∷ []) turned.Went c c0 refl (h.2 ∙ ap judging_at i.4) (judging_means f free e b1 i.2 within many (b1.locals + i.1))
+          (record { number = refl; outcome = refl; unanswered = refl; counted = refl; limited = refl })
+          (inl (record { kinds = typed.kinds; rooms = function_rooms; functions = typed.functions; validators = typed.validators; body = b1; is = i.2; goes = judging_goes mine f can.0 b1 i.2 within many i.1 i.3 }))
+      judging_one mine f free e (turned.Asks q) c h = absurd h
+      judging_one mine f free e (turned.Ended y) c h = no_memory 2 (Some x) (v ∷ []) (v ∷ []) acc (machine.FinishOf g, refl, tt) y c h.0 h.1
+
+      judges_one : (mine : x.agent ≡ g) (f : Callee) → acc ≡ None → judge_of ≡ Some f → (r : Turn) (c : PlainActor) → JudgesFor d (own 2 (Some x) (v ∷ []) (s + 1) None) f v x.action.span r c → Comes 2 (Some x) (v ∷ []) r c
+      judges_one mine (callee.Core op) free e r c (inl h) = judged_one mine op free e (core op (v ∷ [])) refl r c h
+      judges_one mine (callee.Core op) free e r c (inr h) =
+          let m = no_memory 2 (Some x) (v ∷ []) (v ∷ []) acc (machine.FinishOf g, refl, tt) outcome.Memory c refl h.1 in
+          (subst (λ (y : Turn). Turns d (own 2 (Some x) (v ∷ []) s None) y c) (sym h.0) m.0, m.1)
+      judges_one mine (callee.Function f) free e r c h = judging_one mine f free e r c h
+
+      -- by what the validator answered
+      handed_one : (mine : x.agent ≡ g) (f : Callee) → judge_of ≡ Some f → (a : Option Bool) → acc ≡ a → (r : Turn) (c : PlainActor) → HandedBy d (own 2 (Some x) (v ∷ []) (s + 1) None) (record { callee = f; value = v; span = x.action.span }) a r c
+          → Comes 2 (Some x) (v ∷ []) r c
+      handed_one mine f e None free r c h = judges_one mine f free e r c h
+      handed_one mine f e (Some true) free r c h = gives_one None (λ xs. ap (λ (o : Option Callee). finishes_by o xs) e ∙ ap (accepted_by f xs) free) r c h
+      handed_one mine f e (Some false) free r c h =
+          faults_one mine (fault_at InvalidState x.action.span) None (λ xs. ap (λ (o : Option Callee). finishes_by o xs) e ∙ ap (accepted_by f xs) free) r c h
+
+      -- by the validator, if there is one
+      hands_by : (mine : x.agent ≡ g) (o : Option Callee) → judge_of ≡ o → (r : Turn) (c : PlainActor) → Hands d (own 2 (Some x) (v ∷ []) (s + 1) None) (check_of o v x.action.span) r c → Comes 2 (Some x) (v ∷ []) r c
+      hands_by mine None e r c h = gives_one acc (λ xs. ap (λ (o : Option Callee). finishes_by o xs) e) r c h
+      hands_by mine (Some f) e r c h = handed_one mine f e acc refl r c h
+
+      value_one : (mine : x.agent ≡ g) (r : Turn) (c : PlainActor) → AttendsSo d (own 2 (Some x) (v ∷ []) (s + 1) None) 2 r c → Comes 2 (Some x) (v ∷ []) r c
+      value_one mine r c h = hands_by mine judge_of refl r c h
+
+      can_value : CanAttend d (own 2 (Some x) (v ∷ []) (s + 1) None) 2
+      can_value = (omega arith, (g, refl), can_check judge_of refl)
 
     -- ---- an action that is run
 
@@ -234,16 +391,16 @@ module _ (d : PlainCode) (function_rooms thread_rooms : List ℕ) (typed : WellT
       operated : (op : Op) → x.callee ≡ callee.Core op → (y : Answer) → core op (v ∷ x.args) ≡ y → (r : Turn) (c : PlainActor) → OperatedAs (own 1 (Some hand) [] (s + 1) None) x.span y r c → Comes 1 (Some hand) (v ∷ []) r c
       operated op e (Ok w) q r c h =
           went_so 1 (Some hand) (v ∷ []) r c (own 2 (Some hand) (w ∷ []) (s + 1) None) h.0 h.1
-          (runs_it (callee.Core op) e [] ∙ ap (λ (y : Answer). machine.gives (at_own 1 (Some hand) (v ∷ []) []) [] (step_of y x.span (stated [] was p seen done kept (Some hand)))) q)
-          (record { number = refl; outcome = refl; unanswered = refl; counted = refl; limited = refl }) (inr (attends_by 2 (Some hand) (w ∷ []) (s + 1) None (has_value hand w refl)))
+          (runs_it (callee.Core op) e [] ∙ ap (λ (y : Answer). machine.gives (at_own 1 (Some hand) (v ∷ []) []) [] (step_of y x.span (stated [] was p seen done kept (Some hand) acc))) q)
+          (record { number = refl; outcome = refl; unanswered = refl; counted = refl; limited = refl }) (inr (attends_by acc 2 (Some hand) (w ∷ []) (s + 1) None (has_value hand w refl refl)))
       operated op e (Err k) q r c h =
-          hands_one 1 hand v (Err (fault_at k x.span)) (machine.RunOf, refl, tt)
-          (λ xs. runs_it (callee.Core op) e xs ∙ ap (λ (y : Answer). machine.gives (at_own 1 (Some hand) (v ∷ []) xs) [] (step_of y x.span (stated xs was p seen done kept (Some hand)))) q) r c h
+          hands_one 1 hand v (Err (fault_at k x.span)) acc (machine.RunOf, refl, tt)
+          (λ xs. runs_it (callee.Core op) e xs ∙ ap (λ (y : Answer). machine.gives (at_own 1 (Some hand) (v ∷ []) xs) [] (step_of y x.span (stated xs was p seen done kept (Some hand) acc))) q) r c h
 
       operates : (op : Op) → x.callee ≡ callee.Core op → (r : Turn) (c : PlainActor) → Operates (own 1 (Some hand) (v ∷ []) (s + 1) None) op r c → Comes 1 (Some hand) (v ∷ []) r c
       operates op e r c (inl h) = operated op e (core op (v ∷ x.args)) refl r c h
       operates op e r c (inr h) =
-          let m = no_memory 1 (Some hand) (v ∷ []) [] (machine.RunOf, refl, tt) outcome.Memory c refl h.1 in
+          let m = no_memory 1 (Some hand) (v ∷ []) [] acc (machine.RunOf, refl, tt) outcome.Memory c refl h.1 in
           (subst (λ (y : Turn). Turns d (own 1 (Some hand) (v ∷ []) s None) y c) (sym h.0) m.0, m.1)
 
       -- the function of the action
@@ -261,7 +418,7 @@ module _ (d : PlainCode) (function_rooms thread_rooms : List ℕ) (typed : WellT
       begins_means f e b1 is_b1 within many room1 =
           let many_vals : length (vals b1) ≡ b1.locals = length-append (v ∷ x.args) (nils (b1.locals - b1.parameters)) ∙ omega (arith, many, length_nils (b1.locals - b1.parameters), within) in
           let frs : List Frame = record { body = 0; place = 2; stack = []; locals = []; awaits = to_stack } ∷ [] in
-          let at_this : List Value → List Value → Turned Configuration = λ stack locals. Unfinished (configuration (suc f) 0 stack locals frs machine.Outside (stated [] was p seen done kept (Some hand))) in
+          let at_this : List Value → List Value → Turned Configuration = λ stack locals. Unfinished (configuration (suc f) 0 stack locals frs machine.Outside (stated [] was p seen done kept (Some hand) acc)) in
           runs_it (callee.Function f) e []
           ∙ ap (λ (o : Option PlainBody). at_this [] (locals_of o (v ∷ x.args))) (body_in (parameters_of d.functions) d.constants d.functions f b1 is_b1)
           ∙ ap (λ (y : ℕ). at_this [] ((v ∷ x.args) ++ nils (b1.locals - y))) many
@@ -299,9 +456,9 @@ module _ (d : PlainCode) (function_rooms thread_rooms : List ℕ) (typed : WellT
           let c0 = began_at (begun f b1 (v ∷ x.args) (b1.locals + i.1)) in
           went_so 1 (Some hand) (v ∷ []) turned.Went c c0 refl (h.2 ∙ ap began_at i.4) (begins_means f e b1 i.2 within many (b1.locals + i.1))
           (record { number = refl; outcome = refl; unanswered = refl; counted = refl; limited = refl })
-          (inl (record { kinds = typed.kinds; rooms = function_rooms; functions = typed.functions; body = b1; is = i.2; goes = begins_goes f can.0 b1 i.2 within many i.1 i.3 }))
+          (inl (record { kinds = typed.kinds; rooms = function_rooms; functions = typed.functions; validators = typed.validators; body = b1; is = i.2; goes = begins_goes f can.0 b1 i.2 within many i.1 i.3 }))
       begins_one f e (turned.Asks q) c h = absurd h
-      begins_one f e (turned.Ended y) c h = no_memory 1 (Some hand) (v ∷ []) [] (machine.RunOf, refl, tt) y c h.0 h.1
+      begins_one f e (turned.Ended y) c h = no_memory 1 (Some hand) (v ∷ []) [] acc (machine.RunOf, refl, tt) y c h.0 h.1
 
       runs_one : (f : Callee) → x.callee ≡ f → (r : Turn) (c : PlainActor) → AppliesFor d (own 1 (Some hand) (v ∷ []) (s + 1) None) (Some f) r c → Comes 1 (Some hand) (v ∷ []) r c
       runs_one (callee.Core op) e r c h = operates op e r c h
@@ -342,28 +499,31 @@ module _ (d : PlainCode) (a : PlainActor) (h : Attends d a) (lt : a.steps < a.li
   attends_here : AttendsAt d g a → a.outcome ≡ None → a.pending ≡ None → AttendsHere d a
   attends_here (waits is) e f =
       subst (λ (x : PlainActor). AttendsHere d x) (plainly 0 None [] e f is)
-      (record { can = (g, refl); so = λ r c k. takes_one d h.function_rooms h.thread_rooms h.typed a.number a.printed a.at a.view a.done a.commuting a.limit a.room g here_actor h.roomy h.commutes h.opened a.steps lt r c k })
+      (record { can = (g, refl); so = λ r c k. takes_one d h.function_rooms h.thread_rooms h.typed a.number a.printed a.at a.view a.done a.commuting a.limit a.room g here_actor h.roomy h.commutes h.opened a.accepted a.steps lt r c k })
   attends_here (has_taken x v may is) e f =
       subst (λ (y : PlainActor). AttendsHere d y) (plainly 1 (Some (in_hand g x)) (v ∷ []) e f is)
       (record {
-        can = can_one d h.function_rooms h.thread_rooms h.typed a.number a.printed a.at a.view a.done a.commuting a.limit a.room g here_actor h.roomy h.commutes h.opened a.steps lt x v may x.callee refl;
-        so = λ r c k. runs_one d h.function_rooms h.thread_rooms h.typed a.number a.printed a.at a.view a.done a.commuting a.limit a.room g here_actor h.roomy h.commutes h.opened a.steps lt x v may x.callee refl r c k;
+        can = can_one d h.function_rooms h.thread_rooms h.typed a.number a.printed a.at a.view a.done a.commuting a.limit a.room g here_actor h.roomy h.commutes h.opened a.accepted a.steps lt x v may x.callee refl;
+        so = λ r c k. runs_one d h.function_rooms h.thread_rooms h.typed a.number a.printed a.at a.view a.done a.commuting a.limit a.room g here_actor h.roomy h.commutes h.opened a.accepted a.steps lt x v may x.callee refl r c k;
       })
-  attends_here (has_value x v is) e f =
+  attends_here (has_value x v is mine) e f =
       subst (λ (y : PlainActor). AttendsHere d y) (plainly 2 (Some x) (v ∷ []) e f is)
-      (record { can = (omega arith, (g, refl)); so = λ r c k. gives_one d h.function_rooms h.thread_rooms h.typed a.number a.printed a.at a.view a.done a.commuting a.limit a.room g here_actor h.roomy h.commutes h.opened a.steps lt x v r c k })
+      (record {
+        can = can_value d h.function_rooms h.thread_rooms h.typed a.number a.printed a.at a.view a.done a.commuting a.limit a.room g here_actor h.roomy h.commutes h.opened a.accepted a.steps lt x v;
+        so = λ r c k. value_one d h.function_rooms h.thread_rooms h.typed a.number a.printed a.at a.view a.done a.commuting a.limit a.room g here_actor h.roomy h.commutes h.opened a.accepted a.steps lt x v mine r c k;
+      })
 
 -- ---- actors that run a body aren't in an agent's own
 
 not_served : (d : PlainCode) (kinds : List FunctionKind) (k : ℕ) (r : Role) → IsAttending r → ServesWell d kinds k r → ⊥
 not_served d kinds k Thread i s = i
 not_served d kinds k (Attending g o) i s = s
-not_served d kinds k (Acting h aside) i s = i
+not_served d kinds k (Acting h judges aside) i s = i
 
 not_acting : (d : PlainCode) (kinds : List FunctionKind) (k : ℕ) (h : CellId) (r : Role) → IsAttending r → ActsFor d kinds k h r → ⊥
 not_acting d kinds k h Thread i w = i
 not_acting d kinds k h (Attending g o) i w = w
-not_acting d kinds k h (Acting x aside) i w = i
+not_acting d kinds k h (Acting x judges aside) i w = i
 
 not_asking : (d : PlainCode) (kinds : List FunctionKind) (b : CodeBody) (a : PlainActor) (p : Pending) → IsAttending a.role → AsksWell d kinds b a p → ⊥
 not_asking d kinds b a (pending.Begin left from) i w = not_served d kinds a.number a.role i w.0.serves
@@ -450,7 +610,7 @@ takes_for : (d : PlainCode) (g : CellId) (a : PlainActor) (o : Option Outcome) (
 takes_for d g a o None r roomy w m = absurd m
 takes_for d g a (Some x) (Some q) r roomy w m = absurd w
 takes_for d g a None (Some (pending.Take h)) r roomy w m = take_replies (λ x. TakesAnswer a 0 (Some (pending.Take h)) x) h (λ i x v. (ap (λ (y : PlainActor). y.values) w.1, roomy)) w.2 tt r m
-takes_for d g a None (Some (pending.Finish h new)) r roomy w m = finish_replies (λ x. TakesAnswer a 0 (Some (pending.Finish h new)) x) h new tt tt tt r m
+takes_for d g a None (Some (pending.Finish h new)) r roomy w m = finish_replies (λ x. TakesAnswer a 0 (Some (pending.Finish h new)) x) h new (subst HasJudged (sym (ap (λ (y : PlainActor). y.role) w.2)) tt) tt tt r m
 takes_for d g a None (Some (pending.Begin left from)) r roomy w m = absurd w
 takes_for d g a None (Some (pending.Read c)) r roomy w m = absurd w
 takes_for d g a None (Some (pending.Ensure c es)) r roomy w m = absurd w
@@ -555,11 +715,11 @@ attends_lands d a r l i m out =
 
 module _ (d : PlainCode) (n limit : ℕ) (g : CellId) (actor : IsActorOf d n g) (out : List ℕ) (w : PlainTxFrame) where
   abbrev new_agent : PlainActor
-  new_agent = it n (Attending g None) 0 [] 0 0 [] out 0 0 w None 0 limit 1 Outside None
+  new_agent = it n (Attending g None) 0 [] 0 0 [] out 0 0 w None None 0 limit 1 Outside None
 
   pub agent_is_new : out ≡ [] → w ≡ empty_frame → IsNew d n limit new_agent
   agent_is_new unprinted undone =
-      let at_first : List ℕ → PlainTxFrame → Configuration = λ o y. first_place [] (stated [] o 0 0 y None None) in
+      let at_first : List ℕ → PlainTxFrame → Configuration = λ o y. first_place [] (stated [] o 0 0 y None None None) in
       record {
         number = refl;
         opens = ap (λ (o : List ℕ). at_first o w) unprinted ∙ ap (λ (y : PlainTxFrame). at_first [] y) undone ∙ ap (λ (t : ThreadCode). opening t []) (sym actor);

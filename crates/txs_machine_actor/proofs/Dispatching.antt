@@ -4,6 +4,9 @@ use Rattle.txs_world_protocol.specs.Ask.{Writes, buffered}
 use Rattle.txs_frame.specs.Frame.{PlainTxFrame, commuted, set_ref}
 use Rattle.txs_frame.specs.Phase.{next_arguments}
 use Rattle.txs_frame.specs.declared.frame.Commute.{Commute}
+use Rattle.txs_frame.specs.declared.phase.Task.{Task}
+use Rattle.txs_frame.specs.declared.phase.Task.TheVariants.{Redoes, Validates}
+use Rattle.txs_value_cell.specs.Cells.{Validators}
 use Rattle.txs_value_apply.specs.Core.{Answer, core}
 use Rattle.txs_value_base.specs.declared.fault.FaultKind.{FaultKind}
 use Rattle.txs_value_base.specs.declared.fault.Span.{Span}
@@ -26,7 +29,7 @@ use Rattle.txs_machine_transaction.specs.Effect.{Effect, moves, stays, waits, di
 use Rattle.txs_machine_transaction.specs.Transaction.{is_running}
 use Rattle.txs_machine_transaction.specs.declared.state.Savepoint.{Savepoint}
 use Rattle.txs_machine_transaction.specs.declared.state.Transaction.{Transaction}
-use Rattle.txs_machine_transaction.specs.declared.state.Transaction.TheVariants.{Outside, Restarting, Running, Applying, Evaluating, Swapping}
+use Rattle.txs_machine_transaction.specs.declared.state.Transaction.TheVariants.{Outside, Restarting, Running, Applying, Evaluating, Swapping, Judging, Weighing}
 
 module _ (room : ℕ) where
   -- the arguments of a send are among the values, which have room
@@ -81,30 +84,33 @@ module _ (room : ℕ) where
     swaps_well n k (Ok c) = tt
     swaps_well n k (Err x) = tt
 
-    settles_well : (cs : List CellId) (t : Transaction) (k : Option Commute) → SendsWell (settles cs vs t w k)
-    settles_well [] t k = tt
-    settles_well (c ∷ cs) t k = tt
+    settles_well : (vals : Validators) (cs : List CellId) (t : Transaction) (k : Option Commute) → SendsWell (settles vals cs vs t w k)
+    settles_well vals [] t k = tt
+    settles_well vals (c ∷ cs) t k = tt
 
-    applied_well : (left : ℕ) (at : Savepoint) (k : Option Commute) (o : Commute) (os : List Commute) (ws : Writes) (x : Answer) → SendsWell (applies_as left at vs w k o os ws x)
+    applied_well : (left : ℕ) (at : Savepoint) (k : Option Commute) (o : Commute) (os : List Task) (ws : Writes) (x : Answer) → SendsWell (applies_as left at vs w k o os ws x)
     applied_well left at k o os ws (Ok v) = tt
     applied_well left at k o os ws (Err x) = tt
 
-    applies_well : (f : Callee) (left : ℕ) (at : Savepoint) (k : Option Commute) (o : Commute) (os : List Commute) (ws : Writes) → SendsWell (applies f left at vs w k o os ws)
-    applies_well (callee.Core op) left at k o os ws = applied_well left at k o os ws (core op (next_arguments (o ∷ os) ws))
+    applies_well : (f : Callee) (left : ℕ) (at : Savepoint) (k : Option Commute) (o : Commute) (os : List Task) (ws : Writes) → SendsWell (applies f left at vs w k o os ws)
+    applies_well (callee.Core op) left at k o os ws = applied_well left at k o os ws (core op (next_arguments (Redoes o ∷ os) ws w))
     applies_well (callee.Function f) left at k o os ws = tt
 
-    through_well : (left : ℕ) (at : Savepoint) (k : Option Commute) (os : List Commute) (ws : Writes) → SendsWell (goes_through left at vs w k os ws)
+    through_well : (left : ℕ) (at : Savepoint) (k : Option Commute) (os : List Task) (ws : Writes) → SendsWell (goes_through left at vs w k os ws)
     through_well left at k [] ws = tt
-    through_well left at k (o ∷ os) ws = applies_well o.callee left at k o os ws
+    through_well left at k (Redoes o ∷ os) ws = applies_well o.callee left at k o os ws
+    through_well left at k (Validates c f ∷ os) ws = tt
 
-    ends_well : (k : Option Commute) (t : Transaction) → SendsWell (ends vs w k t)
-    ends_well k Outside = tt
-    ends_well k (Restarting left) = tt
-    ends_well k (Running left zero at) = settles_well (commuted w) (Running left zero at) k
-    ends_well k (Running left (suc inner) at) = tt
-    ends_well k (Applying left at phase) = through_well left at k phase.work phase.values
-    ends_well k (Evaluating left at phase aside) = tt
-    ends_well k (Swapping c p at) = tt
+    ends_well : (vals : Validators) (k : Option Commute) (t : Transaction) → SendsWell (ends vals vs w k t)
+    ends_well vals k Outside = tt
+    ends_well vals k (Restarting left) = tt
+    ends_well vals k (Running left zero at) = settles_well vals (commuted w) (Running left zero at) k
+    ends_well vals k (Running left (suc inner) at) = tt
+    ends_well vals k (Applying left at phase) = through_well left at k phase.work phase.values
+    ends_well vals k (Evaluating left at phase aside) = tt
+    ends_well vals k (Swapping c p at) = tt
+    ends_well vals k (Judging aside) = tt
+    ends_well vals k (Weighing c p at aside) = tt
 
     swapped_well : (k : Option Commute) (t : Transaction) → SendsWell (swapped vs w k t)
     swapped_well k Outside = tt
@@ -113,35 +119,37 @@ module _ (room : ℕ) where
     swapped_well k (Applying left at phase) = tt
     swapped_well k (Evaluating left at phase aside) = tt
     swapped_well k (Swapping c p at) = tt
+    swapped_well k (Judging aside) = tt
+    swapped_well k (Weighing c p at aside) = tt
 
-    effect_well : (k : Option Commute) (i : Instr) → CanMove vs room tx i → IsRare k i → SendsWell (effect from vs tx w k i)
-    effect_well k (instr.Look Deref) can rare = absurd rare
-    effect_well k (instr.Look Ensure) can rare = ensures_well k (cell_of (rule (form.Look Ensure)) true (last_of vs))
-    effect_well k (instr.Put RefSet) can rare = absurd rare
-    effect_well k (instr.Put Reset) can rare = resets_well k (cell_of (rule (form.Put Reset)) false (under 1 vs))
-    effect_well k (instr.Send f n) can rare = sends_well (is_running tx) f n from.span k can.0 can.1 (cell_of (rule form.Send) (is_running tx) (under n vs))
-    effect_well k instr.TxBegin can rare = absurd rare
-    effect_well k instr.TxEnd can rare = ends_well k tx
-    effect_well k (instr.Open open_form.Alter n) can rare = absurd rare
-    effect_well k (instr.Open (open_form.Commute f) n) can rare = opens_well (update_of (Some f)) n k (cell_of (rule (form.Update update.Alter)) true (under n vs))
-    effect_well k (instr.Open (open_form.Swap f) n) can rare = swaps_well n k (cell_of (rule (form.Update update.Swap)) false (under n vs))
-    effect_well k (instr.Close update.Alter) can rare = closes_well k
-    effect_well k (instr.Close update.Commute) can rare = closes_well k
-    effect_well k (instr.Close update.Swap) can rare = swapped_well k tx
-    effect_well k (instr.Const c) can rare = absurd can
-    effect_well k (instr.Local i) can rare = absurd can
-    effect_well k (instr.Store i) can rare = absurd can
-    effect_well k instr.Pop can rare = absurd can
-    effect_well k (instr.Jump to) can rare = absurd can
-    effect_well k (instr.JumpFalse to) can rare = absurd can
-    effect_well k (instr.Core op n) can rare = absurd can
-    effect_well k (instr.Call f) can rare = absurd can
-    effect_well k instr.Return can rare = absurd can
-    effect_well k (instr.Vector n) can rare = absurd can
-    effect_well k (instr.Print n) can rare = absurd can
-    effect_well k instr.Halt can rare = absurd can
+    effect_well : (vals : Validators) (k : Option Commute) (i : Instr) → CanMove vs room tx i → IsRare k i → SendsWell (effect vals from vs tx w k i)
+    effect_well vals k (instr.Look Deref) can rare = absurd rare
+    effect_well vals k (instr.Look Ensure) can rare = ensures_well k (cell_of (rule (form.Look Ensure)) true (last_of vs))
+    effect_well vals k (instr.Put RefSet) can rare = absurd rare
+    effect_well vals k (instr.Put Reset) can rare = resets_well k (cell_of (rule (form.Put Reset)) false (under 1 vs))
+    effect_well vals k (instr.Send f n) can rare = sends_well (is_running tx) f n from.span k can.0 can.1 (cell_of (rule form.Send) (is_running tx) (under n vs))
+    effect_well vals k instr.TxBegin can rare = absurd rare
+    effect_well vals k instr.TxEnd can rare = ends_well vals k tx
+    effect_well vals k (instr.Open open_form.Alter n) can rare = absurd rare
+    effect_well vals k (instr.Open (open_form.Commute f) n) can rare = opens_well (update_of (Some f)) n k (cell_of (rule (form.Update update.Alter)) true (under n vs))
+    effect_well vals k (instr.Open (open_form.Swap f) n) can rare = swaps_well n k (cell_of (rule (form.Update update.Swap)) false (under n vs))
+    effect_well vals k (instr.Close update.Alter) can rare = closes_well k
+    effect_well vals k (instr.Close update.Commute) can rare = closes_well k
+    effect_well vals k (instr.Close update.Swap) can rare = swapped_well k tx
+    effect_well vals k (instr.Const c) can rare = absurd can
+    effect_well vals k (instr.Local i) can rare = absurd can
+    effect_well vals k (instr.Store i) can rare = absurd can
+    effect_well vals k instr.Pop can rare = absurd can
+    effect_well vals k (instr.Jump to) can rare = absurd can
+    effect_well vals k (instr.JumpFalse to) can rare = absurd can
+    effect_well vals k (instr.Core op n) can rare = absurd can
+    effect_well vals k (instr.Call f) can rare = absurd can
+    effect_well vals k instr.Return can rare = absurd can
+    effect_well vals k (instr.Vector n) can rare = absurd can
+    effect_well vals k (instr.Print n) can rare = absurd can
+    effect_well vals k instr.Halt can rare = absurd can
 
     -- where an instruction sends outside every transaction, its arguments are among the values, which have room
-    pub dispatched : (k : Option Commute) (i : Instr) → CanMove vs room tx i → IsRare k i → (x : Action) (n : ℕ) (us : List Value) (t : Transaction) (u : PlainTxFrame) (had : Option Commute) → effect from vs tx w k i ≡ dispatches x n us t u had
+    pub dispatched : (vals : Validators) (k : Option Commute) (i : Instr) → CanMove vs room tx i → IsRare k i → (x : Action) (n : ℕ) (us : List Value) (t : Transaction) (u : PlainTxFrame) (had : Option Commute) → effect vals from vs tx w k i ≡ dispatches x n us t u had
         → (n < length us) × (length us ≤ room)
-    dispatched k i can rare x n us t u had e = subst SendsWell e (effect_well k i can rare)
+    dispatched vals k i can rare x n us t u had e = subst SendsWell e (effect_well vals k i can rare)

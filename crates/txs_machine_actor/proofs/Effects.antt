@@ -7,9 +7,12 @@ use Rattle.txs_world_protocol.specs.declared.ask.Ask.TheVariants as ask
 use Rattle.txs_world_protocol.specs.declared.ask.Reply.{Reply}
 use Rattle.txs_world_protocol.specs.declared.ask.Reply.TheVariants.{Is, Views, Done, Retry, Changed, Opened, Action, Idle}
 use Rattle.txs_world_protocol.specs.declared.event.Outcome.TheVariants as outcome
-use Rattle.txs_frame.specs.Frame.{PlainTxFrame, empty_frame, commuted, set_writes, set_ref, with_cell, ensure_ref, commute_ref, hold_send, phase_work}
-use Rattle.txs_frame.specs.Phase.{PlainPhase, blank, arguments_of}
+use Rattle.txs_frame.specs.Frame.{PlainTxFrame, empty_frame, commuted, set_writes, set_ref, with_cell, ensure_ref, commute_ref, hold_send}
+use Rattle.txs_frame.specs.Phase.{PlainPhase, blank, arguments_of, tasks_of}
 use Rattle.txs_frame.specs.declared.frame.Commute.{Commute}
+use Rattle.txs_frame.specs.declared.phase.Task.{Task}
+use Rattle.txs_frame.specs.declared.phase.Task.TheVariants.{Redoes, Validates}
+use Rattle.txs_value_cell.specs.Cells.{Validators, validator_at}
 use Rattle.txs_value_cell.specs.Forms.{rule, cell_of}
 use Rattle.txs_value_data.specs.Limits.{reruns}
 use Rattle.txs_value_base.specs.Places.{fault_at}
@@ -28,7 +31,7 @@ use Rattle.txs_value_base.specs.declared.op.Callee.TheVariants as callee
 use Rattle.txs_value_data.specs.declared.value.CellId.{CellId}
 use Rattle.txs_value_data.specs.declared.value.Value.{Value}
 use Rattle.txs_value_data.specs.declared.value.Value.TheVariants.{Cell}
-use Rattle.txs_code_meaning.specs.ActorState.{ActorState, InHand, now_holding, send_or_hold, StepResult, Continue, Redo, Await, on_step, step_of, Reception, Replied, Unreplied, asks, heard, read_point, just_done, value_there, newest_value, views as machine_views, view, viewed, paired, Outdated, commit_verdict, begin, begun, fail, Taken, handed_out, take_action, finish, commit, look, buffered_or, peek, read, read_cell, assign, set_own, reset_atom, send_verdict, sent, send_now, send_action, send_to, RefUpdate, Alters, Commutes, update_form, kept_open, open_update, close_own, close_update, SwapInHand, opened as opened_there, open_atom, swap_verdict, close_swap, break_swap}
+use Rattle.txs_code_meaning.specs.ActorState.{ActorState, InHand, now_holding, send_or_hold, StepResult, Continue, Redo, Await, on_step, step_of, Reception, Replied, Unreplied, asks, heard, read_point, just_done, value_there, newest_value, views as machine_views, view, viewed, paired, Outdated, commit_verdict, begin, begun, fail, Taken, handed_out, take_action, finish, commit, look, buffered_or, peek, read, read_cell, assign, assign_cell, set_own, reset_atom, send_verdict, sent, send_now, send_action, send_to, RefUpdate, Alters, Commutes, update_form, kept_open, open_update, close_own, close_update, SwapInHand, opened as opened_there, open_atom, swap_verdict, close_swap, break_swap}
 use Rattle.txs_code_meaning.proofs.Phases.{paired_fills, same_arguments}
 use Rattle.txs_code_meaning.specs.Machine.{ThreadCode, Frame, Activity, Configuration, Turned, Failed, Asking, Unfinished, act, told, raise, rerun, swap_decided, on, on_args_of, on_top, starts, settles, lands, decided, staying, push_all, is_inside, first_place, rested, ends_with}
 use Rattle.txs_code_meaning.specs.Machine as machine
@@ -47,16 +50,16 @@ use Rattle.txs_machine_transaction.specs.declared.state.Savepoint.{Savepoint}
 use Rattle.txs_machine_transaction.specs.declared.state.Pending.{Pending}
 use Rattle.txs_machine_transaction.specs.declared.state.Pending.TheVariants as pending
 use Rattle.txs_machine_transaction.specs.declared.state.Transaction.{Transaction}
-use Rattle.txs_machine_transaction.specs.declared.state.Transaction.TheVariants.{Outside, Restarting, Running, Applying, Evaluating, Swapping}
+use Rattle.txs_machine_transaction.specs.declared.state.Transaction.TheVariants.{Outside, Restarting, Running, Applying, Evaluating, Swapping, Judging, Weighing}
 use Rattle.txs_machine_actor.specs.declared.role.Role.{Role}
 use Rattle.txs_machine_actor.proofs.Meaning.{stated, configuration, same_place}
 use Rattle.txs_machine_actor.proofs.Replies.{begin_replies, view_replies, look_replies, peek_replies, commit_replies, fail_replies, take_replies, finish_replies, reset_replies, send_replies, open_replies, close_replies, broke_replies}
 use Rattle.txs_machine_transaction.proofs.Keeping.{but_one_more}
 
-module _ (n : ℕ) (role : Role) (bn : ℕ) (fs : List PlainFrame) (l at : ℕ) (vs : List Value) (out : List ℕ) (p seen : ℕ) (w : PlainTxFrame) (kept : Option Commute) (steps limit room : ℕ) where
+module _ (n : ℕ) (role : Role) (bn : ℕ) (fs : List PlainFrame) (l at : ℕ) (vs : List Value) (out : List ℕ) (p seen : ℕ) (w : PlainTxFrame) (kept : Option Commute) (acc : Option Bool) (steps limit room : ℕ) where
   -- an actor with these values
   abbrev pub it : Transaction → Option Pending → PlainActor
-  it tx o = record { number = n; role = role; body = bn; frames = fs; locals = l; place = at; values = vs; printed = out; at = p; view = seen; done = w; commuting = kept; tx = tx; pending = o; outcome = None; steps = steps; limit = limit; room = room }
+  it tx o = record { number = n; role = role; body = bn; frames = fs; locals = l; place = at; values = vs; printed = out; at = p; view = seen; done = w; commuting = kept; accepted = acc; tx = tx; pending = o; outcome = None; steps = steps; limit = limit; room = room }
 
   -- the frames below all others
   abbrev pub home : List Frame
@@ -71,7 +74,7 @@ module _ (n : ℕ) (role : Role) (bn : ℕ) (fs : List PlainFrame) (l at : ℕ) 
   from_here span = record { span = span; stack = record { body = bn; locals = l; place = at; values = vs; room = room; frames = fs } }
 
   abbrev pub before : List Exchange → ActorState
-  before xs = stated xs out p seen w kept held
+  before xs = stated xs out p seen w kept held acc
 
   -- where the machine is
   abbrev pub here : Transaction → List Exchange → Configuration
@@ -176,12 +179,12 @@ module _ (n : ℕ) (role : Role) (bn : ℕ) (fs : List PlainFrame) (l at : ℕ) 
   abbrev pub SentAs : AnAction → ℕ → Transaction → Option InHand → (List Exchange → Turned Configuration) → Type 0
   SentAs x m tx None f = Asked f (it tx (Some (pending.Send x m))) (ask.Send x)
   SentAs x m tx (Some h) f =
-      f [] ≡ Unfinished (configuration bn (at + 1) (stack_in l (below (m + 1) vs ++ Cell x.agent ∷ [])) (take l (below (m + 1) vs ++ Cell x.agent ∷ [])) (frames_in fs home tx) (activity_of home tx) (stated [] out p seen w kept (now_holding x held)))
+      f [] ≡ Unfinished (configuration bn (at + 1) (stack_in l (below (m + 1) vs ++ Cell x.agent ∷ [])) (take l (below (m + 1) vs ++ Cell x.agent ∷ [])) (frames_in fs home tx) (activity_of home tx) (stated [] out p seen w kept (now_holding x held) acc))
 
   -- what an effect is, as the machine says it
   abbrev pub EffectIs : Span → Transaction → Effect → (List Exchange → Turned Configuration) → Type 0
-  EffectIs span tx (moves us tx1 own had) f = f [] ≡ Unfinished (configuration bn (at + 1) (stack_in l us) (take l us) (frames_in fs home tx1) (activity_of home tx1) (stated [] out p seen own had held))
-  EffectIs span tx (stays us tx1 own had) f = f [] ≡ Unfinished (configuration bn at (stack_in l us) (take l us) (frames_in fs home tx1) (activity_of home tx1) (stated [] out p seen own had held))
+  EffectIs span tx (moves us tx1 own had) f = f [] ≡ Unfinished (configuration bn (at + 1) (stack_in l us) (take l us) (frames_in fs home tx1) (activity_of home tx1) (stated [] out p seen own had held acc))
+  EffectIs span tx (stays us tx1 own had) f = f [] ≡ Unfinished (configuration bn at (stack_in l us) (take l us) (frames_in fs home tx1) (activity_of home tx1) (stated [] out p seen own had held acc))
   EffectIs span tx (waits q us tx1 own had) f = (us ≡ vs) × (tx1 ≡ tx) × (own ≡ w) × (had ≡ kept) × Asked f (it tx (Some q)) (ask_for q (is_running tx) p seen (applied_in tx) w)
   EffectIs span tx (dispatches x m us tx1 own had) f = (us ≡ vs) × (tx1 ≡ tx) × (own ≡ w) × (had ≡ kept) × SentAs x m tx held f
   EffectIs span tx (breaks k tx1 own had) f = (tx1 ≡ tx) × (own ≡ w) × (had ≡ kept) × ((xs : List Exchange) → f xs ≡ raise (activity_of home tx) (fault_at k span) (before xs))
@@ -215,11 +218,11 @@ module _ (n : ℕ) (role : Role) (bn : ℕ) (fs : List PlainFrame) (l at : ℕ) 
 
   -- a value in the place of the last, where the transaction has done this
   replaced_with : (own : PlainTxFrame) (tx : Transaction) (v : Value) → l < length vs
-      → stacked tx (v ∷ stack_in l (but_last vs)) (stated [] out p seen own kept held)
-      ≡ Unfinished (configuration bn (at + 1) (stack_in l (but_last vs ++ v ∷ [])) (take l (but_last vs ++ v ∷ [])) (frames_in fs home tx) (activity_of home tx) (stated [] out p seen own kept held))
+      → stacked tx (v ∷ stack_in l (but_last vs)) (stated [] out p seen own kept held acc)
+      ≡ Unfinished (configuration bn (at + 1) (stack_in l (but_last vs ++ v ∷ [])) (take l (but_last vs ++ v ∷ [])) (frames_in fs home tx) (activity_of home tx) (stated [] out p seen own kept held acc))
   replaced_with own tx v lt =
       let le : l ≤ length (but_last vs) = omega (arith, length_but_last vs) in
-      same_place bn (frames_in fs home tx) (activity_of home tx) [] p seen own kept held (at + 1) _ _ _ _ out (sym (pushed_stack l (but_last vs) v le)) (sym (popped_locals l vs lt) ∙ sym (pushed_locals l (but_last vs) v le))
+      same_place bn (frames_in fs home tx) (activity_of home tx) [] p seen own kept held acc (at + 1) _ _ _ _ out (sym (pushed_stack l (but_last vs) v le)) (sym (popped_locals l vs lt) ∙ sym (pushed_locals l (but_last vs) v le))
 
   replaced : (tx : Transaction) (v : Value) → l < length vs
       → stacked tx (v ∷ stack_in l (but_last vs)) (before [])
@@ -257,6 +260,8 @@ module _ (n : ℕ) (role : Role) (bn : ℕ) (fs : List PlainFrame) (l at : ℕ) 
   reads_by span (Applying left from phase) lt u = absurd u
   reads_by span (Evaluating left from phase aside) lt u = absurd u
   reads_by span (Swapping c q from) lt u = absurd u
+  reads_by span (Judging aside) lt u = absurd u
+  reads_by span (Weighing c q from aside) lt u = absurd u
   reads_by span (Running left inner from) lt u = inside_by span left inner from lt (cell_of (rule (form.Look Deref)) true (last_of vs))
 
   -- the ref is ensured, once it was read
@@ -290,9 +295,9 @@ module _ (n : ℕ) (role : Role) (bn : ℕ) (fs : List PlainFrame) (l at : ℕ) 
   on_open m tx v s1 = stacked tx (push_all (topmost m vs) (v ∷ stack_in l (below m vs))) s1
 
   put_so : (m : ℕ) (tx : Transaction) (v : Value) (had : Option Commute) → m + l ≤ length vs
-      → on_open m tx v (stated [] out p seen w had held) ≡ Unfinished (configuration bn (at + 1) (stack_in l (put_under m v vs)) (take l (put_under m v vs)) (frames_in fs home tx) (activity_of home tx) (stated [] out p seen w had held))
+      → on_open m tx v (stated [] out p seen w had held acc) ≡ Unfinished (configuration bn (at + 1) (stack_in l (put_under m v vs)) (take l (put_under m v vs)) (frames_in fs home tx) (activity_of home tx) (stated [] out p seen w had held acc))
   put_so m tx v had le =
-      same_place bn (frames_in fs home tx) (activity_of home tx) [] p seen w had held (at + 1) _ _ _ _ out (push_all_is (topmost m vs) (v ∷ stack_in l (below m vs)) ∙ sym (put_under_stack l m v vs le)) (sym (put_under_locals l m v vs le))
+      same_place bn (frames_in fs home tx) (activity_of home tx) [] p seen w had held acc (at + 1) _ _ _ _ out (push_all_is (topmost m vs) (v ∷ stack_in l (below m vs)) ∙ sym (put_under_stack l m v vs le)) (sym (put_under_locals l m v vs le))
 
   -- what is open then
   abbrev opened_as : Option Commute → StepResult Value → StepResult Value
@@ -323,7 +328,7 @@ module _ (n : ℕ) (role : Role) (bn : ℕ) (fs : List PlainFrame) (l at : ℕ) 
   unfolding begin
   begun_by left tx low span = record {
     now = ap (λ h. on (activity_of home tx) (on_step (heard read_point h) begun) go) (asks_now ask.Begin);
-    leads = λ r m k. ap (λ h. on (activity_of home tx) (on_step (heard read_point h) begun) go) (asks_then ask.Begin r) ∙ begin_replies Leads (λ q. ap (λ x. over x (stated [] out q q empty_frame None held)) low) r m;
+    leads = λ r m k. ap (λ h. on (activity_of home tx) (on_step (heard read_point h) begun) go) (asks_then ask.Begin r) ∙ begin_replies Leads (λ q. ap (λ x. over x (stated [] out q q empty_frame None held acc)) low) r m;
   }
     where
       over : List Frame → ActorState → Turned Configuration
@@ -341,6 +346,8 @@ module _ (n : ℕ) (role : Role) (bn : ℕ) (fs : List PlainFrame) (l at : ℕ) 
   begins_by span (Applying left from phase) u = absurd u
   begins_by span (Evaluating left from phase aside) u = absurd u
   begins_by span (Swapping c q from) u = absurd u
+  begins_by span (Judging aside) u = absurd u
+  begins_by span (Weighing c q from aside) u = absurd u
   begins_by span (Running left inner from) u = ap (λ i. Unfinished (configuration bn (at + 1) (stack_in l vs) (take l vs) (frames_on fs home) (machine.Running left i (savepoint_of home from)) (before []))) (sym (add-one inner))
 
   -- the transaction ends again from a new view
@@ -377,11 +384,11 @@ module _ (n : ℕ) (role : Role) (bn : ℕ) (fs : List PlainFrame) (l at : ℕ) 
       Leads r = (Stops r → ⊥) → gone (Replied r (before [])) (met q r) ≡ stands_at (answered (it tx (Some pending.Commit)) r)
 
   -- the refs that were commuted and not set are viewed
-  views_by : (left inner : ℕ) (from : Savepoint) (phase : PlainPhase) → phase ≡ record { work = phase_work w; values = blank (commuted w) }
-      → Asked (λ xs. on (machine.Running left inner (savepoint_of home from)) (view (before xs)) (λ values s. Unfinished (staying (machine.Applying left (savepoint_of home from) (phase_work s.done) values) s (here (Running left inner from) xs))))
+  views_by : (vals : Validators) (left inner : ℕ) (from : Savepoint) (phase : PlainPhase) → phase ≡ record { work = tasks_of vals w; values = blank (commuted w) }
+      → Asked (λ xs. on (machine.Running left inner (savepoint_of home from)) (view (before xs)) (λ values s. Unfinished (staying (machine.Applying left (savepoint_of home from) (tasks_of vals s.done) values) s (here (Running left inner from) xs))))
       (it (Running left inner from) (Some (pending.View phase))) (ask.View (commuted w))
   unfolding view
-  views_by left inner from phase e = record {
+  views_by vals left inner from phase e = record {
     now = ap (λ h. gone h []) (asks_now q);
     leads = λ r m st. ap (λ h. gone h (met q r)) (asks_then q r) ∙ view_replies Leads (commuted w) (λ n us many st. viewed_so n us many) (λ st. absurd (st tt)) r m st;
   }
@@ -393,7 +400,7 @@ module _ (n : ℕ) (role : Role) (bn : ℕ) (fs : List PlainFrame) (l at : ℕ) 
       q = ask.View (commuted w)
 
       go : List Exchange → Writes → ActorState → Turned Configuration
-      go xs values s = Unfinished (staying (machine.Applying left (savepoint_of home from) (phase_work s.done) values) s (here tx xs))
+      go xs values s = Unfinished (staying (machine.Applying left (savepoint_of home from) (tasks_of vals s.done) values) s (here tx xs))
 
       gone : Reception → List Exchange → Turned Configuration
       gone h xs = on (machine.Running left inner (savepoint_of home from)) (on_step (heard machine_views h) (λ x s1. viewed x.0 (paired (commuted w) x.1) s1)) (go xs)
@@ -406,43 +413,54 @@ module _ (n : ℕ) (role : Role) (bn : ℕ) (fs : List PlainFrame) (l at : ℕ) 
       Leads : Reply → Type 0
       Leads r = (Stops r → ⊥) → gone (Replied r (before [])) (met q r) ≡ stands_at (answered (it tx (Some (pending.View phase))) r)
 
-  -- at a transaction's end
-  settles_by : (span : Span) (left : ℕ) (from : Savepoint) (cs : List CellId) → commuted w ≡ cs
-      → EffectIs span (Running left 0 from) (settles_at cs vs (Running left 0 from) w kept) (λ xs. settles cs left (savepoint_of home from) (here (Running left 0 from) xs))
-  settles_by span left from [] e = (refl, refl, refl, refl, commits (Running left 0 from) left from (record { low = refl; again = refl; from_view = refl; refused = refl }))
-  settles_by span left from (c ∷ cs) e = (refl, refl, refl, refl, views_by left 0 from (record { work = phase_work w; values = blank (commuted w) }) refl)
+  -- at a transaction's end, where all that there is to do is the commit or a view
+  settles_by : (code : ThreadCode) (span : Span) (left : ℕ) (from : Savepoint) (cs : List CellId) → commuted w ≡ cs → (cs ≡ [] → tasks_of code.validators w ≡ [])
+      → EffectIs span (Running left 0 from) (settles_at code.validators cs vs (Running left 0 from) w kept) (λ xs. settles code cs left (savepoint_of home from) (here (Running left 0 from) xs))
+  settles_by code span left from [] e none =
+      said span (Running left 0 from) (settles_at code.validators [] vs (Running left 0 from) w kept) _ _
+      (λ xs. ap (λ (ts : List Task). machine.works code left (savepoint_of home from) ts [] (here (Running left 0 from) xs)) (none refl))
+      (refl, refl, refl, refl, commits (Running left 0 from) left from (record { low = refl; again = refl; from_view = refl; refused = refl }))
+  settles_by code span left from (c ∷ cs) e none = (refl, refl, refl, refl, views_by code.validators left 0 from (record { work = tasks_of code.validators w; values = blank (commuted w) }) refl)
 
   -- a commute is applied
-  applies_by : (code : ThreadCode) (span : Span) (left : ℕ) (from : Savepoint) (k : Commute) (ks : List Commute) (ws : Writes) (f : Callee) → IsOperation f (length k.args)
-      → EffectIs span (applying left from (k ∷ ks) ws) (applies_at f left from vs w kept k ks ws) (λ xs. machine.applies code f left (savepoint_of home from) k ks ws (here (applying left from (k ∷ ks) ws) xs))
+  applies_by : (code : ThreadCode) (span : Span) (left : ℕ) (from : Savepoint) (k : Commute) (ks : List Task) (ws : Writes) (f : Callee) → IsOperation f (length k.args)
+      → EffectIs span (applying left from (Redoes k ∷ ks) ws) (applies_at f left from vs w kept k ks ws) (λ xs. machine.applies code f left (savepoint_of home from) k ks ws (here (applying left from (Redoes k ∷ ks) ws) xs))
   applies_by code span left from k ks ws (callee.Function f) h = absurd h
   applies_by code span left from k ks ws (callee.Core op) h =
-      let tx = applying left from (k ∷ ks) ws in
+      let tx = applying left from (Redoes k ∷ ks) ws in
       said span tx (applies_at (callee.Core op) left from vs w kept k ks ws) _ _
       (λ xs. ap (λ us. gone (core op us) xs) (same_arguments k ws))
       (by_answer (core op (arguments_of k ws)))
     where
       gone : Answer → List Exchange → Turned Configuration
-      gone x xs = on (activity_of home (applying left from (k ∷ ks) ws)) (step_of x from.span (before xs)) (λ v s. Unfinished (staying (machine.Applying left (savepoint_of home from) ks (with_write ws k.cell v)) s (here (applying left from (k ∷ ks) ws) xs)))
+      gone x xs = on (activity_of home (applying left from (Redoes k ∷ ks) ws)) (step_of x from.span (before xs)) (λ v s. Unfinished (staying (machine.Applying left (savepoint_of home from) ks (with_write ws k.cell v)) s (here (applying left from (Redoes k ∷ ks) ws) xs)))
 
-      by_answer : (x : Answer) → EffectIs span (applying left from (k ∷ ks) ws) (applies_as left from vs w kept k ks ws x) (gone x)
+      by_answer : (x : Answer) → EffectIs span (applying left from (Redoes k ∷ ks) ws) (applies_as left from vs w kept k ks ws x) (gone x)
       by_answer (Ok v) = refl
       by_answer (Err e) = (refl, refl, refl, λ xs. refl)
 
-  -- one stage of a commute phase
-  goes_by : (code : ThreadCode) (span : Span) (left : ℕ) (from : Savepoint) (ks : List Commute) (ws : Writes) → Operates ks
+  -- one task of a transaction's end
+  goes_by : (code : ThreadCode) (span : Span) (left : ℕ) (from : Savepoint) (ks : List Task) (ws : Writes) → Operates ks
       → EffectIs span (applying left from ks ws) (goes_through left from vs w kept ks ws) (λ xs. machine.ends code (machine.Applying left (savepoint_of home from) ks ws) (here (applying left from ks ws) xs))
   goes_by code span left from [] ws h = (refl, refl, refl, refl, commits (applying left from [] ws) left from (record { low = refl; again = refl; from_view = refl; refused = refl }))
-  goes_by code span left from (k ∷ ks) ws h = applies_by code span left from k ks ws k.callee h
+  goes_by code span left from (Redoes k ∷ ks) ws h = applies_by code span left from k ks ws k.callee h
+  goes_by code span left from (Validates c f ∷ ks) ws h = absurd h
 
-  ends_by : (code : ThreadCode) (span : Span) (tx : Transaction) → 0 < depth_in tx → LeftApply tx → EffectIs span tx (ends_at vs w kept tx) (λ xs. machine.ends code (activity_of home tx) (here tx xs))
-  ends_by code span Outside lt h = absurd (omega (arith, lt))
-  ends_by code span (Restarting left) lt h = absurd (omega (arith, lt))
-  ends_by code span (Running left zero from) lt h = settles_by span left from (commuted w) refl
-  ends_by code span (Running left (suc inner) from) lt h = refl
-  ends_by code span (Applying left from phase) lt h = goes_by code span left from phase.work phase.values h
-  ends_by code span (Evaluating left from phase aside) lt h = absurd h
-  ends_by code span (Swapping c q from) lt h = absurd (omega (arith, lt))
+  -- all that there is to do at a transaction's end is the commit or a view
+  abbrev pub IsSettled : ThreadCode → Transaction → Type 0
+  IsSettled code (Running left zero from) = commuted w ≡ [] → tasks_of code.validators w ≡ []
+  IsSettled code _ = Unit {0}
+
+  ends_by : (code : ThreadCode) (span : Span) (tx : Transaction) → 0 < depth_in tx → LeftApply tx → IsSettled code tx → EffectIs span tx (ends_at code.validators vs w kept tx) (λ xs. machine.ends code (activity_of home tx) (here tx xs))
+  ends_by code span Outside lt h none = absurd (omega (arith, lt))
+  ends_by code span (Restarting left) lt h none = absurd (omega (arith, lt))
+  ends_by code span (Running left zero from) lt h none = settles_by code span left from (commuted w) refl none
+  ends_by code span (Running left (suc inner) from) lt h none = refl
+  ends_by code span (Applying left from phase) lt h none = goes_by code span left from phase.work phase.values h
+  ends_by code span (Evaluating left from phase aside) lt h none = absurd h
+  ends_by code span (Swapping c q from) lt h none = absurd (omega (arith, lt))
+  ends_by code span (Judging aside) lt h none = absurd h
+  ends_by code span (Weighing c q from aside) lt h none = absurd h
 
   -- a ref is set
   sets_by : (span : Span) (tx : Transaction) → 1 + l < length vs → (r : Result CellId FaultKind)
@@ -450,10 +468,10 @@ module _ (n : ℕ) (role : Role) (bn : ℕ) (fs : List PlainFrame) (l at : ℕ) 
   sets_by span tx lt (Err k) = (refl, refl, refl, λ xs. refl)
   sets_by span tx lt (Ok c) = by_set (set_ref c (last_of vs) w)
     where
-      moved_so : (own : PlainTxFrame) → stacked tx (last_of vs ∷ stack_in l (below 2 vs)) (stated [] out p seen own kept held) ≡ Unfinished (configuration bn (at + 1) (stack_in l (below 2 vs ++ last_of vs ∷ [])) (take l (below 2 vs ++ last_of vs ∷ [])) (frames_in fs home tx) (activity_of home tx) (stated [] out p seen own kept held))
+      moved_so : (own : PlainTxFrame) → stacked tx (last_of vs ∷ stack_in l (below 2 vs)) (stated [] out p seen own kept held acc) ≡ Unfinished (configuration bn (at + 1) (stack_in l (below 2 vs ++ last_of vs ∷ [])) (take l (below 2 vs ++ last_of vs ∷ [])) (frames_in fs home tx) (activity_of home tx) (stated [] out p seen own kept held acc))
       moved_so own =
           let le : l ≤ length (below 2 vs) = omega (arith, length_below 2 vs, lt) in
-          same_place bn (frames_in fs home tx) (activity_of home tx) [] p seen own kept held (at + 1) _ _ _ _ out (sym (pushed_stack l (below 2 vs) (last_of vs) le)) (sym (below_locals l 2 vs (omega (arith, lt))) ∙ sym (pushed_locals l (below 2 vs) (last_of vs) le))
+          same_place bn (frames_in fs home tx) (activity_of home tx) [] p seen own kept held acc (at + 1) _ _ _ _ out (sym (pushed_stack l (below 2 vs) (last_of vs) le)) (sym (below_locals l 2 vs (omega (arith, lt))) ∙ sym (pushed_locals l (below 2 vs) (last_of vs) le))
 
       by_set : (o : Result PlainTxFrame FaultKind)
           → EffectIs span tx (sets_as vs tx w kept o) (λ xs. on (activity_of home tx) (on_step (step_of o span (before xs)) (λ w1 s1. Continue (last_of vs) (record s1 { done = w1 }))) (λ v s1. stacked tx (v ∷ stack_in l (below 2 vs)) s1))
@@ -462,11 +480,11 @@ module _ (n : ℕ) (role : Role) (bn : ℕ) (fs : List PlainFrame) (l at : ℕ) 
 
   -- a value in the place of some
   over_some : (own : PlainTxFrame) (tx : Transaction) (m : ℕ) (v : Value) → m + l ≤ length vs
-      → stacked tx (v ∷ stack_in l (below m vs)) (stated [] out p seen own kept held)
-      ≡ Unfinished (configuration bn (at + 1) (stack_in l (below m vs ++ v ∷ [])) (take l (below m vs ++ v ∷ [])) (frames_in fs home tx) (activity_of home tx) (stated [] out p seen own kept held))
+      → stacked tx (v ∷ stack_in l (below m vs)) (stated [] out p seen own kept held acc)
+      ≡ Unfinished (configuration bn (at + 1) (stack_in l (below m vs ++ v ∷ [])) (take l (below m vs ++ v ∷ [])) (frames_in fs home tx) (activity_of home tx) (stated [] out p seen own kept held acc))
   over_some own tx m v h =
       let le : l ≤ length (below m vs) = omega (arith, length_below m vs, h) in
-      same_place bn (frames_in fs home tx) (activity_of home tx) [] p seen own kept held (at + 1) _ _ _ _ out (sym (pushed_stack l (below m vs) v le)) (sym (below_locals l m vs h) ∙ sym (pushed_locals l (below m vs) v le))
+      same_place bn (frames_in fs home tx) (activity_of home tx) [] p seen own kept held acc (at + 1) _ _ _ _ out (sym (pushed_stack l (below m vs) v le)) (sym (below_locals l m vs h) ∙ sym (pushed_locals l (below m vs) v le))
 
   -- an atom gets a value
   resets_by : (span : Span) (tx : Transaction) → 1 + l < length vs → (r : Result CellId FaultKind)
@@ -518,10 +536,10 @@ module _ (n : ℕ) (role : Role) (bn : ℕ) (fs : List PlainFrame) (l at : ℕ) 
 
   -- the agent in the place of all that was taken, whatever is held
   over_held : (o : Option InHand) (tx : Transaction) (m : ℕ) (v : Value) → m + 1 + l ≤ length vs
-      → on_sent m tx v (stated [] out p seen w kept o) ≡ Unfinished (configuration bn (at + 1) (stack_in l (below (m + 1) vs ++ v ∷ [])) (take l (below (m + 1) vs ++ v ∷ [])) (frames_in fs home tx) (activity_of home tx) (stated [] out p seen w kept o))
+      → on_sent m tx v (stated [] out p seen w kept o acc) ≡ Unfinished (configuration bn (at + 1) (stack_in l (below (m + 1) vs ++ v ∷ [])) (take l (below (m + 1) vs ++ v ∷ [])) (frames_in fs home tx) (activity_of home tx) (stated [] out p seen w kept o acc))
   over_held o tx m v h =
       let le : l ≤ length (below (m + 1) vs) = omega (arith, length_below (m + 1) vs, h) in
-      same_place bn (frames_in fs home tx) (activity_of home tx) [] p seen w kept o (at + 1) _ _ _ _ out (sym (pushed_stack l (below (m + 1) vs) v le)) (sym (below_locals l (m + 1) vs h) ∙ sym (pushed_locals l (below (m + 1) vs) v le))
+      same_place bn (frames_in fs home tx) (activity_of home tx) [] p seen w kept o acc (at + 1) _ _ _ _ out (sym (pushed_stack l (below (m + 1) vs) v le)) (sym (below_locals l (m + 1) vs h) ∙ sym (pushed_locals l (below (m + 1) vs) v le))
 
   -- it is made, or the action that is run holds it
   sent_by : (x : AnAction) (m : ℕ) (tx : Transaction) → m + l < length vs → (o : Option InHand) → (o ≡ None → raise (activity_of home tx) (fault_at AgentFailed x.span) (before []) ≡ Failed (fault_at AgentFailed x.span) (before []))
@@ -543,7 +561,7 @@ module _ (n : ℕ) (role : Role) (bn : ℕ) (fs : List PlainFrame) (l at : ℕ) 
   keeps_by o span tx e lt (Ok c) =
       let own = commute_ref c o.callee o.args (last_of vs) w in
       let le : l ≤ length (below 2 vs) = omega (arith, length_below 2 vs, lt) in
-      same_place bn (frames_in fs home tx) (activity_of home tx) [] p seen own None held (at + 1) _ _ _ _ out (sym (pushed_stack l (below 2 vs) (last_of vs) le)) (sym (below_locals l 2 vs (omega (arith, lt))) ∙ sym (pushed_locals l (below 2 vs) (last_of vs) le))
+      same_place bn (frames_in fs home tx) (activity_of home tx) [] p seen own None held acc (at + 1) _ _ _ _ out (sym (pushed_stack l (below 2 vs) (last_of vs) le)) (sym (below_locals l 2 vs (omega (arith, lt))) ∙ sym (pushed_locals l (below 2 vs) (last_of vs) le))
 
   -- the close of an update
   closes_by : (had : Option Commute) (span : Span) (tx : Transaction) → kept ≡ had → 1 + l < length vs
@@ -553,7 +571,7 @@ module _ (n : ℕ) (role : Role) (bn : ℕ) (fs : List PlainFrame) (l at : ℕ) 
   closes_by (Some o) span tx e lt = keeps_by o span tx e lt (cell_of (rule (form.Update update.Alter)) true (under 1 vs))
 
   -- the two values at the top
-  two_tops : (go : Value → Value → List Value → Turned Configuration) → 1 + l < length vs → machine.on_two (stack_in l vs) go ≡ go (last_of vs) (under 1 vs) (stack_in l (below 2 vs))
+  pub two_tops : (go : Value → Value → List Value → Turned Configuration) → 1 + l < length vs → machine.on_two (stack_in l vs) go ≡ go (last_of vs) (under 1 vs) (stack_in l (below 2 vs))
   two_tops go h =
       let lt : l < length vs = omega (arith, h) in
       let lt1 : l < length (but_last vs) = omega (arith, h, length_but_last vs) in
@@ -569,6 +587,8 @@ module _ (n : ℕ) (role : Role) (bn : ℕ) (fs : List PlainFrame) (l at : ℕ) 
   opens_so u span (Restarting left) m h inside un = absurd (omega (arith, inside))
   opens_so u span (Applying left from phase) m h inside un = absurd un
   opens_so u span (Evaluating left from phase aside) m h inside un = absurd un
+  opens_so u span (Judging aside) m h inside un = absurd un
+  opens_so u span (Weighing c q from aside) m h inside un = absurd un
   opens_so u span (Swapping c q from) m h inside un = absurd un
   opens_so u span (Running left inner from) m h inside un =
       let tx = Running left inner from in
@@ -636,7 +656,7 @@ module _ (n : ℕ) (role : Role) (bn : ℕ) (fs : List PlainFrame) (l at : ℕ) 
 
       opened_so : (q : ℕ) (v : Value) → gone (Replied (Opened q v) (before [])) ≡ stands_at (answered (it Outside (Some (pending.Swap c m (from_here span)))) (Opened q v))
       opened_so q v =
-          same_place bn (frames_on fs home) (activity_of home (Swapping c q (from_here span))) [] p seen w kept held (at + 1) _ _ _ _ out (push_all_is (topmost m vs) (v ∷ stack_in l (below m vs)) ∙ sym (put_under_stack l m v vs le)) (sym (put_under_locals l m v vs le))
+          same_place bn (frames_on fs home) (activity_of home (Swapping c q (from_here span))) [] p seen w kept held acc (at + 1) _ _ _ _ out (push_all_is (topmost m vs) (v ∷ stack_in l (below m vs)) ∙ sym (put_under_stack l m v vs le)) (sym (put_under_locals l m v vs le))
 
   -- the open of a swap, as the machine makes it
   swaps_so : (f : Callee) (span : Span) (tx : Transaction) (m : ℕ) → m + l < length vs → tx ≡ Outside
@@ -686,38 +706,71 @@ module _ (n : ℕ) (role : Role) (bn : ℕ) (fs : List PlainFrame) (l at : ℕ) 
       Leads : Reply → Type 0
       Leads r = (Stops r → ⊥) → gone (Replied r (before [])) (met x r) ≡ stands_at (answered (it (Swapping c q from) (Some (pending.Close c q (last_of vs)))) r)
 
-  -- the close of a swap, as the machine makes it
-  swapped_so : (span : Span) (tx : Transaction) → 1 + l < length vs → IsSwapping tx
-      → EffectIs span tx (swapped vs w kept tx) (λ xs. machine.on_two (stack_in l vs) (λ v c rest. machine.closes update.Swap span v c rest (here tx xs)))
-  swapped_so span Outside h s = absurd s
-  swapped_so span (Restarting left) h s = absurd s
-  swapped_so span (Running left inner from) h s = absurd s
-  swapped_so span (Applying left from phase) h s = absurd s
-  swapped_so span (Evaluating left from phase aside) h s = absurd s
-  swapped_so span (Swapping c q from) h s =
+  -- the atom that a form takes has no validator
+  abbrev pub IsUnjudged : ThreadCode → Result CellId FaultKind → Type 0
+  IsUnjudged code (Ok c) = validator_at code.validators c.number ≡ None
+  IsUnjudged code (Err k) = Unit {0}
+
+  -- nor has the atom of the swap that is applied
+  abbrev pub IsUnweighed : ThreadCode → Transaction → Type 0
+  IsUnweighed code (Swapping c q from) = validator_at code.validators c.number ≡ None
+  IsUnweighed code _ = Unit {0}
+
+  -- `reset!`, as the machine makes it, where the atom has no validator
+  abbrev reset_at : ThreadCode → Span → Transaction → Bool → Result CellId FaultKind → List Exchange → Turned Configuration
+  reset_at code span tx inside r xs =
+      on (activity_of home tx) (step_of r span (before xs)) (λ a s. machine.where_valid code (validator_at code.validators a.number) (last_of vs) span (here tx xs) (λ c1. machine.gives c1 (stack_in l (below 2 vs)) (assign_cell Reset inside span (last_of vs) a c1.state)))
+
+  plainly_reset : (code : ThreadCode) (span : Span) (tx : Transaction) (r : Result CellId FaultKind) → IsUnjudged code r → (xs : List Exchange)
+      → reset_at code span tx false r xs ≡ on (activity_of home tx) (on_step (step_of r span (before xs)) (λ c s. reset_atom c (last_of vs) s)) (λ v s1. stacked tx (v ∷ stack_in l (below 2 vs)) s1)
+  plainly_reset code span tx (Err k) h xs = refl
+  plainly_reset code span tx (Ok c) h xs =
+      ap (λ (o : Option Callee). machine.where_valid code o (last_of vs) span (here tx xs) (λ c1. machine.gives c1 (stack_in l (below 2 vs)) (assign_cell Reset false span (last_of vs) c c1.state))) h
+
+  resets_so : (code : ThreadCode) (span : Span) (tx : Transaction) → 1 + l < length vs → is_inside (activity_of home tx) ≡ false → IsUnjudged code (cell_of (rule (form.Put Reset)) false (under 1 vs))
+      → EffectIs span tx (resets vs tx w kept) (λ xs. machine.on_two (stack_in l vs) (λ v c rest. machine.puts code Reset span v c rest (here tx xs)))
+  resets_so code span tx h outside free =
+      said span tx (resets vs tx w kept) _ _
+      (λ xs. two_tops (λ v c rest. machine.puts code Reset span v c rest (here tx xs)) h
+      ∙ ap (λ (i : Bool). reset_at code span tx i (cell_of (rule (form.Put Reset)) i (under 1 vs)) xs) outside
+      ∙ plainly_reset code span tx (cell_of (rule (form.Put Reset)) false (under 1 vs)) free xs)
+      (resets_by span tx h (cell_of (rule (form.Put Reset)) false (under 1 vs)))
+
+  -- the close of a swap, as the machine makes it, where its atom has no validator
+  swapped_so : (code : ThreadCode) (span : Span) (tx : Transaction) → 1 + l < length vs → IsSwapping tx → IsUnweighed code tx
+      → EffectIs span tx (swapped vs w kept tx) (λ xs. machine.on_two (stack_in l vs) (λ v c rest. machine.closes code update.Swap span v c rest (here tx xs)))
+  swapped_so code span Outside h s free = absurd s
+  swapped_so code span (Restarting left) h s free = absurd s
+  swapped_so code span (Running left inner from) h s free = absurd s
+  swapped_so code span (Applying left from phase) h s free = absurd s
+  swapped_so code span (Evaluating left from phase aside) h s free = absurd s
+  swapped_so code span (Judging aside) h s free = absurd s
+  swapped_so code span (Weighing c q from aside) h s free = absurd s
+  swapped_so code span (Swapping c q from) h s free =
       said span (Swapping c q from) (swapped vs w kept (Swapping c q from)) _ _
-      (λ xs. two_tops (λ v x rest. machine.closes update.Swap span v x rest (here (Swapping c q from) xs)) h)
+      (λ xs. two_tops (λ v x rest. machine.closes code update.Swap span v x rest (here (Swapping c q from) xs)) h
+      ∙ ap (λ (o : Option Callee). machine.where_valid code o (last_of vs) from.span (here (Swapping c q from) xs) (λ c1. on c1.doing (close_swap (record { cell = c; at = q }) (last_of vs) c1.state) (λ verdict s1. swap_decided verdict (savepoint_of home from) (last_of vs) (stack_in l (below 2 vs)) c1 s1))) free)
       (refl, refl, refl, refl, closes_atom c q from h)
 
-  -- what an instruction on cells or the transaction needs, where it stands
-  abbrev pub Stands : Transaction → Instr → Type 0
-  Stands tx (instr.Look Deref) = (l < length vs) × IsUnapplied tx
-  Stands tx (instr.Look Ensure) = (l < length vs) × (0 < depth_in tx) × IsUnapplied tx
-  Stands tx (instr.Put RefSet) = (1 + l < length vs) × (0 < depth_in tx) × IsUnapplied tx
-  Stands tx (instr.Put Reset) = (1 + l < length vs) × (is_inside (activity_of home tx) ≡ false)
-  Stands tx (instr.Send f m) = (m + l < length vs) × IsUnapplied tx
-  Stands tx instr.TxBegin = IsUnapplied tx
-  Stands tx instr.TxEnd = (0 < depth_in tx) × LeftApply tx
-  Stands tx (instr.Open open_form.Alter m) = (m + l < length vs) × (0 < depth_in tx) × IsUnapplied tx
-  Stands tx (instr.Open (open_form.Commute f) m) = (m + l < length vs) × (0 < depth_in tx) × IsUnapplied tx
-  Stands tx (instr.Close update.Alter) = 1 + l < length vs
-  Stands tx (instr.Close update.Commute) = 1 + l < length vs
-  Stands tx (instr.Open (open_form.Swap f) m) = (m + l < length vs) × (tx ≡ Outside)
-  Stands tx (instr.Close update.Swap) = (1 + l < length vs) × IsSwapping tx
-  Stands tx _ = ⊥
+  -- what an instruction on cells or the transaction needs, where it stands, and nothing is to be validated before it
+  abbrev pub Stands : ThreadCode → Transaction → Instr → Type 0
+  Stands code tx (instr.Look Deref) = (l < length vs) × IsUnapplied tx
+  Stands code tx (instr.Look Ensure) = (l < length vs) × (0 < depth_in tx) × IsUnapplied tx
+  Stands code tx (instr.Put RefSet) = (1 + l < length vs) × (0 < depth_in tx) × IsUnapplied tx
+  Stands code tx (instr.Put Reset) = (1 + l < length vs) × (is_inside (activity_of home tx) ≡ false) × IsUnjudged code (cell_of (rule (form.Put Reset)) false (under 1 vs))
+  Stands code tx (instr.Send f m) = (m + l < length vs) × IsUnapplied tx
+  Stands code tx instr.TxBegin = IsUnapplied tx
+  Stands code tx instr.TxEnd = (0 < depth_in tx) × LeftApply tx × IsSettled code tx
+  Stands code tx (instr.Open open_form.Alter m) = (m + l < length vs) × (0 < depth_in tx) × IsUnapplied tx
+  Stands code tx (instr.Open (open_form.Commute f) m) = (m + l < length vs) × (0 < depth_in tx) × IsUnapplied tx
+  Stands code tx (instr.Close update.Alter) = 1 + l < length vs
+  Stands code tx (instr.Close update.Commute) = 1 + l < length vs
+  Stands code tx (instr.Open (open_form.Swap f) m) = (m + l < length vs) × (tx ≡ Outside)
+  Stands code tx (instr.Close update.Swap) = (1 + l < length vs) × IsSwapping tx × IsUnweighed code tx
+  Stands code tx _ = ⊥
 
-  pub effect_is : (code : ThreadCode) (ps : List ℕ) (ks : List Value) (span : Span) (tx : Transaction) (i : Instr) → Stands tx i
-      → EffectIs span tx (effect (from_here span) vs tx w kept i) (λ xs. act code (Some (plain_instr ps ks i span)) (here tx xs))
+  pub effect_is : (code : ThreadCode) (ps : List ℕ) (ks : List Value) (span : Span) (tx : Transaction) (i : Instr) → Stands code tx i
+      → EffectIs span tx (effect code.validators (from_here span) vs tx w kept i) (λ xs. act code (Some (plain_instr ps ks i span)) (here tx xs))
   effect_is code ps ks span tx (instr.Look Deref) h =
       said span tx (reads (is_running tx) vs tx w kept) _ _
       (λ xs. ap (λ st. on_top st (λ c rest. on (activity_of home tx) (read Deref (is_inside (activity_of home tx)) span c (before xs)) (λ v s1. stacked tx (v ∷ rest) s1))) (popped_stack l vs h.0))
@@ -726,6 +779,8 @@ module _ (n : ℕ) (role : Role) (bn : ℕ) (fs : List PlainFrame) (l at : ℕ) 
   effect_is code ps ks span (Restarting left) (instr.Look Ensure) h = absurd (omega (arith, h.1))
   effect_is code ps ks span (Applying left from phase) (instr.Look Ensure) h = absurd h.2
   effect_is code ps ks span (Evaluating left from phase aside) (instr.Look Ensure) h = absurd h.2
+  effect_is code ps ks span (Judging aside) (instr.Look Ensure) h = absurd h.2
+  effect_is code ps ks span (Weighing c q from aside) (instr.Look Ensure) h = absurd h.2
   effect_is code ps ks span (Swapping c q from) (instr.Look Ensure) h = absurd h.2
   effect_is code ps ks span (Running left inner from) (instr.Look Ensure) h =
       let tx = Running left inner from in
@@ -736,17 +791,15 @@ module _ (n : ℕ) (role : Role) (bn : ℕ) (fs : List PlainFrame) (l at : ℕ) 
   effect_is code ps ks span (Restarting left) (instr.Put RefSet) h = absurd (omega (arith, h.1))
   effect_is code ps ks span (Applying left from phase) (instr.Put RefSet) h = absurd h.2
   effect_is code ps ks span (Evaluating left from phase aside) (instr.Put RefSet) h = absurd h.2
+  effect_is code ps ks span (Judging aside) (instr.Put RefSet) h = absurd h.2
+  effect_is code ps ks span (Weighing c q from aside) (instr.Put RefSet) h = absurd h.2
   effect_is code ps ks span (Swapping c q from) (instr.Put RefSet) h = absurd h.2
   effect_is code ps ks span (Running left inner from) (instr.Put RefSet) h =
       let tx = Running left inner from in
       said span tx (sets (form.Put RefSet) vs tx w kept) _ _
       (λ xs. two_tops (λ v c rest. on (activity_of home tx) (assign RefSet true span c v (before xs)) (λ x s1. stacked tx (x ∷ rest) s1)) h.0)
       (sets_by span tx h.0 (cell_of (rule (form.Put RefSet)) true (under 1 vs)))
-  effect_is code ps ks span tx (instr.Put Reset) h =
-      said span tx (resets vs tx w kept) _ _
-      (λ xs. two_tops (λ v c rest. on (activity_of home tx) (assign Reset (is_inside (activity_of home tx)) span c v (before xs)) (λ x s1. stacked tx (x ∷ rest) s1)) h.0
-      ∙ ap (λ (i : Bool). on (activity_of home tx) (assign Reset i span (under 1 vs) (last_of vs) (before xs)) (λ x s1. stacked tx (x ∷ stack_in l (below 2 vs)) s1)) h.1)
-      (resets_by span tx h.0 (cell_of (rule (form.Put Reset)) false (under 1 vs)))
+  effect_is code ps ks span tx (instr.Put Reset) h = resets_so code span tx h.0 h.1 h.2
   effect_is code ps ks span Outside (instr.Send f m) h =
       said span Outside (sends false f m span vs Outside w kept) _ _ (sends_so f false span Outside m h.0) (sends_by f span Outside m h.0 (λ x e. ap (λ (o : Option InHand). ends_with o x (before [])) e) (cell_of (rule form.Send) false (under m vs)))
   effect_is code ps ks span (Restarting left) (instr.Send f m) h =
@@ -756,9 +809,11 @@ module _ (n : ℕ) (role : Role) (bn : ℕ) (fs : List PlainFrame) (l at : ℕ) 
       said span tx (sends true f m span vs tx w kept) _ _ (sends_so f true span tx m h.0) (holds_by f span tx m h.0 (cell_of (rule form.Send) true (under m vs)))
   effect_is code ps ks span (Applying left from phase) (instr.Send f m) h = absurd h.1
   effect_is code ps ks span (Evaluating left from phase aside) (instr.Send f m) h = absurd h.1
+  effect_is code ps ks span (Judging aside) (instr.Send f m) h = absurd h.1
+  effect_is code ps ks span (Weighing c q from aside) (instr.Send f m) h = absurd h.1
   effect_is code ps ks span (Swapping c q from) (instr.Send f m) h = absurd h.1
   effect_is code ps ks span tx instr.TxBegin h = begins_by span tx h
-  effect_is code ps ks span tx instr.TxEnd h = ends_by code span tx h.0 h.1
+  effect_is code ps ks span tx instr.TxEnd h = ends_by code span tx h.0 h.1 h.2
   effect_is code ps ks span tx (instr.Open open_form.Alter m) h = opens_so Alters span tx m h.0 h.1 h.2
   effect_is code ps ks span tx (instr.Open (open_form.Commute f) m) h = opens_so (Commutes f) span tx m h.0 h.1 h.2
   effect_is code ps ks span tx (instr.Close update.Alter) h = closes_so span tx h
@@ -775,5 +830,5 @@ module _ (n : ℕ) (role : Role) (bn : ℕ) (fs : List PlainFrame) (l at : ℕ) 
   effect_is code ps ks span tx (instr.Vector m) h = absurd h
   effect_is code ps ks span tx (instr.Print m) h = absurd h
   effect_is code ps ks span tx (instr.Open (open_form.Swap f) m) h = swaps_so f span tx m h.0 h.1
-  effect_is code ps ks span tx (instr.Close update.Swap) h = swapped_so span tx h.0 h.1
+  effect_is code ps ks span tx (instr.Close update.Swap) h = swapped_so code span tx h.0 h.1 h.2
   effect_is code ps ks span tx instr.Halt h = absurd h

@@ -6,7 +6,10 @@ pub mod Departing
 pub mod Dispatching
 pub mod Effects
 pub mod Following
+pub mod Handing
+pub mod Judging
 pub mod Landing
+pub mod Looking
 pub mod Meaning
 pub mod Openings
 pub mod Replies
@@ -15,3 +18,4 @@ pub mod Striding
 pub mod Travelling
 pub mod Trying
 pub mod Turning
+pub mod Validated

@@ -35,36 +35,36 @@ well_typed_at fs ks (c ∷ bs) (r ∷ rooms) zero b w e = subst (λ (x : CodeBod
 well_typed_at fs ks (c ∷ bs) (r ∷ rooms) (suc k) b w e = well_typed_at fs ks bs rooms k b w.2 e
 
 -- the place of an actor with its locals alone
-opens : (l : ℕ) → placed 0 [] Outside [] 0 0 empty_frame None None l 0 (nils l) [] ≡ configuration 0 0 [] (nils l) [] Outside (stated [] [] 0 0 empty_frame None None)
+opens : (l : ℕ) → placed 0 [] Outside [] 0 0 empty_frame None None None l 0 (nils l) [] ≡ configuration 0 0 [] (nils l) [] Outside (stated [] [] 0 0 empty_frame None None None)
 opens l =
     let none : reverse (drop l (nils l)) ≡ [] = ap reverse (drop_all l (nils l) (omega (arith, length_nils l))) in
     let all : take l (nils l) ≡ nils l = take_all l (nils l) (omega (arith, length_nils l)) in
-    ap (λ st. configuration 0 0 st (take l (nils l)) [] Outside (stated [] [] 0 0 empty_frame None None)) none ∙ ap (λ ls. configuration 0 0 [] ls [] Outside (stated [] [] 0 0 empty_frame None None)) all
+    ap (λ st. configuration 0 0 st (take l (nils l)) [] Outside (stated [] [] 0 0 empty_frame None None None)) none ∙ ap (λ ls. configuration 0 0 [] ls [] Outside (stated [] [] 0 0 empty_frame None None None)) all
 
 module _ (d : PlainCode) (k l limit room : ℕ) (vs : List Value) (fs : List PlainFrame) (out : List ℕ) (own : PlainTxFrame) (b : CodeBody) (is : b ≡ get_or d.threads k b) (lt : k < length d.threads)
     (sized : l ≡ b.locals) (made : vs ≡ nils l) (uncalled : fs ≡ []) (unprinted : out ≡ []) (undone : own ≡ empty_frame) where
   body_there : nth d.threads k ≡ Some b
   body_there = index_nth d.threads k b lt ∙ ap Some (sym is)
 
-  opens_so : placed 0 [] Outside [] 0 0 own None None l 0 vs out ≡ opening (thread_code d b) []
+  opens_so : placed 0 [] Outside [] 0 0 own None None None l 0 vs out ≡ opening (thread_code d b) []
   opens_so =
-      ap (λ x. placed 0 [] Outside [] 0 0 x None None l 0 vs out) undone ∙ ap (λ x. placed 0 [] Outside [] 0 0 empty_frame None None l 0 x out) made ∙ ap (λ x. placed 0 [] Outside [] 0 0 empty_frame None None l 0 (nils l) x) unprinted ∙ opens l
-      ∙ ap (λ n. configuration 0 0 [] (nils n) [] Outside (stated [] [] 0 0 empty_frame None None)) (sized ∙ sym less)
+      ap (λ x. placed 0 [] Outside [] 0 0 x None None None l 0 vs out) undone ∙ ap (λ x. placed 0 [] Outside [] 0 0 empty_frame None None None l 0 x out) made ∙ ap (λ x. placed 0 [] Outside [] 0 0 empty_frame None None None l 0 (nils l) x) unprinted ∙ opens l
+      ∙ ap (λ n. configuration 0 0 [] (nils n) [] Outside (stated [] [] 0 0 empty_frame None None None)) (sized ∙ sym less)
     where
       less : b.locals - 0 ≡ b.locals
       less = omega arith
 
-  pub is_new : IsNew d k limit (it k Thread 0 fs l 0 vs out 0 0 own None 0 limit room transaction.Outside None)
+  pub is_new : IsNew d k limit (it k Thread 0 fs l 0 vs out 0 0 own None None 0 limit room transaction.Outside None)
   is_new = record {
     number = refl;
-    opens = ap (λ (x : List PlainFrame). placed 0 (frames_of x) Outside [] 0 0 own None None l 0 vs out) uncalled ∙ opens_so ∙ ap (λ (o : Option CodeBody). opening (record { functions = function_codes d; validators = validators_of d.cells; main = own_body d k o }) []) (sym body_there);
+    opens = ap (λ (x : List PlainFrame). placed 0 (frames_of x) Outside [] 0 0 own None None None l 0 vs out) uncalled ∙ opens_so ∙ ap (λ (o : Option CodeBody). opening (record { functions = function_codes d; validators = validators_of d.cells; main = own_body d k o }) []) (sym body_there);
     unended = refl;
     unasking = refl;
     unused = refl;
     limited = refl;
   }
 
-  pub new_runs : (function_rooms rooms : List ℕ) → WellTyped d function_rooms rooms → room ≡ l + get_or rooms k 0 → Runs d (it k Thread 0 fs l 0 vs out 0 0 own None 0 limit room transaction.Outside None)
+  pub new_runs : (function_rooms rooms : List ℕ) → WellTyped d function_rooms rooms → room ≡ l + get_or rooms k 0 → Runs d (it k Thread 0 fs l 0 vs out 0 0 own None None 0 limit room transaction.Outside None)
   new_runs function_rooms rooms w roomy =
       let t = well_typed_at (functions_of d w.kinds) d.constants d.threads rooms k b w.threads body_there in
       let size : length vs ≡ l = ap length made ∙ length_nils l in
@@ -86,7 +86,7 @@ module _ (d : PlainCode) (k l limit room : ℕ) (vs : List Value) (fs : List Pla
         deep = omega arith;
         roomy = omega arith;
       } in
-      let g : GoesOn d w.kinds b (it k Thread 0 fs l 0 vs out 0 0 own None 0 limit room transaction.Outside None) =
+      let g : GoesOn d w.kinds b (it k Thread 0 fs l 0 vs out 0 0 own None None 0 limit room transaction.Outside None) =
       record {
         own = (0, 0);
         base = (0, 0);
@@ -103,4 +103,4 @@ module _ (d : PlainCode) (k l limit room : ℕ) (vs : List Value) (fs : List Pla
         serves = tt;
         applies = tt;
       } in
-      record { kinds = w.kinds; rooms = function_rooms; functions = w.functions; body = b; is = body_there; goes = g }
+      record { kinds = w.kinds; rooms = function_rooms; functions = w.functions; validators = w.validators; body = b; is = body_there; goes = g }

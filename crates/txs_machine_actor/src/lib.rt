@@ -7,6 +7,7 @@
 pub mod actor;
 pub mod answer;
 mod attend;
+mod judge;
 pub mod law;
 pub mod outcome;
 mod pace;

@@ -87,9 +87,11 @@ pub enum Role {
         agent: CellId,
         acting: Option<InHand>,
     },
-    /// An agent's, the function of whose action runs in a stack of its own: that of the agent's body is put aside.
+    /// An agent's, the function of whose action, or of the validator of its new value, runs in a stack of its own: that of the
+    /// agent's body is put aside.
     Acting {
         acting: InHand,
+        judges: bool,
         aside: Stack,
     },
 }

@@ -1,10 +1,13 @@
 -- What an instruction on cells or the transaction makes of an actor.
 use Rattle.std.specs.Prelude.{◌≡◌, ℕ, zero, suc, ◌+◌, ◌<◌, ◌≤◌, ◌^◌, Bool, true, false, List, [], ◌∷◌, ◌++◌, length, Option, Some, None, Result, Ok, Err}
 use Rattle.txs_world_protocol.specs.Ask.{Writes, buffered, with_write}
-use Rattle.txs_frame.specs.Frame.{PlainTxFrame, commuted, set_ref, with_cell, ensure_ref, commute_ref, hold_send, phase_work}
-use Rattle.txs_frame.specs.Phase.{blank, next_arguments}
+use Rattle.txs_frame.specs.Frame.{PlainTxFrame, commuted, set_ref, with_cell, ensure_ref, commute_ref, hold_send}
+use Rattle.txs_frame.specs.Phase.{blank, next_arguments, tasks_of}
 use Rattle.txs_frame.specs.declared.frame.Commute.{Commute}
+use Rattle.txs_frame.specs.declared.phase.Task.{Task}
+use Rattle.txs_frame.specs.declared.phase.Task.TheVariants.{Redoes, Validates}
 use Rattle.txs_value_apply.specs.Core.{Answer, core, takes}
+use Rattle.txs_value_cell.specs.Cells.{Validators}
 use Rattle.txs_value_cell.specs.Forms.{rule, cell_of}
 use Rattle.txs_value_data.specs.Limits.{reruns}
 use Rattle.txs_value_base.specs.Places.{fault_at}
@@ -37,19 +40,20 @@ use Rattle.txs_machine_transaction.specs.declared.state.Savepoint.{Savepoint}
 use Rattle.txs_machine_transaction.specs.declared.state.Pending.{Pending}
 use Rattle.txs_machine_transaction.specs.declared.state.Pending.TheVariants as pending
 use Rattle.txs_machine_transaction.specs.declared.state.Transaction.{Transaction}
-use Rattle.txs_machine_transaction.specs.declared.state.Transaction.TheVariants.{Outside, Restarting, Running, Applying, Evaluating, Swapping}
+use Rattle.txs_machine_transaction.specs.declared.state.Transaction.TheVariants.{Outside, Restarting, Running, Applying, Evaluating, Swapping, Judging, Weighing}
 
 -- a callee is an operation that takes the ref's value and so many further arguments
 abbrev pub IsOperation : Callee → ℕ → Type 0
 IsOperation (callee.Core op) n = takes op (suc n) ≡ true
 IsOperation (callee.Function f) n = ⊥
 
--- the next commute, if one is left, is of an operation: a function runs in turns of its own
-abbrev pub Operates : List Commute → Type 0
+-- the next task, if one is left, is a commute of an operation: a function runs in turns of its own, and so does what validators do
+abbrev pub Operates : List Task → Type 0
 Operates [] = Unit {0}
-Operates (k ∷ ks) = IsOperation k.callee (length k.args)
+Operates (Redoes k ∷ xs) = IsOperation k.callee (length k.args)
+Operates (Validates c f ∷ xs) = ⊥
 
--- where commutes are applied, the next is of an operation
+-- where the tasks of a transaction's end are done, the next is a commute of an operation
 abbrev pub LeftApply : Transaction → Type 0
 LeftApply Outside = Unit {0}
 LeftApply (Restarting left) = Unit {0}
@@ -57,6 +61,8 @@ LeftApply (Running left inner from) = Unit {0}
 LeftApply (Applying left from phase) = Operates phase.work
 LeftApply (Evaluating left from phase aside) = ⊥
 LeftApply (Swapping c p from) = Unit {0}
+LeftApply (Judging aside) = ⊥
+LeftApply (Weighing c p from aside) = ⊥
 
 -- what an instruction on cells or the transaction needs: values enough, room for one more, and that inner transactions can be counted
 abbrev pub CanMove : List Value → ℕ → Transaction → Instr → Type 0
@@ -197,6 +203,8 @@ swapped vs w kept (Running left inner from) = moves vs (Running left inner from)
 swapped vs w kept (Applying left from phase) = moves vs (Applying left from phase) w kept
 swapped vs w kept (Evaluating left from phase aside) = moves vs (Evaluating left from phase aside) w kept
 swapped vs w kept (Swapping c p from) = waits (pending.Close c p (last_of vs)) vs (Swapping c p from) w kept
+swapped vs w kept (Judging aside) = moves vs (Judging aside) w kept
+swapped vs w kept (Weighing c p from aside) = moves vs (Weighing c p from aside) w kept
 
 -- a transaction begins here, or joins the one that runs
 abbrev pub begins : Savepoint → List Value → PlainTxFrame → Option Commute → Transaction → Effect
@@ -206,57 +214,63 @@ begins from vs w kept (Running left inner at) = moves vs (Running left (inner + 
 begins from vs w kept (Applying left at phase) = moves vs (Applying left at phase) w kept
 begins from vs w kept (Evaluating left at phase aside) = moves vs (Evaluating left at phase aside) w kept
 begins from vs w kept (Swapping c p at) = moves vs (Swapping c p at) w kept
+begins from vs w kept (Judging aside) = moves vs (Judging aside) w kept
+begins from vs w kept (Weighing c p at aside) = moves vs (Weighing c p at aside) w kept
 
--- at a transaction's end: the commit where no ref was commuted and not set, else such refs are viewed
-abbrev pub settles : List CellId → List Value → Transaction → PlainTxFrame → Option Commute → Effect
-settles [] vs tx w kept = waits pending.Commit vs tx w kept
-settles (c ∷ cs) vs tx w kept = waits (pending.View (record { work = phase_work w; values = blank (commuted w) })) vs tx w kept
+-- at a transaction's end, where the cells have these validators: the commit where no ref was commuted and not set, else such refs are
+-- viewed; what is to be validated without a view is so before
+abbrev pub settles : Validators → List CellId → List Value → Transaction → PlainTxFrame → Option Commute → Effect
+settles fs [] vs tx w kept = waits pending.Commit vs tx w kept
+settles fs (c ∷ cs) vs tx w kept = waits (pending.View (record { work = tasks_of fs w; values = blank (commuted w) })) vs tx w kept
 
--- a transaction whose commutes are applied, with those that are left and the refs' values so far
-abbrev pub applying : ℕ → Savepoint → List Commute → Writes → Transaction
-applying left from ks ws = Applying left from (record { work = ks; values = ws })
+-- a transaction at its end, with the tasks that are left and the values so far of the refs that are viewed
+abbrev pub applying : ℕ → Savepoint → List Task → Writes → Transaction
+applying left from xs ws = Applying left from (record { work = xs; values = ws })
 
 -- a commute is applied, or its operation faults where the transaction began
-abbrev pub applies_as : ℕ → Savepoint → List Value → PlainTxFrame → Option Commute → Commute → List Commute → Writes → Answer → Effect
-applies_as left from vs w kept k ks ws (Ok v) = stays vs (applying left from ks (with_write ws k.cell v)) w kept
-applies_as left from vs w kept k ks ws (Err e) = falls (fault_at e from.span) (applying left from (k ∷ ks) ws) w kept
+abbrev pub applies_as : ℕ → Savepoint → List Value → PlainTxFrame → Option Commute → Commute → List Task → Writes → Answer → Effect
+applies_as left from vs w kept k xs ws (Ok v) = stays vs (applying left from xs (with_write ws k.cell v)) w kept
+applies_as left from vs w kept k xs ws (Err e) = falls (fault_at e from.span) (applying left from (Redoes k ∷ xs) ws) w kept
 
 -- the same of a commute by its callee, which is an operation
-abbrev pub applies : Callee → ℕ → Savepoint → List Value → PlainTxFrame → Option Commute → Commute → List Commute → Writes → Effect
-applies (callee.Core op) left from vs w kept k ks ws = applies_as left from vs w kept k ks ws (core op (next_arguments (k ∷ ks) ws))
-applies (callee.Function f) left from vs w kept k ks ws = stays vs (applying left from (k ∷ ks) ws) w kept
+abbrev pub applies : Callee → ℕ → Savepoint → List Value → PlainTxFrame → Option Commute → Commute → List Task → Writes → Effect
+applies (callee.Core op) left from vs w kept k xs ws = applies_as left from vs w kept k xs ws (core op (next_arguments (Redoes k ∷ xs) ws w))
+applies (callee.Function f) left from vs w kept k xs ws = stays vs (applying left from (Redoes k ∷ xs) ws) w kept
 
--- one stage of a commute phase: the next commute is applied, or the transaction commits
-abbrev pub goes_through : ℕ → Savepoint → List Value → PlainTxFrame → Option Commute → List Commute → Writes → Effect
+-- one task of a transaction's end: the next commute is applied, or the transaction commits
+abbrev pub goes_through : ℕ → Savepoint → List Value → PlainTxFrame → Option Commute → List Task → Writes → Effect
 goes_through left from vs w kept [] ws = waits pending.Commit vs (applying left from [] ws) w kept
-goes_through left from vs w kept (k ∷ ks) ws = applies k.callee left from vs w kept k ks ws
+goes_through left from vs w kept (Redoes k ∷ xs) ws = applies k.callee left from vs w kept k xs ws
+goes_through left from vs w kept (Validates c f ∷ xs) ws = stays vs (applying left from (Validates c f ∷ xs) ws) w kept
 
 -- a transaction ends, or leaves the one that runs
-abbrev pub ends : List Value → PlainTxFrame → Option Commute → Transaction → Effect
-ends vs w kept Outside = moves vs Outside w kept
-ends vs w kept (Restarting left) = moves vs (Restarting left) w kept
-ends vs w kept (Running left zero from) = settles (commuted w) vs (Running left zero from) w kept
-ends vs w kept (Running left (suc inner) from) = moves vs (Running left inner from) w kept
-ends vs w kept (Applying left from phase) = goes_through left from vs w kept phase.work phase.values
-ends vs w kept (Evaluating left from phase aside) = moves vs (Evaluating left from phase aside) w kept
-ends vs w kept (Swapping c p from) = moves vs (Swapping c p from) w kept
+abbrev pub ends : Validators → List Value → PlainTxFrame → Option Commute → Transaction → Effect
+ends fs vs w kept Outside = moves vs Outside w kept
+ends fs vs w kept (Restarting left) = moves vs (Restarting left) w kept
+ends fs vs w kept (Running left zero from) = settles fs (commuted w) vs (Running left zero from) w kept
+ends fs vs w kept (Running left (suc inner) from) = moves vs (Running left inner from) w kept
+ends fs vs w kept (Applying left from phase) = goes_through left from vs w kept phase.work phase.values
+ends fs vs w kept (Evaluating left from phase aside) = moves vs (Evaluating left from phase aside) w kept
+ends fs vs w kept (Swapping c p from) = moves vs (Swapping c p from) w kept
+ends fs vs w kept (Judging aside) = moves vs (Judging aside) w kept
+ends fs vs w kept (Weighing c p from aside) = moves vs (Weighing c p from aside) w kept
 
--- an instruction on cells or the transaction, where a transaction that begins does so from here
-abbrev pub effect : Savepoint → List Value → Transaction → PlainTxFrame → Option Commute → Instr → Effect
-effect from vs tx w kept (Look Deref) = reads (is_running tx) vs tx w kept
-effect from vs tx w kept (Look Ensure) = ensures vs tx w kept
-effect from vs tx w kept (Put RefSet) = sets (form.Put RefSet) vs tx w kept
-effect from vs tx w kept (Put Reset) = resets vs tx w kept
-effect from vs tx w kept (Send callee n) = sends (is_running tx) callee n from.span vs tx w kept
-effect from vs tx w kept TxBegin = begins from vs w kept tx
-effect from vs tx w kept TxEnd = ends vs w kept tx
-effect from vs tx w kept (Open open_form.Alter n) = opens (update_of None) n vs tx w kept
-effect from vs tx w kept (Open (open_form.Commute callee) n) = opens (update_of (Some callee)) n vs tx w kept
-effect from vs tx w kept (Close update.Alter) = closes vs tx w kept
-effect from vs tx w kept (Close update.Commute) = closes vs tx w kept
-effect from vs tx w kept (Open (open_form.Swap callee) n) = swaps n from vs tx w kept
-effect from vs tx w kept (Close update.Swap) = swapped vs w kept tx
-effect from vs tx w kept _ = moves vs tx w kept
+-- an instruction on cells or the transaction, where the cells have these validators, and a transaction that begins does so from here
+abbrev pub effect : Validators → Savepoint → List Value → Transaction → PlainTxFrame → Option Commute → Instr → Effect
+effect fs from vs tx w kept (Look Deref) = reads (is_running tx) vs tx w kept
+effect fs from vs tx w kept (Look Ensure) = ensures vs tx w kept
+effect fs from vs tx w kept (Put RefSet) = sets (form.Put RefSet) vs tx w kept
+effect fs from vs tx w kept (Put Reset) = resets vs tx w kept
+effect fs from vs tx w kept (Send callee n) = sends (is_running tx) callee n from.span vs tx w kept
+effect fs from vs tx w kept TxBegin = begins from vs w kept tx
+effect fs from vs tx w kept TxEnd = ends fs vs w kept tx
+effect fs from vs tx w kept (Open open_form.Alter n) = opens (update_of None) n vs tx w kept
+effect fs from vs tx w kept (Open (open_form.Commute callee) n) = opens (update_of (Some callee)) n vs tx w kept
+effect fs from vs tx w kept (Close update.Alter) = closes vs tx w kept
+effect fs from vs tx w kept (Close update.Commute) = closes vs tx w kept
+effect fs from vs tx w kept (Open (open_form.Swap callee) n) = swaps n from vs tx w kept
+effect fs from vs tx w kept (Close update.Swap) = swapped vs w kept tx
+effect fs from vs tx w kept _ = moves vs tx w kept
 
 -- what the machine's word says of such an instruction; running out of memory leaves what the transaction has done, and the commute that
 -- is open, as they were

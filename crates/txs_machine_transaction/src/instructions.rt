@@ -4,6 +4,7 @@ ghost use Rattle.std.specs.Prelude.{ℕ, ◌+◌, ◌++◌, ◌∷◌, [], List,
 ghost use Rattle.txs_world_protocol.specs.Ask.{buffered};
 ghost use Rattle.txs_frame.specs.Frame.{PlainTxFrame, commuted};
 ghost use Rattle.txs_frame.specs.Phase.{next_arguments};
+ghost use Rattle.txs_value_cell.specs.Cells.{Validators, validators_of};
 ghost use Rattle.txs_value_apply.specs.Core.{Answers, core, takes};
 ghost use Rattle.txs_frame.specs.declared.frame.Commute.{Commute as ACommute};
 ghost use Rattle.txs_value_cell.specs.Forms.{rule, cell_of};
@@ -29,7 +30,7 @@ use txs_frame::{Commute, Phase, SetError, TxFrame};
 use txs_machine_stack::Stack;
 use txs_value_apply::apply_owned;
 use txs_value_base::{Callee, Fault, FaultKind, Op, Span, Stop};
-use txs_value_cell::{Action, CellForm, LookForm, PutForm, UpdateForm};
+use txs_value_cell::{Action, CellDefinition, CellForm, LookForm, PutForm, UpdateForm};
 use txs_value_data::{CellId, Listed, Value, copy_value, copy_values};
 
 /// Whether a transaction runs.
@@ -394,7 +395,7 @@ fn begin(tx: &mut KeptTransaction) -> Quick
 /// A transaction with no commutes ends, or leaves the one that runs.
 #[inline(always)]
 fn end_plainly(tx: &mut KeptTransaction, frame: &TxFrame) -> Option<Quick>
-    ensures comes { (from : ASavepoint) (vs : List AValue) (k : Option ACommute) → IfSome result (λ q. ComesQuickly q from vs tx.new frame.now k frame.now k (ends vs frame.now k tx.old)) }
+    ensures comes { (fs : Validators) (from : ASavepoint) (vs : List AValue) (k : Option ACommute) → IfSome result (λ q. ComesQuickly q from vs tx.new frame.now k frame.now k (ends fs vs frame.now k tx.old)) }
     ensures rare { result ≡ None → tx.new ≡ tx.old }
 {
     match tx.end() {
@@ -412,44 +413,45 @@ fn end_plainly(tx: &mut KeptTransaction, frame: &TxFrame) -> Option<Quick>
     }
 }
 
-/// The commit of a transaction, or the view of the refs that it commuted and didn't set.
-fn settle(alloc: Global, frame: &TxFrame) -> Moved
-    ensures { (vs : List AValue) (tx : ATransaction) (k : Option ACommute) → Comes result vs tx frame.now k frame.now k (settles (commuted frame.now) vs tx frame.now k) }
+/// The commit of a transaction, or the view of the refs that it commuted and didn't set, where the cells are defined so.
+fn settle(alloc: Global, cells: &[CellDefinition], frame: &TxFrame) -> Moved
+    ensures { (vs : List AValue) (tx : ATransaction) (k : Option ACommute) → Comes result vs tx frame.now k frame.now k (settles (validators_of cells.now) (commuted frame.now) vs tx frame.now k) }
 {
-    let Ok(cells) = frame.commuted() else {
+    let Ok(commuted) = frame.commuted() else {
         return Moved::Memory;
     };
-    if cells.is_empty() {
+    if commuted.is_empty() {
         return Moved::Asks(Pending::Commit);
     }
-    match frame.phase(alloc) {
+    match frame.phase(alloc, cells) {
         Ok(phase) => Moved::Asks(Pending::View(phase)),
         Err(_) => Moved::Memory,
     }
 }
 
-/// The value of an operation that the next commute of a phase calls.
-fn operate(alloc: Global, op: Op, phase: &Phase) -> Result<Value, Stop>
+/// The value of an operation that the next commute of a transaction's end calls.
+fn operate(alloc: Global, op: Op, phase: &Phase, frame: &TxFrame) -> Result<Value, Stop>
     requires left { 0 < length phase.now.work }
-    requires takes { takes op (length (next_arguments phase.now.work phase.now.values)) ≡ true }
-    ensures { Answers result (core op (next_arguments phase.now.work phase.now.values)) }
+    requires takes { takes op (length (next_arguments phase.now.work phase.now.values frame.now)) ≡ true }
+    ensures { Answers result (core op (next_arguments phase.now.work phase.now.values frame.now)) }
 {
-    let Ok(mut args) = phase.arguments() else {
+    let Ok(mut args) = phase.arguments(frame) else {
         return Err(Stop::Memory);
     };
     apply_owned(alloc, op, args.as_mut_slice())
 }
 
-/// One stage of a commute phase: the next commute's operation is applied, whose fault is one of the transaction's beginning, or
+/// One task of a transaction's end: the next commute's operation is applied, whose fault is one of the transaction's beginning, or
 /// the transaction commits.
 #[inline(never)]
-fn go_through(alloc: Global, span: Span, phase: &mut Phase) -> Moved
+#[tactic(auto, using(crate::proofs::Tasks::next_left, crate::proofs::Tasks::next_takes, crate::proofs::Tasks::next_operates, crate::proofs::Tasks::none_left, crate::proofs::Tasks::task_applied, crate::proofs::Tasks::task_faults))]
+fn go_through(alloc: Global, span: Span, phase: &mut Phase, frame: &TxFrame) -> Moved
     requires { Operates phase.old.work }
-    ensures { (left : ℕ) (stack : PlainStack) (vs : List AValue) (w : PlainTxFrame) (k : Option ACommute) → Comes result vs (applying left (record { span = span; stack = stack }) phase.new.work phase.new.values) w k w k (goes_through left (record { span = span; stack = stack }) vs w k phase.old.work phase.old.values) }
+    ensures { (left : ℕ) (stack : PlainStack) (vs : List AValue) (k : Option ACommute) → Comes result vs (applying left (record { span = span; stack = stack }) phase.new.work phase.new.values) frame.now k frame.now k (goes_through left (record { span = span; stack = stack }) vs frame.now k phase.old.work phase.old.values) }
 {
     match phase.callee() {
         None => Moved::Asks(Pending::Commit),
-        Some(Callee::Core(op)) => match operate(alloc, op, phase) {
+        Some(Callee::Core(op)) => match operate(alloc, op, phase, frame) {
             Ok(value) => {
                 phase.give(value);
                 Moved::Stays
@@ -463,22 +465,24 @@ fn go_through(alloc: Global, span: Span, phase: &mut Phase) -> Moved
 
 /// A transaction ends, or leaves the one that runs.
 #[inline(always)]
-fn end(alloc: Global, tx: &mut Transaction, frame: &TxFrame) -> Moved
+fn end(alloc: Global, cells: &[CellDefinition], tx: &mut Transaction, frame: &TxFrame) -> Moved
     requires { LeftApply tx.old }
-    ensures { (vs : List AValue) (k : Option ACommute) → Comes result vs tx.new frame.now k frame.now k (ends vs frame.now k tx.old) }
+    ensures { (vs : List AValue) (k : Option ACommute) → Comes result vs tx.new frame.now k frame.now k (ends (validators_of cells.now) vs frame.now k tx.old) }
 {
     match tx {
         Transaction::Running { inner, .. } => {
             if *inner == 0 {
-                return settle(alloc, frame);
+                return settle(alloc, cells, frame);
             }
             *inner -= 1;
             Moved::On
         }
-        Transaction::Applying { from, phase, .. } => go_through(alloc, from.span, phase),
-        Transaction::Outside | Transaction::Restarting { .. } | Transaction::Swapping { .. } => {
-            Moved::On
-        }
+        Transaction::Applying { from, phase, .. } => go_through(alloc, from.span, phase, frame),
+        Transaction::Outside
+        | Transaction::Restarting { .. }
+        | Transaction::Swapping { .. }
+        | Transaction::Judging { .. }
+        | Transaction::Weighing { .. } => Moved::On,
         Transaction::Evaluating { .. } => unreachable!(),
     }
 }
@@ -493,7 +497,7 @@ pub fn transact(
     commuting: &mut Option<Commute>,
 ) -> Option<Quick>
     requires { CanMove stack.old.values stack.old.room tx.old instr }
-    ensures comes { (span : ASpan) → IfSome result (λ q. ComesQuickly q (record { span = span; stack = stack.old }) stack.new.values tx.new frame.new commuting.new frame.old commuting.old (effect (record { span = span; stack = stack.old }) stack.old.values tx.old frame.old commuting.old instr)) }
+    ensures comes { (fs : Validators) (span : ASpan) → IfSome result (λ q. ComesQuickly q (record { span = span; stack = stack.old }) stack.new.values tx.new frame.new commuting.new frame.old commuting.old (effect fs (record { span = span; stack = stack.old }) stack.old.values tx.old frame.old commuting.old instr)) }
     ensures rest { stack.new ≡ record stack.old { values = stack.new.values } }
     ensures rare { result ≡ None → IsRare commuting.old instr × (stack.new ≡ stack.old) × (tx.new ≡ tx.old) × (frame.new ≡ frame.old) × (commuting.new ≡ commuting.old) }
 {
@@ -508,10 +512,11 @@ pub fn transact(
     }
 }
 
-/// One of the others.
+/// One of the others, where the cells are defined so.
 #[inline(never)]
 pub fn transact_rarely(
     alloc: Global,
+    cells: &[CellDefinition],
     instr: Instr,
     span: Span,
     stack: &mut Stack,
@@ -521,14 +526,14 @@ pub fn transact_rarely(
 ) -> Moved
     requires can { CanMove stack.old.values stack.old.room tx.old instr }
     requires rare { IsRare commuting.old instr }
-    ensures comes { Comes result stack.new.values tx.new frame.new commuting.new frame.old commuting.old (effect (record { span = span; stack = stack.old }) stack.old.values tx.old frame.old commuting.old instr) }
+    ensures comes { Comes result stack.new.values tx.new frame.new commuting.new frame.old commuting.old (effect (validators_of cells.now) (record { span = span; stack = stack.old }) stack.old.values tx.old frame.old commuting.old instr) }
     ensures rest { stack.new ≡ record stack.old { values = stack.new.values } }
 {
     match instr {
         Instr::Look(LookForm::Ensure) => ensure(stack, tx, frame),
         Instr::Put(PutForm::Reset) => reset(stack),
         Instr::Send(callee, n) => send(alloc, callee, n, span, stack, tx, frame),
-        Instr::TxEnd => end(alloc, tx, frame),
+        Instr::TxEnd => end(alloc, cells, tx, frame),
         Instr::Open(OpenForm::Commute(callee), n) => {
             open(alloc, callee, n, stack, tx, frame, commuting)
         }

@@ -260,7 +260,9 @@ impl KeptTransaction {
             Transaction::Restarting { left } => Some(*left),
             Transaction::Applying { .. }
             | Transaction::Evaluating { .. }
-            | Transaction::Swapping { .. } => unreachable!(),
+            | Transaction::Swapping { .. }
+            | Transaction::Judging { .. }
+            | Transaction::Weighing { .. } => unreachable!(),
         }
     }
 

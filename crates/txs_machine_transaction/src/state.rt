@@ -28,13 +28,13 @@ pub enum Transaction {
         inner: u64,
         from: Savepoint,
     },
-    /// At its end its commutes are applied, and it may run again so many times from where it began.
+    /// At its end its tasks are done, and it may run again so many times from where it began.
     Applying {
         left: u16,
         from: Savepoint,
         phase: Phase,
     },
-    /// The function of one of its commutes runs, in a stack of its own: that of the transaction is put aside.
+    /// The function of its next task runs, in a stack of its own: that of the transaction is put aside.
     Evaluating {
         left: u16,
         from: Savepoint,
@@ -47,6 +47,19 @@ pub enum Transaction {
         cell: CellId,
         at: u32,
         from: Savepoint,
+    },
+    /// There is none, and no swap. The function that is an atom's validator looks at what a reset gives the atom, in a stack of its
+    /// own: that of the actor is put aside.
+    Judging {
+        aside: Stack,
+    },
+    /// The function that is the validator of a swap's atom looks at what the swap gives the atom, in a stack of its own: that of
+    /// the swap is put aside.
+    Weighing {
+        cell: CellId,
+        at: u32,
+        from: Savepoint,
+        aside: Stack,
     },
 }
 
@@ -61,7 +74,7 @@ pub enum Pending {
     Ensure(CellId, Listed<CellId>),
     /// A ref's value goes between the ref and so many arguments, and this commute is open then, if one is.
     Open(CellId, u16, Option<Commute>),
-    /// The refs that were commuted and not set are viewed, for this commute phase.
+    /// The refs that were commuted and not set are viewed, for these tasks of a transaction's end.
     View(Phase),
     /// An atom gets this value, which is at the top of the stack and takes the atom's place, too.
     Reset(CellId, Value),

@@ -4,7 +4,7 @@ use Rattle.txs_world_protocol.specs.Ask.{same_writes, same_cell, same_value, sam
 use Rattle.txs_world_protocol.specs.SeenEvent.{SeenEvent, home}
 use Rattle.txs_world_protocol.specs.declared.event.EventKind.{EventKind}
 use Rattle.txs_world_protocol.specs.declared.event.EventKind.TheVariants.{Read, Commit, Retry, Fail, Refused, Send as Sent, SendRefused, Act, Swap as Swapped, Broke}
-use Rattle.txs_value_cell.specs.Cells.{World, Validators, validators_of}
+use Rattle.txs_value_cell.specs.Cells.{World, Validators, validators_of, validator_at}
 use Rattle.txs_value_cell.specs.Forms.{rule, may_stand}
 use Rattle.txs_value_cell.specs.declared.action.Action.{Action}
 use Rattle.txs_value_base.specs.Places.{fault_at}
@@ -24,14 +24,14 @@ use Rattle.txs_value_data.specs.Printed.{printed_line}
 use Rattle.txs_value_data.specs.declared.value.CellId.{CellId}
 use Rattle.txs_value_data.specs.declared.value.Value.{Value}
 use Rattle.txs_value_data.specs.declared.value.Value.TheVariants.{Cell}
-use Rattle.txs_tree_meaning.specs.Meaning.{Completion, Completes, Recurs, Faults, Retries, Waits, OutOfTurns, Invalid, allowed, Applies}
-use Rattle.txs_tree_meaning.specs.Thread.{TxRun, ThreadState, with_tx, holding, sends_or_holds, uneaten, eats, meant, reads, resets, faulted, faultless, swaps, sends, over, Transacting, run_of, ends_tx, is_retry, eats_tx, Surroundings, thread_look, thread_put, thread_update, outside_form, on_events}
+use Rattle.txs_tree_meaning.specs.Meaning.{Completion, Completes, Recurs, Faults, Retries, Waits, OutOfTurns, Invalid, bind, allowed, Applies}
+use Rattle.txs_tree_meaning.specs.Thread.{TxRun, ThreadState, with_tx, holding, sends_or_holds, uneaten, eats, meant, reads, resets, faulted, faultless, swaps, sends, over, Transacting, run_of, ends_tx, is_retry, eats_tx, Surroundings, accepts, thread_look, thread_put, thread_update, outside_form, on_events}
 use Rattle.txs_tree_meaning.specs.Transaction.{TxState, on_cell, tx_meaning, final_writes}
 use Rattle.txs_tree_meaning.specs.Tree.{Mark, Tree, PlainFunction}
 use Rattle.txs_opt.specs.Observed.{observed, observed_run, observed_end}
-use Rattle.txs_opt.proofs.Below.{Fine}
-use Rattle.txs_opt.proofs.Like.{Likeness, Like, PartsLike, AppliesLike, loose_any}
-use Rattle.txs_opt.proofs.OneWorld.{AllFine, fine_states, on_cell_like, final_like}
+use Rattle.txs_opt.proofs.Below.{Kind, Fine}
+use Rattle.txs_opt.proofs.Like.{Likeness, Like, PartsLike, AppliesLike, bind_like, loose_any}
+use Rattle.txs_opt.proofs.OneWorld.{AllFine, fine_states, on_cell_like, AllValid, valid_at, validated_like, final_like}
 use Rattle.txs_opt.proofs.Parts.{FormsLike}
 
 -- states of a thread that tell the same
@@ -196,7 +196,7 @@ module _ (loose : Type 0) where
   holds_like a span None s t r = eats_like 0 (λ e t1. sends a span e.kind t1) (λ e t1. sends a span e.kind t1) (λ e. sends_like a span e.kind) s t r
   holds_like a span (Some l) s t r = (refl, ap {A = ThreadState} (λ u. holding (a ∷ []) u) r)
 
-  over_like : (May : ℕ → Type 0) (x y : Completion TxState Value) (s t : ThreadState) → observed s ≡ observed t → Like (fine_states May loose) x y → (go go1 : Value → TxState → Completion ThreadState Value) (broke broke1 : Fault → Completion ThreadState Value)
+  over_like : (May : Kind) (x y : Completion TxState Value) (s t : ThreadState) → observed s ≡ observed t → Like (fine_states May loose) x y → (go go1 : Value → TxState → Completion ThreadState Value) (broke broke1 : Fault → Completion ThreadState Value)
       → ((v : Value) (u : TxState) → AllFine May u.done.commutes → Like K (go v u) (go1 v u)) → ((f : Fault) → Like K (broke f) (broke1 f)) → Like K (over s x go broke) (over t y go1 broke1)
   over_like May (Completes a x) (Completes b y) s t r h go go1 broke broke1 hg hb = subst (λ v. Like K (go a x) (go1 v y)) h.0 (subst (λ u. Like K (go a x) (go1 a u)) h.1.0 (hg a x h.1.1))
   over_like May (Completes a x) _ s t r h go go1 broke broke1 hg hb = absurd h
@@ -218,7 +218,7 @@ module _ (loose : Type 0) where
   over_like May Invalid (OutOfTurns y) s t r h go go1 broke broke1 hg hb = h
   over_like May Invalid Invalid s t r h go go1 broke broke1 hg hb = tt
 
-  module _ (May : ℕ → Type 0) (m : Mark) (va : Validators) (body body1 : Tree) (env env1 : List Value) (on on1 : World → Completion TxState Value) (same : (R : World) → Like (fine_states May loose) (on R) (on1 R))
+  module _ (May : Kind) (m : Mark) (va : Validators) (valid : AllValid May va) (body body1 : Tree) (env env1 : List Value) (on on1 : World → Completion TxState Value) (same : (R : World) → Like (fine_states May loose) (on R) (on1 R))
       (f g : Applies ThreadState) (h : AppliesLike ThreadState K May f g) where
     abbrev First : Transacting
     First = record { mark = m; body = body; locals = env; on = on; validators = va }
@@ -234,19 +234,19 @@ module _ (loose : Type 0) where
         (λ v x. faultless (final_writes g va m.span x.done C t) (λ ws t1. meant (same_writes ws writes && same_actions x.done.sends sent) v (with_tx (run_of Second v x) t1))) (λ x. Invalid) (λ x. Invalid)
         (λ v x fine. faultless_like (final_writes f va m.span x.done C s) (final_writes g va m.span x.done C t)
         (λ ws t1. meant (same_writes ws writes && same_actions x.done.sends sent) v (with_tx (run_of First v x) t1)) (λ ws t1. meant (same_writes ws writes && same_actions x.done.sends sent) v (with_tx (run_of Second v x) t1))
-        (final_like ThreadState K May f g h va m.span x.done C fine s t r)
+        (final_like ThreadState K May f g h va valid m.span x.done C fine s t r)
         (λ ws s1 t1 r1. meant_like (same_writes ws writes && same_actions x.done.sends sent) v (with_tx (run_of First v x) s1) (with_tx (run_of Second v x) t1) (with_same (run_of First v x) (run_of Second v x) s1 t1 refl r1)))
         (λ x. tt)
     ends_like (Retry since d commute) R Q C s t r = tt
     ends_like (Fail at view) R Q C s t r =
         over_like May (on R) (on1 R) s t r (same R) (λ v x. faulted (final_writes f va m.span x.done Q s) (λ e t1. Faults e t1)) (λ v x. faulted (final_writes g va m.span x.done Q t) (λ e t1. Faults e t1)) (λ x. Faults x s) (λ x. Faults x t)
-        (λ v x fine. faulted_like (final_writes f va m.span x.done Q s) (final_writes g va m.span x.done Q t) (λ e t1. Faults e t1) (λ e t1. Faults e t1) (final_like ThreadState K May f g h va m.span x.done Q fine s t r) (λ e s1 t1 r1. (refl, r1)))
+        (λ v x fine. faulted_like (final_writes f va m.span x.done Q s) (final_writes g va m.span x.done Q t) (λ e t1. Faults e t1) (λ e t1. Faults e t1) (final_like ThreadState K May f g h va valid m.span x.done Q fine s t r) (λ e s1 t1 r1. (refl, r1)))
         (λ x. (refl, r))
     ends_like (Refused at view agent) R Q C s t r =
         over_like May (on R) (on1 R) s t r (same R)
         (λ v x. faultless (final_writes f va m.span x.done Q s) (λ ws t1. Faults (fault_at AgentFailed m.span) (with_tx (run_of First v x) t1))) (λ v x. faultless (final_writes g va m.span x.done Q t) (λ ws t1. Faults (fault_at AgentFailed m.span) (with_tx (run_of Second v x) t1))) (λ x. Invalid) (λ x. Invalid)
         (λ v x fine. faultless_like (final_writes f va m.span x.done Q s) (final_writes g va m.span x.done Q t) (λ ws t1. Faults (fault_at AgentFailed m.span) (with_tx (run_of First v x) t1)) (λ ws t1. Faults (fault_at AgentFailed m.span) (with_tx (run_of Second v x) t1))
-        (final_like ThreadState K May f g h va m.span x.done Q fine s t r) (λ ws s1 t1 r1. (refl, with_same (run_of First v x) (run_of Second v x) s1 t1 refl r1)))
+        (final_like ThreadState K May f g h va valid m.span x.done Q fine s t r) (λ ws s1 t1 r1. (refl, with_same (run_of First v x) (run_of Second v x) s1 t1 refl r1)))
         (λ x. tt)
     ends_like (Sent a) R Q C s t r = tt
     ends_like (SendRefused d) R Q C s t r = tt
@@ -271,7 +271,7 @@ module _ (loose : Type 0) where
     eats_tx_like : (n : ℕ) → PartsLike ThreadState K (λ t. eats_tx n First f t.todo t) (λ t. eats_tx n Second g t.todo t)
     eats_tx_like n s t r = subst (λ l. Like K (eats_tx n First f s.todo s) (eats_tx n Second g l t)) (ap (λ u. u.todo) r) (eats_tx_from n s.todo s t r)
 
-  module _ (May : ℕ → ℕ → Type 0) (x : Surroundings) (fs : List PlainFunction) where
+  module _ (May : ℕ → Kind) (x : Surroundings) (fs : List PlainFunction) (valid : (d : ℕ) → (May d).forms → AllValid (May d) (validators_of x.cells)) where
     abbrev X : Surroundings
     X = record x { functions = fs }
 
@@ -279,16 +279,25 @@ module _ (loose : Type 0) where
     look_on Deref c s t r = eats_like (home x.cells c) (λ e t1. reads c e.kind e.C t1) (λ e t1. reads c e.kind e.C t1) (λ e. reads_like c e.kind e.C) s t r
     look_on Ensure c s t r = tt
 
-    put_on : (form : PutForm) (span : Span) (c : CellId) (v : Value) (f g : Applies ThreadState) → PartsLike ThreadState K (thread_put x form span c v f) (thread_put X form span c v g)
-    put_on RefSet span c v f g s t r = tt
-    put_on Reset span c v f g s t r = eats_like (home x.cells c) (λ e t1. resets v e.kind t1) (λ e t1. resets v e.kind t1) (λ e. resets_like v e.kind) s t r
+    accepts_like : (d : ℕ) → (May d).forms → (c : CellId) (span : Span) (v : Value) (f g : Applies ThreadState) → AppliesLike ThreadState K (May d) f g → PartsLike ThreadState K (accepts x f c span v) (accepts X g c span v)
+    accepts_like d here c span v f g h = validated_like ThreadState K (May d) f g h (validator_at (validators_of x.cells) c.number) span v (valid_at (May d) (validators_of x.cells) c.number (valid d here))
 
-    update_on : (d : ℕ) (form : UpdateForm) (span : Span) (c : CellId) (callee : Callee) (vs : List Value) (f g : Applies ThreadState) → Fine (May d) callee → AppliesLike ThreadState K (May d) f g → PartsLike ThreadState K (thread_update x form span c callee vs f) (thread_update X form span c callee vs g)
-    update_on d Alter span c callee vs f g fine h s t r = tt
-    update_on d Commute span c callee vs f g fine h s t r = tt
-    update_on d Swap span c callee vs f g fine h s t r =
-        eats_like (home x.cells c) (λ e t1. swaps c (λ v t2. f callee (v ∷ vs) t2) e.kind e.R e.C t1) (λ e t1. swaps c (λ v t2. g callee (v ∷ vs) t2) e.kind e.R e.C t1)
-        (λ e. swaps_like c (λ v t2. f callee (v ∷ vs) t2) (λ v t2. g callee (v ∷ vs) t2) (λ v. h callee (v ∷ vs) fine) e.kind e.R e.C) s t r
+    put_on : (d : ℕ) → (May d).forms → (form : PutForm) (span : Span) (c : CellId) (v : Value) (f g : Applies ThreadState) → AppliesLike ThreadState K (May d) f g → PartsLike ThreadState K (thread_put x form span c v f) (thread_put X form span c v g)
+    put_on d here RefSet span c v f g h s t r = tt
+    put_on d here Reset span c v f g h s t r =
+        bind_like ThreadState K (accepts x f c span v s) (accepts X g c span v t) (λ w t1. eats (home x.cells c) (λ e t2. resets w e.kind t2) t1.todo t1) (λ w t1. eats (home x.cells c) (λ e t2. resets w e.kind t2) t1.todo t1)
+        (accepts_like d here c span v f g h s t r)
+        (λ w s1 t1 r1. eats_like (home x.cells c) (λ e t2. resets w e.kind t2) (λ e t2. resets w e.kind t2) (λ e. resets_like w e.kind) s1 t1 r1)
+
+    update_on : (d : ℕ) → (May d).forms → (form : UpdateForm) (span : Span) (c : CellId) (callee : Callee) (vs : List Value) (f g : Applies ThreadState) → Fine (May d) callee → AppliesLike ThreadState K (May d) f g → PartsLike ThreadState K (thread_update x form span c callee vs f) (thread_update X form span c callee vs g)
+    update_on d here Alter span c callee vs f g fine h s t r = tt
+    update_on d here Commute span c callee vs f g fine h s t r = tt
+    update_on d here Swap span c callee vs f g fine h s t r =
+        let made : Value → ThreadState → Completion ThreadState Value = λ v t2. bind (f callee (v ∷ vs) t2) (accepts x f c span) in
+        let made1 : Value → ThreadState → Completion ThreadState Value = λ v t2. bind (g callee (v ∷ vs) t2) (accepts X g c span) in
+        eats_like (home x.cells c) (λ e t1. swaps c made e.kind e.R e.C t1) (λ e t1. swaps c made1 e.kind e.R e.C t1)
+        (λ e. swaps_like c made made1
+        (λ v s1 t1 r1. bind_like ThreadState K (f callee (v ∷ vs) s1) (g callee (v ∷ vs) t1) (accepts x f c span) (accepts X g c span) (h callee (v ∷ vs) fine s1 t1 r1) (λ w. accepts_like d here c span w f g h)) e.kind e.R e.C) s t r
 
     outside_like : (form : CellForm) (a b : ThreadState → Completion ThreadState Value) → PartsLike ThreadState K a b → PartsLike ThreadState K (λ t. outside_form form (a t)) (λ t. outside_form form (b t))
     outside_like form a b h s t r = allowed_like (may_stand (rule form).stands false) (a s) (b t) (h s t r)
@@ -302,16 +311,16 @@ module _ (loose : Type 0) where
       print = λ inside vs s t r. (refl, ap {A = ThreadState} (λ u. record u { printed = u.printed ++ printed_line vs }) r);
       look = λ form inside m v. outside_like (form_of.Look form) (on_cell (form_of.Look form) false m.span v (thread_look x form)) (on_cell (form_of.Look form) false m.span v (thread_look X form))
           (on_cell_like ThreadState K (form_of.Look form) false m.span v (thread_look x form) (thread_look X form) (look_on form));
-      put = λ form inside m v w f g h. outside_like (form_of.Put form) (on_cell (form_of.Put form) false m.span v (λ c t1. thread_put x form m.span c w f t1)) (on_cell (form_of.Put form) false m.span v (λ c t1. thread_put X form m.span c w g t1))
-          (on_cell_like ThreadState K (form_of.Put form) false m.span v (λ c t1. thread_put x form m.span c w f t1) (λ c t1. thread_put X form m.span c w g t1) (λ c. put_on form m.span c w f g));
-      update = λ form inside m v callee vs f g fine h.
+      put = λ form inside m v w f g here h. outside_like (form_of.Put form) (on_cell (form_of.Put form) false m.span v (λ c t1. thread_put x form m.span c w f t1)) (on_cell (form_of.Put form) false m.span v (λ c t1. thread_put X form m.span c w g t1))
+          (on_cell_like ThreadState K (form_of.Put form) false m.span v (λ c t1. thread_put x form m.span c w f t1) (λ c t1. thread_put X form m.span c w g t1) (λ c. put_on d here form m.span c w f g h));
+      update = λ form inside m v callee vs f g fine here h.
           outside_like (form_of.Update form) (on_cell (form_of.Update form) false m.span v (λ c t1. thread_update x form m.span c callee vs f t1)) (on_cell (form_of.Update form) false m.span v (λ c t1. thread_update X form m.span c callee vs g t1))
-          (on_cell_like ThreadState K (form_of.Update form) false m.span v (λ c t1. thread_update x form m.span c callee vs f t1) (λ c t1. thread_update X form m.span c callee vs g t1) (λ c. update_on d form m.span c callee vs f g fine h));
+          (on_cell_like ThreadState K (form_of.Update form) false m.span v (λ c t1. thread_update x form m.span c callee vs f t1) (λ c t1. thread_update X form m.span c callee vs g t1) (λ c. update_on d here form m.span c callee vs f g fine h));
       send = λ inside m v callee vs.
           on_cell_like ThreadState K form_of.Send false m.span v (λ c t1. sends_or_holds t1.held (record { agent = c; callee = callee; args = vs; span = m.span }) m.span t1) (λ c t1. sends_or_holds t1.held (record { agent = c; callee = callee; args = vs; span = m.span }) m.span t1)
           (λ c s1 t1 r1. subst (λ o. Like K (sends_or_holds s1.held (record { agent = c; callee = callee; args = vs; span = m.span }) m.span s1) (sends_or_holds o (record { agent = c; callee = callee; args = vs; span = m.span }) m.span t1)) (ap (λ (u : ThreadState). u.held) r1) (holds_like (record { agent = c; callee = callee; args = vs; span = m.span }) m.span s1.held s1 t1 r1));
-      dosync = λ inside m e e1 env env1 b b1 f g linked parts h.
-          eats_tx_like (May d) m (validators_of x.cells) e e1 env env1 (tx_meaning x.turns x.functions d e env) (tx_meaning x.turns fs d1 e1 env1) linked f g h x.tries;
+      dosync = λ inside m e e1 env env1 b b1 f g linked here parts h.
+          eats_tx_like (May d) m (validators_of x.cells) (valid d here) e e1 env env1 (tx_meaning x.turns x.functions d e env) (tx_meaning x.turns fs d1 e1 env1) linked f g h x.tries;
     }
 
 -- ends that tell the same

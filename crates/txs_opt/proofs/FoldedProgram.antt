@@ -1,7 +1,7 @@
 -- A folded program means what the program meant.
 use Rattle.std.proofs.Common.{◌≡◌, ℕ, zero, suc, Bool, true, false, List, [], ◌∷◌, length, Option, Some, None, refl, sym, ap, ◌∙◌, subst}
 use Rattle.txs_world_protocol.specs.SeenEvent.{SeenEvent}
-use Rattle.txs_value_cell.specs.Cells.{World}
+use Rattle.txs_value_cell.specs.Cells.{World, validators_of}
 use Rattle.txs_value_base.specs.Places.{nth}
 use Rattle.txs_value_base.specs.declared.op.Callee.{Callee}
 use Rattle.txs_value_data.specs.declared.value.Value.{Value}
@@ -13,11 +13,11 @@ use Rattle.txs_tree_meaning.specs.Tree.{Tree, PlainFunction, ThreadSource}
 use Rattle.txs_opt.specs.Fold.{folded, folded_function, folded_functions}
 use Rattle.txs_opt.specs.Keeps.{folded_source}
 use Rattle.txs_opt.specs.Observed.{observed_end}
-use Rattle.txs_opt.proofs.Below.{Each, each, all_fine, below_any}
+use Rattle.txs_opt.proofs.Below.{Each, any_below}
 use Rattle.txs_opt.proofs.Events.{observing_same, SameTx, event_forms, observing_end}
 use Rattle.txs_opt.proofs.Folding.{folded_like}
 use Rattle.txs_opt.proofs.Like.{Likeness, Like, PartsLike, closed_like, turns_like, apply_like, forget, exact, exactly}
-use Rattle.txs_opt.proofs.OneWorld.{Any, fine_states, pure_forms, tx_forms}
+use Rattle.txs_opt.proofs.OneWorld.{Any, any_callee, any_valid, fine_states, pure_forms, tx_forms}
 use Rattle.txs_opt.proofs.Parts.{FormsLike, CallsLike}
 
 abbrev fold_some : Option PlainFunction → Option PlainFunction
@@ -44,14 +44,14 @@ module _ (S : Type 0) (k : Likeness S) (Linked : ℕ → Tree → List Value →
       go None = tt
       go (Some fun) =
           turns_like S k (suc n) fun.parameters (λ ws s2. eval (fxs d) (call_at fxs n fs d) n inside fun.body ws s2) (λ ws t2. eval (gxs d) (call_at gxs n (folded_functions fs) d) n inside (folded fun.body) ws t2)
-          (λ ws are. folded_like S k Each (Linked d) (fxs d) (gxs d) (call_at fxs n fs d) (call_at gxs n (folded_functions fs) d) n (forms d) below (λ e env low. linked d e env) inside fun.body ws (below_any Each each fun.body)) vs s t r
+          (λ ws are. folded_like S k Each (Linked d) (fxs d) (gxs d) (call_at fxs n fs d) (call_at gxs n (folded_functions fs) d) n (forms d) below (λ e env low. linked d e env) inside fun.body ws (any_below fun.body)) vs s t r
 
   pub calls_folded : (d : ℕ) → CallsLike S k Each (call_at fxs n fs d) (call_at gxs n (folded_functions fs) d)
   calls_folded zero inside f vs may s t r = tt
   calls_folded (suc d) inside f vs may s t r = one_deeper d (calls_folded d) inside f vs may s t r
 
   pub bodies_folded : (d : ℕ) (inside : Bool) (e : Tree) (env : List Value) → PartsLike S k (eval (fxs d) (call_at fxs n fs d) n inside e env) (eval (gxs d) (call_at gxs n (folded_functions fs) d) n inside (folded e) env)
-  bodies_folded d inside e env = folded_like S k Each (Linked d) (fxs d) (gxs d) (call_at fxs n fs d) (call_at gxs n (folded_functions fs) d) n (forms d) (calls_folded d) (λ e1 env1 low. linked d e1 env1) inside e env (below_any Each each e)
+  bodies_folded d inside e env = folded_like S k Each (Linked d) (fxs d) (gxs d) (call_at fxs n fs d) (call_at gxs n (folded_functions fs) d) n (forms d) (calls_folded d) (λ e1 env1 low. linked d e1 env1) inside e env (any_below e)
 
 -- ---- pure code, transactions, threads
 
@@ -61,7 +61,7 @@ pure_folded n fs callee vs =
     ap (λ j. apply (pure_calls n (folded_functions fs) j false) nowhere callee vs tt) (length_folded fs)
     ∙ exactly (Unit {0}) (apply (pure_calls n fs d false) nowhere callee vs tt) (apply (pure_calls n (folded_functions fs) d false) nowhere callee vs tt)
     (apply_like (Unit {0}) (exact (Unit {0})) Each (pure_calls n fs d false) (pure_calls n (folded_functions fs) d false)
-    (λ f. calls_folded (Unit {0}) (exact (Unit {0})) (λ j. Any) (λ j. no_effects) (λ j. no_effects) n fs (λ j. pure_forms ⊥ Each) (λ j e env. tt) d false f) nowhere callee vs (all_fine Each each callee) tt tt refl)
+    (λ f. calls_folded (Unit {0}) (exact (Unit {0})) (λ j. Any) (λ j. no_effects) (λ j. no_effects) n fs (λ j. pure_forms ⊥ Each) (λ j e env. tt) d false f) nowhere callee vs (any_callee callee) tt tt refl)
 
 tx_like : (n : ℕ) (fs : List PlainFunction) (d : ℕ) (e : Tree) (env : List Value) (R : World) → Like (fine_states Each ⊥) (tx_meaning n fs d e env R) (tx_meaning n (folded_functions fs) d (folded e) env R)
 tx_like n fs d e env R =
@@ -86,4 +86,4 @@ thread_folded p n es =
     ap (λ j. observed_end (closed (eval (gxs j) (call_at gxs n fs j) n false (folded p.main) [] start))) (length_folded p.functions)
     ∙ observing_end (thread_meaning p n es) (closed (eval (gxs d) (call_at gxs n fs d) n false (folded p.main) [] start))
     (closed_like ThreadState (observing_same ⊥) (eval (fxs d) (call_at fxs n p.functions d) n false p.main [] start) (eval (gxs d) (call_at gxs n fs d) n false (folded p.main) [] start)
-    (bodies_folded ThreadState (observing_same ⊥) (λ j. SameTx ⊥ (λ i. Each) x fs j j) fxs gxs n p.functions (λ j. event_forms ⊥ (λ i. Each) x fs j j) (λ j e env R. tx_like n p.functions j e env R) d false p.main [] start start refl))
+    (bodies_folded ThreadState (observing_same ⊥) (λ j. SameTx ⊥ (λ i. Each) x fs (λ i here. any_valid (validators_of x.cells)) j j) fxs gxs n p.functions (λ j. event_forms ⊥ (λ i. Each) x fs (λ i here. any_valid (validators_of x.cells)) j j) (λ j e env R. tx_like n p.functions j e env R) d false p.main [] start start refl))

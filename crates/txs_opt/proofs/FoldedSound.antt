@@ -6,12 +6,13 @@ use Rattle.txs_value_base.specs.Places.{nth}
 use Rattle.txs_value_base.specs.declared.fault.FaultKind.{FaultKind}
 use Rattle.txs_value_base.specs.declared.op.Op.{Op}
 use Rattle.txs_value_base.specs.declared.op.Callee.{Callee}
+use Rattle.txs_value_cell.specs.declared.cell.CellDefinition.{CellDefinition}
 use Rattle.txs_value_base.specs.declared.op.Callee.TheVariants.{Core as CoreOp, Function}
 use Rattle.txs_value_data.specs.declared.value.Value.{Value}
 use Rattle.txs_value_data.specs.declared.value.Value.TheVariants.{Nil, Truth, Int, Key, Text, Vector, Cell}
 use Rattle.txs_tree_meaning.proofs.Callable.{both}
 use Rattle.txs_tree_meaning.specs.Known.{Known, inside_in, outside_in, pure_in, levels, known_of, known_from, known}
-use Rattle.txs_tree_meaning.specs.Sound.{Sound, Zone, in_function, in_thread, in_dosync, MayCall, SoundCall, PureCall, SoundCallee, SoundTree, SoundAll, SoundLet, SoundDo, SoundFunctions, SoundThreads, nodes, nodes_in, nodes_of_functions, nodes_of_all}
+use Rattle.txs_tree_meaning.specs.Sound.{SoundValidator, SoundCells, Sound, Zone, in_function, in_thread, in_dosync, MayCall, SoundCall, PureCall, SoundCallee, SoundTree, SoundAll, SoundLet, SoundDo, SoundFunctions, SoundThreads, nodes, nodes_in, nodes_of_functions, nodes_of_all}
 use Rattle.txs_tree_meaning.specs.Tree.{Mark, Tree, Const, Local, If, Do, Let, Loop, Recur, Core, Call, VectorOf, Println, Dosync, Look, Put, Update, Send, Trees, none, more, count, PlainFunction, PlainThread, PlainProgram}
 use Rattle.txs_opt.specs.Fold.{value_of, constants, settled, settled_on, settled_core, settled_vector, chosen, before, seen_items, whole, folded, folded_all, folded_function, folded_functions, folded_threads, folded_program}
 use Rattle.txs_opt.proofs.FoldedProgram.{length_folded}
@@ -315,6 +316,15 @@ threads_sound : (ts : List PlainThread) (ks ls : List Known) → AllEase ks ls �
 threads_sound [] ks ls all h = tt
 threads_sound (t ∷ ts) ks ls all h = ((folded_sound ks ls all t.body in_thread 0 None h.0.0, omega (arith, h.0.1, (folded_kept ks ls all t.body).deep)), threads_sound ts ks ls all h.1)
 
+-- validators that are sound stay so
+pub cells_sound : (ds : List CellDefinition) (ks ls : List Known) → AllEase ks ls → SoundCells ks ds → SoundCells ls ds
+cells_sound [] ks ls all h = tt
+cells_sound (d ∷ ds) ks ls all h = (one d.validator h.0, cells_sound ds ks ls all h.1)
+  where
+    one : (o : Option Callee) → SoundValidator ks o → SoundValidator ls o
+    one None g = tt
+    one (Some c) g = callee_sound ks ls all c 1 g
+
 length_threads : (ts : List PlainThread) → length (folded_threads ts) ≡ length ts
 length_threads [] = refl
 length_threads (t ∷ ts) = ap suc (length_threads ts)
@@ -323,9 +333,11 @@ pub folded_program_sound : (p : PlainProgram) → Sound p → Sound (folded_prog
 folded_program_sound p h =
     let fs = functions_sound p.functions [] [] tt h.functions in
     let ts = threads_sound p.threads (known p.functions) (known (folded_functions p.functions)) fs.1 h.threads in
+    let cs = cells_sound p.cells (known p.functions) (known (folded_functions p.functions)) fs.1 h.cells in
     record {
-      scoped = scoped_of (folded_program p) fs.0 ts h.scoped.few_cells (omega (arith, h.scoped.few_functions, length_folded p.functions)) (omega (arith, h.scoped.few_threads, length_threads p.threads));
+      scoped = scoped_of (folded_program p) fs.0 ts cs h.scoped.placed h.scoped.few_cells (omega (arith, h.scoped.few_functions, length_folded p.functions)) (omega (arith, h.scoped.few_threads, length_threads p.threads));
       functions = fs.0;
+      cells = cs;
       threads = ts;
       few_nodes = omega (arith, h.few_nodes, functions_nodes p.functions, threads_nodes p.threads);
     }

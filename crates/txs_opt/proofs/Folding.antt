@@ -10,7 +10,7 @@ use Rattle.txs_tree_meaning.proofs.Callable.{missing, same_some}
 use Rattle.txs_tree_meaning.specs.Meaning.{Completion, Completes, Recurs, Faults, Retries, Waits, OutOfTurns, Invalid, bind, result_of, Effects, eval, eval_all, eval_do}
 use Rattle.txs_tree_meaning.specs.Tree.{Mark, Tree, Const, Local, If, Do, Let, Loop, Recur, Core, Call, VectorOf, Println, Dosync, Look, Put, Update, Send, Trees, none, more, count, is_none}
 use Rattle.txs_opt.specs.Fold.{value_of, with_value, constants, settled, settled_on, settled_core, settled_vector, chosen, before, seen_items, whole, folded, folded_all}
-use Rattle.txs_opt.proofs.Below.{Below, AllBelow}
+use Rattle.txs_opt.proofs.Below.{Kind, Below, AllBelow}
 use Rattle.txs_opt.proofs.Like.{Likeness, Like, PartsLike, loose_any}
 use Rattle.txs_opt.proofs.Parts.{FormsLike, CallsLike, Means, MeanAll, MeanLet, MeanDo, const_like, local_like, if_like, let_like, loop_like, recur_like, core_like, call_like, vector_like, println_like, dosync_like, look_like, put_like, update_like, send_like, all_none, all_more, let_none, let_more, do_none, do_more}
 
@@ -79,7 +79,7 @@ none_seen : (e : Tree) (es : Trees) → is_none (seen_items (more e es)) ≡ fal
 none_seen e none = refl
 none_seen e (more f es) = none_before (value_of e) e (seen_items (more f es)) (none_seen f es)
 
-module _ (S : Type 0) (k : Likeness S) (May : ℕ → Type 0) (Linked : Tree → List Value → Tree → List Value → Type 0) (fx gx : Effects S) (cf cg : Bool → ℕ → List Value → S → Completion S Value) (n : ℕ)
+module _ (S : Type 0) (k : Likeness S) (May : Kind) (Linked : Tree → List Value → Tree → List Value → Type 0) (fx gx : Effects S) (cf cg : Bool → ℕ → List Value → S → Completion S Value) (n : ℕ)
     (forms : FormsLike S k May Linked fx gx) (calls : CallsLike S k May cf cg) (linked : (e : Tree) (env : List Value) → Below May e → Linked e env (folded e) env) where
   settled_core_like : (inside : Bool) (op : Op) (es es1 : Trees) (m : Mark) (env : List Value) → MeanAll S k May Linked fx gx cf cg n forms calls inside es env es1 env
       → Means S k May Linked fx gx cf cg n forms calls inside (Core op es m) env (settled_core (constants es1) op es1 m) env
@@ -159,10 +159,10 @@ module _ (S : Type 0) (k : Likeness S) (May : ℕ → Type 0) (Linked : Tree →
     folded_like inside (Call f es m) env h = call_like S k May Linked fx gx cf cg n forms calls inside m env env f es (folded_all es) h.1 (all_folded_like inside es env h.0)
     folded_like inside (VectorOf es m) env h = settled_vector_like inside es (folded_all es) m env (all_folded_like inside es env h)
     folded_like inside (Println es m) env h = println_like S k May Linked fx gx cf cg n forms calls inside m env env es (folded_all es) (all_folded_like inside es env h)
-    folded_like inside (Dosync body m) env h = dosync_like S k May Linked fx gx cf cg n forms calls inside m env env body (folded body) (linked body env h) (folded_like true body env h)
+    folded_like inside (Dosync body m) env h = dosync_like S k May Linked fx gx cf cg n forms calls inside m env env body (folded body) (linked body env h.0) h.1 (folded_like true body env h.0)
     folded_like inside (Look form cell m) env h = look_like S k May Linked fx gx cf cg n forms calls inside m env env form cell (folded cell) (folded_like inside cell env h)
-    folded_like inside (Put form cell value m) env h = put_like S k May Linked fx gx cf cg n forms calls inside m env env form cell value (folded cell) (folded value) (folded_like inside cell env h.0) (folded_like inside value env h.1)
-    folded_like inside (Update form cell callee es m) env h = update_like S k May Linked fx gx cf cg n forms calls inside m env env form cell (folded cell) callee es (folded_all es) h.2 (folded_like inside cell env h.0) (all_folded_like inside es env h.1)
+    folded_like inside (Put form cell value m) env h = put_like S k May Linked fx gx cf cg n forms calls inside m env env form cell value (folded cell) (folded value) h.2 (folded_like inside cell env h.0) (folded_like inside value env h.1)
+    folded_like inside (Update form cell callee es m) env h = update_like S k May Linked fx gx cf cg n forms calls inside m env env form cell (folded cell) callee es (folded_all es) h.2 h.3 (folded_like inside cell env h.0) (all_folded_like inside es env h.1)
     folded_like inside (Send cell callee es m) env h = send_like S k May Linked fx gx cf cg n forms calls inside m env env cell (folded cell) callee es (folded_all es) (folded_like inside cell env h.0) (all_folded_like inside es env h.1)
 
     all_folded_like : (inside : Bool) (es : Trees) (env : List Value) → AllBelow May es → MeanAll S k May Linked fx gx cf cg n forms calls inside es env (folded_all es) env

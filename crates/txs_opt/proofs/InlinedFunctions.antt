@@ -1,9 +1,9 @@
 -- Where a function with its calls inlined stands.
-use Rattle.std.proofs.Common.{◌≡◌, ℕ, zero, suc, ◌+◌, ◌<◌, List, [], ◌∷◌, ◌++◌, length, Some, None, refl, sym, ap, ◌∙◌, subst, length-append, arith}
+use Rattle.std.proofs.Common.{◌≡◌, ℕ, zero, suc, ◌+◌, ◌<◌, ◌≤◌, List, [], ◌∷◌, ◌++◌, length, Some, None, refl, sym, ap, ◌∙◌, subst, length-append, arith}
 use Rattle.txs_value_base.specs.Places.{nth}
 use Rattle.txs_tree_meaning.proofs.Callable.{missing, same_some}
-use Rattle.txs_tree_meaning.specs.Tree.{PlainFunction}
-use Rattle.txs_opt.proofs.Below.{Below, wider_below, inlined_below}
+use Rattle.txs_tree_meaning.specs.Tree.{Tree, PlainFunction}
+use Rattle.txs_opt.proofs.Below.{Below, Lower, wider_below, inlined_below}
 use Rattle.txs_opt.specs.Inline.{inlined, functions_inlined}
 
 -- the functions of the first stand at their places in the second
@@ -80,28 +80,56 @@ missing_from (g ∷ fs) done budget f (suc i) at is =
 pub inlined_missing : (fs : List PlainFunction) (budget f : ℕ) → nth fs f ≡ None → nth (functions_inlined [] budget fs).functions f ≡ None
 inlined_missing fs budget f is = missing_from fs [] budget f f (omega arith) is
 
--- ---- each function calls functions before it alone
+-- ---- each function calls functions that weigh less alone
 
-abbrev pub Under : ℕ → List PlainFunction → Type 0
-Under i [] = Unit {0}
-Under i (f ∷ fs) = Below (λ g. g < i) f.body × Under (suc i) fs
+module _ (weight : ℕ → ℕ) (p : ℕ) where
+  abbrev pub Under : ℕ → List PlainFunction → Type 0
+  Under i [] = Unit {0}
+  Under i (f ∷ fs) = Below (Lower weight p (weight i)) f.body × Under (suc i) fs
 
-pub under_at : (fs : List PlainFunction) (i f : ℕ) (fun : PlainFunction) → Under i fs → nth fs f ≡ Some fun → Below (λ g. g < i + f) fun.body
-under_at [] i f fun h is = absurd (missing fun is)
-under_at (x ∷ fs) i zero fun h is = subst (λ (y : PlainFunction). Below (λ g. g < i + 0) y.body) (same_some x fun is) (wider_below (λ g. g < i) (λ g. g < i + 0) (λ g lt. omega (arith, lt)) x.body h.0)
-under_at (x ∷ fs) i (suc f) fun h is = wider_below (λ g. g < suc i + f) (λ g. g < i + suc f) (λ g lt. omega (arith, lt)) fun.body (under_at fs (suc i) f fun h.1 is)
+  -- where d is more, the same stands there
+  pub lower_wider : (d e : ℕ) → d ≤ e → (t : Tree) → Below (Lower weight p d) t → Below (Lower weight p e) t
+  lower_wider d e le t h = wider_below (Lower weight p d) (Lower weight p e) (λ f lt. omega (arith, lt, le)) (λ lt. omega (arith, lt, le)) t h
 
-under_push : (fs : List PlainFunction) (i : ℕ) (fun : PlainFunction) → Under i fs → Below (λ g. g < i + length fs) fun.body → Under i (fs ++ fun ∷ [])
-under_push [] i fun h low = (wider_below (λ g. g < i + 0) (λ g. g < i) (λ g lt. omega (arith, lt)) fun.body low, tt)
-under_push (x ∷ fs) i fun h low = (h.0, under_push fs (suc i) fun h.1 (wider_below (λ g. g < i + suc (length fs)) (λ g. g < suc i + length fs) (λ g lt. omega (arith, lt)) fun.body low))
+  pub under_at : (fs : List PlainFunction) (i f : ℕ) (fun : PlainFunction) → Under i fs → nth fs f ≡ Some fun → Below (Lower weight p (weight (i + f))) fun.body
+  under_at [] i f fun h is = absurd (missing fun is)
+  under_at (x ∷ fs) i zero fun h is =
+      let here : i ≡ i + 0 = omega arith in
+      subst (λ n. Below (Lower weight p (weight n)) fun.body) here (subst (λ (y : PlainFunction). Below (Lower weight p (weight i)) y.body) (same_some x fun is) h.0)
+  under_at (x ∷ fs) i (suc f) fun h is =
+      let next : suc i + f ≡ i + suc f = omega arith in
+      subst (λ n. Below (Lower weight p (weight n)) fun.body) next (under_at fs (suc i) f fun h.1 is)
 
-pub under_inlined : (fs done : List PlainFunction) (budget : ℕ) → Under 0 done → Under (length done) fs → Under 0 (functions_inlined done budget fs).functions
-under_inlined [] done budget h hs = h
-under_inlined (g ∷ fs) done budget h hs =
-    let x = inlined done g.parameters budget g.body in
-    let i = length done in
-    let bodies = λ (f : ℕ) (fun : PlainFunction) (is : nth done f ≡ Some fun) (lt : f < i). wider_below (λ j. j < 0 + f) (λ j. j < i) (λ j low. omega (arith, low, lt)) fun.body (under_at done 0 f fun h is) in
-    let low = inlined_below (λ j. j < i) done bodies g.parameters budget g.body hs.0 in
-    let pushed = under_push done 0 (with_inlined done budget g) h (wider_below (λ j. j < i) (λ j. j < 0 + i) (λ j lt. omega (arith, lt)) x.tree low) in
-    let longer : suc i ≡ length (done ++ with_inlined done budget g ∷ []) = omega (arith, length-append done (with_inlined done budget g ∷ [])) in
-    under_inlined fs (done ++ with_inlined done budget g ∷ []) x.budget pushed (subst (λ n. Under n fs) longer hs.1)
+  pub under_there : (fs : List PlainFunction) (f : ℕ) (fun : PlainFunction) → Under 0 fs → nth fs f ≡ Some fun → Below (Lower weight p (weight f)) fun.body
+  under_there fs f fun h is = let same : 0 + f ≡ f = omega arith in subst (λ n. Below (Lower weight p (weight n)) fun.body) same (under_at fs 0 f fun h is)
+
+  under_all : (fs : List PlainFunction) (i : ℕ) → ((f : ℕ) (fun : PlainFunction) → nth fs f ≡ Some fun → Below (Lower weight p (weight (i + f))) fun.body) → Under i fs
+  under_all [] i h = tt
+  under_all (x ∷ fs) i h =
+      let here : i + 0 ≡ i = omega arith in (
+        subst (λ n. Below (Lower weight p (weight n)) x.body) here (h 0 x refl),
+        under_all fs (suc i) (λ f fun is. let next : i + suc f ≡ suc i + f = omega arith in subst (λ n. Below (Lower weight p (weight n)) fun.body) next (h (suc f) fun is)),
+      )
+
+  -- from each function's body
+  pub under_from : (fs : List PlainFunction) → ((f : ℕ) (fun : PlainFunction) → nth fs f ≡ Some fun → Below (Lower weight p (weight f)) fun.body) → Under 0 fs
+  under_from fs h = under_all fs 0 (λ f fun is. let same : f ≡ 0 + f = omega arith in subst (λ n. Below (Lower weight p (weight n)) fun.body) same (h f fun is))
+
+  under_push : (fs : List PlainFunction) (i : ℕ) (fun : PlainFunction) → Under i fs → Below (Lower weight p (weight (i + length fs))) fun.body → Under i (fs ++ fun ∷ [])
+  under_push [] i fun h low = let here : i + 0 ≡ i = omega arith in (subst (λ n. Below (Lower weight p (weight n)) fun.body) here low, tt)
+  under_push (x ∷ fs) i fun h low =
+      let next : i + suc (length fs) ≡ suc i + length fs = omega arith in
+      (h.0, under_push fs (suc i) fun h.1 (subst (λ n. Below (Lower weight p (weight n)) fun.body) next low))
+
+  pub under_inlined : (fs done : List PlainFunction) (budget : ℕ) → Under 0 done → Under (length done) fs → Under 0 (functions_inlined done budget fs).functions
+  under_inlined [] done budget h hs = h
+  under_inlined (g ∷ fs) done budget h hs =
+      let x = inlined done g.parameters budget g.body in
+      let i = length done in
+      let kind = Lower weight p (weight i) in
+      let bodies = λ (f : ℕ) (fun : PlainFunction) (is : nth done f ≡ Some fun) (lt : weight f < weight i). lower_wider (weight f) (weight i) (omega (arith, lt)) fun.body (under_there done f fun h is) in
+      let low : Below kind x.tree = inlined_below kind done bodies g.parameters budget g.body hs.0 in
+      let end : i ≡ 0 + i = omega arith in
+      let pushed = under_push done 0 (with_inlined done budget g) h (subst (λ n. Below (Lower weight p (weight n)) x.tree) end low) in
+      let longer : suc i ≡ length (done ++ with_inlined done budget g ∷ []) = omega (arith, length-append done (with_inlined done budget g ∷ [])) in
+      under_inlined fs (done ++ with_inlined done budget g ∷ []) x.budget pushed (subst (λ n. Under n fs) longer hs.1)

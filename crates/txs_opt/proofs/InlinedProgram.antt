@@ -7,7 +7,7 @@ use Rattle.txs_tree_meaning.specs.Meaning.{Completion, Invalid, bind, again, giv
 use Rattle.txs_tree_meaning.specs.Tree.{Tree, PlainFunction}
 use Rattle.txs_tree_build.specs.Shift.{shifted}
 use Rattle.txs_opt.specs.Inline.{recurs, inlined, functions_inlined}
-use Rattle.txs_opt.proofs.Below.{Below}
+use Rattle.txs_opt.proofs.Below.{Kind, Below}
 use Rattle.txs_opt.proofs.Inlining.{inlined_like}
 use Rattle.txs_opt.proofs.InlinedFunctions.{Within, inlined_at, inlined_missing}
 use Rattle.txs_opt.proofs.Like.{Likeness, Like, PartsLike, loose_any, turns_like}
@@ -17,12 +17,12 @@ use Rattle.txs_opt.proofs.Shifting.{Wider, shifted_like}
 use Rattle.txs_opt.proofs.Unchanged.{unchanged}
 
 -- the bodies of functions that may be called one deeper call such as may be called here
-abbrev pub Bodies : (ℕ → ℕ → Type 0) → List PlainFunction → Type 0
-Bodies May gs = (d f : ℕ) (fun : PlainFunction) → nth gs f ≡ Some fun → May (suc d) f → Below (May d) fun.body
+abbrev pub Bodies : (ℕ → Kind) → List PlainFunction → Type 0
+Bodies May gs = (d f : ℕ) (fun : PlainFunction) → nth gs f ≡ Some fun → (May (suc d)).calls f → Below (May d) fun.body
 
 -- Functions and what their bodies say of the forms on cells, one call deeper. Where calls go d deep, those of May d are called; where
 -- they go 0 deep, there is none of these, or the second meaning may be any.
-module _ (S : Type 0) (k : Likeness S) (May : ℕ → ℕ → Type 0) (bottom : (f : ℕ) → May 0 f → k.loose) (deeper : (d f : ℕ) → May d f → May (suc d) f)
+module _ (S : Type 0) (k : Likeness S) (May : ℕ → Kind) (bottom : (f : ℕ) → (May 0).calls f → k.loose) (deeper : (d f : ℕ) → (May d).calls f → (May (suc d)).calls f)
     (Own Deep : ℕ → Tree → List Value → Tree → List Value → Type 0) (gxs : ℕ → Effects S) (m : ℕ) (gs : List PlainFunction) (bodies : Bodies May gs)
     (own_forms : (d : ℕ) → FormsLike S k (May d) (Own d) (gxs d) (gxs d)) (own_same : (d : ℕ) (e : Tree) (env : List Value) → Below (May d) e → Own d e env e env)
     (deep_forms : (d : ℕ) → FormsLike S k (May d) (Deep d) (gxs d) (gxs (suc d))) (deep_same : (d : ℕ) (e : Tree) (env : List Value) → Below (May d) e → Deep d e env e env)
@@ -77,7 +77,7 @@ module _ (S : Type 0) (k : Likeness S) (May : ℕ → ℕ → Type 0) (bottom : 
       many a b h = grind (arith, h)
 
   -- a call of a function in which no recur goes to the function itself, on as many values as it takes, is like its body
-  pub opens_body : (d f : ℕ) (fun : PlainFunction) → nth gs f ≡ Some fun → recurs fun.body ≡ false → May d f → (inside : Bool) (vs : List Value) → length vs ≡ fun.parameters → PartsLike S k (C d inside f vs) (eval (gxs d) (C d) m inside fun.body vs)
+  pub opens_body : (d f : ℕ) (fun : PlainFunction) → nth gs f ≡ Some fun → recurs fun.body ≡ false → (May d).calls f → (inside : Bool) (vs : List Value) → length vs ≡ fun.parameters → PartsLike S k (C d inside f vs) (eval (gxs d) (C d) m inside fun.body vs)
   opens_body zero f fun found straight may inside vs are s t r = loose_any S k (eval (gxs 0) (C 0) m inside fun.body vs t) (bottom f may)
   opens_body (suc d) f fun found straight may inside vs are s t r =
       subst (λ o. Like k (bind (give o s) (λ g s1. turns (suc m) g.parameters (λ ws s2. eval (gxs d) (C d) m inside g.body ws s2) vs s1)) (eval (gxs (suc d)) (C (suc d)) m inside fun.body vs t)) (sym found)
@@ -87,7 +87,7 @@ module _ (S : Type 0) (k : Likeness S) (May : ℕ → ℕ → Type 0) (bottom : 
       (eval_end S (gxs d) (C d) m (ends d) (λ i g ws s1. call_end gxs m gs d i g ws s1) inside fun.body vs s straight)))
       (deep_body d inside fun.body vs (bodies d f fun found may) s t r)))
 
-module _ (S : Type 0) (k : Likeness S) (May : ℕ → ℕ → Type 0) (bottom : (f : ℕ) → May 0 f → k.loose) (deeper : (d f : ℕ) → May d f → May (suc d) f) (same : (s t : S) → k.rel s t → k.rel t t) (trans : (s t u : S) → k.rel s t → k.rel t u → k.rel s u)
+module _ (S : Type 0) (k : Likeness S) (May : ℕ → Kind) (bottom : (f : ℕ) → (May 0).calls f → k.loose) (deeper : (d f : ℕ) → (May d).calls f → (May (suc d)).calls f) (same : (s t : S) → k.rel s t → k.rel t t) (trans : (s t u : S) → k.rel s t → k.rel t u → k.rel s u)
     (Linked Own Deep : ℕ → Tree → List Value → Tree → List Value → Type 0) (fxs gxs : ℕ → Effects S) (m : ℕ) (fs : List PlainFunction) (budget : ℕ) (bodies : Bodies May fs) (own_bodies : Bodies May (functions_inlined [] budget fs).functions)
     (forms : (d : ℕ) → FormsLike S k (May d) (Linked d) (fxs d) (gxs d))
     (linked : (d : ℕ) (front : List PlainFunction) → Within front (functions_inlined [] budget fs).functions → (c left : ℕ) (e : Tree) (env : List Value) → Below (May d) e → length env ≡ c → Linked d e env (inlined front c left e).tree env)
@@ -99,7 +99,7 @@ module _ (S : Type 0) (k : Likeness S) (May : ℕ → ℕ → Type 0) (bottom : 
   G = (functions_inlined [] budget fs).functions
 
   -- of the functions that may be called here, the bodies call such too
-  low_bodies : (d : ℕ) (front : List PlainFunction) → Within front G → (f : ℕ) (fun : PlainFunction) → nth front f ≡ Some fun → May d f → Below (May d) fun.body
+  low_bodies : (d : ℕ) (front : List PlainFunction) → Within front G → (f : ℕ) (fun : PlainFunction) → nth front f ≡ Some fun → (May d).calls f → Below (May d) fun.body
   low_bodies d front within f fun found may = own_bodies d f fun (within f fun found) (deeper d f may)
 
   body_like : (d : ℕ) → CallsLike S k (May d) (call_at fxs m fs d) (call_at gxs m G d) → (front : List PlainFunction) → Within front G → (inside : Bool) (e : Tree) (env : List Value) (c left : ℕ) → Below (May d) e → length env ≡ c

@@ -11,7 +11,7 @@ use Rattle.txs_tree_meaning.specs.Tree.{Mark, Tree, Const, Local, If, Do, Let, L
 use Rattle.txs_tree_build.specs.Locals.{reach, reach_let}
 use Rattle.txs_tree_build.specs.Shift.{shifted}
 use Rattle.txs_opt.specs.Inline.{bound, may_inline, opened, called, inlined, all_inlined, let_inlined, functions_inlined, threads_inlined, budget_of, inlined_program}
-use Rattle.txs_opt.proofs.FoldedSound.{call_sound, callee_sound}
+use Rattle.txs_opt.proofs.FoldedSound.{call_sound, callee_sound, cells_sound}
 use Rattle.txs_opt.proofs.InlinedFunctions.{with_inlined, length_inlined}
 use Rattle.txs_opt.proofs.Inlining.{count_inlined, count_let_inlined, Opens, opens_of}
 use Rattle.txs_opt.proofs.Keeping.{neither, nor, also, Eases, AllEase, eases_at, all_ease_push, callee_at, inside_at, outside_at, pure_at, levels_at, Kept, AllKept, all_kept_trans, none_kept, more_kept, const_kept, local_kept, if_kept, do_kept, recur_kept, core_kept, vector_kept, println_kept, dosync_kept, call_kept, let_kept, loop_kept, look_kept, put_kept, update_kept, send_kept}
@@ -316,9 +316,11 @@ inlined_program_sound limit p h =
     let x = functions_inlined [] (budget_of limit p) p.functions in
     let fs = functions_sound p.functions [] [] (budget_of limit p) tt tt h.functions in
     let ts = threads_sound p.threads x.functions (known p.functions) x.budget fs.1 fs.0 h.threads in
+    let cs = cells_sound p.cells (known p.functions) (known x.functions) fs.1 h.cells in
     record {
-      scoped = scoped_of (inlined_program limit p) fs.0 ts h.scoped.few_cells (omega (arith, h.scoped.few_functions, length_inlined p.functions [] (budget_of limit p))) (omega (arith, h.scoped.few_threads, length_threads x.functions p.threads x.budget));
+      scoped = scoped_of (inlined_program limit p) fs.0 ts cs h.scoped.placed h.scoped.few_cells (omega (arith, h.scoped.few_functions, length_inlined p.functions [] (budget_of limit p))) (omega (arith, h.scoped.few_threads, length_threads x.functions p.threads x.budget));
       functions = fs.0;
+      cells = cs;
       threads = ts;
       few_nodes = omega (arith, h.few_nodes, inlined_program_nodes limit p, min-le_right limit most_nodes);
     }

@@ -11,7 +11,7 @@ use Rattle.txs_tree_meaning.specs.Tree.{Mark, Tree, Const, Local, If, Do, Let, L
 use Rattle.txs_tree_build.specs.Locals.{reach}
 use Rattle.txs_tree_build.specs.Shift.{shifted}
 use Rattle.txs_opt.specs.Inline.{bound, recurs, most_inlined, let_of_call, may_inline, opened, called, inlined, all_inlined, let_inlined}
-use Rattle.txs_opt.proofs.Below.{Below, AllBelow, all_inlined_below}
+use Rattle.txs_opt.proofs.Below.{Kind, Below, AllBelow, all_inlined_below}
 use Rattle.txs_opt.proofs.Like.{Likeness, PartsLike, bind_like_in, like_trans}
 use Rattle.txs_opt.proofs.Opened.{bound_like}
 use Rattle.txs_opt.proofs.Parts.{FormsLike, CallsLike, all_counts, Means, MeanAll, MeanLet, MeanDo, const_like, local_like, if_like, let_like, loop_like, recur_like, core_like, call_like, vector_like, println_like, dosync_like, look_like, put_like, update_like, send_like, all_none, all_more, let_none, let_more, do_none, do_more}
@@ -57,13 +57,13 @@ opens_of d fun args m budget h =
     record { small = h0.0; straight = not_true (recurs fun.body) h1.0; arity = h2.0; fits = h3.0; few_locals = h3.1 }
 
 module _ (S : Type 0) (k : Likeness S) (same : (s t : S) → k.rel s t → k.rel t t) (trans : (s t u : S) → k.rel s t → k.rel t u → k.rel s u)
-    (May : ℕ → Type 0) (Linked Own : Tree → List Value → Tree → List Value → Type 0) (fx gx : Effects S) (cf cg : Bool → ℕ → List Value → S → Completion S Value) (n : ℕ) (fs : List PlainFunction)
+    (May : Kind) (Linked Own : Tree → List Value → Tree → List Value → Type 0) (fx gx : Effects S) (cf cg : Bool → ℕ → List Value → S → Completion S Value) (n : ℕ) (fs : List PlainFunction)
     (forms : FormsLike S k May Linked fx gx) (calls : CallsLike S k May cf cg) (own_forms : FormsLike S k May Own gx gx) (own_calls : CallsLike S k May cg cg)
     (linked : (d budget : ℕ) (e : Tree) (env : List Value) → Below May e → length env ≡ d → Linked e env (inlined fs d budget e).tree env)
     (own_linked : (c j : ℕ) (e : Tree) (env env1 : List Value) → Below May e → Wider c j env env1 → Own e env (shifted c j e) env1)
-    (bodies : (f : ℕ) (fun : PlainFunction) → nth fs f ≡ Some fun → May f → Below May fun.body)
-    (opens : (f : ℕ) (fun : PlainFunction) → nth fs f ≡ Some fun → recurs fun.body ≡ false → May f → (inside : Bool) (vs : List Value) → length vs ≡ fun.parameters → PartsLike S k (cg inside f vs) (eval gx cg n inside fun.body vs)) where
-  called_like : (inside : Bool) (f : ℕ) (es es1 : Trees) (m : Mark) (env : List Value) (d budget : ℕ) → May f → AllBelow May es1 → count es1 ≡ count es → length env ≡ d → MeanAll S k May Linked fx gx cf cg n forms calls inside es env es1 env
+    (bodies : (f : ℕ) (fun : PlainFunction) → nth fs f ≡ Some fun → May.calls f → Below May fun.body)
+    (opens : (f : ℕ) (fun : PlainFunction) → nth fs f ≡ Some fun → recurs fun.body ≡ false → May.calls f → (inside : Bool) (vs : List Value) → length vs ≡ fun.parameters → PartsLike S k (cg inside f vs) (eval gx cg n inside fun.body vs)) where
+  called_like : (inside : Bool) (f : ℕ) (es es1 : Trees) (m : Mark) (env : List Value) (d budget : ℕ) → May.calls f → AllBelow May es1 → count es1 ≡ count es → length env ≡ d → MeanAll S k May Linked fx gx cf cg n forms calls inside es env es1 env
       → Means S k May Linked fx gx cf cg n forms calls inside (Call f es m) env (called (nth fs f) d f es1 m budget).tree env
   called_like inside f es es1 m env d budget may low many is h = go (nth fs f) refl
     where
@@ -114,14 +114,14 @@ module _ (S : Type 0) (k : Likeness S) (same : (s t : S) → k.rel s t → k.rel
         called_like inside f es x.trees m env d x.budget h.1 (all_inlined_below May fs bodies d budget es h.0) (count_inlined fs d budget es) is (all_inlined_like inside es env d budget h.0 is)
     inlined_like inside (VectorOf es m) env d budget h is = vector_like S k May Linked fx gx cf cg n forms calls inside m env env es (all_inlined fs d budget es).trees (all_inlined_like inside es env d budget h is)
     inlined_like inside (Println es m) env d budget h is = println_like S k May Linked fx gx cf cg n forms calls inside m env env es (all_inlined fs d budget es).trees (all_inlined_like inside es env d budget h is)
-    inlined_like inside (Dosync body m) env d budget h is = dosync_like S k May Linked fx gx cf cg n forms calls inside m env env body (inlined fs d budget body).tree (linked d budget body env h is) (inlined_like true body env d budget h is)
+    inlined_like inside (Dosync body m) env d budget h is = dosync_like S k May Linked fx gx cf cg n forms calls inside m env env body (inlined fs d budget body).tree (linked d budget body env h.0 is) h.1 (inlined_like true body env d budget h.0 is)
     inlined_like inside (Look form cell m) env d budget h is = look_like S k May Linked fx gx cf cg n forms calls inside m env env form cell (inlined fs d budget cell).tree (inlined_like inside cell env d budget h is)
     inlined_like inside (Put form cell value m) env d budget h is =
         let x = inlined fs d budget cell in
-        put_like S k May Linked fx gx cf cg n forms calls inside m env env form cell value x.tree (inlined fs d x.budget value).tree (inlined_like inside cell env d budget h.0 is) (inlined_like inside value env d x.budget h.1 is)
+        put_like S k May Linked fx gx cf cg n forms calls inside m env env form cell value x.tree (inlined fs d x.budget value).tree h.2 (inlined_like inside cell env d budget h.0 is) (inlined_like inside value env d x.budget h.1 is)
     inlined_like inside (Update form cell callee es m) env d budget h is =
         let x = inlined fs d budget cell in
-        update_like S k May Linked fx gx cf cg n forms calls inside m env env form cell x.tree callee es (all_inlined fs d x.budget es).trees h.2 (inlined_like inside cell env d budget h.0 is) (all_inlined_like inside es env d x.budget h.1 is)
+        update_like S k May Linked fx gx cf cg n forms calls inside m env env form cell x.tree callee es (all_inlined fs d x.budget es).trees h.2 h.3 (inlined_like inside cell env d budget h.0 is) (all_inlined_like inside es env d x.budget h.1 is)
     inlined_like inside (Send cell callee es m) env d budget h is =
         let x = inlined fs d budget cell in
         send_like S k May Linked fx gx cf cg n forms calls inside m env env cell x.tree callee es (all_inlined fs d x.budget es).trees (inlined_like inside cell env d budget h.0 is) (all_inlined_like inside es env d x.budget h.1 is)

@@ -33,4 +33,5 @@ pub mod Settled
 pub mod ShiftedSound
 pub mod Shifting
 pub mod Unchanged
+pub mod Weights
 pub mod WholePrograms

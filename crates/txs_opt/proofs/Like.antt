@@ -9,7 +9,7 @@ use Rattle.txs_value_base.specs.declared.op.Callee.{Callee}
 use Rattle.txs_value_base.specs.declared.op.Callee.TheVariants.{Core as CoreOp, Function}
 use Rattle.txs_value_data.specs.declared.value.Value.{Value}
 use Rattle.txs_value_data.specs.declared.value.Value.TheVariants.{Nil, Truth, Int, Key, Text, Vector, Cell}
-use Rattle.txs_opt.proofs.Below.{Fine}
+use Rattle.txs_opt.proofs.Below.{Kind, Fine}
 use Rattle.txs_tree_meaning.specs.Meaning.{Completion, Completes, Recurs, Faults, Retries, Waits, OutOfTurns, Invalid, bind, again, closed, give, result_of, Applies, turns, last_or, apply}
 
 -- it has no meaning
@@ -183,10 +183,10 @@ module _ (S : Type 0) (k : Likeness S) where
   abbrev pub PartsLike : {A : Type 0} → (S → Completion S A) → (S → Completion S A) → Type 0
   PartsLike f g = (s t : S) → k.rel s t → Like k (f s) (g t)
 
-  abbrev pub AppliesLike : (ℕ → Type 0) → Applies S → Applies S → Type 0
+  abbrev pub AppliesLike : Kind → Applies S → Applies S → Type 0
   AppliesLike May f g = (c : Callee) (vs : List Value) → Fine May c → (s t : S) → k.rel s t → Like k (f c vs s) (g c vs t)
 
-  pub apply_like : (May : ℕ → Type 0) (cf cg : ℕ → List Value → S → Completion S Value) → ((f : ℕ) (vs : List Value) → May f → (s t : S) → k.rel s t → Like k (cf f vs s) (cg f vs t)) → (span : Span) → AppliesLike May (apply cf span) (apply cg span)
+  pub apply_like : (May : Kind) (cf cg : ℕ → List Value → S → Completion S Value) → ((f : ℕ) (vs : List Value) → May.calls f → (s t : S) → k.rel s t → Like k (cf f vs s) (cg f vs t)) → (span : Span) → AppliesLike May (apply cf span) (apply cg span)
   apply_like May cf cg h span (CoreOp op) vs fine s t r = result_like (core op vs) span s t r
   apply_like May cf cg h span (Function f) vs fine s t r = h f vs fine s t r
 

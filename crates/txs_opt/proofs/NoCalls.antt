@@ -20,10 +20,10 @@ abbrev functions_with : ℕ → List PlainFunction → InlinedFunctions
 functions_with budget fs = record { functions = fs; budget = budget }
 
 abbrev with_functions : PlainProgram → InlinedFunctions → PlainProgram
-with_functions q x = record { functions = x.functions; cells = q.cells; threads = threads_inlined x.functions x.budget q.threads }
+with_functions q x = record { functions = x.functions; cells = q.cells; validator_spans = q.validator_spans; threads = threads_inlined x.functions x.budget q.threads }
 
 abbrev with_threads : PlainProgram → List PlainThread → PlainProgram
-with_threads q ts = record { functions = q.functions; cells = q.cells; threads = ts }
+with_threads q ts = record { functions = q.functions; cells = q.cells; validator_spans = q.validator_spans; threads = ts }
 
 module _ (fs : List PlainFunction) where
   -- ---- forms of more than one part

@@ -27,7 +27,7 @@ use Rattle.txs_value_data.specs.declared.value.Value.{Value}
 use Rattle.txs_value_data.specs.declared.value.Value.TheVariants.{Cell}
 use Rattle.txs_tree_meaning.specs.Meaning.{Completion, Completes, Recurs, Faults, Retries, Waits, OutOfTurns, Invalid, bind, result_of, allowed, Applies}
 use Rattle.txs_tree_meaning.specs.Pure.{no_effects}
-use Rattle.txs_tree_meaning.specs.Thread.{ThreadState, with_tx, sends_or_holds, uneaten, eats, meant, reads, resets, faulted, faultless, swaps, sends, over, Transacting, run_of, ends_tx, is_retry, eats_tx, Surroundings, thread_look, thread_put, thread_update, on_events}
+use Rattle.txs_tree_meaning.specs.Thread.{ThreadState, with_tx, sends_or_holds, uneaten, eats, meant, reads, resets, faulted, faultless, swaps, sends, over, Transacting, run_of, ends_tx, is_retry, eats_tx, Surroundings, accepts, thread_look, thread_put, thread_update, on_events}
 use Rattle.txs_tree_meaning.specs.Transaction.{TxState, taken, done_as, on_cell, current, tx_look, tx_put, tx_update, in_transaction, tx_meaning, final_writes}
 use Rattle.txs_tree_meaning.specs.Tree.{Mark}
 use Rattle.txs_opt.proofs.Recurring.{IsEnd, FormsEnd, CalleesEnd, bind_end}
@@ -222,13 +222,15 @@ look_on x Ensure c t = tt
 
 put_on : (x : Surroundings) (form : PutForm) (span : Span) (c : CellId) (v : Value) (f : Applies ThreadState) (t : ThreadState) → IsEnd (thread_put x form span c v f t)
 put_on x RefSet span c v f t = tt
-put_on x Reset span c v f t = eats_end (home x.cells c) (λ e t1. resets v e.kind t1) (λ e t1. resets_end v e.kind t1) t.todo t
+put_on x Reset span c v f t =
+    bind_end (accepts x f c span v t) (λ w t1. eats (home x.cells c) (λ e t2. resets w e.kind t2) t1.todo t1) (λ w t1. eats_end (home x.cells c) (λ e t2. resets w e.kind t2) (λ e t2. resets_end w e.kind t2) t1.todo t1)
 
 update_on : (x : Surroundings) (form : UpdateForm) (span : Span) (c : CellId) (callee : Callee) (vs : List Value) (f : Applies ThreadState) (t : ThreadState) → IsEnd (thread_update x form span c callee vs f t)
 update_on x Alter span c callee vs f t = tt
 update_on x Commute span c callee vs f t = tt
 update_on x Swap span c callee vs f t =
-    eats_end (home x.cells c) (λ e t1. swaps c (λ v t2. f callee (v ∷ vs) t2) e.kind e.R e.C t1) (λ e t1. swaps_end c (λ v t2. f callee (v ∷ vs) t2) e.kind e.R e.C t1) t.todo t
+    let made : Value → ThreadState → Completion ThreadState Value = λ v t2. bind (f callee (v ∷ vs) t2) (accepts x f c span) in
+    eats_end (home x.cells c) (λ e t1. swaps c made e.kind e.R e.C t1) (λ e t1. swaps_end c made e.kind e.R e.C t1) t.todo t
 
 pub event_ends : (x : Surroundings) (d : ℕ) → FormsEnd ThreadState (on_events x d)
 event_ends x d = record {

@@ -6,12 +6,12 @@ use Rattle.txs_tree_meaning.specs.Meaning.{Completion, Completes, Effects, bind,
 use Rattle.txs_tree_meaning.specs.Tree.{Tree, Trees, none, more}
 use Rattle.txs_tree_build.specs.Shift.{shifted}
 use Rattle.txs_opt.specs.Inline.{bound}
-use Rattle.txs_opt.proofs.Below.{Below, AllBelow}
+use Rattle.txs_opt.proofs.Below.{Kind, Below, AllBelow}
 use Rattle.txs_opt.proofs.Like.{Likeness, PartsLike, bind_like}
 use Rattle.txs_opt.proofs.Parts.{FormsLike, CallsLike}
 use Rattle.txs_opt.proofs.Shifting.{Wider, wider_behind, shifted_like}
 
-module _ (S : Type 0) (k : Likeness S) (May : ℕ → Type 0) (Linked : Tree → List Value → Tree → List Value → Type 0) (fx gx : Effects S) (cf cg : Bool → ℕ → List Value → S → Completion S Value) (n : ℕ)
+module _ (S : Type 0) (k : Likeness S) (May : Kind) (Linked : Tree → List Value → Tree → List Value → Type 0) (fx gx : Effects S) (cf cg : Bool → ℕ → List Value → S → Completion S Value) (n : ℕ)
     (forms : FormsLike S k May Linked fx gx) (calls : CallsLike S k May cf cg) (linked : (c j : ℕ) (e : Tree) (env env1 : List Value) → Below May e → Wider c j env env1 → Linked e env (shifted c j e) env1) where
   moved_on : (inside : Bool) (es : Trees) (env front locals : List Value) (j : ℕ) → locals ≡ env ++ front → length front ≡ j → PartsLike S k (eval_all fx cf n inside es env) (eval_let gx cg n inside (bound (length env) (length front) es) (env ++ front))
       → PartsLike S k (eval_all fx cf n inside es env) (eval_let gx cg n inside (bound (length env) j es) locals)

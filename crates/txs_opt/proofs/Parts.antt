@@ -11,21 +11,21 @@ use Rattle.txs_value_base.specs.declared.op.Callee.{Callee}
 use Rattle.txs_value_data.specs.declared.value.Value.{Value}
 use Rattle.txs_tree_meaning.specs.Meaning.{Completion, Completes, Recurs, Faults, Retries, Waits, OutOfTurns, Invalid, bind, closed, give, result_of, Applies, Effects, turns, last_or, apply, eval, eval_all, eval_let, eval_do}
 use Rattle.txs_tree_meaning.specs.Tree.{Mark, Tree, Const, Local, If, Let, Loop, Recur, Core, Call, VectorOf, Println, Dosync, Look, Put, Update, Send, Trees, none, more, is_none, count}
-use Rattle.txs_opt.proofs.Below.{Fine}
+use Rattle.txs_opt.proofs.Below.{Kind, Fine}
 use Rattle.txs_opt.proofs.Like.{Likeness, Like, bind_like, EndsIn, bind_ends, bind_like_in, closed_like, choose_like, give_like, result_like, last_like, turns_like, PartsLike, AppliesLike, apply_like}
 
--- what is made of the forms on cells is alike, where bodies of transactions are linked so
-pub record FormsLike (S : Type 0) (k : Likeness S) (May : ℕ → Type 0) (Linked : Tree → List Value → Tree → List Value → Type 0) (fx gx : Effects S) : Type 0 where
+-- what is made of the forms on cells is alike, where such may stand, and bodies of transactions are linked so
+pub record FormsLike (S : Type 0) (k : Likeness S) (May : Kind) (Linked : Tree → List Value → Tree → List Value → Type 0) (fx gx : Effects S) : Type 0 where
   pub print : (inside : Bool) (vs : List Value) → PartsLike S k (fx.print inside vs) (gx.print inside vs)
   pub look : (form : LookForm) (inside : Bool) (m : Mark) (c : Value) → PartsLike S k (fx.look form inside m c) (gx.look form inside m c)
-  pub put : (form : PutForm) (inside : Bool) (m : Mark) (c v : Value) (f g : Applies S) → AppliesLike S k May f g → PartsLike S k (fx.put form inside m c v f) (gx.put form inside m c v g)
-  pub update : (form : UpdateForm) (inside : Bool) (m : Mark) (c : Value) (callee : Callee) (vs : List Value) (f g : Applies S) → Fine May callee → AppliesLike S k May f g → PartsLike S k (fx.update form inside m c callee vs f) (gx.update form inside m c callee vs g)
+  pub put : (form : PutForm) (inside : Bool) (m : Mark) (c v : Value) (f g : Applies S) → May.forms → AppliesLike S k May f g → PartsLike S k (fx.put form inside m c v f) (gx.put form inside m c v g)
+  pub update : (form : UpdateForm) (inside : Bool) (m : Mark) (c : Value) (callee : Callee) (vs : List Value) (f g : Applies S) → Fine May callee → May.forms → AppliesLike S k May f g → PartsLike S k (fx.update form inside m c callee vs f) (gx.update form inside m c callee vs g)
   pub send : (inside : Bool) (m : Mark) (c : Value) (callee : Callee) (vs : List Value) → PartsLike S k (fx.send inside m c callee vs) (gx.send inside m c callee vs)
-  pub dosync : (inside : Bool) (m : Mark) (e e1 : Tree) (env env1 : List Value) (b b1 : S → Completion S Value) (f g : Applies S) → Linked e env e1 env1 → PartsLike S k b b1 → AppliesLike S k May f g → PartsLike S k (fx.dosync inside m e env b f) (gx.dosync inside m e1 env1 b1 g)
+  pub dosync : (inside : Bool) (m : Mark) (e e1 : Tree) (env env1 : List Value) (b b1 : S → Completion S Value) (f g : Applies S) → Linked e env e1 env1 → May.forms → PartsLike S k b b1 → AppliesLike S k May f g → PartsLike S k (fx.dosync inside m e env b f) (gx.dosync inside m e1 env1 b1 g)
 
 -- the meanings of functions of a kind are alike
-abbrev pub CallsLike : (S : Type 0) → Likeness S → (ℕ → Type 0) → (Bool → ℕ → List Value → S → Completion S Value) → (Bool → ℕ → List Value → S → Completion S Value) → Type 0
-CallsLike S k May cf cg = (inside : Bool) (f : ℕ) (vs : List Value) → May f → PartsLike S k (cf inside f vs) (cg inside f vs)
+abbrev pub CallsLike : (S : Type 0) → Likeness S → Kind → (Bool → ℕ → List Value → S → Completion S Value) → (Bool → ℕ → List Value → S → Completion S Value) → Type 0
+CallsLike S k May cf cg = (inside : Bool) (f : ℕ) (vs : List Value) → May.calls f → PartsLike S k (cf inside f vs) (cg inside f vs)
 
 -- the values of a let are as many as it has
 pub let_counts : (S : Type 0) (fx : Effects S) (cf : Bool → ℕ → List Value → S → Completion S Value) (n : ℕ) (inside : Bool) (es : Trees) (env : List Value) (s : S) → EndsIn (λ vs. length vs ≡ count es) (eval_let fx cf n inside es env s)
@@ -59,7 +59,7 @@ all_counts S fx cf n inside (more e es) env s =
     more_counts v (OutOfTurns t) h = tt
     more_counts v Invalid h = tt
 
-module _ (S : Type 0) (k : Likeness S) (May : ℕ → Type 0) (Linked : Tree → List Value → Tree → List Value → Type 0) (fx gx : Effects S) (cf cg : Bool → ℕ → List Value → S → Completion S Value) (n : ℕ)
+module _ (S : Type 0) (k : Likeness S) (May : Kind) (Linked : Tree → List Value → Tree → List Value → Type 0) (fx gx : Effects S) (cf cg : Bool → ℕ → List Value → S → Completion S Value) (n : ℕ)
     (forms : FormsLike S k May Linked fx gx) (calls : CallsLike S k May cf cg) where
   -- a tree with its locals and another with its own are alike
   abbrev pub Means : Bool → Tree → List Value → Tree → List Value → Type 0
@@ -106,7 +106,7 @@ module _ (S : Type 0) (k : Likeness S) (May : ℕ → Type 0) (Linked : Tree →
     core_like op es es1 h s t r =
         bind_like S k (eval_all fx cf n inside es env s) (eval_all gx cg n inside es1 env1 t) (λ vs s1. result_of (core op vs) m.span s1) (λ vs t1. result_of (core op vs) m.span t1) (h s t r) (λ vs s1 t1 r1. result_like S k (core op vs) m.span s1 t1 r1)
 
-    pub call_like : (f : ℕ) (es es1 : Trees) → May f → MeanAll inside es env es1 env1 → Means inside (Call f es m) env (Call f es1 m) env1
+    pub call_like : (f : ℕ) (es es1 : Trees) → May.calls f → MeanAll inside es env es1 env1 → Means inside (Call f es m) env (Call f es1 m) env1
     call_like f es es1 may h s t r =
         bind_like S k (eval_all fx cf n inside es env s) (eval_all gx cg n inside es1 env1 t) (λ vs s1. cf inside f vs s1) (λ vs t1. cg inside f vs t1) (h s t r) (λ vs s1 t1 r1. calls inside f vs may s1 t1 r1)
 
@@ -118,9 +118,9 @@ module _ (S : Type 0) (k : Likeness S) (May : ℕ → Type 0) (Linked : Tree →
     println_like es es1 h s t r =
         bind_like S k (eval_all fx cf n inside es env s) (eval_all gx cg n inside es1 env1 t) (λ vs s1. fx.print inside vs s1) (λ vs t1. gx.print inside vs t1) (h s t r) (λ vs s1 t1 r1. forms.print inside vs s1 t1 r1)
 
-    pub dosync_like : (e e1 : Tree) → Linked e env e1 env1 → Means true e env e1 env1 → Means inside (Dosync e m) env (Dosync e1 m) env1
-    dosync_like e e1 linked h s t r =
-        forms.dosync inside m e e1 env env1 (λ s1. closed (eval fx cf n true e env s1)) (λ t1. closed (eval gx cg n true e1 env1 t1)) (apply (cf true) m.span) (apply (cg true) m.span) linked
+    pub dosync_like : (e e1 : Tree) → Linked e env e1 env1 → May.forms → Means true e env e1 env1 → Means inside (Dosync e m) env (Dosync e1 m) env1
+    dosync_like e e1 linked here h s t r =
+        forms.dosync inside m e e1 env env1 (λ s1. closed (eval fx cf n true e env s1)) (λ t1. closed (eval gx cg n true e1 env1 t1)) (apply (cf true) m.span) (apply (cg true) m.span) linked here
         (λ s1 t1 r1. closed_like S k (eval fx cf n true e env s1) (eval gx cg n true e1 env1 t1) (h s1 t1 r1))
         (apply_like S k May (cf true) (cg true) (λ f vs may s1 t1 r1. calls true f vs may s1 t1 r1) m.span) s t r
 
@@ -128,20 +128,20 @@ module _ (S : Type 0) (k : Likeness S) (May : ℕ → Type 0) (Linked : Tree →
     look_like form e e1 h s t r =
         bind_like S k (eval fx cf n inside e env s) (eval gx cg n inside e1 env1 t) (λ c s1. fx.look form inside m c s1) (λ c t1. gx.look form inside m c t1) (h s t r) (λ c s1 t1 r1. forms.look form inside m c s1 t1 r1)
 
-    pub put_like : (form : PutForm) (e v e1 v1 : Tree) → Means inside e env e1 env1 → Means inside v env v1 env1 → Means inside (Put form e v m) env (Put form e1 v1 m) env1
-    put_like form e v e1 v1 h hv s t r =
+    pub put_like : (form : PutForm) (e v e1 v1 : Tree) → May.forms → Means inside e env e1 env1 → Means inside v env v1 env1 → Means inside (Put form e v m) env (Put form e1 v1 m) env1
+    put_like form e v e1 v1 here h hv s t r =
         bind_like S k (eval fx cf n inside e env s) (eval gx cg n inside e1 env1 t)
         (λ c s1. bind (eval fx cf n inside v env s1) (λ w s2. fx.put form inside m c w (apply (cf inside) m.span) s2)) (λ c t1. bind (eval gx cg n inside v1 env1 t1) (λ w t2. gx.put form inside m c w (apply (cg inside) m.span) t2)) (h s t r)
         (λ c s1 t1 r1. bind_like S k (eval fx cf n inside v env s1) (eval gx cg n inside v1 env1 t1) (λ w s2. fx.put form inside m c w (apply (cf inside) m.span) s2) (λ w t2. gx.put form inside m c w (apply (cg inside) m.span) t2) (hv s1 t1 r1)
-        (λ w s2 t2 r2. forms.put form inside m c w (apply (cf inside) m.span) (apply (cg inside) m.span) (apply_like S k May (cf inside) (cg inside) (λ f ws may s3 t3 r3. calls inside f ws may s3 t3 r3) m.span) s2 t2 r2))
+        (λ w s2 t2 r2. forms.put form inside m c w (apply (cf inside) m.span) (apply (cg inside) m.span) here (apply_like S k May (cf inside) (cg inside) (λ f ws may s3 t3 r3. calls inside f ws may s3 t3 r3) m.span) s2 t2 r2))
 
-    pub update_like : (form : UpdateForm) (e e1 : Tree) (callee : Callee) (es es1 : Trees) → Fine May callee → Means inside e env e1 env1 → MeanAll inside es env es1 env1 → Means inside (Update form e callee es m) env (Update form e1 callee es1 m) env1
-    update_like form e e1 callee es es1 fine h ha s t r =
+    pub update_like : (form : UpdateForm) (e e1 : Tree) (callee : Callee) (es es1 : Trees) → Fine May callee → May.forms → Means inside e env e1 env1 → MeanAll inside es env es1 env1 → Means inside (Update form e callee es m) env (Update form e1 callee es1 m) env1
+    update_like form e e1 callee es es1 fine here h ha s t r =
         bind_like S k (eval fx cf n inside e env s) (eval gx cg n inside e1 env1 t)
         (λ c s1. bind (eval_all fx cf n inside es env s1) (λ vs s2. fx.update form inside m c callee vs (apply (cf inside) m.span) s2))
         (λ c t1. bind (eval_all gx cg n inside es1 env1 t1) (λ vs t2. gx.update form inside m c callee vs (apply (cg inside) m.span) t2)) (h s t r)
         (λ c s1 t1 r1. bind_like S k (eval_all fx cf n inside es env s1) (eval_all gx cg n inside es1 env1 t1) (λ vs s2. fx.update form inside m c callee vs (apply (cf inside) m.span) s2) (λ vs t2. gx.update form inside m c callee vs (apply (cg inside) m.span) t2) (ha s1 t1 r1)
-        (λ vs s2 t2 r2. forms.update form inside m c callee vs (apply (cf inside) m.span) (apply (cg inside) m.span) fine (apply_like S k May (cf inside) (cg inside) (λ f ws may s3 t3 r3. calls inside f ws may s3 t3 r3) m.span) s2 t2 r2))
+        (λ vs s2 t2 r2. forms.update form inside m c callee vs (apply (cf inside) m.span) (apply (cg inside) m.span) fine here (apply_like S k May (cf inside) (cg inside) (λ f ws may s3 t3 r3. calls inside f ws may s3 t3 r3) m.span) s2 t2 r2))
 
     pub send_like : (e e1 : Tree) (callee : Callee) (es es1 : Trees) → Means inside e env e1 env1 → MeanAll inside es env es1 env1 → Means inside (Send e callee es m) env (Send e1 callee es1 m) env1
     send_like e e1 callee es es1 h ha s t r =

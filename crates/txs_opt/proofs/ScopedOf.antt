@@ -3,13 +3,14 @@ use Rattle.std.proofs.Common.{◌≡◌, ℕ, zero, suc, ◌+◌, ◌<◌, ◌�
 use Rattle.txs_value_base.specs.Places.{nth}
 use Rattle.txs_value_data.specs.Limits.{most_items, most_parameters, most_definitions, most_threads}
 use Rattle.txs_value_base.specs.declared.op.Callee.{Callee}
+use Rattle.txs_value_cell.specs.declared.cell.CellDefinition.{CellDefinition}
 use Rattle.txs_value_base.specs.declared.op.Callee.TheVariants.{Core as CoreOp, Function}
 use Rattle.txs_tree_meaning.proofs.Callable.{missing, nth-length, length-known}
 use Rattle.txs_tree_meaning.specs.Known.{Known, known_of, known_from, known}
-use Rattle.txs_tree_meaning.specs.Scoped.{Scoped, ScopedTree, ScopedAll, ScopedLet, ScopedCallee, ScopedFunctions, ScopedThreads}
-use Rattle.txs_tree_meaning.specs.Sound.{Zone, in_function, in_thread, in_dosync, SoundTree, SoundAll, SoundLet, SoundDo, SoundCallee, SoundFunctions, SoundThreads}
+use Rattle.txs_tree_meaning.specs.Scoped.{Scoped, ScopedTree, ScopedAll, ScopedLet, ScopedCallee, ScopedFunctions, ScopedThreads, ScopedValidator, ScopedCells}
+use Rattle.txs_tree_meaning.specs.Sound.{Zone, in_function, in_thread, in_dosync, SoundTree, SoundAll, SoundLet, SoundDo, SoundCallee, SoundFunctions, SoundThreads, SoundValidator, SoundCells}
 use Rattle.txs_tree_meaning.specs.Tree.{Tree, Const, Local, If, Do, Let, Loop, Recur, Core, Call, VectorOf, Println, Dosync, Look, Put, Update, Send, Trees, none, more, count, PlainFunction, PlainThread, PlainProgram}
-use Rattle.txs_opt.proofs.Below.{Lower, Below, wider_below, scoped_below}
+use Rattle.txs_opt.proofs.Below.{Lower, Below, wider_below, Defined, scoped_below}
 use Rattle.txs_opt.proofs.InlinedFunctions.{Under}
 
 -- no function has too many parameters
@@ -81,27 +82,39 @@ threads_scoped : (ts : List PlainThread) (ks : List Known) → AllFew ks → Sou
 threads_scoped [] ks few h = tt
 threads_scoped (t ∷ ts) ks few h = ((tree_scoped ks few t.body in_thread 0 None h.0.0, h.0.1), threads_scoped ts ks few h.1)
 
+cells_scoped : (ks : List Known) → AllFew ks → (ds : List CellDefinition) → SoundCells ks ds → ScopedCells ks ds
+cells_scoped ks few [] h = tt
+cells_scoped ks few (d ∷ ds) h = (one d.validator h.0, cells_scoped ks few ds h.1)
+  where
+    one : (o : Option Callee) → SoundValidator ks o → ScopedValidator ks o
+    one None g = tt
+    one (Some c) g = (callee_scoped ks few c 0 g).0
+
 -- sound bodies within the limits
-pub scoped_of : (p : PlainProgram) → SoundFunctions [] p.functions → SoundThreads (known p.functions) p.threads → length p.cells ≤ most_definitions → length p.functions ≤ most_definitions → length p.threads ≤ most_threads → Scoped p
-scoped_of p functions threads cells few most =
+pub scoped_of : (p : PlainProgram) → SoundFunctions [] p.functions → SoundThreads (known p.functions) p.threads → SoundCells (known p.functions) p.cells → length p.validator_spans ≡ length p.cells → length p.cells ≤ most_definitions → length p.functions ≤ most_definitions → length p.threads ≤ most_threads → Scoped p
+scoped_of p functions threads validators placed cells few most =
     let h = functions_scoped p.functions [] tt functions in
-    record { functions = h.0; threads = threads_scoped p.threads (known p.functions) h.1 threads; few_cells = cells; few_functions = few; few_threads = most }
+    record { functions = h.0; threads = threads_scoped p.threads (known p.functions) h.1 threads; cells = cells_scoped (known p.functions) h.1 p.cells validators; placed = placed; few_cells = cells; few_functions = few; few_threads = most }
 
 -- ---- each function calls functions before it alone
 
-scoped_under : (fs : List PlainFunction) (ks : List Known) → ScopedFunctions ks fs → Under (length ks) fs
+abbrev pub number : ℕ → ℕ
+number f = f
+
+scoped_under : (fs : List PlainFunction) (ks : List Known) → ScopedFunctions ks fs → Under number 0 (length ks) fs
 scoped_under [] ks h = tt
 scoped_under (f ∷ fs) ks h =
-    let longer : length (ks ++ known_of ks f ∷ []) ≡ suc (length ks) = omega (arith, length-append ks (known_of ks f ∷ [])) in
-    (scoped_below ks f.body f.parameters h.0.1, subst (λ n. Under n fs) longer (scoped_under fs (ks ++ known_of ks f ∷ []) h.1))
+    let longer : length (ks ++ known_of ks f ∷ []) ≡ suc (length ks) = omega (arith, length-append ks (known_of ks f ∷ [])) in (
+      wider_below (Defined ks) (Lower number 0 (length ks)) (λ g lt. lt) (λ u. omega arith) f.body (scoped_below ks f.body f.parameters h.0.1),
+      subst (λ n. Under number 0 n fs) longer (scoped_under fs (ks ++ known_of ks f ∷ []) h.1),
+    )
 
-pub sound_under : (fs : List PlainFunction) → SoundFunctions [] fs → Under 0 fs
+pub sound_under : (fs : List PlainFunction) → SoundFunctions [] fs → Under number 0 0 fs
 sound_under fs h = scoped_under fs [] (functions_scoped fs [] tt h).0
 
 -- a thread calls the functions that there are
-pub sound_lower : (fs : List PlainFunction) (e : Tree) → SoundFunctions [] fs → SoundTree (known fs) in_thread 0 None e → Below (Lower (length fs)) e
-sound_lower fs e h main =
-    wider_below (λ f. f < length (known fs)) (Lower (length fs)) (λ f lt. omega (arith, lt, length-known fs)) e (scoped_below (known fs) e 0 (tree_scoped (known fs) (functions_scoped fs [] tt h).1 e in_thread 0 None main))
+pub sound_defined : (fs : List PlainFunction) (e : Tree) → SoundFunctions [] fs → SoundTree (known fs) in_thread 0 None e → Below (Defined (known fs)) e
+sound_defined fs e h main = scoped_below (known fs) e 0 (tree_scoped (known fs) (functions_scoped fs [] tt h).1 e in_thread 0 None main)
 
 take_short : {A : Type 0} (d : ℕ) (xs : List A) → length (take d xs) ≤ d
 take_short zero [] = omega arith
@@ -110,6 +123,6 @@ take_short (suc d) [] = omega arith
 take_short (suc d) (x ∷ xs) = omega (arith, take_short d xs)
 
 -- a body that names functions before this number alone
-pub scoped_lower : (fs : List PlainFunction) (d c : ℕ) (e : Tree) → ScopedTree (known (take d fs)) c e → Below (Lower d) e
+pub scoped_lower : (fs : List PlainFunction) (d c : ℕ) (e : Tree) → ScopedTree (known (take d fs)) c e → Below (Lower number 0 d) e
 scoped_lower fs d c e h =
-    wider_below (λ f. f < length (known (take d fs))) (Lower d) (λ f lt. omega (arith, lt, length-known (take d fs), take_short d fs)) e (scoped_below (known (take d fs)) e c h)
+    wider_below (Defined (known (take d fs))) (Lower number 0 d) (λ f lt. omega (arith, lt, length-known (take d fs), take_short d fs)) (λ u. omega arith) e (scoped_below (known (take d fs)) e c h)

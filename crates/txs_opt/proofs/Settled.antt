@@ -234,4 +234,4 @@ threads_same [] h = refl
 threads_same (t ∷ ts) h = let p = folded_same t.body h.0 in let q = threads_same ts h.1 in λ i. record t { body = p i } ∷ q i
 
 pub program_same : (p : PlainProgram) → FunctionsSettled p.functions → ThreadsSettled p.threads → folded_program p ≡ p
-program_same p f t = let x = functions_same p.functions f in let y = threads_same p.threads t in λ i. record { functions = x i; cells = p.cells; threads = y i }
+program_same p f t = let x = functions_same p.functions f in let y = threads_same p.threads t in λ i. record { functions = x i; cells = p.cells; validator_spans = p.validator_spans; threads = y i }

@@ -6,7 +6,7 @@ use Rattle.txs_value_data.specs.declared.value.Value.{Value}
 use Rattle.txs_tree_meaning.specs.Meaning.{Completion, Effects}
 use Rattle.txs_tree_meaning.specs.Tree.{Tree, Const, Local, If, Do, Let, Loop, Recur, Core, Call, VectorOf, Println, Dosync, Look, Put, Update, Send, Trees, none, more, count, is_none}
 use Rattle.txs_tree_build.specs.Shift.{moved, shifted, all_shifted}
-use Rattle.txs_opt.proofs.Below.{Below, AllBelow}
+use Rattle.txs_opt.proofs.Below.{Kind, Below, AllBelow}
 use Rattle.txs_opt.proofs.Like.{Likeness}
 use Rattle.txs_opt.proofs.Parts.{FormsLike, CallsLike, Means, MeanAll, MeanLet, MeanDo, const_like, local_like, if_like, let_like, loop_like, recur_like, core_like, call_like, vector_like, println_like, dosync_like, look_like, put_like, update_like, send_like, all_none, all_more, let_none, let_more, do_none, do_more}
 
@@ -80,7 +80,7 @@ pub none_shifted : (c k : ℕ) (es : Trees) → is_none (all_shifted c k es) ≡
 none_shifted c k none = refl
 none_shifted c k (more e es) = refl
 
-module _ (S : Type 0) (k : Likeness S) (May : ℕ → Type 0) (Linked : Tree → List Value → Tree → List Value → Type 0) (fx gx : Effects S) (cf cg : Bool → ℕ → List Value → S → Completion S Value) (n : ℕ)
+module _ (S : Type 0) (k : Likeness S) (May : Kind) (Linked : Tree → List Value → Tree → List Value → Type 0) (fx gx : Effects S) (cf cg : Bool → ℕ → List Value → S → Completion S Value) (n : ℕ)
     (forms : FormsLike S k May Linked fx gx) (calls : CallsLike S k May cf cg) (c j : ℕ) (linked : (e : Tree) (env env1 : List Value) → Below May e → Wider c j env env1 → Linked e env (shifted c j e) env1) where
   mutual
     pub shifted_like : (inside : Bool) (e : Tree) (env env1 : List Value) → Below May e → Wider c j env env1 → Means S k May Linked fx gx cf cg n forms calls inside e env (shifted c j e) env1
@@ -100,12 +100,12 @@ module _ (S : Type 0) (k : Likeness S) (May : ℕ → Type 0) (Linked : Tree →
     shifted_like inside (Call f es m) env env1 h w = call_like S k May Linked fx gx cf cg n forms calls inside m env env1 f es (all_shifted c j es) h.1 (all_shifted_like inside es env env1 h.0 w)
     shifted_like inside (VectorOf es m) env env1 h w = vector_like S k May Linked fx gx cf cg n forms calls inside m env env1 es (all_shifted c j es) (all_shifted_like inside es env env1 h w)
     shifted_like inside (Println es m) env env1 h w = println_like S k May Linked fx gx cf cg n forms calls inside m env env1 es (all_shifted c j es) (all_shifted_like inside es env env1 h w)
-    shifted_like inside (Dosync body m) env env1 h w = dosync_like S k May Linked fx gx cf cg n forms calls inside m env env1 body (shifted c j body) (linked body env env1 h w) (shifted_like true body env env1 h w)
+    shifted_like inside (Dosync body m) env env1 h w = dosync_like S k May Linked fx gx cf cg n forms calls inside m env env1 body (shifted c j body) (linked body env env1 h.0 w) h.1 (shifted_like true body env env1 h.0 w)
     shifted_like inside (Look form cell m) env env1 h w = look_like S k May Linked fx gx cf cg n forms calls inside m env env1 form cell (shifted c j cell) (shifted_like inside cell env env1 h w)
     shifted_like inside (Put form cell value m) env env1 h w =
-        put_like S k May Linked fx gx cf cg n forms calls inside m env env1 form cell value (shifted c j cell) (shifted c j value) (shifted_like inside cell env env1 h.0 w) (shifted_like inside value env env1 h.1 w)
+        put_like S k May Linked fx gx cf cg n forms calls inside m env env1 form cell value (shifted c j cell) (shifted c j value) h.2 (shifted_like inside cell env env1 h.0 w) (shifted_like inside value env env1 h.1 w)
     shifted_like inside (Update form cell callee es m) env env1 h w =
-        update_like S k May Linked fx gx cf cg n forms calls inside m env env1 form cell (shifted c j cell) callee es (all_shifted c j es) h.2 (shifted_like inside cell env env1 h.0 w) (all_shifted_like inside es env env1 h.1 w)
+        update_like S k May Linked fx gx cf cg n forms calls inside m env env1 form cell (shifted c j cell) callee es (all_shifted c j es) h.2 h.3 (shifted_like inside cell env env1 h.0 w) (all_shifted_like inside es env env1 h.1 w)
     shifted_like inside (Send cell callee es m) env env1 h w =
         send_like S k May Linked fx gx cf cg n forms calls inside m env env1 cell (shifted c j cell) callee es (all_shifted c j es) (shifted_like inside cell env env1 h.0 w) (all_shifted_like inside es env env1 h.1 w)
 

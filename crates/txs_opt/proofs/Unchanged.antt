@@ -3,11 +3,11 @@ use Rattle.std.proofs.Common.{ℕ, Bool, true, List, ◌++◌, ◌∷◌, [], re
 use Rattle.txs_value_data.specs.declared.value.Value.{Value}
 use Rattle.txs_tree_meaning.specs.Meaning.{Completion, Effects}
 use Rattle.txs_tree_meaning.specs.Tree.{Tree, Const, Local, If, Do, Let, Loop, Recur, Core, Call, VectorOf, Println, Dosync, Look, Put, Update, Send, Trees, none, more}
-use Rattle.txs_opt.proofs.Below.{Below, AllBelow}
+use Rattle.txs_opt.proofs.Below.{Kind, Below, AllBelow}
 use Rattle.txs_opt.proofs.Like.{Likeness}
 use Rattle.txs_opt.proofs.Parts.{FormsLike, CallsLike, Means, MeanAll, MeanLet, MeanDo, const_like, local_like, if_like, let_like, loop_like, recur_like, core_like, call_like, vector_like, println_like, dosync_like, look_like, put_like, update_like, send_like, all_none, all_more, let_none, let_more, do_none, do_more}
 
-module _ (S : Type 0) (k : Likeness S) (May : ℕ → Type 0) (Linked : Tree → List Value → Tree → List Value → Type 0) (fx gx : Effects S) (cf cg : Bool → ℕ → List Value → S → Completion S Value) (n : ℕ)
+module _ (S : Type 0) (k : Likeness S) (May : Kind) (Linked : Tree → List Value → Tree → List Value → Type 0) (fx gx : Effects S) (cf cg : Bool → ℕ → List Value → S → Completion S Value) (n : ℕ)
     (forms : FormsLike S k May Linked fx gx) (calls : CallsLike S k May cf cg) (linked : (e : Tree) (env : List Value) → Below May e → Linked e env e env) where
   mutual
     pub unchanged : (inside : Bool) (e : Tree) (env : List Value) → Below May e → Means S k May Linked fx gx cf cg n forms calls inside e env e env
@@ -22,10 +22,10 @@ module _ (S : Type 0) (k : Likeness S) (May : ℕ → Type 0) (Linked : Tree →
     unchanged inside (Call f es m) env h = call_like S k May Linked fx gx cf cg n forms calls inside m env env f es es h.1 (all_unchanged inside es env h.0)
     unchanged inside (VectorOf es m) env h = vector_like S k May Linked fx gx cf cg n forms calls inside m env env es es (all_unchanged inside es env h)
     unchanged inside (Println es m) env h = println_like S k May Linked fx gx cf cg n forms calls inside m env env es es (all_unchanged inside es env h)
-    unchanged inside (Dosync body m) env h = dosync_like S k May Linked fx gx cf cg n forms calls inside m env env body body (linked body env h) (unchanged true body env h)
+    unchanged inside (Dosync body m) env h = dosync_like S k May Linked fx gx cf cg n forms calls inside m env env body body (linked body env h.0) h.1 (unchanged true body env h.0)
     unchanged inside (Look form cell m) env h = look_like S k May Linked fx gx cf cg n forms calls inside m env env form cell cell (unchanged inside cell env h)
-    unchanged inside (Put form cell value m) env h = put_like S k May Linked fx gx cf cg n forms calls inside m env env form cell value cell value (unchanged inside cell env h.0) (unchanged inside value env h.1)
-    unchanged inside (Update form cell callee es m) env h = update_like S k May Linked fx gx cf cg n forms calls inside m env env form cell cell callee es es h.2 (unchanged inside cell env h.0) (all_unchanged inside es env h.1)
+    unchanged inside (Put form cell value m) env h = put_like S k May Linked fx gx cf cg n forms calls inside m env env form cell value cell value h.2 (unchanged inside cell env h.0) (unchanged inside value env h.1)
+    unchanged inside (Update form cell callee es m) env h = update_like S k May Linked fx gx cf cg n forms calls inside m env env form cell cell callee es es h.2 h.3 (unchanged inside cell env h.0) (all_unchanged inside es env h.1)
     unchanged inside (Send cell callee es m) env h = send_like S k May Linked fx gx cf cg n forms calls inside m env env cell cell callee es es (unchanged inside cell env h.0) (all_unchanged inside es env h.1)
 
     pub all_unchanged : (inside : Bool) (es : Trees) (env : List Value) → AllBelow May es → MeanAll S k May Linked fx gx cf cg n forms calls inside es env es env

@@ -1,7 +1,7 @@
 -- Whole programs mean the same, folded and with calls inlined.
 use Rattle.std.proofs.Common.{◌≡◌, ℕ, zero, suc, List, [], ◌∷◌, length, Option, Some, None, refl, sym, ap, ◌∙◌, subst}
 use Rattle.txs_value_base.specs.Places.{nth}
-use Rattle.txs_tree_meaning.proofs.Callable.{missing, same_some}
+use Rattle.txs_tree_meaning.proofs.Callable.{missing, same_some, nth-length}
 use Rattle.txs_tree_meaning.specs.Known.{Known, known}
 use Rattle.txs_tree_meaning.specs.Sound.{Sound, SoundThread, SoundThreads}
 use Rattle.txs_tree_meaning.specs.Thread.{thread_meaning}
@@ -12,7 +12,8 @@ use Rattle.txs_opt.specs.Keeps.{MeansSame, source_in}
 use Rattle.txs_opt.specs.Observed.{observed_end}
 use Rattle.txs_opt.proofs.FoldedProgram.{pure_folded, thread_folded}
 use Rattle.txs_opt.proofs.InlinedMeanings.{pure_inlined, thread_inlined}
-use Rattle.txs_opt.proofs.ScopedOf.{sound_under, sound_lower}
+use Rattle.txs_opt.proofs.ScopedOf.{number, sound_under}
+use Rattle.txs_opt.proofs.Weights.{weight, pure_ones, weighs_under, main_below, validators_light}
 
 abbrev pub thread_some : Option PlainThread → Option PlainThread
 thread_some None = None
@@ -67,10 +68,10 @@ inlined_means limit p sound =
     record {
       cells = refl;
       as_many = length_inlined x.functions p.threads x.budget;
-      pure = λ n callee vs. pure_inlined n fs budget under callee vs;
+      pure = λ n callee vs. pure_inlined number 0 n fs budget under (λ f fun is. nth-length fs f fun is) callee vs;
       threads = λ i t u at there n es.
           let r = thread_at x.functions p.threads x.budget i t at in
           let same : record t { body = (inlined x.functions 0 r.left t.body).tree } ≡ u = same_some (record t { body = (inlined x.functions 0 r.left t.body).tree }) u (sym r.found ∙ there) in
           subst (λ (y : PlainThread). observed_end (thread_meaning (source_in (inlined_program limit p) y) n es) ≡ observed_end (thread_meaning (source_in p t) n es)) same
-          (thread_inlined (source_in p t) budget r.left n es under (sound_lower fs t.body sound.functions (thread_sound (known fs) p.threads i t sound.threads at).0));
+          (thread_inlined (weight fs) (pure_ones fs) (source_in p t) budget r.left n es (weighs_under fs sound.functions) (validators_light fs p.cells sound.cells) (main_below fs sound.functions t.body (thread_sound (known fs) p.threads i t sound.threads at).0));
     }

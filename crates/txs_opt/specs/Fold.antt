@@ -110,4 +110,4 @@ folded_threads (t ∷ ts) = folded_thread t ∷ folded_threads ts
 
 -- a program with all bodies folded
 abbrev pub folded_program : PlainProgram → PlainProgram
-folded_program p = record { functions = folded_functions p.functions; cells = p.cells; threads = folded_threads p.threads }
+folded_program p = record { functions = folded_functions p.functions; cells = p.cells; validator_spans = p.validator_spans; threads = folded_threads p.threads }

@@ -154,4 +154,4 @@ budget_of limit p = min limit most_nodes - (nodes_of_functions p.functions + nod
 abbrev pub inlined_program : ℕ → PlainProgram → PlainProgram
 inlined_program limit p =
     let x = functions_inlined [] (budget_of limit p) p.functions in
-    record { functions = x.functions; cells = p.cells; threads = threads_inlined x.functions x.budget p.threads }
+    record { functions = x.functions; cells = p.cells; validator_spans = p.validator_spans; threads = threads_inlined x.functions x.budget p.threads }

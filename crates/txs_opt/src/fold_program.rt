@@ -8,6 +8,7 @@ use crate::fold_nodes::fold_node;
 use std::alloc::{AllocError, Global};
 use txs_tree_build::copy_cells;
 use txs_tree_meaning::{Function, Program, Raw, Thread};
+use txs_value_base::Span;
 use txs_value_cell::CellDefinition;
 
 /// The function with its body folded.
@@ -58,16 +59,17 @@ fn fold_threads(alloc: Global, threads: &[Thread]) -> Result<Vec<Thread>, AllocE
 /// The program of these parts, which are the parts of a sound program, folded.
 fn program_as_folded(
     cells: Vec<CellDefinition>,
+    validator_spans: Vec<Span>,
     functions: Vec<Function>,
     threads: Vec<Thread>,
     program: &Program,
 ) -> Program
-    requires { program_of (record { cells = cells.items; functions = functions.items; threads = threads.items }) ≡ folded_program (program_of program.now) }
+    requires { program_of (record { cells = cells.items; validator_spans = validator_spans.items; functions = functions.items; threads = threads.items }) ≡ folded_program (program_of program.now) }
     ensures { program_of result ≡ folded_program (program_of program.now) }
 {
     program.is_sound();
     program.is_marked();
-    Program::new(Raw::new(cells, functions, threads))
+    Program::new(Raw::new(cells, validator_spans, functions, threads))
 }
 
 /// The program folded, in memory of its own.
@@ -75,9 +77,10 @@ pub fn folded_copy(alloc: Global, program: &Program) -> Result<Program, AllocErr
     ensures { IfOk result (λ p. program_of p ≡ folded_program (program_of program.now)) }
 {
     let cells = copy_cells(alloc, program.cells())?;
+    let validator_spans = Vec::from_slice(alloc, program.validator_spans())?;
     let functions = fold_functions(alloc, program.functions())?;
     let threads = fold_threads(alloc, program.threads())?;
-    Ok(program_as_folded(cells, functions, threads, program))
+    Ok(program_as_folded(cells, validator_spans, functions, threads, program))
 }
 
 /// Folds a program: parts whose value is known stand as that value, and what has no use goes. It means the same.

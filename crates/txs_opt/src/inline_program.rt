@@ -12,6 +12,7 @@ use std::alloc::{AllocError, Global};
 use txs_check::nodes_left;
 use txs_tree_build::copy_cells;
 use txs_tree_meaning::{Function, Program, Raw, Thread};
+use txs_value_base::Span;
 use txs_value_cell::CellDefinition;
 use txs_value_data::limits::MOST_NODES;
 
@@ -135,17 +136,18 @@ fn inline_threads(
 /// The program of these parts, which are those of a sound program with calls inlined.
 fn program_as_inlined(
     cells: Vec<CellDefinition>,
+    validator_spans: Vec<Span>,
     functions: Vec<Function>,
     threads: Vec<Thread>,
     program: &Program,
     limit: u32,
 ) -> Program
-    requires { program_of (record { cells = cells.items; functions = functions.items; threads = threads.items }) ≡ inlined_program limit (program_of program.now) }
+    requires { program_of (record { cells = cells.items; validator_spans = validator_spans.items; functions = functions.items; threads = threads.items }) ≡ inlined_program limit (program_of program.now) }
     ensures { program_of result ≡ inlined_program limit (program_of program.now) }
 {
     program.is_sound();
     program.is_marked();
-    Program::new(Raw::new(cells, functions, threads))
+    Program::new(Raw::new(cells, validator_spans, functions, threads))
 }
 
 /// The program with calls inlined, in memory of its own.
@@ -154,9 +156,10 @@ pub fn inlined_copy(alloc: Global, program: &Program, limit: u32) -> Result<Prog
 {
     let mut budget = budget_of(program, limit);
     let cells = copy_cells(alloc, program.cells())?;
+    let validator_spans = Vec::from_slice(alloc, program.validator_spans())?;
     let functions = inline_functions(alloc, &mut budget, program)?;
     let threads = inline_threads(alloc, functions.as_slice(), budget, program)?;
-    Ok(program_as_inlined(cells, functions, threads, program, limit))
+    Ok(program_as_inlined(cells, validator_spans, functions, threads, program, limit))
 }
 
 /// Inlines calls: a call of a function with at most 40 nodes and no recur to itself becomes a let of its parameters with its body,

@@ -6,6 +6,8 @@ use Rattle.std.proofs.lemmas.Slice.Eq.{bytes_eq-Decides}
 use Rattle.txs_value_data.specs.Limits.{most_depth}
 use Rattle.txs_value_base.specs.Operations.{op_name}
 use Rattle.txs_value_base.specs.declared.fault.Span.{Span}
+use Rattle.txs_value_base.specs.declared.op.Callee.{Callee}
+use Rattle.txs_value_cell.specs.declared.cell.CellDefinition.{CellDefinition}
 use Rattle.txs_value_data.specs.declared.value.Value.{Value}
 use Rattle.txs_reader.specs.declared.form.Bracket.TheVariants.{Round, Square}
 use Rattle.txs_reader.specs.Tree.{PlainForm as Form, PlainForms as Forms, leaf, group, first}
@@ -18,12 +20,12 @@ use Rattle.txs_resolve_scope.specs.declared.names.FormName.TheVariants as kind
 use Rattle.txs_resolve_scope.specs.declared.scope.Definition.{Definition}
 use Rattle.txs_resolve_scope.specs.Scope.{Entry, definition_of, is_none, may_bind, operations, with_name}
 use Rattle.txs_resolve_expand.specs.Answers.{◌>>=◌, refuse}
-use Rattle.txs_resolve.specs.Defined.{Definitions, no_definitions, opening_cell, cell_as, def_of, def_as, defn_as, listed_as, defines, and_then, define_all, IsNew, AllDiffer}
+use Rattle.txs_resolve.specs.Defined.{Definitions, no_definitions, unvalidated, opening_cell, cell_as, span_as, def_of, def_as, defn_as, listed_as, defines, and_then, define_all, IsNew, AllDiffer}
 use Rattle.txs_resolve_expand.specs.Expansions.{body, form_at}
 use Rattle.txs_resolve_expand.specs.Expressions.{Answer, named}
 use Rattle.txs_resolve_body.specs.Literals.{literal}
 use Rattle.txs_resolve_expand.specs.Namespace.{behind_namespace}
-use Rattle.txs_resolve.specs.Names.{State, nothing, program, new_name, Defining, defining_of, with_definition, defined_as_one, NamedForm, named_form, defined_at, parameters, Written, written, with_function, function, with_thread, future, top_level, step, steps, named_script, Resolves}
+use Rattle.txs_resolve.specs.Names.{State, nothing, program, new_name, Defining, defining_of, new_cell, validator_named, validator_place, with_definition, defined_as_one, NamedForm, named_form, defined_at, parameters, Written, written, with_function, function, with_thread, future, top_level, step, steps, named_script, Resolves}
 use Rattle.txs_resolve.proofs.Scoping.{Every, then_every, one_every, if_every}
 
 -- ---- names
@@ -55,7 +57,8 @@ differ_more (n ∷ ns) name h new = (new_more ns h.0 new.0, differ_more ns name 
 
 -- one state has what the other has, and these definitions behind it
 pub record Adds (s : State) (d : Definitions) (t : State) : Type 0 where
-  pub cells : t.cells ≡ s.cells ++ d.cells
+  pub cells : map unvalidated t.cells ≡ map unvalidated s.cells ++ d.cells
+  pub spans : t.validator_spans ≡ s.validator_spans ++ d.validator_spans
   pub names : names_in t.defined ≡ names_in s.defined ++ d.names
   pub functions : map (λ (f : PlainFunction). f.span) t.functions ≡ map (λ (f : PlainFunction). f.span) s.functions ++ d.functions
   pub threads : map (λ (x : PlainThread). x.span) t.threads ≡ map (λ (x : PlainThread). x.span) s.threads ++ d.threads
@@ -88,17 +91,19 @@ more_names : (es : List Entry) (e : Entry) → names_in (es ++ e ∷ []) ≡ nam
 more_names es e = map-append (λ (x : Entry). x.name) es (e ∷ [])
 
 -- one more definition
-definition_adds : (sort : Option CellSort) (s : State) (name : List ℕ) (value : Form) (v : Value) → literal most_depth value ≡ Ok v → IsNew name (names_in s.defined)
-    → Adds s (record { cells = cell_as name sort value; names = name ∷ []; functions = []; threads = [] }) (with_definition sort s name v)
-definition_adds None s name value v is new = record {
-  cells = nil s.cells;
+definition_adds : (sort : Option CellSort) (s : State) (name : List ℕ) (value : Form) (span : Span) (o : Option Form) (callee : Option Callee) (v : Value) → literal most_depth value ≡ Ok v → IsNew name (names_in s.defined)
+    → Adds s (record { cells = cell_as name sort value; validator_spans = span_as span sort o; names = name ∷ []; functions = []; threads = [] }) (with_definition sort s name v (record { callee = callee; at = validator_place span o }))
+definition_adds None s name value span o callee v is new = record {
+  cells = nil (map unvalidated s.cells);
+  spans = nil s.validator_spans;
   names = more_names s.defined _;
   functions = nil (map (λ (f : PlainFunction). f.span) s.functions);
   threads = nil (map (λ (x : PlainThread). x.span) s.threads);
   differ = λ h. subst AllDiffer (sym (more_names s.defined _)) (differ_more (names_in s.defined) name h new);
 }
-definition_adds (Some sort) s name value v is new = record {
-  cells = ap (λ (o : Answer Value). s.cells ++ opening_cell name sort o) (sym is);
+definition_adds (Some sort) s name value span o callee v is new = record {
+  cells = map-append unvalidated s.cells (new_cell name sort v callee ∷ []) ∙ ap (λ (x : Answer Value). map unvalidated s.cells ++ opening_cell name sort x) (sym is);
+  spans = refl;
   names = more_names s.defined _;
   functions = nil (map (λ (f : PlainFunction). f.span) s.functions);
   threads = nil (map (λ (x : PlainThread). x.span) s.threads);
@@ -110,38 +115,42 @@ itself : {A : Type 0} (a : Answer A) → Every (λ x. a ≡ Ok x) a
 itself (Ok x) = refl
 itself (Err e) = tt
 
-defined_adds : (s : State) (name : List ℕ) (at span : Span) (o : Option Defining) → Every (Adds s (def_of name o)) (defined_as_one s name at span o)
-defined_adds s name at span None = tt
-defined_adds s name at span (Some d) =
-    let a = literal most_depth d.value in
-    let n = new_name s.defined name at in
-    let Q = Adds s (def_of name (Some d)) in
-    if_every Q (nat_lt s.defs 1000) (a >>= λ v. n >>= λ m. Ok (with_definition d.sort s m v)) (record { kind = TooMany; at = span })
-    (λ few. then_every (λ v. a ≡ Ok v) Q a (λ v. n >>= λ m. Ok (with_definition d.sort s m v)) (itself a)
-    (λ v is. one_every (Tells s name) Q n (λ m. with_definition d.sort s m v) (new_every s name at)
-    (λ m new. subst (λ k. Q (with_definition d.sort s k v)) (sym new.0) (definition_adds d.sort s name d.value v is new.1))))
-
-def_adds : (s : State) (span : Span) (o : Option NamedForm) → Every (Adds s (def_as o)) (defined_at s span o)
-def_adds s span None = tt
-def_adds s span (Some f) = defined_adds s f.name f.at span (defining_of f.form)
-
--- one more function
-with_function_adds : (s : State) (name : List ℕ) (n : ℕ) (t : Tree) (span : Span) → IsNew name (names_in s.defined)
-    → Adds s (record { cells = []; names = name ∷ []; functions = span ∷ []; threads = [] }) (with_function s name n t span)
-with_function_adds s name n t span new = record {
-  cells = nil s.cells;
-  names = more_names s.defined _;
-  functions = map-append (λ (f : PlainFunction). f.span) s.functions _;
-  threads = nil (map (λ (x : PlainThread). x.span) s.threads);
-  differ = λ h. subst AllDiffer (sym (more_names s.defined _)) (differ_more (names_in s.defined) name h new);
-}
-
 abbrev Anything : {A : Type 0} → A → Type 0
 Anything a = Unit {0}
 
 anything : {A : Type 0} (a : Answer A) → Every Anything a
 anything (Ok x) = tt
 anything (Err e) = tt
+
+defined_adds : (s : State) (name : List ℕ) (at span : Span) (o : Option Defining) → Every (Adds s (def_of name o span)) (defined_as_one s name at span o)
+defined_adds s name at span None = tt
+defined_adds s name at span (Some d) =
+    let a = literal most_depth d.value in
+    let f = validator_named s.defined span d.validator in
+    let n = new_name s.defined name at in
+    let Q = Adds s (def_of name (Some d) span) in
+    let made : Value → Option Callee → List ℕ → State = λ v callee m. with_definition d.sort s m v (record { callee = callee; at = validator_place span d.validator }) in
+    if_every Q (nat_lt s.defs 1000) (a >>= λ v. f >>= λ callee. n >>= λ m. Ok (made v callee m)) (record { kind = TooMany; at = span })
+    (λ few. then_every (λ v. a ≡ Ok v) Q a (λ v. f >>= λ callee. n >>= λ m. Ok (made v callee m)) (itself a)
+    (λ v is. then_every Anything Q f (λ callee. n >>= λ m. Ok (made v callee m)) (anything f)
+    (λ callee any. one_every (Tells s name) Q n (λ m. made v callee m) (new_every s name at)
+    (λ m new. subst (λ k. Q (made v callee k)) (sym new.0) (definition_adds d.sort s name d.value span d.validator callee v is new.1)))))
+
+def_adds : (s : State) (span : Span) (o : Option NamedForm) → Every (Adds s (def_as o span)) (defined_at s span o)
+def_adds s span None = tt
+def_adds s span (Some f) = defined_adds s f.name f.at span (defining_of f.form)
+
+-- one more function
+with_function_adds : (s : State) (name : List ℕ) (n : ℕ) (t : Tree) (span : Span) → IsNew name (names_in s.defined)
+    → Adds s (record { cells = []; validator_spans = []; names = name ∷ []; functions = span ∷ []; threads = [] }) (with_function s name n t span)
+with_function_adds s name n t span new = record {
+  cells = nil (map unvalidated s.cells);
+  spans = nil s.validator_spans;
+  names = more_names s.defined _;
+  functions = map-append (λ (f : PlainFunction). f.span) s.functions _;
+  threads = nil (map (λ (x : PlainThread). x.span) s.threads);
+  differ = λ h. subst AllDiffer (sym (more_names s.defined _)) (differ_more (names_in s.defined) name h new);
+}
 
 function_adds : (s : State) (span : Span) (o : Option Written) → Every (Adds s (defn_as o span)) (function s span o)
 function_adds s span None = tt
@@ -156,14 +165,15 @@ function_adds s span (Some w) =
     (λ node k. subst (λ x. Q (with_function s x (length locals) node span)) (sym new.0) (with_function_adds s w.name (length locals) node span new.1)))))
 
 -- one more thread
-future_adds : (s : State) (span : Span) (forms : Forms) → Every (Adds s (record { cells = []; names = []; functions = []; threads = span ∷ [] })) (future s span forms)
+future_adds : (s : State) (span : Span) (forms : Forms) → Every (Adds s (record { cells = []; validator_spans = []; names = []; functions = []; threads = span ∷ [] })) (future s span forms)
 future_adds s span forms =
-    let Q = Adds s (record { cells = []; names = []; functions = []; threads = span ∷ [] }) in
+    let Q = Adds s (record { cells = []; validator_spans = []; names = []; functions = []; threads = span ∷ [] }) in
     let inner : Answer Tree = named 1000 (record { locals = []; defined = s.defined; current = None }) false (body forms span) in
     if_every Q (nat_lt (length s.threads) 64) (inner >>= λ node. Ok (with_thread s node span)) (record { kind = TooMany; at = span })
     (λ few. one_every Anything Q inner (λ node. with_thread s node span) (anything inner)
     (λ node k. record {
-      cells = nil s.cells;
+      cells = nil (map unvalidated s.cells);
+      spans = nil s.validator_spans;
       names = nil (names_in s.defined);
       functions = nil (map (λ (f : PlainFunction). f.span) s.functions);
       threads = map-append (λ (x : PlainThread). x.span) s.threads _;
@@ -186,7 +196,8 @@ step_adds s (group Round (first head parts) at) = list_adds (form_at head) s at 
 
 no_more : (s : State) → Adds s no_definitions s
 no_more s = record {
-  cells = nil s.cells;
+  cells = nil (map unvalidated s.cells);
+  spans = nil s.validator_spans;
   names = nil (names_in s.defined);
   functions = nil (map (λ (f : PlainFunction). f.span) s.functions);
   threads = nil (map (λ (x : PlainThread). x.span) s.threads);
@@ -198,7 +209,8 @@ both a b c d e one two = two ∙ ap (λ l. l ++ e) one ∙ append_assoc a d e
 
 adds_both : (s t u : State) (d e : Definitions) → Adds s d t → Adds t e u → Adds s (and_then d e) u
 adds_both s t u d e one two = record {
-  cells = both s.cells t.cells u.cells d.cells e.cells one.cells two.cells;
+  cells = both _ _ _ d.cells e.cells one.cells two.cells;
+  spans = both s.validator_spans t.validator_spans u.validator_spans d.validator_spans e.validator_spans one.spans two.spans;
   names = both (names_in s.defined) (names_in t.defined) (names_in u.defined) d.names e.names one.names two.names;
   functions = both _ _ _ d.functions e.functions one.functions two.functions;
   threads = both _ _ _ d.threads e.threads one.threads two.threads;
@@ -218,24 +230,27 @@ steps_add (form ∷ forms) s =
 abbrev OfForms : List Form → PlainProgram → Type 0
 OfForms forms p =
     let d = define_all (behind_namespace forms) in
-    (p.cells ≡ d.cells) × (map (λ (f : PlainFunction). f.span) p.functions ≡ d.functions) × (map (λ (x : PlainThread). x.span) p.threads ≡ d.threads) × AllDiffer d.names
+    (map unvalidated p.cells ≡ d.cells) × (p.validator_spans ≡ d.validator_spans) × (map (λ (f : PlainFunction). f.span) p.functions ≡ d.functions) × (map (λ (x : PlainThread). x.span) p.threads ≡ d.threads) × AllDiffer d.names
 
 script_adds : (forms : List Form) → Every (OfForms forms) (named_script forms)
 script_adds forms =
     one_every (Adds nothing (define_all (behind_namespace forms))) (OfForms forms) (steps nothing (behind_namespace forms)) program (steps_add (behind_namespace forms) nothing)
-    (λ s h. (h.cells, h.functions, h.threads, subst AllDiffer h.names (h.differ tt)))
+    (λ s h. (h.cells, h.spans, h.functions, h.threads, subst AllDiffer h.names (h.differ tt)))
 
 resolved : (forms : List Form) (p : PlainProgram) → Resolves forms p → OfForms forms p
 resolved forms p h = subst (Every (OfForms forms)) h (script_adds forms)
 
-pub cells : (forms : List Form) (p : PlainProgram) → Resolves forms p → p.cells ≡ (define_all (behind_namespace forms)).cells
+pub cells : (forms : List Form) (p : PlainProgram) → Resolves forms p → map unvalidated p.cells ≡ (define_all (behind_namespace forms)).cells
 cells forms p h = (resolved forms p h).0
 
+pub spans : (forms : List Form) (p : PlainProgram) → Resolves forms p → p.validator_spans ≡ (define_all (behind_namespace forms)).validator_spans
+spans forms p h = (resolved forms p h).1
+
 pub functions : (forms : List Form) (p : PlainProgram) → Resolves forms p → map (λ (f : PlainFunction). f.span) p.functions ≡ (define_all (behind_namespace forms)).functions
-functions forms p h = (resolved forms p h).1
+functions forms p h = (resolved forms p h).2
 
 pub threads : (forms : List Form) (p : PlainProgram) → Resolves forms p → map (λ (x : PlainThread). x.span) p.threads ≡ (define_all (behind_namespace forms)).threads
-threads forms p h = (resolved forms p h).2
+threads forms p h = (resolved forms p h).3
 
 pub once : (forms : List Form) (p : PlainProgram) → Resolves forms p → AllDiffer (define_all (behind_namespace forms)).names
-once forms p h = (resolved forms p h).3
+once forms p h = (resolved forms p h).4

@@ -1,7 +1,9 @@
+pub mod CellOptions
 pub mod Defining
 pub mod Laws
 pub mod Marking
 pub mod Openings
+pub mod OptionRows
 pub mod ScopedScripts
 pub mod Scoping
 pub mod Symbols

@@ -13,14 +13,16 @@ use Rattle.txs_resolve_scope.specs.declared.names.FormName.{FormName}
 use Rattle.txs_resolve_scope.specs.declared.names.FormName.TheVariants as kind
 use Rattle.txs_resolve_scope.specs.Scope.{Scope}
 use Rattle.txs_resolve.specs.declared.definition.CellSort.{CellSort}
+use Rattle.txs_resolve.specs.declared.definition.Validation.{Validation}
+use Rattle.txs_value_base.specs.declared.op.Callee.{Callee}
 use Rattle.txs_resolve_expand.specs.Answers.{◌>>=◌}
 use Rattle.txs_resolve_expand.specs.Expansions.{body, form_at}
 use Rattle.txs_resolve_expand.specs.Expressions.{Answer, named}
 use Rattle.txs_resolve_body.specs.Literals.{literal}
 use Rattle.txs_resolve_body.proofs.Marks.{form_marked}
 use Rattle.txs_resolve_expand.specs.Namespace.{behind_namespace}
-use Rattle.txs_resolve.specs.Names.{State, nothing, program, new_name, Defining, defining_of, with_definition, defined_as_one, NamedForm, named_form, defined_at, parameters, Written, written, with_function, function, with_thread, future, top_level, step, steps, named_script, Resolves}
-use Rattle.txs_resolve.proofs.Scoping.{Every, then_every, one_every, two_every, if_every}
+use Rattle.txs_resolve.specs.Names.{State, nothing, program, new_name, Defining, defining_of, validator_named, validator_place, with_definition, defined_as_one, NamedForm, named_form, defined_at, parameters, Written, written, with_function, function, with_thread, future, top_level, step, steps, named_script, Resolves}
+use Rattle.txs_resolve.proofs.Scoping.{Every, then_every, one_every, three_every, if_every}
 
 -- what is defined so far is marked
 abbrev MarkedState : State → Type 0
@@ -41,9 +43,9 @@ threads_more : (ts : List PlainThread) (t : PlainThread) → ThreadsMarkedBy Exa
 threads_more [] t h one = (one, tt)
 threads_more (u ∷ ts) t h one = (h.0, threads_more ts t h.1 one)
 
-definition_marked : (sort : Option CellSort) (s : State) (name : List ℕ) (v : Value) → MarkedState s → MarkedState (with_definition sort s name v)
-definition_marked None s name v h = record { functions = h.functions; threads = h.threads }
-definition_marked (Some sort) s name v h = record { functions = h.functions; threads = h.threads }
+definition_marked : (sort : Option CellSort) (s : State) (name : List ℕ) (v : Value) (x : Validation) → MarkedState s → MarkedState (with_definition sort s name v x)
+definition_marked None s name v x h = record { functions = h.functions; threads = h.threads }
+definition_marked (Some sort) s name v x h = record { functions = h.functions; threads = h.threads }
 
 function_marked : (s : State) (name : List ℕ) (n : ℕ) (t : Tree) (span : Span) → MarkedState s → MarkedBy Exactly true t → MarkedState (with_function s name n t span)
 function_marked s name n t span h one = record { functions = functions_more s.functions (record { parameters = n; body = t; span = span }) h.functions one; threads = h.threads }
@@ -57,9 +59,12 @@ defined_marked : (s : State) (name : List ℕ) (at span : Span) (o : Option Defi
 defined_marked s name at span None h = tt
 defined_marked s name at span (Some d) h =
     let v = literal most_depth d.value in
+    let f = validator_named s.defined span d.validator in
     let n = new_name s.defined name at in
-    if_every MarkedState (nat_lt s.defs most_definitions) (v >>= λ x. n >>= λ y. Ok (with_definition d.sort s y x)) (record { kind = TooMany; at = span })
-    (λ lt. two_every Anything Anything MarkedState v n (λ x y. with_definition d.sort s y x) (anything v) (anything n) (λ x y p q. definition_marked d.sort s y x h))
+    let made : Value → Option Callee → List ℕ → State = λ x c y. with_definition d.sort s y x (record { callee = c; at = validator_place span d.validator }) in
+    if_every MarkedState (nat_lt s.defs most_definitions) (v >>= λ x. f >>= λ c. n >>= λ y. Ok (made x c y)) (record { kind = TooMany; at = span })
+    (λ lt. three_every Anything Anything Anything MarkedState v f n made (anything v) (anything f) (anything n)
+    (λ x c y p q r. definition_marked d.sort s y x (record { callee = c; at = validator_place span d.validator }) h))
 
 named_as_marked : (s : State) (span : Span) (o : Option NamedForm) → MarkedState s → Every MarkedState (defined_at s span o)
 named_as_marked s span None h = tt

@@ -39,8 +39,8 @@ pub is_symbol : (f : Form) (name : List ℕ) (at : Span) → f ≡ Symbol name a
 is_symbol f name at e = ap tree e ∙ tree-Symbol name at
 
 -- it is what a definition is of, where it is a literal
-pub leaf_opening : (f : Form) (x : Leaf) (at : Span) → tree f ≡ leaf x at → only_literal None (tree f) ≡ defining_of (tree f)
-leaf_opening f x at e = subst (λ t. only_literal None t ≡ defining_of t) (sym e) refl
+pub leaf_opening : (f : Form) (x : Leaf) (at : Span) → tree f ≡ leaf x at → only_literal None None (tree f) ≡ defining_of (tree f)
+leaf_opening f x at e = subst (λ t. only_literal None None t ≡ defining_of t) (sym e) refl
 
 -- at the top level it is refused
 pub leaf_step : (s now : State) (f : Form) (x : Leaf) (at : Span) (r : Stop) → tree f ≡ leaf x at → r ≡ Refused (record { kind = BadForm; at = at }) → Leaves (Err r) now (step s (tree f))

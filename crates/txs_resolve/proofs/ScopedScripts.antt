@@ -12,7 +12,7 @@ use Rattle.txs_reader.specs.declared.form.Bracket.TheVariants.{Round, Square}
 use Rattle.txs_reader.specs.Tree.{PlainForm as Form, PlainForms as Forms, leaf, group, first, number, symbol, nil, truth, text, keyword}
 use Rattle.txs_reader.specs.Tree.{none as no_forms}
 use Rattle.txs_tree_meaning.specs.Known.{Known, callee_levels, levels, levels_in, levels_of, known, known_from, known_of}
-use Rattle.txs_tree_meaning.specs.Scoped.{Scoped, ScopedCallee, ScopedTree, ScopedAll, ScopedLet, ScopedFunction, ScopedFunctions, ScopedThread, ScopedThreads}
+use Rattle.txs_tree_meaning.specs.Scoped.{Scoped, ScopedCallee, ScopedCells, ScopedTree, ScopedAll, ScopedLet, ScopedFunction, ScopedFunctions, ScopedThread, ScopedThreads, ScopedValidator}
 use Rattle.txs_tree_meaning.specs.Tree.{Tree, Trees, Const, Local, If, Do, Let, Loop, Recur, Core, Call, VectorOf, Println, Dosync, Look, Put, Update, Send, none, more, count, PlainFunction, PlainThread, PlainProgram}
 use Rattle.txs_tree_meaning.proofs.Callable.{length-known}
 use Rattle.txs_resolve_expand.specs.declared.error.ResolveErrorKind.TheVariants.{BadForm, TooMany}
@@ -21,15 +21,16 @@ use Rattle.txs_resolve_scope.specs.declared.names.FormName.TheVariants as kind
 use Rattle.txs_resolve_scope.specs.declared.scope.Definition.{Definition}
 use Rattle.txs_resolve_scope.specs.declared.scope.Definition.TheVariants.{Constant, Cell as ACell, Function as AFunction}
 use Rattle.txs_resolve.specs.declared.definition.CellSort.{CellSort}
+use Rattle.txs_resolve.specs.declared.definition.Validation.{Validation}
 use Rattle.txs_resolve_expand.specs.Expansions.{body, form_at}
-use Rattle.txs_resolve_expand.specs.Expressions.{Answer, named}
+use Rattle.txs_resolve_expand.specs.Expressions.{Answer, callee_of, named, spot_at}
 use Rattle.txs_resolve_body.specs.Literals.{literal}
 use Rattle.txs_resolve_expand.specs.Namespace.{behind_namespace}
-use Rattle.txs_resolve.specs.Names.{State, nothing, program, new_name, Defining, defining_of, new_cell, with_constant, with_definition, defined_as_one, NamedForm, named_form, defined_at, define, parameter, parameters, Written, written, with_function, function, with_thread, future, top_level, step, steps, named_script, Resolves}
+use Rattle.txs_resolve.specs.Names.{State, nothing, program, new_name, Defining, defining_of, new_cell, top_scope, validator_named, validator_place, with_constant, with_definition, defined_as_one, NamedForm, named_form, defined_at, define, parameter, parameters, Written, written, with_function, function, with_thread, future, top_level, step, steps, named_script, Resolves}
 use Rattle.txs_resolve_expand.specs.Answers.{◌>>=◌, refuse}
 use Rattle.txs_resolve_scope.specs.Scope.{Scope, Entry, may_bind}
 use Rattle.txs_resolve.specs.Scripts.{IsKnown, AreKnown, ScopedState}
-use Rattle.txs_resolve.proofs.Scoping.{Every, then_every, one_every, two_every, if_every, is_less, Placed, form_named}
+use Rattle.txs_resolve.proofs.Scoping.{Every, then_every, one_every, three_every, if_every, is_less, CalleeFits, callee_of_fits, Placed, form_named}
 
 -- ---- where more functions are known
 
@@ -121,6 +122,13 @@ module _ (ks ls : List Known) where
   threads_front [] h = tt
   threads_front (t ∷ ts) h = ((tree_front t.body 0 h.0.0, omega (arith, same_levels t.body 0 h.0.0, h.0.1)), threads_front ts h.1)
 
+  cells_front : (ds : List CellDefinition) → ScopedCells ks ds → ScopedCells (ks ++ ls) ds
+  cells_front [] h = tt
+  cells_front (d ∷ ds) h = (validator_front d.validator h.0, cells_front ds h.1) where
+    validator_front : (o : Option Callee) → ScopedValidator ks o → ScopedValidator (ks ++ ls) o
+    validator_front None h = tt
+    validator_front (Some c) h = callee_front c h
+
   is_known_front : (what : Definition) → IsKnown ks what → IsKnown (ks ++ ls) what
   is_known_front (Constant v) h = tt
   is_known_front (ACell n) h = tt
@@ -147,6 +155,10 @@ threads_more : (ks : List Known) (ts : List PlainThread) (t : PlainThread) → S
 threads_more ks [] t h one = (one, tt)
 threads_more ks (u ∷ ts) t h one = (h.0, threads_more ks ts t h.1 one)
 
+pub cells_more : (ks : List Known) (ds : List CellDefinition) (d : CellDefinition) → ScopedCells ks ds → ScopedValidator ks d.validator → ScopedCells ks (ds ++ d ∷ [])
+cells_more ks [] d h one = (one, tt)
+cells_more ks (e ∷ ds) d h one = (h.0, cells_more ks ds d h.1 one)
+
 entries_known : (ks : List Known) (es : List Entry) (e : Entry) → AreKnown ks es → IsKnown ks e.what → AreKnown ks (es ++ e ∷ [])
 entries_known ks [] e h one = (one, tt)
 entries_known ks (d ∷ es) e h one = (h.0, entries_known ks es e h.1 one)
@@ -165,6 +177,8 @@ constant_scoped s name v h lt = record {
   functions = h.functions;
   threads = h.threads;
   known = entries_known (known s.functions) s.defined (record { name = name; what = Constant v }) h.known tt;
+  cells = h.cells;
+  placed = h.placed;
   few_cells = omega (arith, h.few_cells);
   few_defs = omega (arith, lt);
   few_functions = h.few_functions;
@@ -172,30 +186,51 @@ constant_scoped s name v h lt = record {
 }
 
 -- a cell is defined, whatever it is and whatever number it is given
-pub cell_scoped : (s : State) (cells : List CellDefinition) (name : List ℕ) (n : CellId) → ScopedState s → s.defs < 1000 → length cells ≡ suc (length s.cells)
-    → ScopedState (record { defined = s.defined ++ record { name = name; what = ACell n } ∷ []; cells = cells; functions = s.functions; threads = s.threads; defs = suc s.defs })
-cell_scoped s cells name n h lt longer = record {
+pub cell_scoped : (s : State) (cells : List CellDefinition) (spans : List Span) (name : List ℕ) (n : CellId) → ScopedState s → s.defs < 1000 → length cells ≡ suc (length s.cells)
+    → length spans ≡ suc (length s.validator_spans) → ScopedCells (known s.functions) cells
+    → ScopedState (record { defined = s.defined ++ record { name = name; what = ACell n } ∷ []; cells = cells; validator_spans = spans; functions = s.functions; threads = s.threads; defs = suc s.defs })
+cell_scoped s cells spans name n h lt longer further scoped = record {
   functions = h.functions;
   threads = h.threads;
   known = entries_known (known s.functions) s.defined (record { name = name; what = ACell n }) h.known tt;
+  cells = scoped;
+  placed = omega (arith, h.placed, longer, further);
   few_cells = omega (arith, h.few_cells, longer);
   few_defs = omega (arith, lt);
   few_functions = h.few_functions;
   few_threads = h.few_threads;
 }
 
-definition_scoped : (sort : Option CellSort) (s : State) (name : List ℕ) (v : Value) → ScopedState s → s.defs < 1000 → ScopedState (with_definition sort s name v)
-definition_scoped None s name v h lt = constant_scoped s name v h lt
-definition_scoped (Some sort) s name v h lt =
-    cell_scoped s (s.cells ++ new_cell name sort v ∷ []) name (record { kind = sort.kind; number = length s.cells }) h lt (omega (arith, length-append s.cells (new_cell name sort v ∷ [])))
+definition_scoped : (sort : Option CellSort) (s : State) (name : List ℕ) (v : Value) (validation : Validation) → ScopedState s → s.defs < 1000 → ScopedValidator (known s.functions) validation.callee
+    → ScopedState (with_definition sort s name v validation)
+definition_scoped None s name v validation h lt scoped = constant_scoped s name v h lt
+definition_scoped (Some sort) s name v validation h lt scoped =
+    let cell = new_cell name sort v validation.callee in
+    cell_scoped s (s.cells ++ cell ∷ []) (s.validator_spans ++ validation.at ∷ []) name (record { kind = sort.kind; number = length s.cells }) h lt
+    (omega (arith, length-append s.cells (cell ∷ []))) (omega (arith, length-append s.validator_spans (validation.at ∷ [])))
+    (cells_more (known s.functions) s.cells cell h.cells scoped)
+
+-- what a validator calls is there
+pub validator_scoped : (s : State) (span : Span) (o : Option Form) → ScopedState s → Every (ScopedValidator (known s.functions)) (validator_named s.defined span o)
+validator_scoped s span None h = tt
+validator_scoped s span (Some form) h =
+    let ks = known s.functions in
+    one_every (CalleeFits ks 1001) (ScopedValidator ks) (callee_of (top_scope s.defined) (spot_at 1001 span true) form) (λ callee. Some callee)
+    (callee_of_fits ks (top_scope s.defined) (spot_at 1001 span true) form (record { known = h.known; few = omega arith })) (λ callee fits. there callee fits) where
+      there : (c : Callee) → CalleeFits (known s.functions) 1001 c → ScopedValidator (known s.functions) (Some c)
+      there (CoreOp op) fits = tt
+      there (TheFunction n) fits = fits.0
 
 defined_scoped : (s : State) (name : List ℕ) (at span : Span) (o : Option Defining) → ScopedState s → Every ScopedState (defined_as_one s name at span o)
 defined_scoped s name at span None h = tt
 defined_scoped s name at span (Some d) h =
     let v = literal most_depth d.value in
+    let f = validator_named s.defined span d.validator in
     let n = new_name s.defined name at in
-    if_every ScopedState (nat_lt s.defs 1000) (v >>= λ x. n >>= λ y. Ok (with_definition d.sort s y x)) (record { kind = TooMany; at = span })
-    (λ lt. two_every Anything Anything ScopedState v n (λ x y. with_definition d.sort s y x) (anything v) (anything n) (λ x y p q. definition_scoped d.sort s y x h (is_less s.defs 1000 lt)))
+    let made : Value → Option Callee → List ℕ → State = λ x c y. with_definition d.sort s y x (record { callee = c; at = validator_place span d.validator }) in
+    if_every ScopedState (nat_lt s.defs 1000) (v >>= λ x. f >>= λ c. n >>= λ y. Ok (made x c y)) (record { kind = TooMany; at = span })
+    (λ lt. three_every Anything (ScopedValidator (known s.functions)) Anything ScopedState v f n made (anything v) (validator_scoped s span d.validator h) (anything n)
+    (λ x c y p q r. definition_scoped d.sort s y x (record { callee = c; at = validator_place span d.validator }) h (is_less s.defs 1000 lt) q))
 
 named_scoped : (s : State) (span : Span) (o : Option NamedForm) → ScopedState s → Every ScopedState (defined_at s span o)
 named_scoped s span None h = tt
@@ -240,6 +275,8 @@ function_more s name n body span h lt few p =
       functions = functions_more [] s.functions f h.functions (few, p.0, p.1);
       threads = subst (λ l. ScopedThreads l s.threads) (sym whole) threads;
       known = subst (λ l. AreKnown l (s.defined ++ entry ∷ [])) (sym whole) entries;
+      cells = subst (λ l. ScopedCells l s.cells) (sym whole) (cells_front ks (k ∷ []) s.cells h.cells);
+      placed = h.placed;
       few_cells = h.few_cells;
       few_defs = h.few_defs;
       few_functions = omega (arith, lt, length-append s.functions (f ∷ []));
@@ -275,6 +312,8 @@ thread_more s body span h lt p =
       functions = h.functions;
       threads = threads_more (known s.functions) s.threads t h.threads p;
       known = h.known;
+      cells = h.cells;
+      placed = h.placed;
       few_cells = h.few_cells;
       few_defs = h.few_defs;
       few_functions = h.few_functions;
@@ -331,10 +370,10 @@ steps_scoped [] s h = h
 steps_scoped (form ∷ forms) s h = then_every ScopedState ScopedState (step s form) (λ t. steps t forms) (step_scoped s form h) (λ t k. steps_scoped forms t k)
 
 pub nothing_scoped : ScopedState nothing
-nothing_scoped = record { functions = tt; threads = tt; known = tt; few_cells = omega arith; few_defs = omega arith; few_functions = omega arith; few_threads = omega arith }
+nothing_scoped = record { functions = tt; threads = tt; known = tt; cells = tt; placed = refl; few_cells = omega arith; few_defs = omega arith; few_functions = omega arith; few_threads = omega arith }
 
 pub program_scoped : (s : State) → ScopedState s → Scoped (program s)
-program_scoped s h = record { functions = h.functions; threads = h.threads; few_cells = omega (arith, h.few_cells, h.few_defs); few_functions = h.few_functions; few_threads = h.few_threads }
+program_scoped s h = record { functions = h.functions; threads = h.threads; cells = h.cells; placed = h.placed; few_cells = omega (arith, h.few_cells, h.few_defs); few_functions = h.few_functions; few_threads = h.few_threads }
 
 pub script_scoped : (forms : List Form) → Every Scoped (named_script forms)
 script_scoped forms =

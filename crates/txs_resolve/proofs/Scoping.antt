@@ -238,7 +238,7 @@ module _ (ks : List Known) where
   callee_fits d (operation op) s at h = tt
   callee_fits d unknown s at h = tt
 
-  callee_of_fits : (scope : Scope) (s : Spot) (form : Form) → InScope scope → Every (CalleeFits s.room) (callee_of scope s form)
+  pub callee_of_fits : (scope : Scope) (s : Spot) (form : Form) → InScope scope → Every (CalleeFits s.room) (callee_of scope s form)
   callee_of_fits scope s (leaf nil at) h = tt
   callee_of_fits scope s (leaf (truth b) at) h = tt
   callee_of_fits scope s (leaf (number z) at) h = tt

@@ -23,13 +23,14 @@ use Rattle.txs_resolve_scope.specs.Scope.{Scope, Entry, definition_of, is_none, 
 use Rattle.txs_resolve_expand.specs.declared.shapes.Spot.{Spot}
 use Rattle.txs_resolve_expand.specs.Answers.{◌>>=◌, refuse}
 use Rattle.txs_resolve_expand.specs.Expansions.{alone, body, expand_once, form_at}
+use Rattle.txs_value_base.specs.declared.op.Callee.{Callee}
 use Rattle.txs_resolve_expand.specs.Expressions.{Answer, Bound, Special, row, one_part, putting, choice, binding, changing, Core as ACore, whole, parted, Resolver, spot_at, spot_mark, some_room, in_room, narrow, symbol_node, leaf_value, leaf_node, callee_at, callee_of, flag, sequence_node, are_wanted, choice_node, single_node, is_wanted, change_node, binding_node, are_pairs, cell_form, of_family, special, applied, list_core, core_of, bound_name, named_all, named_bindings, put_together, made, resolved, named}
 use Rattle.txs_resolve_body.specs.Literals.{literal, literals}
 use Rattle.txs_resolve_body.specs.declared.stop.Stop.{Stop}
 use Rattle.txs_resolve_body.specs.declared.stop.Stop.TheVariants.{Refused}
 use Rattle.txs_resolve.specs.Given.{Ends}
 use Rattle.txs_resolve_expand.specs.Namespace.{behind_namespace}
-use Rattle.txs_resolve.specs.Names.{State, nothing, program, new_name, Defining, defining_of, with_definition, entered, defined_as_one, NamedForm, named_form, defined_at, parameter, parameters, Written, written, with_function, function, with_thread, future, top_level, step, steps, named_script, ResolveStops}
+use Rattle.txs_resolve.specs.Names.{State, nothing, program, new_name, Defining, defining_of, top_scope, validator_named, validator_place, with_definition, entered, defined_as_one, NamedForm, named_form, defined_at, parameter, parameters, Written, written, with_function, function, with_thread, future, top_level, step, steps, named_script, ResolveStops}
 
 abbrev IsWant : ResolveErrorKind → Type 0
 IsWant UnknownName = ⊥
@@ -245,12 +246,20 @@ told_new es name at =
     let free = is_none (with_name op_name name operations) && is_none (definition_of name es) in
     told_if (may_bind name) (if free then Ok name else refuse Redefined at) (refuse BadForm at) (told_if free (Ok name) (refuse Redefined at) tt (λ w. w)) (λ w. w)
 
+told_validator : (es : List Entry) (span : Span) (o : Option Form) → Told (validator_named es span o)
+told_validator es span None = tt
+told_validator es span (Some form) = told_last (callee_of (top_scope es) (spot_at 1001 span true) form) (λ c. Some c) (told_called (top_scope es) (spot_at 1001 span true) form)
+
 told_one : (s : State) (name : List ℕ) (at span : Span) (o : Option Defining) → Told (defined_as_one s name at span o)
 told_one s name at span None = λ w. w
 told_one s name at span (Some d) =
-    told_if (nat_lt s.defs most_definitions) (entered s name at d) (refuse TooMany span)
-    (told_then (literal most_depth d.value) (λ v. new_name s.defined name at >>= λ n. Ok (with_definition d.sort s n v)) (told_literal most_depth d.value)
-    (λ v. told_last (new_name s.defined name at) (λ n. with_definition d.sort s n v) (told_new s.defined name at)))
+    let f = validator_named s.defined span d.validator in
+    let n = new_name s.defined name at in
+    let made : Value → Option Callee → List ℕ → State = λ v c m. with_definition d.sort s m v (record { callee = c; at = validator_place span d.validator }) in
+    told_if (nat_lt s.defs most_definitions) (entered s name at span d) (refuse TooMany span)
+    (told_then (literal most_depth d.value) (λ v. f >>= λ c. n >>= λ m. Ok (made v c m)) (told_literal most_depth d.value)
+    (λ v. told_then f (λ c. n >>= λ m. Ok (made v c m)) (told_validator s.defined span d.validator)
+    (λ c. told_last n (made v c) (told_new s.defined name at))))
     (λ w. w)
 
 told_define : (s : State) (span : Span) (o : Option NamedForm) → Told (defined_at s span o)

@@ -12,8 +12,8 @@ use Rattle.txs_resolve.specs.Given.{Ends, Leaves}
 use Rattle.txs_resolve_expand.specs.declared.error.ResolveError.{ResolveError}
 use Rattle.txs_value_data.specs.declared.value.Value.{Value}
 use Rattle.txs_resolve_body.specs.Given.{Gives, refusal_of}
-use Rattle.txs_resolve.specs.declared.definition.CellSort.{CellSort}
-use Rattle.txs_resolve.specs.Names.{State, named_form, with_definition}
+use Rattle.txs_value_base.specs.declared.op.Callee.{Callee}
+use Rattle.txs_resolve.specs.Names.{State, named_form}
 use Rattle.txs_resolve_body.specs.declared.stop.Stop.{Stop}
 use Rattle.txs_resolve_body.specs.declared.stop.Stop.TheVariants.{Refused, Memory}
 use Rattle.txs_resolve_expand.specs.Parts.{plain}
@@ -46,28 +46,33 @@ pub wanted_at : {C : Type 0} (s : Stop) (now : C) (a : Answer C) → Leaves (Err
 wanted_at (Refused e) now a h is = absurd cc
 wanted_at Memory now a h is = h
 
--- ---- a definition, by its literal and its name
+-- ---- a definition, by its literal, what its validator calls, and its name
 
-abbrev pub enter_by : Option CellSort → State → Answer Value → Answer (List ℕ) → Answer State
-enter_by sort s value name = value >>= λ v. name >>= λ n. Ok (with_definition sort s n v)
+abbrev pub enter_by : (Value → Option Callee → List ℕ → State) → Answer Value → Answer (Option Callee) → Answer (List ℕ) → Answer State
+enter_by made value callee name = value >>= λ v. callee >>= λ f. name >>= λ n. Ok (made v f n)
 
-module _ (sort : Option CellSort) (s : State) where
-  pub unfit : (value : Answer Value) (name : Answer (List ℕ)) (e : ResolveError) → Some e ≡ refusal_of value → enter_by sort s value name ≡ Err e
-  unfit (Ok v) name e h = absurd cc
-  unfit (Err x) name e h = cc
+module _ (made : Value → Option Callee → List ℕ → State) where
+  pub unfit : (value : Answer Value) (callee : Answer (Option Callee)) (name : Answer (List ℕ)) (e : ResolveError) → Some e ≡ refusal_of value → enter_by made value callee name ≡ Err e
+  unfit (Ok v) callee name e h = absurd cc
+  unfit (Err x) callee name e h = cc
 
-  pub unnamed : (value : Answer Value) (name : Answer (List ℕ)) (e : ResolveError) → None ≡ refusal_of value → name ≡ Err e → enter_by sort s value name ≡ Err e
-  unnamed (Ok v) name e h is = ap (enter_by sort s (Ok v)) is
-  unnamed (Err x) name e h is = absurd cc
+  pub uncalled : (value : Answer Value) (callee : Answer (Option Callee)) (name : Answer (List ℕ)) (e : ResolveError) → None ≡ refusal_of value → callee ≡ Err e → enter_by made value callee name ≡ Err e
+  uncalled (Ok v) callee name e h is = ap (λ (a : Answer (Option Callee)). enter_by made (Ok v) a name) is
+  uncalled (Err x) callee name e h is = absurd cc
 
-  pub entering : (value : Answer Value) (name : Answer (List ℕ)) (n : List ℕ) → None ≡ refusal_of value → name ≡ Ok n → IsOk (enter_by sort s value name)
-  entering (Ok v) name n h is = subst (λ a. IsOk (enter_by sort s (Ok v) a)) (sym is) refl
-  entering (Err x) name n h is = absurd cc
+  pub unnamed : (value : Answer Value) (callee : Answer (Option Callee)) (name : Answer (List ℕ)) (f : Option Callee) (e : ResolveError) → None ≡ refusal_of value → callee ≡ Ok f → name ≡ Err e → enter_by made value callee name ≡ Err e
+  unnamed (Ok v) callee name f e h is other = ap (λ (a : Answer (Option Callee)). enter_by made (Ok v) a name) is ∙ ap (enter_by made (Ok v) (Ok f)) other
+  unnamed (Err x) callee name f e h is other = absurd cc
 
-  pub unvalued : (stop : Stop) (now : State) (value : Answer Value) (name : Answer (List ℕ)) (n : List ℕ) → None ≡ refusal_of value → name ≡ Ok n → Gives (λ (v : Value). v) (Err stop) value
-      → Leaves (Err stop) now (enter_by sort s value name)
-  unvalued (Refused e) now value name n h is gives = ap (λ (a : Answer Value). enter_by sort s a name) gives
-  unvalued Memory now value name n h is gives = entering value name n h is
+  pub entering : (value : Answer Value) (callee : Answer (Option Callee)) (name : Answer (List ℕ)) (f : Option Callee) (n : List ℕ) → None ≡ refusal_of value → callee ≡ Ok f → name ≡ Ok n → IsOk (enter_by made value callee name)
+  entering (Ok v) callee name f n h is also = subst (λ (a : Answer (Option Callee)). IsOk (enter_by made (Ok v) a name)) (sym is) (subst (λ (a : Answer (List ℕ)). IsOk (enter_by made (Ok v) (Ok f) a)) (sym also) refl)
+  entering (Err x) callee name f n h is also = absurd cc
 
-  pub entered_as : (value : Answer Value) (name : Answer (List ℕ)) (v : Value) (n : List ℕ) → value ≡ Ok v → name ≡ Ok n → enter_by sort s value name ≡ Ok (with_definition sort s n v)
-  entered_as value name v n is1 is2 = ap (λ (a : Answer Value). enter_by sort s a name) is1 ∙ ap (enter_by sort s (Ok v)) is2
+  pub unvalued : (stop : Stop) (now : State) (value : Answer Value) (callee : Answer (Option Callee)) (name : Answer (List ℕ)) (f : Option Callee) (n : List ℕ) → None ≡ refusal_of value → callee ≡ Ok f → name ≡ Ok n
+      → Gives (λ (v : Value). v) (Err stop) value → Leaves (Err stop) now (enter_by made value callee name)
+  unvalued (Refused e) now value callee name f n h is also gives = ap (λ (a : Answer Value). enter_by made a callee name) gives
+  unvalued Memory now value callee name f n h is also gives = entering value callee name f n h is also
+
+  pub entered_as : (value : Answer Value) (callee : Answer (Option Callee)) (name : Answer (List ℕ)) (v : Value) (f : Option Callee) (n : List ℕ) → value ≡ Ok v → callee ≡ Ok f → name ≡ Ok n → enter_by made value callee name ≡ Ok (made v f n)
+  entered_as value callee name v f n is1 is2 is3 =
+      ap (λ (a : Answer Value). enter_by made a callee name) is1 ∙ ap (λ (a : Answer (Option Callee)). enter_by made (Ok v) a name) is2 ∙ ap (enter_by made (Ok v) (Ok f)) is3

@@ -62,9 +62,9 @@ module _ (s : Script) (span : Span) (forms : List Form) (h : IsScript s) where
       ∙ ap (λ (x : Answer Tree). x >>= λ node. Ok (with_thread (state_of s) node span)) (ap (body_in span false forms) (sym (at_rest s h)) ∙ e)
 
 pub new_thread : (s : Script) (scope : Scope) (items : List Thread) (node : Node) (span : Span) → scope ≡ s.scope → items ≡ s.threads.items ++ record { body = node; span = span } ∷ []
-    → with_thread (state_of s) (tree_of node) span ≡ record { defined = scope.defined; cells = s.cells.items; functions = functions_of s.functions.items; threads = threads_of items; defs = s.defs }
+    → with_thread (state_of s) (tree_of node) span ≡ record { defined = scope.defined; cells = s.cells.items; validator_spans = s.validator_spans.items; functions = functions_of s.functions.items; threads = threads_of items; defs = s.defs }
 new_thread s scope items node span kept pushed =
-    let made : Scope → List PlainThread → State = λ (x : Scope) (ts : List PlainThread). record { defined = x.defined; cells = s.cells.items; functions = functions_of s.functions.items; threads = ts; defs = s.defs } in
+    let made : Scope → List PlainThread → State = λ (x : Scope) (ts : List PlainThread). record { defined = x.defined; cells = s.cells.items; validator_spans = s.validator_spans.items; functions = functions_of s.functions.items; threads = ts; defs = s.defs } in
     ap (made s.scope) (sym (ap threads_of pushed ∙ threads_of-more s.threads.items (record { body = node; span = span }))) ∙ ap (λ (x : Scope). made x (threads_of items)) (sym kept)
 
 -- ---- functions
@@ -95,9 +95,9 @@ pub state_is : (s : Script) (name : List ℕ) (n : ℕ) (body : Node) (span : Sp
     → depth ≡ levels (known_in s) (tree_of body)
     → scope ≡ record { locals = s.scope.locals; defined = s.scope.defined ++ record { name = name; what = AFunction (length s.functions.items) depth } ∷ []; current = s.scope.current }
     → functions ≡ s.functions.items ++ record { parameters = n; body = body; span = span } ∷ []
-    → with_function (state_of s) name n (tree_of body) span ≡ record { defined = scope.defined; cells = s.cells.items; functions = functions_of functions; threads = threads_of s.threads.items; defs = s.defs }
+    → with_function (state_of s) name n (tree_of body) span ≡ record { defined = scope.defined; cells = s.cells.items; validator_spans = s.validator_spans.items; functions = functions_of functions; threads = threads_of s.threads.items; defs = s.defs }
 state_is s name n body span depth scope functions deep defined more =
-    let state : List Entry → List PlainFunction → State = λ (es : List Entry) (fs : List PlainFunction). record { defined = es; cells = s.cells.items; functions = fs; threads = threads_of s.threads.items; defs = s.defs } in
+    let state : List Entry → List PlainFunction → State = λ (es : List Entry) (fs : List PlainFunction). record { defined = es; cells = s.cells.items; validator_spans = s.validator_spans.items; functions = fs; threads = threads_of s.threads.items; defs = s.defs } in
     let entry : ℕ → ℕ → List Entry = λ (number l : ℕ). s.scope.defined ++ record { name = name; what = AFunction number l } ∷ [] in
     let all = levels (known_in s) (tree_of body) in
     ap (state (entry (length (functions_of s.functions.items)) all)) (sym (functions_are s n body span functions more))

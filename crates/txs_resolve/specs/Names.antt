@@ -3,6 +3,7 @@ use Rattle.std.specs.Prelude.{◌≡◌, ℕ, suc, Bool, true, false, ◌&&◌, 
 use Rattle.txs_value_data.specs.Limits.{most_depth, most_levels, most_definitions, most_threads, most_parameters}
 use Rattle.txs_value_base.specs.Operations.{op_name}
 use Rattle.txs_value_base.specs.declared.fault.Span.{Span}
+use Rattle.txs_value_base.specs.declared.op.Callee.{Callee}
 use Rattle.txs_value_cell.specs.declared.cell.CellDefinition.{CellDefinition}
 use Rattle.txs_value_data.specs.declared.value.CellKind.{CellKind}
 use Rattle.txs_value_data.specs.declared.value.CellKind.TheVariants.{Ref, Atom, Agent}
@@ -18,30 +19,33 @@ use Rattle.txs_resolve_scope.specs.declared.names.FormName.{FormName}
 use Rattle.txs_resolve_scope.specs.declared.names.FormName.TheVariants as kind
 use Rattle.txs_resolve_scope.specs.declared.scope.Definition.TheVariants.{Constant, Cell, Function}
 use Rattle.txs_resolve.specs.declared.definition.CellSort.{CellSort}
+use Rattle.txs_resolve.specs.declared.definition.Validation.{Validation}
 use Rattle.txs_value_cell.specs.declared.cell.ErrorMode.{ErrorMode}
 use Rattle.txs_value_cell.specs.declared.cell.ErrorMode.TheVariants.{Fail, Continue}
 use Rattle.txs_resolve_expand.specs.Expansions.{body, form_at}
-use Rattle.txs_resolve_expand.specs.Expressions.{Answer, is_symbol, named}
+use Rattle.txs_resolve_expand.specs.Expressions.{Answer, callee_of, is_symbol, named, spot_at}
 use Rattle.txs_resolve_body.specs.Literals.{is_literal, literal}
 use Rattle.txs_resolve_expand.specs.Answers.{◌>>=◌, refuse}
 use Rattle.txs_resolve_expand.specs.Namespace.{behind_namespace}
-use Rattle.txs_resolve_scope.specs.Scope.{Entry, definition_of, with_name, operations, may_bind, is_none}
+use Rattle.txs_resolve_scope.specs.Scope.{Scope, Entry, definition_of, with_name, operations, may_bind, is_none}
 
--- what a script has defined so far: names; cells; functions; threads; and how many `def` there were
+-- what a script has defined so far: names; cells, and where the validator of each stands, or its definition where it has none; functions;
+-- threads; and how often `def` stood
 pub record State : Type 0 where
   pub defined : List Entry
   pub cells : List CellDefinition
+  pub validator_spans : List Span
   pub functions : List PlainFunction
   pub threads : List PlainThread
   pub defs : ℕ
 
 -- before the first form nothing is defined
 abbrev pub nothing : State
-nothing = record { defined = []; cells = []; functions = []; threads = []; defs = 0 }
+nothing = record { defined = []; cells = []; validator_spans = []; functions = []; threads = []; defs = 0 }
 
 -- the program of what is defined
 abbrev pub program : State → PlainProgram
-program s = record { functions = s.functions; cells = s.cells; threads = s.threads }
+program s = record { functions = s.functions; cells = s.cells; validator_spans = s.validator_spans; threads = s.threads }
 
 -- ---- names that are defined
 
@@ -54,14 +58,15 @@ new_name defined name at =
 
 -- ---- definitions of constants and cells
 
--- what a definition is of: a constant, or a cell that opens with it
+-- what a definition is of: a constant, or a cell that opens with it, and the form of the cell's validator, if it has one
 pub record Defining : Type 0 where
   pub sort : Option CellSort
   pub value : Form
+  pub validator : Option Form
 
 -- a definition of a literal, and of nothing else
-abbrev pub only_literal : Option CellSort → Form → Option Defining
-only_literal sort form = if is_literal form then Some (record { sort = sort; value = form }) else None
+abbrev pub only_literal : Option CellSort → Option Form → Form → Option Defining
+only_literal sort validator form = if is_literal form then Some (record { sort = sort; value = form; validator = validator }) else None
 
 -- the cells that forms make, by their names
 abbrev pub cell_kind : FormName → Option CellKind
@@ -81,21 +86,68 @@ abbrev pub is_error_mode : Form → Bool
 is_error_mode (leaf (keyword name) at) = bytes_eq name (codes "error-mode")
 is_error_mode form = false
 
--- what is behind a cell's opening value: nothing, or of an agent `:error-mode :fail` or `:error-mode :continue`. Without one
--- an agent fails (clojure.org/reference/agents).
-abbrev pub mode_behind : CellKind → Forms → Option ErrorMode
-mode_behind k no_forms = Some Fail
-mode_behind Agent (first key (first mode no_forms)) = if is_error_mode key then mode_of mode else None
-mode_behind k _ = None
+-- whether a form is the keyword `:validator`
+abbrev pub is_validator : Form → Bool
+is_validator (leaf (keyword name) at) = bytes_eq name (codes "validator")
+is_validator form = false
 
--- a cell of this kind and error mode that opens with this literal
-abbrev pub opened : CellKind → Option ErrorMode → Form → Option Defining
-opened k (Some mode) form = only_literal (Some (record { kind = k; error_mode = mode })) form
+-- the options of a cell: its error mode, and the form of its validator
+pub record Options : Type 0 where
+  pub error_mode : Option ErrorMode
+  pub validator : Option Form
+
+-- a cell without options
+abbrev pub no_options : Options
+no_options = record { error_mode = None; validator = None }
+
+-- an error mode behind these options: none stands among them
+abbrev pub first_mode : Option ErrorMode → Option ErrorMode → Option Form → Option Options
+first_mode None (Some mode) validator = Some (record { error_mode = Some mode; validator = validator })
+first_mode _ _ validator = None
+
+-- the same of an agent, which alone has one
+abbrev pub with_mode : CellKind → Form → Options → Option Options
+with_mode Agent form o = first_mode o.error_mode (mode_of form) o.validator
+with_mode _ form o = None
+
+-- a validator behind these options: none stands among them
+abbrev pub first_validator : Option Form → Form → Option ErrorMode → Option Options
+first_validator None form mode = Some (record { error_mode = mode; validator = Some form })
+first_validator (Some other) form mode = None
+
+-- `:validator f` of any cell, or `:error-mode m` of an agent, behind these options
+abbrev pub with_option : CellKind → Form → Form → Options → Option Options
+with_option k key form o =
+    if is_validator key then first_validator o.validator form o.error_mode else (if is_error_mode key then with_mode k form o else None)
+
+-- what is made of these options, if they are such
+abbrev pub with_options : {A : Type 0} → Option Options → (Options → Option A) → Option A
+with_options (Some o) f = f o
+with_options None f = None
+
+-- the options behind these: keywords and forms in turn, in any order, each keyword at most once
+abbrev pub options_from : CellKind → Options → Forms → Option Options
+options_from k o no_forms = Some o
+options_from k o (first key no_forms) = None
+options_from k o (first key (first form rest)) = with_options (with_option k key form o) (λ p. options_from k p rest)
+
+-- the options of a cell of this kind, which stand behind its opening value
+abbrev pub options_behind : CellKind → Forms → Option Options
+options_behind k forms = options_from k no_options forms
+
+-- without an error mode an agent fails (clojure.org/reference/agents)
+abbrev pub mode_or_fail : Option ErrorMode → ErrorMode
+mode_or_fail None = Fail
+mode_or_fail (Some mode) = mode
+
+-- a cell of this kind and these options that opens with this literal
+abbrev pub opened : CellKind → Option Options → Form → Option Defining
+opened k (Some o) form = only_literal (Some (record { kind = k; error_mode = mode_or_fail o.error_mode })) o.validator form
 opened k None form = None
 
--- `(ref L)`, `(atom L)` or `(agent L ..)` with this head and these parts
+-- `(ref L ..)`, `(atom L ..)` or `(agent L ..)` with this head and these parts
 abbrev pub cell_of : Option CellKind → Forms → Option Defining
-cell_of (Some k) (first form behind) = opened k (mode_behind k behind) form
+cell_of (Some k) (first form behind) = opened k (options_behind k behind) form
 cell_of _ _ = None
 
 -- the kind of cell that a list makes, by the form at its head
@@ -106,49 +158,69 @@ kind_at None = None
 -- a literal, or what makes a cell that opens with one
 abbrev pub defining_of : Form → Option Defining
 defining_of (group Round (first head args) at) = cell_of (kind_at (form_at head)) args
-defining_of form = only_literal None form
+defining_of form = only_literal None None form
 
--- a cell that opens with this value
-abbrev pub new_cell : List ℕ → CellSort → Value → CellDefinition
-new_cell name sort v = record { kind = sort.kind; name = name; opening = v; error_mode = sort.error_mode; validator = None }
+-- ---- validators
+
+-- between two top-level forms no local is in scope
+abbrev pub top_scope : List Entry → Scope
+top_scope defined = record { locals = []; defined = defined; current = None }
+
+-- What a validator calls: an operation or a function that is defined before, looked up as what a form on a cell calls. The cell's own name
+-- isn't defined there. Each function finds room, as none has more than 1,000 levels.
+abbrev pub validator_named : List Entry → Span → Option Form → Answer (Option Callee)
+validator_named defined span None = Ok None
+validator_named defined span (Some form) = callee_of (top_scope defined) (spot_at (suc most_levels) span true) form >>= λ callee. Ok (Some callee)
+
+-- where a cell's validator stands, or its definition where it has none
+abbrev pub validator_place : Span → Option Form → Span
+validator_place span None = span
+validator_place span (Some form) = place form
+
+-- a cell that opens with this value, and has this validator
+abbrev pub new_cell : List ℕ → CellSort → Value → Option Callee → CellDefinition
+new_cell name sort v validator = record { kind = sort.kind; name = name; opening = v; error_mode = sort.error_mode; validator = validator }
 
 -- one more constant
 abbrev pub with_constant : State → List ℕ → Value → State
 with_constant s name v = record {
   defined = s.defined ++ record { name = name; what = Constant v } ∷ [];
   cells = s.cells;
+  validator_spans = s.validator_spans;
   functions = s.functions;
   threads = s.threads;
   defs = suc s.defs;
 }
 
 -- one more cell, whose number is that of the cells before it
-abbrev pub with_cell : State → List ℕ → CellSort → Value → State
-with_cell s name sort v = record {
+abbrev pub with_cell : State → List ℕ → CellSort → Value → Validation → State
+with_cell s name sort v validation = record {
   defined = s.defined ++ record { name = name; what = Cell (record { kind = sort.kind; number = length s.cells }) } ∷ [];
-  cells = s.cells ++ new_cell name sort v ∷ [];
+  cells = s.cells ++ new_cell name sort v validation.callee ∷ [];
+  validator_spans = s.validator_spans ++ validation.at ∷ [];
   functions = s.functions;
   threads = s.threads;
   defs = suc s.defs;
 }
 
 -- one more constant or cell
-abbrev pub with_definition : Option CellSort → State → List ℕ → Value → State
-with_definition None s name v = with_constant s name v
-with_definition (Some sort) s name v = with_cell s name sort v
+abbrev pub with_definition : Option CellSort → State → List ℕ → Value → Validation → State
+with_definition None s name v validation = with_constant s name v
+with_definition (Some sort) s name v validation = with_cell s name sort v validation
 
--- a definition of this name, for which there is room: the initial value is looked at before the name
-abbrev pub entered : State → List ℕ → Span → Defining → Answer State
-entered s name at d =
+-- a definition of this name, for which there is room: the initial value is looked at before the validator, and that before the name
+abbrev pub entered : State → List ℕ → Span → Span → Defining → Answer State
+entered s name at span d =
     literal most_depth d.value >>= λ v.
+    validator_named s.defined span d.validator >>= λ callee.
     new_name s.defined name at >>= λ n.
-    Ok (with_definition d.sort s n v)
+    Ok (with_definition d.sort s n v (record { callee = callee; at = validator_place span d.validator }))
 
 -- a definition of this name; there are at most 1,000
 abbrev pub defined_as_one : State → List ℕ → Span → Span → Option Defining → Answer State
 defined_as_one s name at span None = refuse BadForm span
 defined_as_one s name at span (Some d) =
-    if nat_lt s.defs most_definitions then entered s name at d else refuse TooMany span
+    if nat_lt s.defs most_definitions then entered s name at span d else refuse TooMany span
 
 -- `name form`
 pub record NamedForm : Type 0 where
@@ -215,6 +287,7 @@ abbrev pub with_function : State → List ℕ → ℕ → Tree → Span → Stat
 with_function s name n body span = record {
   defined = s.defined ++ record { name = name; what = Function (length s.functions) (levels (known s.functions) body) } ∷ [];
   cells = s.cells;
+  validator_spans = s.validator_spans;
   functions = s.functions ++ record { parameters = n; body = body; span = span } ∷ [];
   threads = s.threads;
   defs = s.defs;
@@ -238,6 +311,7 @@ abbrev pub with_thread : State → Tree → Span → State
 with_thread s body span = record {
   defined = s.defined;
   cells = s.cells;
+  validator_spans = s.validator_spans;
   functions = s.functions;
   threads = s.threads ++ record { body = body; span = span } ∷ [];
   defs = s.defs;

@@ -15,7 +15,7 @@ ghost use Rattle.txs_value_data.specs.declared.value.CellId.{CellId};
 ghost use Rattle.txs_value_data.specs.declared.value.Value.{Value};
 ghost use Rattle.txs_value_data.specs.declared.value.Value.TheVariants.{Cell};
 ghost use Rattle.txs_resolve_expand.specs.Answers.{refuse};
-ghost use Rattle.txs_resolve.specs.Defined.{AllDiffer, define_all};
+ghost use Rattle.txs_resolve.specs.Defined.{AllDiffer, define_all, unvalidated};
 ghost use Rattle.txs_resolve_expand.specs.Namespace.{behind_namespace};
 ghost use Rattle.txs_resolve.specs.Names.{Resolves, ResolveStops};
 ghost use Rattle.txs_resolve_expand.specs.Expressions.{named};
@@ -42,10 +42,11 @@ pub fn one_answer()
     ensures no_want { (forms : List Form) (e : ResolveError) → ResolveStops forms e → e.kind ≢ Memory }
 {}
 
-/// The cells of the program are those that the script's forms define, and its functions and threads are where
-/// they do, each in script order. No name is defined twice.
+/// The cells of the program are those that the script's forms define, but for what their validators call, and these stand where the forms
+/// have them. The functions and threads stand where the forms do, each in script order. No name is defined twice.
 pub fn defined_in_order()
-    ensures cells { (forms : List Form) (p : PlainProgram) → Resolves forms p → p.cells ≡ (define_all (behind_namespace forms)).cells }
+    ensures cells { (forms : List Form) (p : PlainProgram) → Resolves forms p → map unvalidated p.cells ≡ (define_all (behind_namespace forms)).cells }
+    ensures validators { (forms : List Form) (p : PlainProgram) → Resolves forms p → p.validator_spans ≡ (define_all (behind_namespace forms)).validator_spans }
     ensures functions { (forms : List Form) (p : PlainProgram) → Resolves forms p → map (λ (f : PlainFunction). f.span) p.functions ≡ (define_all (behind_namespace forms)).functions }
     ensures threads { (forms : List Form) (p : PlainProgram) → Resolves forms p → map (λ (x : PlainThread). x.span) p.threads ≡ (define_all (behind_namespace forms)).threads }
     ensures once { (forms : List Form) (p : PlainProgram) → Resolves forms p → AllDiffer (define_all (behind_namespace forms)).names }

@@ -35,7 +35,7 @@ fn steps<'a>(alloc: Global, script: &mut Script<'a>, forms: &'a [Form]) -> Resul
 /// The program that the forms of a script are: an optional `(ns name)`, and then definitions of constants,
 /// refs, atoms and agents, functions and futures. Each symbol stands for the nearest enclosing local, else for
 /// the definition before it, else for a core operation. Forms are walked in source order, each before its
-/// parts, and an initial value before its name; at one form the lower number comes first. A form's shape is
+/// parts, and an initial value before the cell's validator, which comes before the name; at one form the lower number comes first. A form's shape is
 /// looked at before whether its node finds room among the 1,000 levels. What a form on a cell calls is looked
 /// at behind the cell.
 ///
@@ -51,7 +51,12 @@ pub fn resolve(alloc: Global, forms: &[Form]) -> Result<Raw, ResolveError>
 {
     let mut script = Script::new(alloc);
     match steps(alloc, &mut script, behind_namespace(forms)) {
-        Ok(()) => Ok(Raw::new(script.cells, script.functions, script.threads)),
+        Ok(()) => Ok(Raw::new(
+            script.cells,
+            script.validator_spans,
+            script.functions,
+            script.threads,
+        )),
         Err(Stop::Refused(error)) => {
             // A call, as each part of the script would else be dropped in a place of its own.
             drop(script);

@@ -4,38 +4,41 @@ ghost use Rattle.std.specs.Prelude.{◌≡◌, ◌<◌, ◌≤◌, [], ◌∷◌
 ghost use Rattle.txs_resolve.specs.Given.{GivesLocals, Leaves};
 ghost use Rattle.txs_resolve_expand.specs.Parts.{seen};
 ghost use Rattle.txs_resolve_expand.specs.Expansions.{body, form_at};
-ghost use Rattle.txs_resolve.specs.Names.{nothing, entered, new_cell, new_name, named_form, define, untold, written, function, future, parameter, parameters, are_symbols, step, with_cell, with_constant, with_definition, with_function};
+ghost use Rattle.txs_resolve.specs.Names.{nothing, entered, new_cell, new_name, named_form, define, untold, validator_named, validator_place, written, function, future, parameter, parameters, are_symbols, step, with_cell, with_constant, with_definition, with_function};
 ghost use Rattle.txs_resolve_expand.specs.Expressions.{named};
 ghost use Rattle.txs_resolve_scope.specs.declared.scope.Definition.TheVariants.{Function as AFunction};
 ghost use Rattle.txs_resolve_scope.specs.Scope.{definition_of, with_locals};
-ghost use Rattle.txs_resolve.specs.Scripts.{at_top, function_with, opened_as, state_of, IsScript, written_in, name_and_form};
+ghost use Rattle.txs_resolve.specs.Scripts.{at_top, form_in, function_with, opened_as, state_of, IsScript, written_in, name_and_form};
 ghost use Rattle.txs_reader.specs.declared.form.Bracket.TheVariants.{Round};
 ghost use Rattle.txs_reader.specs.Tree.{tree, trees, trees_of, group};
 ghost use Rattle.txs_tree_meaning.specs.Known.{known, levels};
-ghost use Rattle.txs_tree_meaning.specs.Scoped.{ScopedTree};
+ghost use Rattle.txs_tree_meaning.specs.Scoped.{ScopedTree, ScopedValidator};
 ghost use Rattle.txs_tree_meaning.specs.View.{functions_of, threads_of, tree_of};
 ghost use Rattle.txs_value_data.specs.Limits.{most_definitions, most_levels, most_parameters, most_threads};
 
-use crate::definition::{CellSort, Opening, defining_of};
+use crate::definition::{CellSort, Opening, Validation, defining_of};
 use std::alloc::{AllocError, Global};
 use txs_reader::{Bracket, Form};
 use txs_resolve_body::{Stop, body, fits, levels, literal, refused};
-use txs_resolve_expand::{ResolveError, ResolveErrorKind, Spot, form_at, is_symbol, refusal};
+use txs_resolve_expand::{
+    ResolveError, ResolveErrorKind, Spot, callee, form_at, is_symbol, refusal,
+};
 use txs_resolve_scope::{Definition, FormName, Scope, may_bind, operation_of};
 use txs_tree_meaning::{Function, Node, Thread};
-use txs_value_base::Span;
+use txs_value_base::{Callee, Span};
 use txs_value_cell::CellDefinition;
 use txs_value_data::limits::{
     MOST_DEFINITIONS, MOST_DEPTH, MOST_LEVELS, MOST_PARAMETERS, MOST_THREADS,
 };
 use txs_value_data::{CellId, Name, Value};
 
-/// What a script has defined so far: names, cells, functions and threads, the levels of the functions by their
-/// numbers, and how many `def` there were.
+/// What a script has defined so far: names, cells, and where the validator of each stands, or its definition where it has none;
+/// functions and threads, the levels of the functions by their numbers, and how often `def` stood.
 #[derive(Drop)]
 pub struct Script<'a> {
     pub scope: Scope<'a>,
     pub cells: Vec<CellDefinition>,
+    pub validator_spans: Vec<Span>,
     pub functions: Vec<Function>,
     pub threads: Vec<Thread>,
     pub levels: Vec<u16>,
@@ -51,6 +54,7 @@ impl<'a> Script<'a> {
         Script {
             scope: Scope::new(alloc),
             cells: Vec::new(alloc),
+            validator_spans: Vec::new(alloc),
             functions: Vec::new(alloc),
             threads: Vec::new(alloc),
             levels: Vec::new(alloc),
@@ -98,16 +102,54 @@ fn with_constant<'a>(script: &mut Script<'a>, name: &'a Name, value: Value) -> R
     Ok(())
 }
 
-/// A cell of this name and sort, which opens with this value.
-fn new_cell(name: &Name, sort: CellSort, opening: Value) -> Result<CellDefinition, AllocError>
-    ensures { IfOk result (λ c. c ≡ new_cell name.now sort opening) }
+/// What a validator calls, in the definition with this span: an operation or a function that is defined before.
+fn validator_named(
+    scope: &Scope<'_>,
+    span: Span,
+    validator: Option<&Form>,
+) -> Result<Option<Callee>, ResolveError>
+    requires outside { scope.now.locals ≡ [] }
+    requires idle { scope.now.current ≡ None }
+    ensures { result ≡ validator_named scope.now.defined span (form_in validator.entry) }
+{
+    match validator {
+        None => Ok(None),
+        Some(form) => {
+            let spot = Spot {
+                room: MOST_LEVELS + 1,
+                span,
+                wanted: true,
+            };
+            Ok(Some(callee(scope, spot, form)?))
+        }
+    }
+}
+
+/// Where a validator stands, or the definition with this span where there is none.
+fn validator_place(span: Span, validator: Option<&Form>) -> Span
+    ensures { result ≡ validator_place span (form_in validator.entry) }
+{
+    match validator {
+        None => span,
+        Some(form) => form.span(),
+    }
+}
+
+/// A cell of this name and sort, which opens with this value and has this validator.
+fn new_cell(
+    name: &Name,
+    sort: CellSort,
+    opening: Value,
+    validator: Option<Callee>,
+) -> Result<CellDefinition, AllocError>
+    ensures { IfOk result (λ c. c ≡ new_cell name.now sort opening validator) }
 {
     Ok(CellDefinition {
         kind: sort.kind,
         name: name.share()?,
         opening,
         error_mode: sort.error_mode,
-        validator: None,
+        validator,
     })
 }
 
@@ -117,16 +159,21 @@ fn with_cell<'a>(
     name: &'a Name,
     sort: CellSort,
     value: Value,
+    validation: Validation,
 ) -> Result<(), Stop>
     requires script { IsScript script.old }
     requires new { definition_of name.now script.old.scope.defined ≡ None }
     requires room { script.old.defs < most_definitions }
-    ensures state { Leaves result (state_of script.new) (Ok (with_cell (state_of script.old) name.now sort value)) }
+    requires scoped { ScopedValidator (known (functions_of script.old.functions.items)) validation.callee }
+    ensures state { Leaves result (state_of script.new) (Ok (with_cell (state_of script.old) name.now sort value validation)) }
     ensures next { OnOk result (IsScript script.new) }
 {
     let kind = sort.kind;
     let number = script.cells.len() as u16;
-    script.cells.push(new_cell(name, sort, value)?)?;
+    script
+        .cells
+        .push(new_cell(name, sort, value, validation.callee)?)?;
+    script.validator_spans.push(validation.at)?;
     script
         .scope
         .define(name, Definition::Cell(CellId { kind, number }))?;
@@ -140,15 +187,17 @@ fn with_definition<'a>(
     script: &mut Script<'a>,
     name: &'a Name,
     value: Value,
+    validation: Validation,
 ) -> Result<(), Stop>
     requires script { IsScript script.old }
     requires new { definition_of name.now script.old.scope.defined ≡ None }
     requires room { script.old.defs < most_definitions }
-    ensures state { Leaves result (state_of script.new) (Ok (with_definition sort (state_of script.old) name.now value)) }
+    requires scoped { ScopedValidator (known (functions_of script.old.functions.items)) validation.callee }
+    ensures state { Leaves result (state_of script.new) (Ok (with_definition sort (state_of script.old) name.now value validation)) }
     ensures next { OnOk result (IsScript script.new) }
 {
     match sort {
-        Some(sort) => with_cell(script, name, sort, value),
+        Some(sort) => with_cell(script, name, sort, value, validation),
         None => with_constant(script, name, value),
     }
 }
@@ -173,18 +222,24 @@ fn enter<'a>(
     script: &mut Script<'a>,
     name: &'a Name,
     at: Span,
+    span: Span,
     opening: Opening<'_>,
 ) -> Result<(), Stop>
     requires script { IsScript script.old }
     requires room { script.old.defs < most_definitions }
-    ensures state { Leaves result (state_of script.new) (entered (state_of script.old) name.now at (opened_as opening.entry)) }
+    ensures state { Leaves result (state_of script.new) (entered (state_of script.old) name.now at span (opened_as opening.entry)) }
     ensures next { OnOk result (IsScript script.new) }
 {
-    // Both are looked at before memory is wanted.
+    // All three are looked at before memory is wanted.
     fits(usize::from(MOST_DEPTH), opening.value)?;
+    let callee = validator_named(&script.scope, span, opening.validator)?;
     let name = new_name(&script.scope, name, at)?;
+    let validation = Validation {
+        callee,
+        at: validator_place(span, opening.validator),
+    };
     let value = literal(alloc, usize::from(MOST_DEPTH), opening.value)?;
-    with_definition(opening.sort, script, name, value)
+    with_definition(opening.sort, script, name, value, validation)
 }
 
 /// What the script has defined behind a `def` with these parts.
@@ -207,7 +262,7 @@ fn define<'a>(
     if script.defs >= MOST_DEFINITIONS {
         return Err(refused(ResolveErrorKind::TooMany, span));
     }
-    enter(alloc, script, name, at, opening)
+    enter(alloc, script, name, at, span, opening)
 }
 
 /// The forms without a text in front of them.

@@ -5,6 +5,7 @@ ghost use Rattle.txs_theorem_runs.specs.Shared.{untouched};
 ghost use Rattle.txs_world_shared.specs.SharedState.{shared_of};
 
 use std::alloc::{AllocError, Global};
+use std::mem;
 use std::sync::Wait;
 use std::thread::Threads;
 use txs_audit::{AuditError, Verdict, audit};
@@ -56,6 +57,17 @@ pub fn case_of(alloc: Global, script: &str, plays: &[Play]) -> Option<Case> {
         Some(report) => Some(Case { program, report }),
         None => None,
     }
+}
+
+/// The report of the first script's run, with the program of the second.
+pub fn case_by(alloc: Global, ran: &str, text: &str) -> Option<Case> {
+    let mut case = case_of(alloc, ran, &[])?;
+    let Ok((program, code)) = compile(alloc, text.as_bytes()) else {
+        return None;
+    };
+    drop(code);
+    drop(mem::replace(&mut case.program, program));
+    Some(case)
 }
 
 /// Whether an audit by so many workers answers this, where each loop makes at most `turns` turns.

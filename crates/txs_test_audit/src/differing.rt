@@ -1,5 +1,5 @@
 // A report with one thing changed differs where the definition of an audit says.
-use crate::case::{always_answers, case_of};
+use crate::case::{always_answers, case_by, case_of};
 use crate::changes::{Change, make};
 use std::alloc::Global;
 use std::sync::Wait;
@@ -13,6 +13,25 @@ const SCRIPT: &str = "(def r (ref 0)) (def a (atom 0)) (def g (agent 0))
 
 /// A ref that is set and then commuted.
 const ALTERED: &str = "(def r (ref 1)) (future (dosync (alter r + 10) (commute r * 2)))";
+
+/// A ref, an atom and an agent that come to 0; the same where a validator refuses that, with the same spans; and whose event it is.
+const REFUSED: [(&str, &str, u16); 3] = [
+    (
+        "(def r (ref 1                )) (future (dosync (alter r dec)))",
+        "(def r (ref 1 :validator pos?)) (future (dosync (alter r dec)))",
+        0,
+    ),
+    (
+        "(def a (atom 1                )) (future (swap! a dec))",
+        "(def a (atom 1 :validator pos?)) (future (swap! a dec))",
+        0,
+    ),
+    (
+        "(def g (agent 1                )) (future (send g dec))",
+        "(def g (agent 1 :validator pos?)) (future (send g dec))",
+        1,
+    ),
+];
 
 /// Whether an audit answers this of a script's report with this change.
 fn answers_changed<R: Threads + Wait + Sync>(
@@ -56,6 +75,38 @@ fn a_changed_write_differs(rt: HostRuntime) {
     let differs = Verdict::Differs { actor: 0, event: 0 };
     assert!(rt; answers_changed(&rt, alloc, ALTERED, Change::Written(21), differs));
     assert!(rt; answers_changed(&rt, alloc, ALTERED, Change::Written(44), differs));
+}
+
+/// Whether it answers this of the report of a script, by the text of another.
+fn answers_by<R: Threads + Wait + Sync>(
+    rt: &R,
+    alloc: Global,
+    ran: &str,
+    text: &str,
+    wanted: Verdict,
+) -> bool {
+    let Some(case) = case_by(alloc, ran, text) else {
+        return false;
+    };
+    let is = always_answers(rt, alloc, &case, 100, wanted);
+    drop(case);
+    is
+}
+
+#[test]
+fn a_value_that_a_validator_refuses_differs(rt: HostRuntime) {
+    let alloc = rt.alloc();
+    let agrees = Verdict::Agrees { serial: true };
+    for (ran, text, actor) in &REFUSED {
+        let differs = Verdict::Differs {
+            actor: *actor,
+            event: 0,
+        };
+        assert!(rt;
+            answers_by(&rt, alloc, ran, ran, agrees) && answers_by(&rt, alloc, text, text, agrees)
+        );
+        assert!(rt; answers_by(&rt, alloc, ran, text, differs));
+    }
 }
 
 #[test]

@@ -1,6 +1,6 @@
 // The byte form of `(future (println 7))`, as it is documented, and what is refused of it where.
 use std::alloc::Global;
-use txs_code_encode::{CodeErrorKind, Opcode, decode};
+use txs_code_encode::{CodeErrorKind, Opcode, bytes_of, decode};
 use txs_code_load::settled::is_settled;
 use txs_code_meaning::Instr;
 
@@ -19,12 +19,17 @@ fn is_refused(alloc: Global, bytes: &[u8], name: &str, at: usize) -> bool {
     }
 }
 
-// Appends the form with other bytes from a place on: whether there was room.
-pub fn write_changed(form: &mut Vec<u8>, at: usize, bytes: &[u8]) -> bool {
-    let behind = at.saturating_add(bytes.len()).min(FORM.len());
-    form.extend_from_slice(&FORM[..at.min(FORM.len())]).is_ok()
+// Appends code in its byte form with other bytes from a place on: whether there was room.
+fn write_other(form: &mut Vec<u8>, of: &[u8], at: usize, bytes: &[u8]) -> bool {
+    let behind = at.saturating_add(bytes.len()).min(of.len());
+    form.extend_from_slice(&of[..at.min(of.len())]).is_ok()
         && form.extend_from_slice(bytes).is_ok()
-        && form.extend_from_slice(&FORM[behind..]).is_ok()
+        && form.extend_from_slice(&of[behind..]).is_ok()
+}
+
+// The same of the form above.
+pub fn write_changed(form: &mut Vec<u8>, at: usize, bytes: &[u8]) -> bool {
+    write_other(form, FORM, at, bytes)
 }
 
 // Other bytes from a place of the form on, and the reason for which they are refused there; the last ones are a byte behind it.
@@ -53,6 +58,63 @@ fn refuses_what_is_cut_or_other(rt: HostRuntime) {
     }
 }
 
+// Code without bodies, of a ref with an operation as its validator, an atom without one, and an agent that goes on after a fault, with a
+// function as its validator, which the decoder doesn't look for.
+pub const VALIDATED: &[u8] = b"TXS2\
+    \x00\x03\
+    \x00\x00\x01r\x03\x00\x00\x00\x00\x00\x00\x00\x01\x01\x00\x00\x13\
+    \x01\x00\x01a\x00\x00\
+    \x02\x01\x01g\x00\x01\x01\x00\x00\
+    \x00\x00\x00\x00\x00\x00\x00\x00";
+
+// A ref without a validator where the magic says that there is one.
+const UNVALIDATED: &[u8] = b"TXS2\0\x01\0\0\x01r\0\0\0\0\0\0\0\0\0\0";
+
+// Other bytes from a place of that code on, and the reason for which it is refused, with its place.
+const OTHERS_VALIDATED: [(usize, &[u8], &str, usize); 6] = [
+    (19, &[2], "BadOperand", 19),
+    (20, &[2], "BadOperand", 20),
+    (21, &[0, 27], "BadOperand", 21),
+    (36, &[3, 0xe8], "BadOperand", 36),
+    (3, b"1", "BadOperand", 21),
+    (3, b"3", "BadMagic", 0),
+];
+
+// Whether code in its byte form is written as it was read.
+fn is_written_again(alloc: Global, form: &[u8]) -> bool {
+    let Ok(code) = decode(alloc, form) else {
+        return false;
+    };
+    match bytes_of(alloc, &code) {
+        Ok(Some(bytes)) => bytes.as_slice() == form,
+        _ => false,
+    }
+}
+
+#[test]
+fn refuses_validators_cut_or_other(rt: HostRuntime) {
+    for k in 0..46 {
+        let cut = VALIDATED.get(..k).unwrap_or(VALIDATED);
+        assert!(rt; is_refused(rt.alloc(), cut, "Truncated", k));
+    }
+    for (at, bytes, name, told) in &OTHERS_VALIDATED {
+        let mut form = Vec::new(rt.alloc());
+        let made = write_other(&mut form, VALIDATED, *at, bytes);
+        assert!(rt;
+            made && is_refused(rt.alloc(), form.as_slice(), name, *told),
+            "{at}"
+        );
+    }
+}
+
+#[test]
+fn writes_validators_where_there_are_any(rt: HostRuntime) {
+    let alloc = rt.alloc();
+    assert!(rt; is_written_again(alloc, VALIDATED) && is_written_again(alloc, FORM));
+    assert!(rt; is_refused(alloc, UNVALIDATED, "BadOperand", 3));
+    assert!(rt; is_refused(alloc, b"TXS2\0\0", "BadOperand", 3));
+}
+
 // Whether no form begins with the bytes.
 fn settles(alloc: Global, bytes: &[u8]) -> bool {
     match is_settled(alloc, bytes) {
@@ -64,7 +126,8 @@ fn settles(alloc: Global, bytes: &[u8]) -> bool {
 #[test]
 fn tells_where_no_form_begins(rt: HostRuntime) {
     let alloc = rt.alloc();
-    assert!(rt; settles(alloc, b"TXS2") && settles(alloc, b"TXS1\x03\xe9"));
+    assert!(rt; settles(alloc, b"TXS3") && settles(alloc, b"TXS1\x03\xe9"));
+    assert!(rt; settles(alloc, b"TXS2\0\0") && !settles(alloc, b"TXS2"));
     assert!(rt; !settles(alloc, b"TXS1") && !settles(alloc, FORM));
 }
 

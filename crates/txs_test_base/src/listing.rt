@@ -1,5 +1,5 @@
 // The listing of code, over writers that take a few bytes a call, or fail.
-use crate::bytes::FORM;
+use crate::bytes::{FORM, VALIDATED};
 use std::alloc::Global;
 use std::io;
 use std::io::{ErrorKind, Write};
@@ -85,13 +85,20 @@ thread 0 locals 0
   2 halt @6..12
 ";
 
+// The listing of cells with validators.
+const VALIDATED_LISTED: &str = "cell 0 ref r 1 validator core pos?
+cell 1 atom a nil
+cell 2 agent g nil continue validator fn 0
+";
+
 // A byte a call, or seven, or all; and where there is room for so many bytes.
 #[test]
 fn is_written_whole_or_begun(rt: HostRuntime) {
     for most in &[1, 7, 10_000] {
         assert!(rt;
             is_listed(rt.alloc(), FORM, *most, 10_000, PRINTS)
-                && is_listed(rt.alloc(), OTHER, *most, 10_000, OTHER_LISTED),
+                && is_listed(rt.alloc(), OTHER, *most, 10_000, OTHER_LISTED)
+                && is_listed(rt.alloc(), VALIDATED, *most, 10_000, VALIDATED_LISTED),
             "{most}"
         );
     }

@@ -40,6 +40,16 @@ const FRONT: &[u8] = b"TXS1\
     \x00\x02\x00\x00\x01r\x00\x01\x00\x01a\x00\
     \x00\x00\x00\x03\x03\x00\x00\x00\x00\x00\x00\x00\x07\x07\x00\x00\x07\x00\x01";
 
+// The same where the ref has the first function as its validator.
+const CHECKED: &[u8] = b"TXS2\
+    \x00\x02\x00\x00\x01r\x00\x01\x01\x00\x00\x01\x00\x01a\x00\x00\
+    \x00\x00\x00\x03\x03\x00\x00\x00\x00\x00\x00\x00\x07\x07\x00\x00\x07\x00\x01";
+
+// A ref, and an atom with `+` as its validator; nil as a constant.
+const ADDED: &[u8] = b"TXS2\
+    \x00\x02\x00\x00\x01r\x00\x00\x01\x00\x01a\x00\x01\x00\x00\x00\
+    \x00\x00\x00\x01\x00";
+
 // No cells, and nil as a constant.
 const NIL: &[u8] = b"TXS1\x00\x00\x00\x00\x00\x01\x00";
 
@@ -92,6 +102,7 @@ fn is_refusal(error: VerifyError, told: &str) -> bool {
     let (body, number) = match error.body {
         BodyName::Function(number) => ("function", number),
         BodyName::Thread(number) => ("thread", number),
+        BodyName::Cell(number) => ("cell", number),
     };
     words.next() == Some(error.kind.name())
         && words.next() == Some(body)
@@ -178,4 +189,25 @@ fn judges_worked_forms(rt: HostRuntime) {
         );
     }
     assert!(rt; is_judged(rt.alloc(), AGENT, "ok") && holds(rt.alloc(), NIL, SENDS_NIL));
+}
+
+// Where the first function is a validator: a function and a thread each, or a thread; and what is told of them.
+const CHECKED_ROWS: &str = "\
+1 1: local-0 return;0 0: number halt => ok
+0 0: number return;0 0: number halt => ArityWrong cell 0 0
+0 0: number halt => ArityWrong cell 0 0
+0 0: number return;0 0: number jump-3 halt => ArityWrong cell 0 0
+1 1: local-1 return;0 0: number halt => LocalOut function 0 0
+1 1: ref deref return;0 0: number jump-3 halt => JumpOut thread 0 1
+1 1: ref deref return;0 0: print halt => TxNesting cell 0 0
+1 1: pop return;0 0: number halt => StackLow function 0 0";
+
+const ADDS: &str = "0 0: number halt => ArityWrong cell 1 0";
+
+#[test]
+fn judges_validators(rt: HostRuntime) {
+    for row in CHECKED_ROWS.lines() {
+        assert!(rt; holds(rt.alloc(), CHECKED, row), "{row}");
+    }
+    assert!(rt; holds(rt.alloc(), ADDED, ADDS));
 }

@@ -11,7 +11,12 @@ fn an_empty_program_is_sound(rt: HostRuntime) {
     sound_where_nothing_refuses();
     one_answer();
     let alloc = rt.alloc();
-    let raw = Raw::new(Vec::new(alloc), Vec::new(alloc), Vec::new(alloc));
+    let raw = Raw::new(
+        Vec::new(alloc),
+        Vec::new(alloc),
+        Vec::new(alloc),
+        Vec::new(alloc),
+    );
     let is = match check(alloc, raw) {
         Ok(program) => {
             program.is_marked();

@@ -292,7 +292,9 @@ fn holds(alloc: Global, row: &str) -> bool {
 /// keeps its own; the first fault is that of the ref that is defined first, and on the values that were viewed.
 ///
 /// Then swaps and sends: a transaction that holds a send to an agent that has failed is refused, also where its commutes ran again. Then
-/// turns that don't suffice: the event of a transaction or a swap stays to come. Then events that aren't those of the script's first thread: a commuted ref gets what was computed where the transaction began; a ref that was
+/// turns that don't suffice: the event of a transaction or a swap stays to come. Then validators: of a commit, of what is set in the end
+/// alone, of a reset behind a swap, of a swap, one behind the function that resets, and of what a commute writes; a refused value isn't
+/// committed. Then events that aren't those of the script's first thread: a commuted ref gets what was computed where the transaction began; a ref that was
 /// set is commuted again; a ref that was commuted isn't written; a transaction is refused whose commute faults on what was viewed; a swap
 /// stands where a read has to.
 const ROWS: &str = "\
@@ -389,6 +391,38 @@ retry 0 0 0;commit 0 0 0 = 5
 swap 0 0 0 = 5
 0 turns
 7
+#(defn ok [x] (>= x 0)) (def r (ref 1 :validator ok)) (future (dosync (alter r - 2)))
+1
+fail 0 0 0
+1 InvalidState 61..83
+#(defn ok [x] (>= x 0)) (def r (ref 1 :validator ok)) (future (dosync (ref-set r -5) (ref-set r 3)))
+1
+commit 0 0 0 = 3
+1 done
+#(def a (atom 1 :validator pos?)) (future (println (swap! a inc)) (reset! a 0))
+1 2
+swap 0 0 0 = 2
+1 InvalidState 65..77
+2
+#(def a (atom 1 :validator pos?)) (future (println 7) (swap! a - 1))
+1
+broke 0 0 0
+1 InvalidState 53..66
+7
+#(defn put [c v] (reset! c v)) (defn ok [x] (pos? x)) (def a (atom 1 :validator ok)) (future (println 7) (put a 0))
+1
+
+0 InvalidState 16..28
+7
+#(def r (ref 1 :validator pos?)) (future (println (dosync (commute r - 1))))
+1 5
+commit 0 1 1 = 4
+1 done
+0
+#(def r (ref 1 :validator pos?)) (future (dosync (ref-set r 0)))
+1
+commit 0 0 0 = 0
+0 wrong
 #(def c (ref 0)) (future (println (dosync (commute c inc))))
 0 1 1
 redo 0 0 1;commit 0 2 2 = 1

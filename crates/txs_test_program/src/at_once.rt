@@ -21,13 +21,25 @@ const FOUR: &str = "(def c (ref 0))
 /// Two threads that add one to an atom.
 const SWAPS: &str = "(def a (atom 0)) (future (swap! a inc)) (future (swap! a inc))";
 
-/// Holds actors: all of them at their first begins, until four have come, or actor 0 alone behind such a request, until actor 1 has passed another. One type for
-/// both, since each gate is a run of its own to prove.
+/// The same, where the atom's validator takes long.
+const VALIDATED_SWAPS: &str =
+    "(defn slow [x] (loop [i 0] (if (< i 20) (recur (inc i)) true))) (def a (atom 0 :validator slow))
+(future (swap! a inc)) (future (swap! a inc))";
+
+/// Two threads that add one to a ref, whose validator takes long.
+const VALIDATED_COMMITS: &str =
+    "(defn slow [x] (loop [i 0] (if (< i 20) (recur (inc i)) true))) (def r (ref 0 :validator slow))
+(future (dosync (alter r inc))) (future (dosync (alter r inc)))";
+
+/// Holds actors: all of them at their first begins, until four have come, or actor 0 alone so many turns behind such a request, until actor 1 has passed another.
+/// One type for both, since each gate is a run of its own to prove.
 #[derive(Drop)]
 struct Meeting {
     of_four: bool,
     held: AskKind,
     passed: AskKind,
+    turns: u64,
+    made: AtomicU64,
     come: AtomicU64,
     gave_up: AtomicU64,
     answered: AtomicU64,
@@ -44,6 +56,18 @@ impl Meeting {
         }
         self.gave_up.store(1, Ordering::SeqCst);
     }
+
+    /// Whether actor 0 is held here: behind the request, or so many turns later.
+    fn is_held(&self, moment: Moment) -> bool {
+        if moment == Moment::Answered(self.held) {
+            self.made.store(1, Ordering::SeqCst);
+            return self.turns == 0;
+        }
+        if moment != Moment::Local || self.made.load(Ordering::SeqCst) == 0 {
+            return false;
+        }
+        self.made.fetch_add(1, Ordering::SeqCst) == self.turns
+    }
 }
 
 impl Gate for Meeting {
@@ -59,7 +83,7 @@ impl Gate for Meeting {
         if !self.of_four && actor == 1 && moment == Moment::Answered(self.passed) {
             self.come.fetch_add(1, Ordering::SeqCst);
         }
-        if !self.of_four && actor == 0 && moment == Moment::Answered(self.held) {
+        if !self.of_four && actor == 0 && self.is_held(moment) {
             self.wait_for(1);
         }
     }
@@ -77,7 +101,7 @@ fn meets<R: Threads + Wait + Sync>(
     script: &str,
     workers: usize,
     text: &str,
-    moments: (AskKind, AskKind),
+    moments: (AskKind, AskKind, u64),
     gives_up: bool,
     asks: u64,
 ) -> bool {
@@ -85,6 +109,8 @@ fn meets<R: Threads + Wait + Sync>(
         of_four: workers == 4,
         held: moments.0,
         passed: moments.1,
+        turns: moments.2,
+        made: AtomicU64::new(0),
         come: AtomicU64::new(0),
         gave_up: AtomicU64::new(0),
         answered: AtomicU64::new(0),
@@ -104,8 +130,8 @@ fn meets<R: Threads + Wait + Sync>(
 #[test]
 fn two_and_four_at_once(rt: HostRuntime) {
     let alloc = rt.alloc();
-    let commit = (AskKind::Begin, AskKind::Commit);
-    let swap = (AskKind::OpenAt, AskKind::CloseAt);
+    let commit = (AskKind::Begin, AskKind::Commit, 0);
+    let swap = (AskKind::OpenAt, AskKind::CloseAt, 0);
     assert!(rt; meets(&rt, alloc, READER, 2, "7\ndone done 7 ", commit, false, 8));
     assert!(rt;
         meets(
@@ -121,4 +147,15 @@ fn two_and_four_at_once(rt: HostRuntime) {
     );
     assert!(rt; meets(&rt, alloc, READER, 1, "0\ndone done 7 ", commit, true, 8));
     assert!(rt; meets(&rt, alloc, SWAPS, 2, "done done 2 ", swap, false, 4));
+}
+
+/// Validators run outside every lock: an actor that is held within one lets the other end its change meanwhile, and makes its own again.
+#[test]
+fn validators_hold_no_lock(rt: HostRuntime) {
+    let alloc = rt.alloc();
+    let commit = (AskKind::Begin, AskKind::Commit, 50);
+    let swap = (AskKind::OpenAt, AskKind::CloseAt, 50);
+    let text = "done done 2 ";
+    assert!(rt; meets(&rt, alloc, VALIDATED_SWAPS, 2, text, swap, false, 4));
+    assert!(rt; meets(&rt, alloc, VALIDATED_COMMITS, 2, text, commit, false, 8));
 }

@@ -61,14 +61,16 @@ fn has_sound_neighbours(alloc: Global, script: &str) -> bool {
     status == 0 && count > 0 && first_other(alloc, form.as_mut_slice()) == count
 }
 
-/// The script of the 62 bytes of docs/FORMATS.md, and three whose code is longer: of branches and loops, of transactions, and of atoms and agents.
-const SCRIPTS: [&str; 4] = [
+/// The script of the 62 bytes of docs/FORMATS.md, and four whose code is longer: of branches and loops, of transactions, of atoms and agents, and of validators.
+const SCRIPTS: [&str; 5] = [
     "(future (println 7))",
     "(future (println (loop [i 3 s 0] (if (> i 0) (recur (dec i) (+ s i)) [s \"text\" :key nil]))))",
     "(def r (ref [1 2])) (def c (ref -7))
     (future (dosync (ref-set r (conj @r 3)) (commute c + 2) (alter r assoc 0 (ensure c))))",
     "(def a (atom :k)) (def g (agent 0 :error-mode :continue)) (defn f [s x] (quot s x))
     (future (swap! a = 1) (reset! a g) (dosync (send g f 0)) (println @a))",
+    "(defn ok [x] (>= x 0)) (def r (ref 1 :validator ok)) (def a (atom 2)) (def g (agent 3 :validator pos?))
+    (future (dosync (alter r dec)))",
 ];
 
 #[test]

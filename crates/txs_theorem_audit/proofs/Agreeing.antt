@@ -35,13 +35,13 @@ use Rattle.txs_world.specs.Store.{next_action}
 use Rattle.txs_tree_meaning.proofs.Callable.{both}
 use Rattle.txs_tree_meaning.specs.Known.{Known, known}
 use Rattle.txs_tree_meaning.specs.Marked.{Marked, MarkedThreads, MarkedProgram}
-use Rattle.txs_tree_meaning.specs.Meaning.{Completion, Completes, Recurs, Faults, Retries, Waits, OutOfTurns, Invalid, apply}
-use Rattle.txs_tree_meaning.specs.Pure.{pure_calls, PureCallee}
+use Rattle.txs_tree_meaning.specs.Meaning.{Completion, Completes, Recurs, Faults, Retries, Waits, OutOfTurns, Invalid}
+use Rattle.txs_tree_meaning.specs.Pure.{PureCallee}
 use Rattle.txs_tree_meaning.specs.Right.{is_wrong, eats_right, right_meaning}
 use Rattle.txs_tree_meaning.specs.Sound.{PureCall, Sound, SoundThread, SoundThreads}
 use Rattle.txs_tree_meaning.specs.Thread.{TxRun, ThreadState}
 use Rattle.txs_tree_meaning.specs.Tree.{PlainFunction, PlainProgram, PlainThread, ThreadSource}
-use Rattle.txs_theorem_threads.specs.FollowsAgent.{action_meaning, new_of}
+use Rattle.txs_theorem_threads.specs.FollowsAgent.{action_meaning, new_of, new_state}
 use Rattle.txs_theorem_threads.specs.FollowsAll.{source_of}
 use Rattle.txs_theorem_threads.specs.Noted.{txs_of}
 use Rattle.txs_theorem_threads.specs.RepliesFit.{HasEatenAll}
@@ -483,7 +483,7 @@ thread_parts p r sound marks n a i t ran there h =
     let x = and_fine (calm_found (cells_of p.cells) (books_of r) a 0 ran.trace (noted_by s n es m)) (end_found s n a es ran m) h in
     let same : noted_by s n es m ≡ txs_of m = ap (λ b. if b then txs_of (right_meaning s n es) else txs_of m) (not_wrong s n a es ran m x.1) in
     let main = sound_thread p.functions p.threads i t sound.threads there in
-    let noted = threads_note s n es (record { functions = sound.functions; main = main.0 }) marks.functions (marked_thread p.threads i t marks.threads there) in
+    let noted = threads_note s n es (record { functions = sound.functions; cells = sound.cells; main = main.0 }) marks.functions (marked_thread p.threads i t marks.threads there) in
     let runs = runs_so s n a es ran (validators_of p.cells) m x.1 noted in
     record {
       ends = ends_so s n a es ran m x.1;
@@ -517,11 +517,11 @@ pure_of ks (Function f) n h = go (nth ks f) refl h
 module _ (p : PlainProgram) (n a : ℕ) where
   -- what is tested of the first action in the mail
   tested : (i : ℕ) (done : List Event) (g : CellId) (new : Result Value Fault) (x : Action) → act_found p n a i done g new (Some x) ≡ Fine
-      → (is_pure_call (known p.functions) x.callee (suc (length x.args)) ≡ true) × (act_means a i new (apply (pure_calls n p.functions (length p.functions) false) x.span x.callee (newest (opening (cells_of p.cells)) done g.number ∷ x.args) tt) ≡ Fine)
+      → (is_pure_call (known p.functions) x.callee (suc (length x.args)) ≡ true) × (act_means a i new (new_state n p.functions (validators_of p.cells) x (newest (opening (cells_of p.cells)) done g.number)) ≡ Fine)
   tested i done g new x h = go (is_pure_call (known p.functions) x.callee (suc (length x.args))) h
     where
-      go : (b : Bool) → (if b then act_means a i new (apply (pure_calls n p.functions (length p.functions) false) x.span x.callee (newest (opening (cells_of p.cells)) done g.number ∷ x.args) tt) else Off a i) ≡ Fine
-          → (b ≡ true) × (act_means a i new (apply (pure_calls n p.functions (length p.functions) false) x.span x.callee (newest (opening (cells_of p.cells)) done g.number ∷ x.args) tt) ≡ Fine)
+      go : (b : Bool) → (if b then act_means a i new (new_state n p.functions (validators_of p.cells) x (newest (opening (cells_of p.cells)) done g.number)) else Off a i) ≡ Fine
+          → (b ≡ true) × (act_means a i new (new_state n p.functions (validators_of p.cells) x (newest (opening (cells_of p.cells)) done g.number)) ≡ Fine)
       go true f = (refl, f)
       go false f = off_fine a i f
 
@@ -529,9 +529,9 @@ module _ (p : PlainProgram) (n a : ℕ) where
   act_is i done (Act g k new sends) h = go (next_action (cells_of p.cells) done g) refl h
     where
       go : (o : Option Action) → next_action (cells_of p.cells) done g ≡ o → act_found p n a i done g new o ≡ Fine
-          → (x : Action) × (next_action (cells_of p.cells) done g ≡ Some x) × (j : ℕ) × (action_meaning j p.functions x (newest (opening (cells_of p.cells)) done g.number) ≡ Some new)
+          → (x : Action) × (next_action (cells_of p.cells) done g ≡ Some x) × (j : ℕ) × (action_meaning j p.functions (validators_of p.cells) x (newest (opening (cells_of p.cells)) done g.number) ≡ Some new)
       go None e f = off_fine a i f
-      go (Some x) e f = (x, e, n, means (apply (pure_calls n p.functions (length p.functions) false) x.span x.callee (newest (opening (cells_of p.cells)) done g.number ∷ x.args) tt) (tested i done g new x f).1)
+      go (Some x) e f = (x, e, n, means (new_state n p.functions (validators_of p.cells) x (newest (opening (cells_of p.cells)) done g.number)) (tested i done g new x f).1)
         where
           means : (m : Completion (Unit {0}) Value) → act_means a i new m ≡ Fine → new_of m ≡ Some new
           means (Completes v u) q = ap Some (new_same (Ok v) new (check_fine (same_new (Ok v) new) a i q))

@@ -5,7 +5,7 @@ use Rattle.txs_world_protocol.specs.Ask.{Writes, buffered, with_write, same_valu
 use Rattle.txs_world_protocol.specs.SeenEvent.{SeenEvent, home}
 use Rattle.txs_world_protocol.specs.declared.event.EventKind.{EventKind}
 use Rattle.txs_world_protocol.specs.declared.event.EventKind.TheVariants as event
-use Rattle.txs_value_cell.specs.Cells.{World, Validators, validators_of}
+use Rattle.txs_value_cell.specs.Cells.{World, Validators, validators_of, validator_at}
 use Rattle.txs_value_cell.specs.Forms.{rule, may_stand, cell_of}
 use Rattle.txs_value_cell.specs.declared.action.Action.{Action}
 use Rattle.txs_value_cell.specs.declared.form.CellForm.TheVariants as form_of
@@ -31,9 +31,10 @@ use Rattle.txs_value_data.specs.declared.value.Value.TheVariants.{Nil, Cell}
 use Rattle.txs_tree_meaning.specs.Known.{known}
 use Rattle.txs_tree_meaning.specs.Meaning.{Completion, Completes, Recurs, Faults, Retries, Waits, OutOfTurns, Invalid, bind, allowed, result_of, Applies, apply, eval, call_at}
 use Rattle.txs_tree_meaning.specs.Sound.{in_thread, SoundSource}
-use Rattle.txs_tree_meaning.specs.Thread.{ThreadState, with_tx, uneaten, eats, meant, reads, resets, faulted, faultless, swaps, sends, sends_or_holds, over, Transacting, run_of, ends_tx, is_retry, eats_tx, Surroundings, thread_look, thread_put, thread_update, on_events, around, thread_meaning}
-use Rattle.txs_tree_meaning.specs.Transaction.{TxState, value_or, valued, merged, redone, commute_writes, final_writes, tx_meaning}
+use Rattle.txs_tree_meaning.specs.Thread.{ThreadState, with_tx, uneaten, eats, meant, reads, resets, faulted, faultless, swaps, sends, sends_or_holds, over, Transacting, run_of, ends_tx, is_retry, eats_tx, Surroundings, thread_look, thread_put, thread_update, on_events, around, thread_meaning, accepts}
+use Rattle.txs_tree_meaning.specs.Transaction.{TxState, value_or, valued, merged, redone, if_accepted, commute_writes, final_writes, tx_meaning}
 use Rattle.txs_tree_meaning.specs.Tree.{ThreadSource}
+use Rattle.txs_theorem_threads.proofs.Accepted.{validated_related, if_accepted_related}
 use Rattle.txs_theorem_threads.proofs.Callees.{pure_callees, callees_in, function_callees}
 use Rattle.txs_theorem_threads.proofs.Related.{Link, Related, bind_related, closed_related, Applied, Alike, eval_related, calls_related}
 use Rattle.txs_theorem_threads.specs.RepliesFit.{Halt, Going, Stopped, Short, Rerun}
@@ -148,8 +149,9 @@ module _ (fs : List SeenEvent) where
 
     final_cut : (vs : Validators) (span : Span) (w : PlainTxFrame) (C : World) (s : ThreadState) → Related k (final_writes f vs span w C s) (final_writes g vs span w C (longer s))
     final_cut vs span w C s =
-        let now : Writes → ThreadState → Completion ThreadState Writes = λ ws t1. Completes (merged (set_writes w) ws) t1 in
-        bind_related ThreadState ThreadState k (commute_writes f w C s) (commute_writes g w C (longer s)) now now (redone_cut (phase_work w) (valued (commuted w) C) s) (λ ws s1 t1 r1. (refl, r1))
+        let now : Applies ThreadState → Writes → ThreadState → Completion ThreadState Writes = λ h ws t1. if_accepted h vs span (merged (set_writes w) ws) t1 in
+        bind_related ThreadState ThreadState k (commute_writes f w C s) (commute_writes g w C (longer s)) (now f) (now g) (redone_cut (phase_work w) (valued (commuted w) C) s)
+        (λ ws s1 t1 r1. if_accepted_related ThreadState ThreadState k f g a vs span (merged (set_writes w) ws) s1 t1 r1)
 
     module _ (d : Transacting) where
       ends_cut : (e : EventKind) (R Q C : World) (s : ThreadState) → Related k (ends_tx d f e R Q C s) (ends_tx d g e R Q C (longer s))
@@ -227,16 +229,22 @@ module _ (fs : List SeenEvent) where
     look_cut Deref c s = eats_cut (home p.cells c) (λ e t1. reads c e.kind e.C t1) (λ e t1. reads c e.kind e.C t1) (λ e t1. reads_cut c e.kind e.C t1) s.todo s
     look_cut Ensure c s = refl
 
-    put_cut : (form : PutForm) (span : Span) (c : CellId) (v : Value) (f g : Applies ThreadState) (s : ThreadState) → Related k (thread_put x form span c v f s) (thread_put x form span c v g (longer s))
-    put_cut RefSet span c v f g s = refl
-    put_cut Reset span c v f g s = eats_cut (home p.cells c) (λ e t1. resets v e.kind t1) (λ e t1. resets v e.kind t1) (λ e t1. resets_cut v e.kind t1) s.todo s
+    put_cut : (form : PutForm) (span : Span) (c : CellId) (v : Value) (f g : Applies ThreadState) → Applied ThreadState ThreadState k f g → (s : ThreadState) → Related k (thread_put x form span c v f s) (thread_put x form span c v g (longer s))
+    put_cut RefSet span c v f g a s = refl
+    put_cut Reset span c v f g a s =
+        let go : Value → ThreadState → Completion ThreadState Value = λ w u. eats (home p.cells c) (λ e t1. resets w e.kind t1) u.todo u in
+        bind_related ThreadState ThreadState k (accepts x f c span v s) (accepts x g c span v (longer s)) go go (validated_related ThreadState ThreadState k f g a (validator_at (validators_of p.cells) c.number) span v s (longer s) refl)
+        (λ w s1 t1 r1. from (go w s1) (go w) s1 t1 r1 (eats_cut (home p.cells c) (λ e t2. resets w e.kind t2) (λ e t2. resets w e.kind t2) (λ e t2. resets_cut w e.kind t2) s1.todo s1))
 
     update_cut : (form : UpdateForm) (span : Span) (c : CellId) (callee : Callee) (vs : List Value) (f g : Applies ThreadState) → Applied ThreadState ThreadState k f g → (s : ThreadState) → Related k (thread_update x form span c callee vs f s) (thread_update x form span c callee vs g (longer s))
     update_cut Alter span c callee vs f g a s = refl
     update_cut Commute span c callee vs f g a s = refl
     update_cut Swap span c callee vs f g a s =
-        eats_cut (home p.cells c) (λ e t1. swaps c (λ v t2. f callee (v ∷ vs) t2) e.kind e.R e.C t1) (λ e t1. swaps c (λ v t2. g callee (v ∷ vs) t2) e.kind e.R e.C t1)
-        (λ e t1. swaps_cut c (λ v t2. f callee (v ∷ vs) t2) (λ v t2. g callee (v ∷ vs) t2) (λ v t2. a callee (v ∷ vs) t2 (longer t2) refl) e.kind e.R e.C t1) s.todo s
+        let made : Applies ThreadState → Value → ThreadState → Completion ThreadState Value = λ h v t2. bind (h callee (v ∷ vs) t2) (accepts x h c span) in
+        eats_cut (home p.cells c) (λ e t1. swaps c (made f) e.kind e.R e.C t1) (λ e t1. swaps c (made g) e.kind e.R e.C t1)
+        (λ e t1. swaps_cut c (made f) (made g)
+        (λ v t2. bind_related ThreadState ThreadState k (f callee (v ∷ vs) t2) (g callee (v ∷ vs) (longer t2)) (accepts x f c span) (accepts x g c span) (a callee (v ∷ vs) t2 (longer t2) refl)
+        (λ w s1 u1 r1. validated_related ThreadState ThreadState k f g a (validator_at (validators_of p.cells) c.number) span w s1 u1 r1)) e.kind e.R e.C t1) s.todo s
 
     events_cut : (d : ℕ) → Alike ThreadState ThreadState k (on_events x d) (on_events x d) (call_at (on_events x) n p.functions d) (call_at (on_events x) n p.functions d) n n (λ i. Unit {0}) (pure_callees (known p.functions))
     events_cut d = record {
@@ -247,7 +255,7 @@ module _ (fs : List SeenEvent) where
           let f : Applies ThreadState = apply (call_at (on_events x) n p.functions d inside) m.span in
           from ((on_events x d).put form inside m c w f s) (λ u. (on_events x d).put form inside m c w f u) s t r
           (allowed_cut (may_stand (rule (form_of.Put form)).stands false) _ _
-          (on_cut (cell_of (rule (form_of.Put form)) false c) m.span (λ z u. thread_put x form m.span z w f u) (λ z u. thread_put x form m.span z w f u) s (λ z. put_cut form m.span z w f f s)));
+          (on_cut (cell_of (rule (form_of.Put form)) false c) m.span (λ z u. thread_put x form m.span z w f u) (λ z u. thread_put x form m.span z w f u) s (λ z. put_cut form m.span z w f f (a (λ g. tt)) s)));
       update = λ form inside m c callee vs s t may i pure a r.
           let f : Applies ThreadState = apply (call_at (on_events x) n p.functions d inside) m.span in
           from ((on_events x d).update form inside m c callee vs f s) (λ u. (on_events x d).update form inside m c callee vs f u) s t r

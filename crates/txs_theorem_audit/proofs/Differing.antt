@@ -8,6 +8,8 @@ use Rattle.txs_value_base.specs.declared.fault.Fault.{Fault}
 use Rattle.txs_value_base.specs.declared.op.Callee.{Callee}
 use Rattle.txs_value_base.specs.declared.op.Callee.TheVariants.{Core as CoreOp, Function}
 use Rattle.txs_value_cell.specs.Agents.{agents_from}
+use Rattle.txs_value_cell.specs.Cells.{validators_of, validator_at}
+use Rattle.txs_value_cell.specs.declared.action.Action.{Action}
 use Rattle.txs_value_cell.specs.Forms.{same_kind}
 use Rattle.txs_value_cell.specs.declared.cell.CellDefinition.{CellDefinition}
 use Rattle.txs_value_data.specs.Limits.{most_events}
@@ -28,18 +30,20 @@ use Rattle.txs_world_book.specs.Served.{cells_of}
 use Rattle.txs_world_book.specs.declared.cell.StoreCell.{StoreCell}
 use Rattle.txs_tree_meaning.specs.Known.{Known, known}
 use Rattle.txs_tree_meaning.specs.Pure.{PureCallee}
-use Rattle.txs_tree_meaning.specs.Meaning.{Completion, Completes, Recurs, Faults, Retries, Waits, OutOfTurns, Invalid}
+use Rattle.txs_tree_meaning.specs.Meaning.{Completion, Completes, Recurs, Faults, Retries, Waits, OutOfTurns, Invalid, Applies}
 use Rattle.txs_tree_meaning.specs.Right.{is_wrong, right_meaning}
 use Rattle.txs_tree_meaning.specs.Sound.{Sound, SoundSource, SoundFunctions}
 use Rattle.txs_tree_meaning.specs.Thread.{TxRun, ThreadState, thread_meaning}
+use Rattle.txs_tree_meaning.specs.Transaction.{validated}
 use Rattle.txs_tree_meaning.specs.Tree.{PlainProgram, PlainThread, ThreadSource}
+use Rattle.txs_theorem_threads.proofs.Accepted.{validated_related}
 use Rattle.txs_theorem_threads.proofs.Meant.{Any, none_some}
 use Rattle.txs_theorem_threads.proofs.MoreEvents.{settled_same}
 use Rattle.txs_theorem_threads.proofs.Quiet.{quietly}
-use Rattle.txs_theorem_threads.proofs.Related.{Related}
+use Rattle.txs_theorem_threads.proofs.Related.{Related, bind_related}
 use Rattle.txs_theorem_threads.proofs.Same.{same_link, same_long}
 use Rattle.txs_theorem_threads.specs.EndsSo.{HasSettled}
-use Rattle.txs_theorem_threads.specs.FollowsAgent.{new_of}
+use Rattle.txs_theorem_threads.specs.FollowsAgent.{new_of, new_state}
 use Rattle.txs_theorem_threads.specs.FollowsAll.{source_of}
 use Rattle.txs_theorem_threads.specs.Noted.{txs_of}
 use Rattle.txs_theorem_threads.specs.RepliesFit.{HasEatenAll}
@@ -631,7 +635,7 @@ thread_not p r sound n a i t ran there x =
     let m = meaning_of p r t ran n in
     let z = meaning_of p r t ran x.turns in
     let main = sound_thread p.functions p.threads i t sound.threads there in
-    let source_sound : SoundSource s = record { functions = sound.functions; main = main.0 } in
+    let source_sound : SoundSource s = record { functions = sound.functions; cells = sound.cells; main = main.0 } in
     let on : List TxRun → Finding = λ xs. calm_found (cells_of p.cells) (books_of r) a 0 ran.trace xs in
     ⊎_elim
     (λ e.
@@ -685,18 +689,26 @@ module _ (p : PlainProgram) (sound : SoundFunctions [] p.functions) (n a : ℕ) 
   higher_not i new y (OutOfTurns u) h e = not_there e
   higher_not i new y Invalid h e = not_there e
 
+  new_more : (k m : ℕ) → k ≤ m → (x : Action) (v : Value) → Related (same_link (Unit {0})) (new_state k p.functions (validators_of p.cells) x v) (new_state m p.functions (validators_of p.cells) x v)
+  new_more k m le x v =
+      let depth = length p.functions in
+      let q : ℕ → Applies (Unit {0}) = λ j. quietly j p.functions depth x.span in
+      let more = pure_more p.functions sound k m le depth x.span in
+      let o = validator_at (validators_of p.cells) x.agent.number in
+      bind_related (Unit {0}) (Unit {0}) (same_link (Unit {0})) (q k x.callee (v ∷ x.args) tt) (q m x.callee (v ∷ x.args) tt) (λ w s1. validated (q k) o x.span w s1) (λ w s1. validated (q m) o x.span w s1) (more x.callee (v ∷ x.args) tt tt refl)
+      (λ w s1 t1 r1. validated_related (Unit {0}) (Unit {0}) (same_link (Unit {0})) (q k) (q m) more o x.span w s1 t1 r1)
+
   act_not : (i : ℕ) (done : List Event) (d : EventKind) → ActMeans p.functions p.cells done d → ActPure p done d → NotOff (act_kind p n a i done d)
   act_not i done (Act g j new sends) h pure =
       let x = h.0 in
       let m = h.2 in
-      let depth = length p.functions in
-      let vs = newest (opening (cells_of p.cells)) done g.number ∷ x.args in
-      let y = quietly n p.functions depth x.span x.callee vs tt in
-      let z = quietly m p.functions depth x.span x.callee vs tt in
+      let v = newest (opening (cells_of p.cells)) done g.number in
+      let y = new_state n p.functions (validators_of p.cells) x v in
+      let z = new_state m p.functions (validators_of p.cells) x v in
       let found_so : NotOff (act_means a i new y) =
       ⊎_elim
-      (λ lt. (let le : n ≤ m = omega (arith, lt) in lower_not i new y z (pure_more p.functions sound n m le depth x.span x.callee vs tt tt refl) h.3))
-      (λ le. higher_not i new y z (pure_more p.functions sound m n le depth x.span x.callee vs tt tt refl) h.3) (cases_lt n m) in
+      (λ lt. (let le : n ≤ m = omega (arith, lt) in lower_not i new y z (new_more n m le x v) h.3))
+      (λ le. higher_not i new y z (new_more m n le x v) h.3) (cases_lt n m) in
       subst (λ o. NotOff (act_found p n a i done g new o)) (sym h.1)
       (subst (λ b. NotOff (if b then act_means a i new y else Off a i)) (sym (pure_true (known p.functions) x.callee (suc (length x.args)) (pure x h.1))) found_so)
   act_not i done _ h pure = tt

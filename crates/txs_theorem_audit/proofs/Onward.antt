@@ -7,7 +7,7 @@ use Rattle.txs_world_protocol.specs.Ask.{Writes, with_write, same_value, same_ce
 use Rattle.txs_world_protocol.specs.SeenEvent.{SeenEvent, home}
 use Rattle.txs_world_protocol.specs.declared.event.EventKind.{EventKind}
 use Rattle.txs_world_protocol.specs.declared.event.EventKind.TheVariants as event
-use Rattle.txs_value_cell.specs.Cells.{World, validators_of}
+use Rattle.txs_value_cell.specs.Cells.{World, validators_of, validator_at}
 use Rattle.txs_value_cell.specs.Forms.{rule, cell_of}
 use Rattle.txs_value_cell.specs.declared.action.Action.{Action}
 use Rattle.txs_value_cell.specs.declared.form.CellForm.TheVariants as form_of
@@ -34,18 +34,21 @@ use Rattle.txs_value_data.specs.declared.value.Value.{Value}
 use Rattle.txs_value_data.specs.declared.value.Value.TheVariants.{Nil, Truth, Int, Key, Text, Vector, Cell}
 use Rattle.txs_tree_meaning.specs.Known.{Known, is_pure, known_of, known}
 use Rattle.txs_tree_meaning.specs.Meaning.{Completion, Completes, Recurs, Faults, Retries, Waits, OutOfTurns, Invalid, bind, again, closed, give, result_of, Applies, turns, apply, eval, eval_all, eval_let, eval_do, call_at}
-use Rattle.txs_tree_meaning.specs.Pure.{no_effects}
+use Rattle.txs_tree_meaning.specs.Pure.{no_effects, nowhere}
 use Rattle.txs_tree_meaning.specs.Sound.{MayStand, MayCall, in_thread, in_dosync, SoundTree, SoundAll, SoundLet, SoundDo, SoundCallee, SoundFunctions, SoundSource}
 use Rattle.txs_tree_meaning.specs.Thread.{TxRun, ThreadState, with_tx, uneaten, eats, meant, reads, resets, faulted, faultless, swaps, sends, sends_or_holds, over, Transacting, run_of, ends_tx, is_retry, eats_tx, thread_look, thread_put, thread_update, on_events, around, thread_meaning}
-use Rattle.txs_tree_meaning.specs.Transaction.{TxState, own, current, noted, done_as, tx_look, tx_put, tx_update, in_transaction, tx_start, tx_meaning, valued, merged, redone, commute_writes, final_writes}
+use Rattle.txs_tree_meaning.specs.Transaction.{TxState, own, current, noted, done_as, tx_look, tx_put, tx_update, in_transaction, tx_start, tx_meaning, valued, merged, redone, judged, validated, if_accepted, commute_writes, final_writes}
 use Rattle.txs_tree_meaning.specs.Tree.{Mark, Tree, Const, Local, If, Do, Let, Loop, Recur, Core, Call, VectorOf, Println, Dosync, Look, Put, Update, Send, Trees, none, more, count, PlainFunction, ThreadSource}
 use Rattle.txs_tree_meaning.proofs.Callable.{nth-take, function_at}
+use Rattle.txs_theorem_threads.proofs.Accepted.{OfValidator, validator_such, cells_such, validators_pure, validated_related, if_accepted_related, validated_carried, made_carried, final_carried}
 use Rattle.txs_theorem_threads.proofs.Callees.{Keeps, IsPure, pure_callees, keeps_in, function_callees, sound_pure}
+use Rattle.txs_theorem_threads.proofs.Depth.{pures, others, both_kinds, other_before, known_there}
 use Rattle.txs_theorem_threads.proofs.Functions.{there, nth_below, thread_sound}
-use Rattle.txs_theorem_threads.proofs.Meant.{Any, none_some}
-use Rattle.txs_theorem_threads.proofs.Quiet.{carried, quietly, callee_carried, AllCommutes, commutes_both, phase_some, redone_carried}
+use Rattle.txs_theorem_threads.proofs.Meant.{Any, none_some, shallow_proper}
+use Rattle.txs_theorem_threads.proofs.Quiet.{carried, quietly, callee_carried, AllCommutes, commutes_both}
 use Rattle.txs_theorem_threads.proofs.Related.{Link, Related, Turns, bind_related, closed_related, Applied, Alike, apply_related, eval_related, calls_related}
 use Rattle.txs_theorem_threads.proofs.Same.{same_link, from_same, redone_alike, same_long}
+use Rattle.txs_theorem_threads.specs.Behaves.{IsProper}
 use Rattle.txs_theorem_threads.specs.RepliesFit.{Halt, Going, Stopped, Short, Rerun}
 
 -- ---- states of a thread
@@ -584,15 +587,6 @@ over_step t Invalid y h F G broke each b = ap (λ c. over t c G broke) h
 over_at : (t : ThreadState) (x y : Completion TxState Value) → TxStep x y → (F G : Value → TxState → Completion ThreadState Value) (broke : Fault → Completion ThreadState Value) → ((v : Value) (z : TxState) → y ≡ Completes v z → At t (F v z) (G v z)) → ((g : Fault) → Inside t (broke g)) → At t (over t x F broke) (over t y G broke)
 over_at t x y h F G broke each b = (over_inside t y G broke (λ v z e. (each v z e).0) b, over_step t x y h F G broke (λ v z e. (each v z e).1) b)
 
-bound : {A B : Type 0} (t : ThreadState) (z : Completion (Unit {0}) A) (go : A → B) → bind (carried t z) (λ a s. Completes (go a) s) ≡ carried t (bind z (λ a s. Completes (go a) s))
-bound t (Completes a u) go = refl
-bound t (Recurs vs u) go = refl
-bound t (Faults g u) go = refl
-bound t (Retries u) go = refl
-bound t (Waits u) go = refl
-bound t (OutOfTurns u) go = refl
-bound t Invalid go = refl
-
 noted_on : (t : ThreadState) (x : TxRun) → Onward t (with_tx x t)
 noted_on t x = record { more = []; gone = []; runs = x ∷ []; prints = sym (append-nil t.printed); eats = refl; notes = refl }
 
@@ -600,6 +594,71 @@ noted_on t x = record { more = []; gone = []; runs = x ∷ []; prints = sym (app
 before_pure : (ks : List Known) (b : ℕ) (c : Callee) (n : ℕ) → SoundCallee (take b ks) c n → IsPure ks c
 before_pure ks b (CoreOp op) n h = tt
 before_pure ks b (Function f) n h = ap is_pure (nth-take b ks f h.function h.found).1 ∙ h.pure
+
+-- ---- pure parts
+
+-- what comes behind a pure part that gives a value, a fault, or needs turns
+carried_from : (z : Completion (Unit {0}) Value) → IsProper z → (g : Value → ThreadState → Completion ThreadState Value) (t : ThreadState) → ((v : Value) → From None Any t (g v t)) → From None Any t (bind (carried t z) g)
+carried_from (Completes v u) h g t each = each v
+carried_from (Recurs vs u) h g t each = absurd h
+carried_from (Faults f u) h g t each = same t
+carried_from (Retries u) h g t each = absurd h
+carried_from (Waits u) h g t each = absurd h
+carried_from (OutOfTurns u) h g t each = same t
+carried_from Invalid h g t each = absurd h
+
+carried_leads : (x y : Completion (Unit {0}) Value) → IsProper x → IsProper y → Related (same_link (Unit {0})) x y → (k g : Value → ThreadState → Completion ThreadState Value) (t : ThreadState) → ((v : Value) → Leads None Any t (k v t) (g v t))
+    → Leads None Any t (bind (carried t x) k) (bind (carried t y) g)
+carried_leads (Completes v u) y h i related k g t each = subst (λ z. Leads None Any t (k v t) (bind (carried t z) g)) (sym (same_long (Unit {0}) (Completes v u) y related tt)) (each v)
+carried_leads (Recurs vs u) y h i related k g t each = absurd h
+carried_leads (Faults f u) y h i related k g t each = subst (λ z. Leads {A = Value} None Any t (Faults f t) (bind (carried t z) g)) (sym (same_long (Unit {0}) (Faults f u) y related tt)) (same t, refl)
+carried_leads (Retries u) y h i related k g t each = absurd h
+carried_leads (Waits u) y h i related k g t each = absurd h
+carried_leads (OutOfTurns u) y h i related k g t each = let z = carried_from y i g t (λ v. (each v).0) in (z, z)
+carried_leads Invalid y h i related k g t each = absurd h
+
+-- a pure part alone
+pure_from : (z : Completion (Unit {0}) Value) → IsProper z → (t : ThreadState) → From None Any t (carried t z)
+pure_from (Completes v u) h t = (tt, same t)
+pure_from (Recurs vs u) h t = absurd h
+pure_from (Faults f u) h t = same t
+pure_from (Retries u) h t = absurd h
+pure_from (Waits u) h t = absurd h
+pure_from (OutOfTurns u) h t = same t
+pure_from Invalid h t = absurd h
+
+pure_leads : (x y : Completion (Unit {0}) Value) → IsProper x → IsProper y → Related (same_link (Unit {0})) x y → (t : ThreadState) → Leads None Any t (carried t x) (carried t y)
+pure_leads (Completes v u) y h i related t = subst (λ z. Leads {A = Value} None Any t (Completes v t) (carried t z)) (sym (same_long (Unit {0}) (Completes v u) y related tt)) ((tt, same t), refl)
+pure_leads (Recurs vs u) y h i related t = absurd h
+pure_leads (Faults f u) y h i related t = subst (λ z. Leads {A = Value} None Any t (Faults f t) (carried t z)) (sym (same_long (Unit {0}) (Faults f u) y related tt)) (same t, refl)
+pure_leads (Retries u) y h i related t = absurd h
+pure_leads (Waits u) y h i related t = absurd h
+pure_leads (OutOfTurns u) y h i related t = let z = pure_from y i t in (z, z)
+pure_leads Invalid y h i related t = absurd h
+
+judged_proper : (answer : Value) (span : Span) (v : Value) → IsProper (judged answer span v tt)
+judged_proper Nil span v = tt
+judged_proper (Truth false) span v = tt
+judged_proper (Truth true) span v = tt
+judged_proper (Int z) span v = tt
+judged_proper (Key bs) span v = tt
+judged_proper (Text bs) span v = tt
+judged_proper (Vector vs) span v = tt
+judged_proper (Cell c) span v = tt
+
+-- a value that is validated, where its validator is such a part
+validated_proper : (q : Applies (Unit {0})) (o : Option Callee) (span : Span) (v : Value) → OfValidator (λ c. IsProper (q c (v ∷ []) tt)) o → IsProper (validated q o span v tt)
+validated_proper q None span v h = tt
+validated_proper q (Some c) span v h = go (q c (v ∷ []) tt) h
+  where
+    go : (z : Completion (Unit {0}) Value) → IsProper z → IsProper (bind z (λ answer u. judged answer span v u))
+    go (Completes answer u) k = judged_proper answer span v
+    go (Recurs vs u) k = absurd k
+    go (Faults f u) k = tt
+    go (Retries u) k = absurd k
+    go (Waits u) k = absurd k
+    go (OutOfTurns u) k = tt
+    go Invalid k = absurd k
 
 -- ---- a thread
 
@@ -628,16 +687,14 @@ module _ (p : ThreadSource) (sound : SoundSource p) (nl nr : ℕ) (le : nl ≤ n
     -- the final writes leave the state as it was
     finals : (n : ℕ) (w : PlainTxFrame) → AllCommutes (IsPure ks) w.commutes → (C : World) (t : ThreadState) → writes_in (f n) w C t ≡ carried t (writes_in (q n) w C tt)
     finals n w suits C t =
-        let P : Callee → Type 0 = IsPure ks in
-        ap (λ z. bind z (λ ws s1. Completes (merged (set_writes w) ws) s1))
-        (redone_carried P t (f n) (q n) (λ c us pure. callee_carried (on_events (around p n)) n true p.functions sound.functions b m.span c us t pure) (phase_work w) (phase_some P w suits) (valued (commuted w) C)).0
-        ∙ bound t (redone (q n) (phase_work w) (valued (commuted w) C) tt) (λ ws. merged (set_writes w) ws)
+        (final_carried (IsPure ks) t (f n) (q n) (λ c us pure. callee_carried (on_events (around p n)) n true p.functions sound.functions b m.span c us t pure) (validators_of p.cells) (validators_pure ks p.cells sound.cells) m.span w suits C).0
 
     finals_more : (w : PlainTxFrame) (C : World) → Related (same_link (Unit {0})) (writes_in (q nl) w C tt) (writes_in (q nr) w C tt)
     finals_more w C =
-        let now : Writes → Unit {0} → Completion (Unit {0}) Writes = λ ws t1. Completes (merged (set_writes w) ws) t1 in
-        bind_related (Unit {0}) (Unit {0}) (same_link (Unit {0})) (commute_writes (q nl) w C tt) (commute_writes (q nr) w C tt) now now
-        (redone_alike (Unit {0}) (q nl) (q nr) (pure_more p.functions sound.functions nl nr le b m.span) (phase_work w) (valued (commuted w) C) tt) (λ ws s1 t1 r1. from_same (Unit {0}) (now ws) s1 t1 r1)
+        let now : ℕ → Writes → Unit {0} → Completion (Unit {0}) Writes = λ n ws t1. if_accepted (q n) (validators_of p.cells) m.span (merged (set_writes w) ws) t1 in
+        bind_related (Unit {0}) (Unit {0}) (same_link (Unit {0})) (commute_writes (q nl) w C tt) (commute_writes (q nr) w C tt) (now nl) (now nr)
+        (redone_alike (Unit {0}) (q nl) (q nr) (pure_more p.functions sound.functions nl nr le b m.span) (phase_work w) (valued (commuted w) C) tt)
+        (λ ws s1 t1 r1. if_accepted_related (Unit {0}) (Unit {0}) (same_link (Unit {0})) (q nl) (q nr) (pure_more p.functions sound.functions nl nr le b m.span) (validators_of p.cells) m.span (merged (set_writes w) ws) s1 t1 r1)
 
     finals_at : (w : PlainTxFrame) → AllCommutes (IsPure ks) w.commutes → (C : World) (t : ThreadState) (F : Completion ThreadState Writes → Completion ThreadState Value) → ((u : Unit {0}) → F (OutOfTurns t) ≡ OutOfTurns t) → ((z : Completion (Unit {0}) Writes) → Inside t (F (carried t z))) → At t (F (writes_in (f nl) w C t)) (F (writes_in (f nr) w C t))
     finals_at w suits C t F short each =
@@ -694,18 +751,67 @@ module _ (p : ThreadSource) (sound : SoundSource p) (nl nr : ℕ) (le : nl ≤ n
   -- ---- trees, where these are the functions that may be called
 
   module _ (b : ℕ) (js : List Known) (pure : (c : Callee) (n : ℕ) → SoundCallee js c n → IsPure ks c)
-      (calls : (i : ℕ) (k : Known) → nth js i ≡ Some k → MayCall in_thread k → (vs : List Value) → k.parameters ≡ length vs → (s : ThreadState) → Leads None Any s (call nl b false i vs s) (call nr b false i vs s)) where
+      (calls : (i : ℕ) (k : Known) → nth js i ≡ Some k → MayCall in_thread k → (vs : List Value) → k.parameters ≡ length vs → (s : ThreadState) → Leads None Any s (call nl b false i vs s) (call nr b false i vs s))
+      (proper : (n : ℕ) (span : Span) (c : Callee) (vs : List Value) → SoundCallee ks c (length vs) → IsProper (quietly n p.functions b span c vs tt)) where
+    -- the validator of a cell
+    abbrev validator : CellId → Option Callee
+    validator c = validator_at (validators_of p.cells) c.number
+
+    abbrev quiet : ℕ → Span → Applies (Unit {0})
+    quiet n span = quietly n p.functions b span
+
+    is_pure_one : (c : CellId) → OfValidator (IsPure ks) (validator c)
+    is_pure_one c = validator_such (IsPure ks) (validators_of p.cells) c.number (validators_pure ks p.cells sound.cells)
+
+    answers : (n : ℕ) (span : Span) (c : CellId) (w : Value) → IsProper (validated (quiet n span) (validator c) span w tt)
+    answers n span c w = validated_proper (quiet n span) (validator c) span w (each (validator c) (validator_such (λ f. SoundCallee ks f 1) (validators_of p.cells) c.number (cells_such ks p.cells sound.cells)))
+      where
+        each : (o : Option Callee) → OfValidator (λ f. SoundCallee ks f 1) o → OfValidator (λ f. IsProper (quiet n span f (w ∷ []) tt)) o
+        each None h = tt
+        each (Some f) h = proper n span f (w ∷ []) h
+
+    validates_so : (n : ℕ) (span : Span) (c : CellId) (w : Value) (t : ThreadState) → validated (apply (call n b false) span) (validator c) span w t ≡ carried t (validated (quiet n span) (validator c) span w tt)
+    validates_so n span c w t =
+        (validated_carried (IsPure ks) t (apply (call n b false) span) (quiet n span) (λ c1 us pu. callee_carried (on_events (around p n)) n false p.functions sound.functions b span c1 us t pu) (validator c) (is_pure_one c) span w).0
+
     looks_lead : (form : LookForm) (m : Mark) (v : Value) (t : ThreadState) → MayStand in_thread (rule (form_of.Look form)).stands → Leads None Any t ((on_events (around p nl) b).look form false m v t) ((on_events (around p nr) b).look form false m v t)
     looks_lead Deref m v t h =
         on_leads (cell_of (rule (form_of.Look Deref)) false v) m.span (thread_look (around p nl) Deref) (thread_look (around p nr) Deref) t
         (λ c. eats_leads (home p.cells c) (λ e t1. reads c e.kind e.C t1) (λ e t1. reads c e.kind e.C t1) (λ e t1. at_itself t1 (reads c e.kind e.C t1) (reads_inside c e.kind e.C t1)) t.todo t refl)
     looks_lead Ensure m v t h = absurd h
 
-    puts_lead : (form : PutForm) (m : Mark) (v w : Value) (k g : Applies ThreadState) (t : ThreadState) → MayStand in_thread (rule (form_of.Put form)).stands → Leads None Any t ((on_events (around p nl) b).put form false m v w k t) ((on_events (around p nr) b).put form false m v w g t)
-    puts_lead RefSet m v w k g t h = absurd h
-    puts_lead Reset m v w k g t h =
-        on_leads (cell_of (rule (form_of.Put Reset)) false v) m.span (λ c t1. thread_put (around p nl) Reset m.span c w k t1) (λ c t1. thread_put (around p nr) Reset m.span c w g t1) t
-        (λ c. eats_leads (home p.cells c) (λ e t1. resets w e.kind t1) (λ e t1. resets w e.kind t1) (λ e t1. at_itself t1 (resets w e.kind t1) (resets_inside w e.kind t1)) t.todo t refl)
+    puts_lead : (form : PutForm) (m : Mark) (v w : Value) (t : ThreadState) → MayStand in_thread (rule (form_of.Put form)).stands
+        → Leads None Any t ((on_events (around p nl) b).put form false m v w (apply (call nl b false) m.span) t) ((on_events (around p nr) b).put form false m v w (apply (call nr b false) m.span) t)
+    puts_lead RefSet m v w t h = absurd h
+    puts_lead Reset m v w t h =
+        on_leads (cell_of (rule (form_of.Put Reset)) false v) m.span (λ c t1. thread_put (around p nl) Reset m.span c w (apply (call nl b false) m.span) t1) (λ c t1. thread_put (around p nr) Reset m.span c w (apply (call nr b false) m.span) t1) t resets_lead
+      where
+        resets_lead : (c : CellId) → Leads None Any t (thread_put (around p nl) Reset m.span c w (apply (call nl b false) m.span) t) (thread_put (around p nr) Reset m.span c w (apply (call nr b false) m.span) t)
+        resets_lead c =
+            let go : Value → ThreadState → Completion ThreadState Value = λ u t1. eats (home p.cells c) (λ e t2. resets u e.kind t2) t1.todo t1 in
+            let x : ℕ → Completion (Unit {0}) Value = λ n. validated (quiet n m.span) (validator c) m.span w tt in
+            subst (λ z. Leads None Any t (bind z go) (bind (validated (apply (call nr b false) m.span) (validator c) m.span w t) go)) (sym (validates_so nl m.span c w t))
+            (subst (λ z. Leads None Any t (bind (carried t (x nl)) go) (bind z go)) (sym (validates_so nr m.span c w t))
+            (carried_leads (x nl) (x nr) (answers nl m.span c w) (answers nr m.span c w)
+            (validated_related (Unit {0}) (Unit {0}) (same_link (Unit {0})) (quiet nl m.span) (quiet nr m.span) (pure_more p.functions sound.functions nl nr le b m.span) (validator c) m.span w tt tt refl) go go t
+            (λ u. eats_leads (home p.cells c) (λ e t1. resets u e.kind t1) (λ e t1. resets u e.kind t1) (λ e t1. at_itself t1 (resets u e.kind t1) (resets_inside u e.kind t1)) t.todo t refl)))
+
+    -- what a swap's callee makes of a value, where the atom's validator accepts it
+    abbrev made : ℕ → Span → CellId → Callee → List Value → Value → ThreadState → Completion ThreadState Value
+    made n span c callee vs = λ u t2. bind (apply (call n b false) span callee (u ∷ vs) t2) (λ w s1. validated (apply (call n b false) span) (validator c) span w s1)
+
+    abbrev quietly_made : ℕ → Span → CellId → Callee → List Value → Value → Completion (Unit {0}) Value
+    quietly_made n span c callee vs = λ u. bind (quiet n span callee (u ∷ vs) tt) (λ w s1. validated (quiet n span) (validator c) span w s1)
+
+    made_so : (n : ℕ) (span : Span) (c : CellId) (callee : Callee) → IsPure ks callee → (vs : List Value) (u : Value) (t2 : ThreadState) → made n span c callee vs u t2 ≡ carried t2 (quietly_made n span c callee vs u)
+    made_so n span c callee free vs u t2 =
+        (made_carried (IsPure ks) t2 (apply (call n b false) span) (quiet n span) (λ c1 us pu. callee_carried (on_events (around p n)) n false p.functions sound.functions b span c1 us t2 pu) (validator c) (is_pure_one c) span callee (u ∷ vs) free).0
+
+    made_alike : (span : Span) (c : CellId) (callee : Callee) (vs : List Value) (u : Value) → Related (same_link (Unit {0})) (quietly_made nl span c callee vs u) (quietly_made nr span c callee vs u)
+    made_alike span c callee vs u =
+        bind_related (Unit {0}) (Unit {0}) (same_link (Unit {0})) (quiet nl span callee (u ∷ vs) tt) (quiet nr span callee (u ∷ vs) tt) (λ w s1. validated (quiet nl span) (validator c) span w s1) (λ w s1. validated (quiet nr span) (validator c) span w s1)
+        (pure_more p.functions sound.functions nl nr le b span callee (u ∷ vs) tt tt refl)
+        (λ w s1 t1 r1. validated_related (Unit {0}) (Unit {0}) (same_link (Unit {0})) (quiet nl span) (quiet nr span) (pure_more p.functions sound.functions nl nr le b span) (validator c) span w s1 t1 r1)
 
     updates_lead : (form : UpdateForm) (m : Mark) (v : Value) (callee : Callee) → IsPure ks callee → (vs : List Value) (t : ThreadState) → MayStand in_thread (rule (form_of.Update form)).stands
         → Leads None Any t ((on_events (around p nl) b).update form false m v callee vs (apply (call nl b false) m.span) t) ((on_events (around p nr) b).update form false m v callee vs (apply (call nr b false) m.span) t)
@@ -713,10 +819,8 @@ module _ (p : ThreadSource) (sound : SoundSource p) (nl nr : ℕ) (le : nl ≤ n
     updates_lead Commute m v callee free vs t h = absurd h
     updates_lead Swap m v callee free vs t h =
         on_leads (cell_of (rule (form_of.Update Swap)) false v) m.span (λ c t1. thread_update (around p nl) Swap m.span c callee vs (apply (call nl b false) m.span) t1) (λ c t1. thread_update (around p nr) Swap m.span c callee vs (apply (call nr b false) m.span) t1) t
-        (λ c. eats_leads (home p.cells c) (λ e t1. swaps c (λ u t2. apply (call nl b false) m.span callee (u ∷ vs) t2) e.kind e.R e.C t1) (λ e t1. swaps c (λ u t2. apply (call nr b false) m.span callee (u ∷ vs) t2) e.kind e.R e.C t1)
-        (λ e t1. swaps_at c (λ u t2. apply (call nl b false) m.span callee (u ∷ vs) t2) (λ u t2. apply (call nr b false) m.span callee (u ∷ vs) t2) (λ u. quietly nl p.functions b m.span callee (u ∷ vs) tt) (λ u. quietly nr p.functions b m.span callee (u ∷ vs) tt)
-        (λ u t2. (callee_carried (on_events (around p nl)) nl false p.functions sound.functions b m.span callee (u ∷ vs) t2 free).0) (λ u t2. (callee_carried (on_events (around p nr)) nr false p.functions sound.functions b m.span callee (u ∷ vs) t2 free).0)
-        (λ u. pure_more p.functions sound.functions nl nr le b m.span callee (u ∷ vs) tt tt refl) e.kind e.R e.C t1) t.todo t refl)
+        (λ c. eats_leads (home p.cells c) (λ e t1. swaps c (made nl m.span c callee vs) e.kind e.R e.C t1) (λ e t1. swaps c (made nr m.span c callee vs) e.kind e.R e.C t1)
+        (λ e t1. swaps_at c (made nl m.span c callee vs) (made nr m.span c callee vs) (quietly_made nl m.span c callee vs) (quietly_made nr m.span c callee vs) (made_so nl m.span c callee free vs) (made_so nr m.span c callee free vs) (made_alike m.span c callee vs) e.kind e.R e.C t1) t.todo t refl)
 
     sent_leads : (m : Mark) (v : Value) (callee : Callee) (vs : List Value) (t : ThreadState) → Leads None Any t ((on_events (around p nl) b).send false m v callee vs t) ((on_events (around p nr) b).send false m v callee vs t)
     sent_leads m v callee vs t =
@@ -784,7 +888,7 @@ module _ (p : ThreadSource) (sound : SoundSource p) (nl nr : ℕ) (le : nl ≤ n
           bind_leads tail Any Any (on nl cell env s) (on nr cell env s) (λ v t. bind (on nl value env t) (λ w u. (on_events (around p nl) b).put form false m v w k u)) (λ v t. bind (on nr value env t) (λ w u. (on_events (around p nr) b).put form false m v w g u)) s
           (tree_leads cell d None h.1 env l s)
           (λ v t a. bind_leads tail Any Any (on nl value env t) (on nr value env t) (λ w u. (on_events (around p nl) b).put form false m v w k u) (λ w u. (on_events (around p nr) b).put form false m v w g u) t (tree_leads value d None h.2 env l t)
-          (λ w u a1. loose tail ((on_events (around p nl) b).put form false m v w k u) ((on_events (around p nr) b).put form false m v w g u) u (puts_lead form m v w k g u h.0)))
+          (λ w u a1. loose tail ((on_events (around p nl) b).put form false m v w k u) ((on_events (around p nr) b).put form false m v w g u) u (puts_lead form m v w u h.0)))
       tree_leads (Update form cell callee args m) d tail h env l s =
           let k : Applies ThreadState = apply (call nl b false) m.span in
           let g : Applies ThreadState = apply (call nr b false) m.span in
@@ -826,10 +930,26 @@ module _ (p : ThreadSource) (sound : SoundSource p) (nl nr : ℕ) (le : nl ≤ n
   abbrev CallsBefore : ℕ → ℕ → Type 0
   CallsBefore b g = (i : ℕ) (k : Known) → i < g → nth ks i ≡ Some k → MayCall in_thread k → (vs : List Value) → k.parameters ≡ length vs → (s : ThreadState) → Leads None Any s (call nl b false i vs s) (call nr b false i vs s)
 
-  -- a function calls those before it alone, so calls are no deeper than there are functions
-  calls_below : (b : ℕ) → CallsBefore b b
-  calls_below zero i k l e z vs a s = absurd (omega (arith, l))
-  calls_below (suc b) i k l e z vs a s =
+  abbrev pures_in_all : ℕ
+  pures_in_all = pures ks (length p.functions)
+
+  -- a pure call where there are as many calls left as pure functions
+  pure_call : (b : ℕ) → pures_in_all ≤ b → b ≤ length p.functions → (i : ℕ) (k : Known) → nth ks i ≡ Some k → k.pure ≡ true → (vs : List Value) → k.parameters ≡ length vs → (s : ThreadState) → Leads None Any s (call nl b false i vs s) (call nr b false i vs s)
+  pure_call b enough most i k e pure vs a s =
+      let is : is_pure (nth ks i) ≡ true = ap is_pure e ∙ pure in
+      let q : ℕ → Completion (Unit {0}) Value = λ n. quietly n p.functions b nowhere (Function i) vs tt in
+      let so : (n : ℕ) → call n b false i vs s ≡ carried s (q n) = λ n. (callee_carried (on_events (around p n)) n false p.functions sound.functions b nowhere (Function i) vs s is).0 in
+      let proper : (n : ℕ) → IsProper (q n) = λ n. shallow_proper p.functions sound.functions n b enough most nowhere (Function i) vs (record { function = k; found = e; arity = a; pure = pure }) in
+      subst (λ z. Leads None Any s z (call nr b false i vs s)) (sym (so nl))
+      (subst (λ z. Leads None Any s (carried s (q nl)) z) (sym (so nr)) (pure_leads (q nl) (q nr) (proper nl) (proper nr) (pure_more p.functions sound.functions nl nr le b nowhere (Function i) vs tt tt refl) s))
+
+  -- another function before one counts there
+  one_less : (g i : ℕ) (k : Known) → i < g → nth ks i ≡ Some k → k.pure ≡ false → others ks i < others ks g
+  one_less g i k l e pure = other_before ks i g l (known_there ks i k e) (ap is_pure e ∙ pure)
+
+  -- a call one deeper
+  call_leads : (b : ℕ) → pures_in_all ≤ b → b ≤ length p.functions → (i : ℕ) → CallsBefore b i → (k : Known) → nth ks i ≡ Some k → MayCall in_thread k → (vs : List Value) → k.parameters ≡ length vs → (s : ThreadState) → Leads None Any s (call nl (suc b) false i vs s) (call nr (suc b) false i vs s)
+  call_leads b enough most i earlier k e z vs a s =
       let found = there p.functions i k e in
       let fun = found.0 in
       let here = function_at p.functions i fun sound.functions found.1 in
@@ -840,9 +960,28 @@ module _ (p : ThreadSource) (sound : SoundSource p) (nl nr : ℕ) (le : nl ≤ n
       subst (λ o. Leads None Any s (bind (give o s) (λ x t. turns (suc nl) x.parameters (λ ws u. eval (on_events (around p nl) b) (call nl b) nl false x.body ws u) vs t)) (bind (give o s) (λ x t. turns (suc nr) x.parameters (λ ws u. eval (on_events (around p nr) b) (call nr b) nr false x.body ws u) vs t)))
       (sym found.1)
       (turns_leads None (suc nl) (suc nr) deeper fun.parameters (λ ws u. eval (on_events (around p nl) b) (call nl b) nl false fun.body ws u) (λ ws u. eval (on_events (around p nr) b) (call nr b) nr false fun.body ws u)
-      (λ ws u many. tree_leads b before (before_pure ks i)
-      (λ j g q y us r t. (let lower = nth-take i ks j g q in calls_below b j g (omega (arith, lower.0, l)) lower.1 y us r t)) fun.body fun.parameters (Some fun.parameters) body ws many u)
+      (λ ws u many. tree_leads b before (before_pure ks i) (λ j g q y us r t. (let lower = nth-take i ks j g q in earlier j g lower.0 lower.1 y us r t))
+      (λ n span c us h. shallow_proper p.functions sound.functions n b enough most span c us h) fun.body fun.parameters (Some fun.parameters) body ws many u)
       vs s (sym a ∙ ap (λ (x : Known). x.parameters) (sym known_so)))
+
+  -- of the functions before one, those that aren't pure call one another, and then pure ones
+  calls_counted : (b g : ℕ) → pures_in_all + others ks g ≤ b → b ≤ length p.functions → CallsBefore b g
+  calls_counted zero g enough most i k l e z vs a s = by k.pure refl
+    where
+      by : (x : Bool) → k.pure ≡ x → Leads None Any s (call nl zero false i vs s) (call nr zero false i vs s)
+      by true pure = pure_call zero (omega (arith, enough)) most i k e pure vs a s
+      by false pure = let less = one_less g i k l e pure in absurd (omega (arith, enough, less))
+  calls_counted (suc b) g enough most i k l e z vs a s = by k.pure refl (λ m. calls_counted b i m (omega (arith, most)))
+    where
+      by : (x : Bool) → k.pure ≡ x → (pures_in_all + others ks i ≤ b → CallsBefore b i) → Leads None Any s (call nl (suc b) false i vs s) (call nr (suc b) false i vs s)
+      by true pure below = pure_call (suc b) (omega (arith, enough)) most i k e pure vs a s
+      by false pure below = let less = one_less g i k l e pure in call_leads b (omega (arith, enough, less)) (omega (arith, most)) i (below (omega (arith, enough, less))) k e z vs a s
+
+  pures_fit : pures_in_all ≤ length p.functions
+  pures_fit = let both = both_kinds ks (length p.functions) in omega (arith, both)
+
+  calls_all : CallsBefore (length p.functions) (length p.functions)
+  calls_all = let both = both_kinds ks (length p.functions) in calls_counted (length p.functions) (length p.functions) (omega (arith, both)) (omega arith)
 
   -- before any event
   abbrev pub start : List SeenEvent → ThreadState
@@ -851,7 +990,7 @@ module _ (p : ThreadSource) (sound : SoundSource p) (nl nr : ℕ) (le : nl ≤ n
   pub thread_leads : (es : List SeenEvent) → Leads None Any (start es) (thread_meaning p nl es) (thread_meaning p nr es)
   thread_leads es =
       let d = length p.functions in
-      let h = tree_leads d ks (sound_pure ks) (λ i k q z vs a s. (let found = there p.functions i k q in calls_below d i k (nth_below p.functions i found.0 found.1) q z vs a s)) p.main 0 None sound.main [] refl (start es) in (
+      let h = tree_leads d ks (sound_pure ks) (λ i k q z vs a s. (let found = there p.functions i k q in calls_all i k (nth_below p.functions i found.0 found.1) q z vs a s)) (λ n span c us h1. shallow_proper p.functions sound.functions n d pures_fit (omega arith) span c us h1) p.main 0 None sound.main [] refl (start es) in (
         closed_from (eval (on_events (around p nr) d) (call nr d) nr false p.main [] (start es)) (start es) h.0,
         closed_step (eval (on_events (around p nl) d) (call nl d) nl false p.main [] (start es)) (eval (on_events (around p nr) d) (call nr d) nr false p.main [] (start es)) h.1,
       )

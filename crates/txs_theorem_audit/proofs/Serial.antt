@@ -40,7 +40,7 @@ explained_is_serial p r sound marks x a t ran there here =
     let s = source_of p t in
     let m = meaning_of p r t ran e.turns in
     let main = sound_thread p.functions p.threads a t sound.threads there in
-    let noted = threads_note s e.turns (events_of p r ran) (record { functions = sound.functions; main = main.0 }) marks.functions (marked_thread p.threads a t marks.threads there) in
+    let noted = threads_note s e.turns (events_of p r ran) (record { functions = sound.functions; cells = sound.cells; main = main.0 }) marks.functions (marked_thread p.threads a t marks.threads there) in
     let did : ThreadDid p.functions e.turns p.cells (books_of r) a ran.trace (txs_of m) = record {
       traced = x.traced a ran (in_front r.threads r.agents a ran here);
       runs = runs_up p.functions (validators_of p.cells) e.turns (events_of p r ran) m (ends_up ran.outcome ran.printed m e.ends) noted;

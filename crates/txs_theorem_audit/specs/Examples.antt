@@ -1,18 +1,20 @@
 -- Reports of small programs, and what an audit answers of them.
-use Rattle.std.specs.Prelude.{◌≡◌, ℕ, true, false, List, [], ◌∷◌, Option, Some, None, Ok}
+use Rattle.std.specs.Prelude.{◌≡◌, ℕ, true, false, List, [], ◌∷◌, Option, Some, None, Result, Ok, Err}
 use Rattle.txs_value_base.specs.declared.fault.Fault.{Fault}
-use Rattle.txs_value_base.specs.declared.fault.FaultKind.TheVariants.{NotANumber}
+use Rattle.txs_value_base.specs.declared.fault.FaultKind.TheVariants.{InvalidState, NotANumber}
 use Rattle.txs_value_base.specs.declared.op.Op.{Op}
-use Rattle.txs_value_base.specs.declared.op.Op.TheVariants.{Add, Multiply, Inc, Dec, Equal, Less}
+use Rattle.txs_value_base.specs.declared.op.Op.TheVariants.{Add, Multiply, Inc, Dec, Equal, IsPositive, Less}
+use Rattle.txs_value_data.specs.declared.value.Value.{Value}
 use Rattle.txs_value_data.specs.declared.value.Value.TheVariants.{Int, Nil, Cell}
-use Rattle.txs_tree_meaning.specs.Tree.{Mark, Const, Local, If, Do, Loop, Recur, Core, Dosync, Look, Update, Println, Send as SendTo, none, more, PlainProgram, PlainThread}
+use Rattle.txs_tree_meaning.specs.Tree.{Mark, Tree, Const, Local, If, Do, Loop, Recur, Core, Dosync, Look, Put, Update, Println, Send as SendTo, none, more, PlainProgram, PlainThread}
 use Rattle.txs_world_protocol.specs.declared.event.Outcome.{Outcome}
 use Rattle.txs_world_protocol.specs.declared.event.Outcome.TheVariants.{Done, Failed}
 use Rattle.std.specs.Prelude.{pos}
 use Rattle.txs_world_protocol.specs.declared.event.Event.{Event}
-use Rattle.txs_world_protocol.specs.declared.event.EventKind.TheVariants.{Act, Commit, Retry, Swap}
+use Rattle.txs_world_protocol.specs.declared.event.EventKind.TheVariants.{Act, Commit, Retry, Fail as FailEvent, Send as Sent, Swap}
 use Rattle.txs_value_cell.specs.declared.cell.ErrorMode.TheVariants.{Fail}
 use Rattle.txs_value_cell.specs.declared.form.UpdateForm.TheVariants.{Alter, Commute, Swap as SwapForm}
+use Rattle.txs_value_cell.specs.declared.form.PutForm.TheVariants.{Reset}
 use Rattle.txs_value_cell.specs.declared.form.LookForm.{LookForm}
 use Rattle.txs_value_cell.specs.declared.form.LookForm.TheVariants.{Deref, Ensure}
 use Rattle.txs_value_cell.specs.declared.cell.CellDefinition.{CellDefinition}
@@ -35,6 +37,7 @@ abbrev pub counts_to_three : PlainProgram
 counts_to_three = record {
   functions = [];
   cells = [];
+  validator_spans = [];
   threads = record {
     body = Loop (more (Const (Int (pos 0)) here) none) (If (Core Less (more (Local 0 here) (more (Const (Int (pos 3)) here) none)) here) (Recur (more (Core Inc (more (Local 0 here) none) here) none) here) (Const Nil here) here) here;
     span = record { from = 0; to = 0 };
@@ -69,7 +72,7 @@ counting = record { body = Dosync (Update Alter (Const (Cell a_ref) here) (CoreO
 
 -- `(def r (ref 0))` and two such threads
 abbrev pub counted_by_two : PlainProgram
-counted_by_two = record { functions = []; cells = record { kind = Ref; name = []; opening = Int (pos 0); error_mode = Fail; validator = None } ∷ []; threads = counting ∷ counting ∷ [] }
+counted_by_two = record { functions = []; cells = record { kind = Ref; name = []; opening = Int (pos 0); error_mode = Fail; validator = None } ∷ []; validator_spans = here.span ∷ []; threads = counting ∷ counting ∷ [] }
 
 -- a commit of this actor that began at an index and gave the ref this value
 abbrev wrote : ℕ → ℕ → ℕ → Event
@@ -120,7 +123,7 @@ takes_one form n = record {
 
 -- `(def a (ref 1)) (def b (ref 1))` and two such threads, one for each ref
 abbrev pub skewed : LookForm → PlainProgram
-skewed form = record { functions = []; cells = opens_with 1 ∷ opens_with 1 ∷ []; threads = takes_one form 0 ∷ takes_one form 1 ∷ [] }
+skewed form = record { functions = []; cells = opens_with 1 ∷ opens_with 1 ∷ []; validator_spans = here.span ∷ here.span ∷ []; threads = takes_one form 0 ∷ takes_one form 1 ∷ [] }
 
 -- an actor's commit with this read point and these writes
 abbrev commits : ℕ → ℕ → Writes → Event
@@ -161,6 +164,7 @@ abbrev pub altered : PlainProgram
 altered = record {
   functions = [];
   cells = opens_with 1 ∷ [];
+  validator_spans = here.span ∷ [];
   threads = record {
     body = Dosync
         (Do (more (Update Alter (Const (Cell a_ref) here) (CoreOp Add) (more (Const (Int (pos 10)) here) none) there) (more (Update Commute (Const (Cell a_ref) here) (CoreOp Multiply) (more (Const (Int (pos 2)) here) none) there) none)) there) there;
@@ -198,6 +202,7 @@ abbrev pub of_each_kind : PlainProgram
 of_each_kind = record {
   functions = [];
   cells = zero_cell Ref ∷ zero_cell Atom ∷ zero_cell Agent ∷ [];
+  validator_spans = here.span ∷ here.span ∷ here.span ∷ [];
   threads = record {
     body = Do
         (more (Println (more (Const (Int (pos 1)) here) none) there)
@@ -277,3 +282,64 @@ EntriesAreAnswered =
     × (verdict of_each_kind (with_these (thread_ran (Some (Failed a_fault)) (49 ∷ 10 ∷ []) (home_at 0 ∷ swap_at ∷ [])) right_book) 9 ≡ Differs 0 2)
     × (verdict of_each_kind (report_of_kinds right_ran right_book 5 1 None) 9 ≡ Differs 0 2)
     × (verdict of_each_kind (report_of_kinds right_ran right_book 1 1 (Some a_fault)) 9 ≡ Differs 0 2)
+
+-- ---- values that a validator refuses
+
+-- a cell of this kind that opens with 1, and whose validator is `pos?`
+abbrev guarded_cell : CellKind → CellDefinition
+guarded_cell kind = record { kind = kind; name = []; opening = Int (pos 1); error_mode = Fail; validator = Some (CoreOp IsPositive) }
+
+-- such a cell, and a thread with this body
+abbrev pub guarded : CellKind → Tree → PlainProgram
+guarded kind body = record { functions = []; cells = guarded_cell kind ∷ []; validator_spans = here.span ∷ []; threads = record { body = body; span = record { from = 0; to = 0 } } ∷ [] }
+
+-- `(def r (ref 1 :validator pos?)) (future (dosync (alter r dec)))`
+abbrev pub guarded_ref : PlainProgram
+guarded_ref = guarded Ref (Dosync (Update Alter (Const (Cell a_ref) here) (CoreOp Dec) none there) there)
+
+-- `(def a (atom 1 :validator pos?)) (future (reset! a 0))`
+abbrev pub guarded_atom : PlainProgram
+guarded_atom = guarded Atom (Put Reset (Const (Cell (record { kind = Atom; number = 0 })) here) (Const (Int (pos 0)) here) there)
+
+-- `(def g (agent 1 :validator pos?)) (future (send g dec))`
+abbrev pub guarded_agent : PlainProgram
+guarded_agent = guarded Agent (SendTo (Const (Cell (agent_of 0)) here) (CoreOp Dec) none there)
+
+-- the fault of a value that is refused
+abbrev refusal : Fault
+refusal = record { kind = InvalidState; span = record { from = 0; to = 0 } }
+
+-- a thread that has faulted so, with these entries of its trace
+abbrev refused : List Place → PlainActorReport
+refused ps = thread_ran (Some (Failed refusal)) [] ps
+
+-- a report of one thread and one cell: the thread's entry, the books, and the cell's value
+abbrev pub report_of_guarded : PlainActorReport → List Event → List (List Event) → ℕ → PlainReport
+report_of_guarded ran es swaps v = record { threads = ran ∷ []; agents = []; book = es; atom_books = swaps; cells = Int (pos v) ∷ []; failed = [] }
+
+-- the agent's first action came to this
+abbrev acted_so : Result Value Fault → Event
+acted_so new = record { actor = 1; kind = Act (agent_of 0) 1 new [] }
+
+-- the report of the agent, whose one action came to this, with this state and this fault
+abbrev pub report_of_agent : Result Value Fault → ℕ → Option Fault → PlainReport
+report_of_agent new v f = record {
+  threads = ended (home_at 0 ∷ []) ∷ [];
+  agents = record { outcome = None; printed = []; trace = home_at 1 ∷ [] } ∷ [];
+  book = record { actor = 0; kind = Sent (record { agent = agent_of 0; callee = CoreOp Dec; args = []; span = record { from = 0; to = 0 } }) } ∷ acted_so new ∷ [];
+  atom_books = [];
+  cells = Int (pos v) ∷ [];
+  failed = f ∷ [];
+}
+
+-- What a validator refuses isn't written: a commit, a `reset!` and an action fault, and the right reports of that agree. A report in
+-- which the refused value was written differs at the event, as does one of a thread that is done without it.
+abbrev pub RefusedIsAnswered : Type 0
+RefusedIsAnswered =
+    (verdict guarded_ref (report_of_guarded (refused (home_at 0 ∷ [])) (record { actor = 0; kind = FailEvent 0 0 } ∷ []) [] 1) 9 ≡ Agrees true)
+    × (verdict guarded_ref (report_of_guarded (ended (home_at 0 ∷ [])) (wrote 0 0 0 ∷ []) [] 0) 9 ≡ Differs 0 0)
+    × (verdict guarded_atom (report_of_guarded (refused []) [] ([] ∷ []) 1) 9 ≡ Agrees true)
+    × (verdict guarded_atom (report_of_guarded (ended (swap_at ∷ [])) [] ((record { actor = 0; kind = Swap (Int (pos 0)) } ∷ []) ∷ []) 0) 9 ≡ Differs 0 0)
+    × (verdict guarded_atom (report_of_guarded (ended []) [] ([] ∷ []) 1) 9 ≡ Differs 0 0)
+    × (verdict guarded_agent (report_of_agent (Err refusal) 1 (Some refusal)) 9 ≡ Agrees true)
+    × (verdict guarded_agent (report_of_agent (Ok (Int (pos 0))) 0 None) 9 ≡ Differs 1 0)

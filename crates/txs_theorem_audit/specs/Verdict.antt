@@ -26,13 +26,14 @@ use Rattle.txs_world_book.specs.Served.{cells_of}
 use Rattle.txs_world_book.specs.declared.cell.StoreCell.{StoreCell}
 use Rattle.txs_world.specs.Store.{next_action}
 use Rattle.txs_tree_meaning.specs.Known.{Known, known}
-use Rattle.txs_tree_meaning.specs.Meaning.{Completion, Completes, Recurs, Faults, Retries, Waits, OutOfTurns, Invalid, apply}
-use Rattle.txs_tree_meaning.specs.Pure.{pure_calls}
+use Rattle.txs_tree_meaning.specs.Meaning.{Completion, Completes, Recurs, Faults, Retries, Waits, OutOfTurns, Invalid}
 use Rattle.txs_tree_meaning.specs.Right.{is_wrong, eats_right, right_meaning}
 use Rattle.txs_tree_meaning.specs.Thread.{TxRun, ThreadState, thread_meaning}
 use Rattle.txs_tree_meaning.specs.Tree.{PlainProgram, PlainThread, ThreadSource}
 use Rattle.txs_theorem_threads.specs.FollowsAll.{source_of}
+use Rattle.txs_theorem_threads.specs.FollowsAgent.{new_state}
 use Rattle.txs_theorem_threads.specs.Noted.{txs_of}
+use Rattle.txs_value_cell.specs.Cells.{validators_of}
 use Rattle.txs_theorem_runs.specs.Told.{Place, places_in, places_by, seen_of}
 use Rattle.txs_theorem_serial.specs.Serial.{is_covered}
 use Rattle.txs_theorem_audit.specs.Audited.{PlainActorReport, PlainReport, books_of, entry_of, Verdict, Finding, Fine, Off, Short, and_then, check, answer}
@@ -323,7 +324,7 @@ threads_found p r n a (t ∷ ts) (ran ∷ rans) = and_then (thread_found p r n a
 
 -- ---- agents
 
--- what an action came to, beside what its callee means
+-- what an action came to, beside the new state that it means
 abbrev pub act_means : ℕ → ℕ → Result Value Fault → Completion (Unit {0}) Value → Finding
 act_means a i new (Completes v u) = check (same_new (Ok v) new) a i
 act_means a i new (Recurs vs u) = Off a i
@@ -348,7 +349,7 @@ abbrev pub act_found : PlainProgram → ℕ → ℕ → ℕ → List Event → C
 act_found p n a i done g new None = Off a i
 act_found p n a i done g new (Some x) =
     if is_pure_call (known p.functions) x.callee (suc (length x.args))
-    then act_means a i new (apply (pure_calls n p.functions (length p.functions) false) x.span x.callee (newest (opening (cells_of p.cells)) done g.number ∷ x.args) tt)
+    then act_means a i new (new_state n p.functions (validators_of p.cells) x (newest (opening (cells_of p.cells)) done g.number))
     else Off a i
 
 -- an event of an agent, after these

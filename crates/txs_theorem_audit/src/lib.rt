@@ -6,6 +6,7 @@ ghost use Rattle.txs_theorem_audit.specs.Examples.{
   CountsAreAnswered,
   EntriesAreAnswered,
   EventsAreAnswered,
+  RefusedIsAnswered,
   SkewIsAnswered,
   TwoAreAnswered,
 };
@@ -65,6 +66,11 @@ pub fn events_are_answered()
 /// A report in which one entry was changed differs there.
 pub fn entries_are_answered()
     ensures { EntriesAreAnswered }
+{}
+
+/// A value that a validator refuses isn't written; a report in which it was written differs.
+pub fn refused_is_answered()
+    ensures { RefusedIsAnswered }
 {}
 
 /// The last tests may be gone through by halves.

@@ -4,14 +4,18 @@ use Rattle.std.specs.Prelude.{not}
 use Rattle.std.proofs.lemmas.Bool.{eq-eqb, eqb-true}
 use Rattle.txs_value_base.specs.Places.{nth, fault_at}
 use Rattle.txs_value_base.specs.declared.fault.FaultKind.{FaultKind}
+use Rattle.txs_value_base.specs.declared.fault.FaultKind.TheVariants.{InvalidState}
 use Rattle.txs_value_base.specs.declared.fault.Span.{Span}
 use Rattle.txs_value_base.specs.declared.op.Callee.{Callee}
 use Rattle.txs_value_base.specs.declared.op.Callee.TheVariants.{Core as CoreOp, Function}
 use Rattle.txs_value_base.specs.declared.op.Op.{Op}
 use Rattle.txs_value_apply.specs.Core.{core}
-use Rattle.txs_world_protocol.specs.Ask.{same_new}
+use Rattle.txs_value_apply.specs.Truth.{choose}
+use Rattle.txs_value_cell.specs.Cells.{Validators, validator_at}
+use Rattle.txs_value_cell.specs.declared.action.Action.{Action}
 use Rattle.txs_value_base.specs.declared.fault.Fault.{Fault}
 use Rattle.txs_value_data.specs.declared.value.Value.{Value}
+use Rattle.txs_value_data.specs.declared.value.Value.TheVariants.{Nil, Truth, Int, Key, Text, Vector, Cell}
 use Rattle.txs_world_protocol.specs.SeenEvent.{SeenEvent}
 use Rattle.txs_world_protocol.specs.declared.event.Event.{Event}
 use Rattle.txs_world_protocol.specs.declared.event.EventKind.{EventKind}
@@ -19,11 +23,12 @@ use Rattle.txs_world_protocol.specs.declared.event.EventKind.TheVariants.{Read, 
 use Rattle.txs_world_protocol.specs.declared.event.Outcome.{Outcome}
 use Rattle.txs_world_protocol.specs.declared.event.Outcome.TheVariants.{Done, Failed, StepsSpent, JournalFull, Memory}
 use Rattle.txs_world_book.specs.declared.cell.StoreCell.{StoreCell}
-use Rattle.txs_tree_meaning.specs.Meaning.{Completion, Completes, Recurs, Faults, Retries, Waits, OutOfTurns, Invalid, result_of, apply}
+use Rattle.txs_tree_meaning.specs.Meaning.{Completion, Completes, Recurs, Faults, Retries, Waits, OutOfTurns, Invalid, bind, result_of, Applies, apply}
 use Rattle.txs_tree_meaning.specs.Pure.{nowhere, pure_calls, pure_meaning}
 use Rattle.txs_tree_meaning.specs.Right.{is_wrong, eats_right, right_meaning}
 use Rattle.txs_tree_meaning.specs.Thread.{TxRun, ThreadState, thread_meaning}
-use Rattle.txs_tree_meaning.specs.Tree.{ThreadSource}
+use Rattle.txs_tree_meaning.specs.Transaction.{judged, validated}
+use Rattle.txs_tree_meaning.specs.Tree.{PlainFunction, ThreadSource}
 use Rattle.txs_tree_eval.specs.Told.{told_tx, Account, TellsWrong, TellsOf, PureGives}
 use Rattle.txs_tree_eval.specs.declared.pure_call.EvalStop.{EvalStop}
 use Rattle.txs_tree_eval.specs.declared.pure_call.EvalStop.TheVariants.{Fault as AFault, Turns as FewTurns, Memory as NoMemory}
@@ -31,12 +36,13 @@ use Rattle.txs_tree_eval.specs.declared.meaning.Needs.{Needs}
 use Rattle.txs_tree_eval.specs.declared.meaning.Needs.TheVariants as needs
 use Rattle.txs_tree_eval.specs.declared.meaning.ThreadMeaning.{ThreadMeaning}
 use Rattle.txs_theorem_threads.proofs.Meant.{Any}
+use Rattle.txs_theorem_threads.specs.FollowsAgent.{new_state}
 use Rattle.txs_theorem_threads.specs.Noted.{txs_of}
 use Rattle.txs_theorem_serial.specs.Serial.{is_covered}
 use Rattle.txs_theorem_audit.specs.Audited.{PlainActorReport, Finding, Fine, Off, Short, and_then, check}
 use Rattle.txs_theorem_audit.specs.Verdict.{begins, same_numbers, is_calm, is_end, is_commit, with_run, calm_at, calm_found, covered_if, covered_all, is_stopped, is_done, has_faulted, least_printed, printed_by, printed_part, noted_by, end_found, act_means}
 use Rattle.txs_theorem_audit.proofs.Onward.{Onward, From, thread_leads}
-use Rattle.txs_theorem_audit_eval.specs.Evaluated.{calm_by, with_first, calm_at_by, calm_found_by, covered_if_by, covered_all_by, same_end, end_by, least_by, act_by, ActBy, CalmBy, CoveredBy, NotedBy, EndBy, LeastBy}
+use Rattle.txs_theorem_audit_eval.specs.Evaluated.{calm_by, with_first, calm_at_by, calm_found_by, covered_if_by, covered_all_by, same_end, end_by, least_by, answer_in, judged_by, accepted_by, state_by, act_by, ValidatorGives, ActBy, CalmBy, CoveredBy, NotedBy, EndBy, LeastBy}
 
 -- ---- transactions
 
@@ -236,36 +242,107 @@ IsFault (Waits u) = ⊥
 IsFault (OutOfTurns u) = ⊥
 IsFault Invalid = ⊥
 
-value_in : Value → Completion (Unit {0}) Value → Value
-value_in d (Completes v u) = v
-value_in d _ = d
-
 fault_of : Fault → Completion (Unit {0}) Value → Fault
 fault_of d (Faults f u) = f
 fault_of d _ = d
 
--- an operation as callee
-op_told : (a i : ℕ) (new : Result Value Fault) (op : Op) (span : Span) (o : Result Value FaultKind) (r : Result Value EvalStop) → PureGives r (result_of o nowhere tt) → (r ≡ Err NoMemory → ⊥) → act_means a i new (result_of o span tt) ≡ act_by a i new (CoreOp op) span r
-unfolding value_in fault_of
-op_told a i new op span (Ok w) (Ok v) h m = ap (λ z. check (same_new (Ok z) new) a i) (ap (value_in w) h)
-op_told a i new op span (Ok w) (Err (AFault f)) h m = absurd (subst IsValue h tt)
-op_told a i new op span (Ok w) (Err FewTurns) h m = absurd (subst IsValue h tt)
-op_told a i new op span (Ok w) (Err NoMemory) h m = absurd (m refl)
-op_told a i new op span (Err k) (Ok v) h m = absurd (subst IsFault h tt)
-op_told a i new op span (Err k) (Err (AFault f)) h m = ap (λ (z : Fault). check (same_new (Err (fault_at z.kind span)) new) a i) (ap (fault_of (fault_at k nowhere)) h)
-op_told a i new op span (Err k) (Err FewTurns) h m = absurd (subst IsFault h tt)
-op_told a i new op span (Err k) (Err NoMemory) h m = absurd (m refl)
+-- ---- what is answered of a callee, and of the agent's validator
+
+abbrev IsMemory : Result Value EvalStop → Type 0
+IsMemory (Ok v) = ⊥
+IsMemory (Err (AFault f)) = ⊥
+IsMemory (Err FewTurns) = ⊥
+IsMemory (Err NoMemory) = Unit {0}
+
+-- there was memory
+abbrev HadMemory : Result Value EvalStop → Type 0
+HadMemory r = r ≡ Err NoMemory → ⊥
+
+-- this is answered, and there was memory
+abbrev Says : Result Value EvalStop → Completion (Unit {0}) Value → Type 0
+Says r c = PureGives r c × HadMemory r
+
+value_said : (v : Value) → HadMemory (Ok v)
+value_said v e = subst IsMemory (sym e) tt
+
+fault_said : (f : Fault) → HadMemory (Err (AFault f))
+fault_said f e = subst IsMemory (sym e) tt
+
+turns_said : HadMemory (Err FewTurns)
+turns_said e = subst IsMemory (sym e) tt
+
+says_act : (a i : ℕ) (new : Result Value Fault) (r : Result Value EvalStop) (c : Completion (Unit {0}) Value) → Says r c → act_means a i new c ≡ act_by a i new r
+says_act a i new (Ok v) c h = ap (act_means a i new) h.0
+says_act a i new (Err (AFault f)) c h = ap (act_means a i new) h.0
+says_act a i new (Err FewTurns) c h = ap (act_means a i new) h.0
+says_act a i new (Err NoMemory) c h = absurd (h.1 refl)
+
+-- an operation as callee, whose fault is that of the action's span
+op_says : (op : Op) (span : Span) (o : Result Value FaultKind) (r : Result Value EvalStop) → Says r (result_of o nowhere tt) → Says (answer_in (CoreOp op) span r) (result_of o span tt)
+unfolding fault_of
+op_says op span (Ok w) (Ok v) h = (h.0, value_said v)
+op_says op span (Ok w) (Err (AFault f)) h = absurd (subst IsValue h.0 tt)
+op_says op span (Ok w) (Err FewTurns) h = absurd (subst IsValue h.0 tt)
+op_says op span (Ok w) (Err NoMemory) h = absurd (h.1 refl)
+op_says op span (Err k) (Ok v) h = absurd (subst IsFault h.0 tt)
+op_says op span (Err k) (Err (AFault f)) h = (ap (λ (z : Fault). Faults (fault_at z.kind span) tt) (ap (fault_of (fault_at k nowhere)) h.0), fault_said (fault_at f.kind span))
+op_says op span (Err k) (Err FewTurns) h = absurd (subst IsFault h.0 tt)
+op_says op span (Err k) (Err NoMemory) h = absurd (h.1 refl)
 
 -- a function as callee
-function_told : (a i j : ℕ) (new : Result Value Fault) (span : Span) (c : Completion (Unit {0}) Value) (r : Result Value EvalStop) → PureGives r c → (r ≡ Err NoMemory → ⊥) → act_means a i new c ≡ act_by a i new (Function j) span r
-function_told a i j new span c (Ok v) h m = ap (act_means a i new) h
-function_told a i j new span c (Err (AFault f)) h m = ap (act_means a i new) h
-function_told a i j new span c (Err FewTurns) h m = ap (act_means a i new) h
-function_told a i j new span c (Err NoMemory) h m = absurd (m refl)
+function_says : (i : ℕ) (span : Span) (c : Completion (Unit {0}) Value) (r : Result Value EvalStop) → Says r c → Says (answer_in (Function i) span r) c
+function_says i span c (Ok v) h = h
+function_says i span c (Err (AFault f)) h = h
+function_says i span c (Err FewTurns) h = h
+function_says i span c (Err NoMemory) h = h
+
+module _ (n : ℕ) (functions : List PlainFunction) (span : Span) where
+  abbrev applies : Applies (Unit {0})
+  applies = apply (pure_calls n functions (length functions) false) span
+
+  says_in : (c : Callee) (ws : List Value) (r : Result Value EvalStop) → Says r (pure_meaning n functions c ws) → Says (answer_in c span r) (applies c ws tt)
+  says_in (CoreOp op) ws r h = op_says op span (core op ws) r h
+  says_in (Function i) ws r h = function_says i span (pure_calls n functions (length functions) false i ws tt) r h
+
+  -- a validator's answer
+  says_judged : (answer v : Value) → Says (choose answer (Ok v) (Err (AFault (fault_at InvalidState span)))) (judged answer span v tt)
+  says_judged Nil v = (refl, fault_said (fault_at InvalidState span))
+  says_judged (Truth false) v = (refl, fault_said (fault_at InvalidState span))
+  says_judged (Truth true) v = (refl, value_said v)
+  says_judged (Int z) v = (refl, value_said v)
+  says_judged (Key bs) v = (refl, value_said v)
+  says_judged (Text bs) v = (refl, value_said v)
+  says_judged (Vector vs) v = (refl, value_said v)
+  says_judged (Cell c) v = (refl, value_said v)
+
+  says_then : (v : Value) (r : Result Value EvalStop) (c : Completion (Unit {0}) Value) → Says r c → Says (judged_by span v r) (bind c (λ answer u. judged answer span v u))
+  says_then v (Ok answer) c h = subst (λ d. Says (judged_by span v (Ok answer)) (bind d (λ b u. judged b span v u))) (sym h.0) (says_judged answer v)
+  says_then v (Err (AFault f)) c h = (ap (λ d. bind d (λ b u. judged b span v u)) h.0, fault_said f)
+  says_then v (Err FewTurns) c h = (ap (λ d. bind d (λ b u. judged b span v u)) h.0, turns_said)
+  says_then v (Err NoMemory) c h = absurd (h.1 refl)
+
+  -- a value, where the agent's validator accepts it
+  says_accepted : (o : Option Callee) (v : Value) (q : Result Value EvalStop) → ValidatorGives n functions o v q → Says (accepted_by o span v q) (validated applies o span v tt)
+  says_accepted None v q h = (refl, value_said v)
+  says_accepted (Some f) v q h = says_then v (answer_in f span q) (applies f (v ∷ []) tt) (says_in f (v ∷ []) q h)
+
+-- an agent's new state
+module _ (functions : List PlainFunction) (vs : Validators) (n : ℕ) (x : Action) (state : Value) (q : Result Value EvalStop) where
+  abbrev guard : Option Callee
+  guard = validator_at vs x.agent.number
+
+  abbrev then_checked : Value → Unit {0} → Completion (Unit {0}) Value
+  then_checked w u = validated (applies n functions x.span) guard x.span w u
+
+  says_state : (r : Result Value EvalStop) → Says r (pure_meaning n functions x.callee (state ∷ x.args)) → ((v : Value) → r ≡ Ok v → ValidatorGives n functions guard v q) → Says (state_by x guard r q) (new_state n functions vs x state)
+  says_state (Ok v) h g =
+      subst (λ c. Says (accepted_by guard x.span v q) (bind c then_checked)) (sym (says_in n functions x.span x.callee (state ∷ x.args) (Ok v) h).0) (says_accepted n functions x.span guard v q (g v refl))
+  says_state (Err (AFault f)) h g =
+      let one = says_in n functions x.span x.callee (state ∷ x.args) (Err (AFault f)) h in (ap (λ c. bind c then_checked) one.0, one.1)
+  says_state (Err FewTurns) h g =
+      let one = says_in n functions x.span x.callee (state ∷ x.args) (Err FewTurns) h in (ap (λ c. bind c then_checked) one.0, one.1)
+  says_state (Err NoMemory) h g = absurd (h.1 refl)
 
 pub act_told : ActBy
-act_told functions n a i new x state r h m = go x.callee h
-  where
-    go : (c : Callee) → PureGives r (pure_meaning n functions c (state ∷ x.args)) → act_means a i new (apply (pure_calls n functions (length functions) false) x.span c (state ∷ x.args) tt) ≡ act_by a i new c x.span r
-    go (CoreOp op) g = op_told a i new op x.span (core op (state ∷ x.args)) r g m
-    go (Function j) g = function_told a i j new x.span (pure_calls n functions (length functions) false j (state ∷ x.args) tt) r g m
+act_told functions vs n a i new x state r q h m g =
+    says_act a i new (state_by x (validator_at vs x.agent.number) r q) (new_state n functions vs x state) (says_state functions vs n x state q r (h, m) g)

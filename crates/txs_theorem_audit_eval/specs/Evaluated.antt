@@ -5,6 +5,9 @@ use Rattle.txs_value_base.specs.declared.fault.Fault.{Fault}
 use Rattle.txs_value_base.specs.declared.fault.Span.{Span}
 use Rattle.txs_value_base.specs.declared.op.Callee.{Callee}
 use Rattle.txs_value_base.specs.declared.op.Callee.TheVariants.{Core as CoreOp, Function}
+use Rattle.txs_value_apply.specs.Truth.{choose}
+use Rattle.txs_value_base.specs.declared.fault.FaultKind.TheVariants.{InvalidState}
+use Rattle.txs_value_cell.specs.Cells.{Validators, validator_at}
 use Rattle.txs_value_cell.specs.declared.action.Action.{Action}
 use Rattle.txs_value_data.specs.declared.value.Value.{Value}
 use Rattle.txs_world_protocol.specs.Ask.{same_fault, same_new}
@@ -16,8 +19,7 @@ use Rattle.txs_world_protocol.specs.declared.event.Outcome.{Outcome}
 use Rattle.txs_world_protocol.specs.declared.event.Outcome.TheVariants.{Done, Failed}
 use Rattle.txs_world_book.specs.Book.{first_failed}
 use Rattle.txs_world_book.specs.declared.cell.StoreCell.{StoreCell}
-use Rattle.txs_tree_meaning.specs.Meaning.{apply}
-use Rattle.txs_tree_meaning.specs.Pure.{pure_calls, pure_meaning}
+use Rattle.txs_tree_meaning.specs.Pure.{pure_meaning}
 use Rattle.txs_tree_meaning.specs.Sound.{SoundSource}
 use Rattle.txs_tree_meaning.specs.Thread.{TxRun, thread_meaning}
 use Rattle.txs_tree_meaning.specs.Transaction.{TxState}
@@ -29,6 +31,7 @@ use Rattle.txs_tree_eval.specs.declared.meaning.Needs.{Needs}
 use Rattle.txs_tree_eval.specs.declared.meaning.Needs.TheVariants as needs
 use Rattle.txs_tree_eval.specs.declared.meaning.ThreadMeaning.{ThreadMeaning}
 use Rattle.txs_tree_eval.specs.declared.transaction.TxMeaning.{TxMeaning}
+use Rattle.txs_theorem_threads.specs.FollowsAgent.{new_state}
 use Rattle.txs_theorem_runs.specs.Told.{Place}
 use Rattle.txs_theorem_serial.specs.Serial.{is_covered}
 use Rattle.txs_theorem_audit.specs.Audited.{PlainActorReport, Finding, Fine, Off, Short, and_then, check}
@@ -106,12 +109,39 @@ abbrev pub fault_in : Callee → Span → Fault → Fault
 fault_in (CoreOp op) span f = fault_at f.kind span
 fault_in (Function i) span f = f
 
--- what an action came to, beside what is answered of its callee; where there was no memory nothing is said
-abbrev pub act_by : ℕ → ℕ → Result Value Fault → Callee → Span → Result Value EvalStop → Finding
-act_by a i new c span (Ok v) = check (same_new (Ok v) new) a i
-act_by a i new c span (Err (AFault f)) = check (same_new (Err (fault_in c span f)) new) a i
-act_by a i new c span (Err FewTurns) = Short a i
-act_by a i new c span (Err NoMemory) = Fine
+-- the same of all that is answered of a callee
+abbrev pub answer_in : Callee → Span → Result Value EvalStop → Result Value EvalStop
+answer_in c span (Ok v) = Ok v
+answer_in c span (Err (AFault f)) = Err (AFault (fault_in c span f))
+answer_in c span (Err FewTurns) = Err FewTurns
+answer_in c span (Err NoMemory) = Err NoMemory
+
+-- a value, where a validator that gave this answer accepts it
+abbrev pub judged_by : Span → Value → Result Value EvalStop → Result Value EvalStop
+judged_by span v (Ok answer) = choose answer (Ok v) (Err (AFault (fault_at InvalidState span)))
+judged_by span v (Err e) = Err e
+
+-- a value, by what is answered of its cell's validator, if there is one
+abbrev pub accepted_by : Option Callee → Span → Value → Result Value EvalStop → Result Value EvalStop
+accepted_by None span v q = Ok v
+accepted_by (Some f) span v q = judged_by span v (answer_in f span q)
+
+-- an agent's new state, by what is answered of its action's callee, and of the agent's validator on the value that this gives
+abbrev pub state_by : Action → Option Callee → Result Value EvalStop → Result Value EvalStop → Result Value EvalStop
+state_by x o (Ok v) q = accepted_by o x.span v q
+state_by x o (Err e) q = answer_in x.callee x.span (Err e)
+
+-- what an action came to, beside the new state that is answered; where there was no memory nothing is said
+abbrev pub act_by : ℕ → ℕ → Result Value Fault → Result Value EvalStop → Finding
+act_by a i new (Ok v) = check (same_new (Ok v) new) a i
+act_by a i new (Err (AFault f)) = check (same_new (Err f) new) a i
+act_by a i new (Err FewTurns) = Short a i
+act_by a i new (Err NoMemory) = Fine
+
+-- of the agent's validator on a value this is answered, and there was memory
+abbrev pub ValidatorGives : ℕ → List PlainFunction → Option Callee → Value → Result Value EvalStop → Type 0
+ValidatorGives n functions None v q = Unit {0}
+ValidatorGives n functions (Some f) v q = PureGives q (pure_meaning n functions f (v ∷ [])) × (q ≡ Err NoMemory → ⊥)
 
 -- ---- laws
 
@@ -140,6 +170,7 @@ LeastBy = (s : ThreadSource) (n : ℕ) (es : List SeenEvent) (m : ThreadMeaning)
 -- what an action came to
 abbrev pub ActBy : Type 0
 ActBy =
-    (functions : List PlainFunction) (n a i : ℕ) (new : Result Value Fault) (x : Action) (state : Value) (r : Result Value EvalStop)
+    (functions : List PlainFunction) (vs : Validators) (n a i : ℕ) (new : Result Value Fault) (x : Action) (state : Value) (r q : Result Value EvalStop)
     → PureGives r (pure_meaning n functions x.callee (state ∷ x.args)) → (r ≡ Err NoMemory → ⊥)
-    → act_means a i new (apply (pure_calls n functions (length functions) false) x.span x.callee (state ∷ x.args) tt) ≡ act_by a i new x.callee x.span r
+    → ((v : Value) → r ≡ Ok v → ValidatorGives n functions (validator_at vs x.agent.number) v q)
+    → act_means a i new (new_state n functions vs x state) ≡ act_by a i new (state_by x (validator_at vs x.agent.number) r q)

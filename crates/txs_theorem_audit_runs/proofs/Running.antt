@@ -224,7 +224,7 @@ module _ (p : PlainProgram) (s : PlainShared) (r : Report) (sound : Sound p) (ce
       let e = x.by_threads.each a t ran there here in
       let src = source_of p t in
       let main = sound_thread p.functions p.threads a t sound.threads there in
-      let source_sound : SoundSource src = record { functions = sound.functions; main = main.0 } in
+      let source_sound : SoundSource src = record { functions = sound.functions; cells = sound.cells; main = main.0 } in
       let n = e.turns in
       let o = ran.outcome in
       let out = ran.printed.items in

@@ -1,11 +1,12 @@
 -- The code of a script has a byte form.
-use Rattle.std.proofs.Common.{◌≡◌, ℕ, suc, ◌+◌, ◌-◌, ◌*◌, ◌≤◌, Bool, true, false, List, [], ◌∷◌, ◌++◌, length, map, None, refl, sym, ap, subst, ◌∙◌, arith}
+use Rattle.std.proofs.Common.{◌≡◌, ℕ, suc, ◌+◌, ◌-◌, ◌*◌, ◌≤◌, Bool, true, false, not, ◌||◌, List, [], ◌∷◌, ◌++◌, length, map, None, refl, sym, ap, subst, ◌∙◌, arith}
 use Rattle.std.specs.Prelude.{nat_le, ◌==◌}
 use Rattle.std.specs.List.{AllByRecursion}
 use Rattle.std.proofs.lemmas.Bool.Decides.{nat_tests}
 use Rattle.txs_value_data.specs.Limits.{most_locals, most_nodes}
 use Rattle.txs_value_base.specs.declared.fault.Span.{Span}
 use Rattle.txs_value_data.specs.declared.value.Value.{Value}
+use Rattle.txs_tree_meaning.proofs.Callable.{length-known}
 use Rattle.txs_tree_meaning.specs.Known.{Known, known, known_of}
 use Rattle.txs_tree_meaning.specs.Scoped.{ScopedFunctions, ScopedThreads}
 use Rattle.txs_tree_meaning.specs.Sound.{nodes_of_functions, nodes_of_all}
@@ -19,19 +20,21 @@ use Rattle.txs_gen.specs.Generated.{constants_of_functions, constants_of_threads
 use Rattle.txs_gen.proofs.Segments.{plain_length}
 use Rattle.txs_code_decode.specs.declared.error.CodeErrorKind.TheVariants.{BadOperand, TooLarge}
 use Rattle.txs_code_decode.specs.CellForm.{cell_format, constant_format, kinds_of}
-use Rattle.txs_code_decode.specs.CodeForm.{paired, body_of, body_parts, body_format, instructions, all_instructions, magic, magic_format, cells_format, constants_format, functions_format, threads_format, program_format, code_format, HasForm}
+use Rattle.txs_code_meaning.specs.Validating.{has_validator}
+use Rattle.txs_code_decode.specs.CodeForm.{paired, body_of, body_parts, body_format, instructions, all_instructions, magic_format, cells_format, told_cells_format, constants_format, functions_format, threads_format, program_format, code_format, HasForm}
 use Rattle.txs_code_decode.specs.Format.{SharingFits}
 use Rattle.txs_code_decode.specs.ValueForm.{must}
 use Rattle.txs_opt.specs.Optimised.{optimised}
 use Rattle.txs_theorem_opt.proofs.Programs.{optimised_sound, optimised_has}
 use Rattle.txs_theorem_byte_form.specs.ReadProgram.{IsLiteral, is_read, CellIsRead, FunctionIsRead, ThreadIsRead}
 use Rattle.txs_theorem_byte_form.specs.Law.{ScriptsHaveForms}
+use Rattle.txs_theorem_byte_form.proofs.Cells.{AreThere, cells_there, cells_fit}
 use Rattle.txs_theorem_byte_form.proofs.Counts.{AreFew, body_short}
 use Rattle.txs_theorem_byte_form.proofs.Instrs.{Named, IsSized, all_named, placed_fit}
 use Rattle.txs_theorem_byte_form.proofs.Literals.{literals_kept}
 use Rattle.txs_theorem_byte_form.proofs.ReadForms.{forms_are_read}
 use Rattle.txs_theorem_byte_form.proofs.ReadProgram.{program_read}
-use Rattle.txs_theorem_byte_form.proofs.Values.{must_true, is_within, constants_fit, cells_fit}
+use Rattle.txs_theorem_byte_form.proofs.Values.{must_true, is_within, constants_fit}
 use Rattle.txs_theorem_byte_form.proofs.Written.{literals_cat, functions_literals, threads_literals, body_ordered}
 
 -- ---- bodies
@@ -221,9 +224,15 @@ threads_as_many qs ks (b ∷ bs) (t ∷ ts) h = ap suc (threads_as_many qs ks bs
 
 -- ---- code
 
-magic_fits : magic_format.fits magic
+magic_fits : (validated : Bool) → magic_format.fits validated
 unfolding magic_format
-magic_fits = (omega arith, refl)
+magic_fits false = ((omega arith, refl), refl)
+magic_fits true = ((omega arith, refl), refl)
+
+-- cells tell what the magic tells of them
+told_fits : (validated : Bool) → must BadOperand (not validated || validated) ≡ None
+told_fits false = refl
+told_fits true = refl
 
 -- what the parts of code need
 record Parts (code : PlainCode) : Type 0 where
@@ -231,7 +240,7 @@ record Parts (code : PlainCode) : Type 0 where
   few_constants : length code.constants ≤ 1000000
   few_functions : length code.functions ≤ 1000
   few_threads : length code.threads ≤ 64
-  cells : AllByRecursion cell_format.fits code.cells
+  cells : AllByRecursion (cell_format (has_validator code.cells)).fits code.cells
   constants : AllByRecursion (constant_format true (kinds_of code.cells)).fits code.constants
   functions : Bodies (length code.constants) (length code.functions) false code.functions
   threads : Bodies (length code.constants) (length code.functions) true code.threads
@@ -241,14 +250,14 @@ few_test : (n m : ℕ) → n ≤ m → must TooLarge (nat_le n m) ≡ None
 few_test n m le = must_true TooLarge (nat_le n m) (is_within n m le)
 
 parts_fit : (code : PlainCode) → Parts code → HasForm code
-unfolding code_format cells_format constants_format program_format functions_format threads_format
+unfolding code_format told_cells_format cells_format constants_format program_format functions_format threads_format
 parts_fit code p =
     let ks = length code.constants in
     let fs = length code.functions in (
       (
-        magic_fits,
+        magic_fits (has_validator code.cells),
         (
-          (((omega (arith, p.few_cells), few_test (length code.cells) 1000 p.few_cells), (refl, p.cells)), refl),
+          ((((omega (arith, p.few_cells), few_test (length code.cells) 1000 p.few_cells), (refl, p.cells)), refl), told_fits (has_validator code.cells)),
           (
             (((omega (arith, p.few_constants), few_test ks 1000000 p.few_constants), (refl, p.constants)), refl),
             (
@@ -279,12 +288,14 @@ scripts_have_forms bytes forms p limit code function_rooms thread_rooms reads re
     let fs = functions_made code typed.kinds 0 code.functions q.functions [] typed.kinds function_rooms (omega arith) made.functions scoped.functions read.functions typed.functions in
     let ts = threads_made code typed.kinds code.threads q.threads (known q.functions) thread_rooms made.threads scoped.threads read.threads typed.threads in
     let few_cells : length code.cells ≤ 1000 = omega (arith, scoped.few_cells, ap length made.cells) in
+    let few_known : length (known q.functions) ≤ 1000 = omega (arith, scoped.few_functions, length-known q.functions) in
+    let there = subst (AreThere (length (known q.functions))) (sym made.cells) (cells_there (known q.functions) q.cells scoped.cells) in
     parts_fit code (record {
       few_cells = few_cells;
       few_constants = omega (arith, several);
       few_functions = omega (arith, scoped.few_functions, functions_as_many (parameters_of code.functions) code.constants code.functions q.functions made.functions);
       few_threads = omega (arith, scoped.few_threads, threads_as_many (parameters_of code.functions) code.constants code.threads q.threads made.threads);
-      cells = cells_fit code.cells (subst (AllByRecursion CellIsRead) (sym made.cells) from.cells) names.openings;
+      cells = cells_fit (has_validator code.cells) (length (known q.functions)) code.cells few_known (λ e. e) there (subst (AllByRecursion CellIsRead) (sym made.cells) from.cells) names.openings;
       constants = constants_fit code.cells few_cells code.constants (subst (AllByRecursion IsLiteral) (sym made.constants) literals.each) names.constants;
       functions = fs.each;
       threads = ts.each;

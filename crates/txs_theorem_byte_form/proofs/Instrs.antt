@@ -66,11 +66,11 @@ unfolding op_format
 op_fits op = let n = numbered op in (omega (arith, n.0), n.1)
 
 -- a callee is an operation, or one of so many functions
-abbrev IsCallee : ℕ → Callee → Type 0
+abbrev pub IsCallee : ℕ → Callee → Type 0
 IsCallee fs (callee.Core op) = Unit {0}
 IsCallee fs (callee.Function f) = f < fs
 
-callee_fits : (fs : ℕ) (c : Callee) → fs ≤ 1000 → IsCallee fs c → (callee_format fs).fits c
+pub callee_fits : (fs : ℕ) (c : Callee) → fs ≤ 1000 → IsCallee fs c → (callee_format fs).fits c
 unfolding callee_format
 callee_fits fs (callee.Core op) few h = let n = numbered op in ((omega arith, refl), ((omega (arith, n.0), n.1), refl))
 callee_fits fs (callee.Function f) few h = ((omega arith, refl), ((omega (arith, h, few), must_true BadOperand (nat_lt f fs) (is_below f fs h)), refl))

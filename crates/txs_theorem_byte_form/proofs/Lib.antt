@@ -1,3 +1,4 @@
+pub mod Cells
 pub mod Counts
 pub mod HasForm
 pub mod Instrs

@@ -7,6 +7,7 @@ use Rattle.txs_value_base.specs.Operations.{op_name}
 use Rattle.txs_value_data.specs.PlainValue.{plain_row}
 use Rattle.txs_value_data.specs.View.{plain_of, plains_of}
 use Rattle.txs_value_cell.specs.declared.cell.ErrorMode.{ErrorMode}
+use Rattle.txs_value_cell.specs.declared.cell.ErrorMode.TheVariants.{Fail}
 use Rattle.txs_value_base.specs.declared.fault.Span.{Span}
 use Rattle.txs_value_cell.specs.declared.form.CellForm.{CellForm}
 use Rattle.txs_value_cell.specs.declared.form.CellForm.TheVariants as on_cell
@@ -29,6 +30,7 @@ use Rattle.txs_resolve_scope.specs.declared.scope.Definition.{Definition}
 use Rattle.txs_resolve_scope.specs.declared.scope.Definition.TheVariants.{Constant, Cell as ACell, Function as AFunction}
 use Rattle.txs_resolve_scope.specs.Scope.{Scope, Entry, Meaning, a_form, dotted, a_local, the_current, defined_as, operation, unknown, or_form, or_local, or_defined, or_unknown, meaning, definition_of, local_number, is_current, with_name, form_name, form_names, operations, is_dot, is_none, may_bind, with_local}
 use Rattle.txs_resolve.specs.declared.definition.CellSort.{CellSort}
+use Rattle.txs_resolve.specs.declared.definition.Validation.{Validation}
 use Rattle.txs_resolve_expand.specs.declared.error.ResolveError.{ResolveError}
 use Rattle.txs_resolve_expand.specs.declared.error.ResolveErrorKind.TheVariants.{BadForm, TooMany, Redefined}
 use Rattle.txs_resolve_expand.specs.declared.shapes.Change.{Change}
@@ -43,7 +45,7 @@ use Rattle.txs_resolve_expand.specs.Expansions.{alone, body, expand_once, expans
 use Rattle.txs_resolve_expand.specs.Expressions.{Answer, Bound, Special, row, one_part, putting, choice, binding, changing, Core as ACore, whole, parted, Resolver, spot_at, spot_mark, in_room, some_room, narrow, symbol_node, leaf_node, leaf_value, callee_of, flag, sequence_node, are_wanted, choice_node, single_node, is_wanted, change_node, binding_node, are_pairs, bound_in, cell_form, of_family, special, is_chain, all_but_last, last_of, operands, applied, list_core, core_of, bound_name, named_all, named_bindings, put_together, made, resolved, named}
 use Rattle.txs_resolve_body.specs.Literals.{is_literal, literal, literals}
 use Rattle.txs_resolve_expand.specs.Namespace.{behind_namespace, is_namespace}
-use Rattle.txs_resolve.specs.Names.{State, nothing, program, new_name, Defining, only_literal, mode_behind, opened, cell_of, kind_at, defining_of, new_cell, with_definition, defined_as_one, NamedForm, named_form, defined_at, parameters, Written, written_behind, untold, written, are_symbols, with_function, function, with_thread, future, top_level, step, steps, Resolves}
+use Rattle.txs_resolve.specs.Names.{State, nothing, program, new_name, Defining, only_literal, mode_of, is_error_mode, is_validator, Options, no_options, first_mode, with_mode, first_validator, with_option, with_options, options_from, options_behind, mode_or_fail, opened, cell_of, kind_at, defining_of, validator_named, validator_place, new_cell, with_definition, entered, defined_as_one, NamedForm, named_form, defined_at, parameters, Written, written_behind, untold, written, are_symbols, with_function, function, with_thread, future, top_level, step, steps, Resolves}
 use Rattle.txs_resolve.proofs.Scoping.{Every, then_every, one_every, two_every, three_every, if_every}
 use Rattle.txs_code_decode.proofs.ValueExact.{plain_row_again}
 use Rattle.txs_theorem_byte_form.specs.ReadForms.{IsSymbol, LeafIsRead, IsRead, AreRead}
@@ -568,49 +570,72 @@ abbrev DefiningRead : Option Defining → Type 0
 DefiningRead None = Unit {0}
 DefiningRead (Some d) = SortRead d.sort × IsRead IsSymbol d.value
 
-only_read : (sort : Option CellSort) (form : Form) → SortRead sort → IsRead IsSymbol form → DefiningRead (only_literal sort form)
-only_read sort form h k = here (is_literal form) where
-  here : (b : Bool) → DefiningRead (if b then Some (record { sort = sort; value = form }) else None)
+only_read : (sort : Option CellSort) (validator : Option Form) (form : Form) → SortRead sort → IsRead IsSymbol form → DefiningRead (only_literal sort validator form)
+only_read sort validator form h k = here (is_literal form) where
+  here : (b : Bool) → DefiningRead (if b then Some (record { sort = sort; value = form; validator = validator }) else None)
   here true = (h, k)
   here false = tt
 
-abbrev ModeRead : CellKind → Option ErrorMode → Type 0
-ModeRead k None = Unit {0}
-ModeRead k (Some mode) = HasMode k mode
+-- options of which the error mode is one that such a cell has
+abbrev OptionsRead : CellKind → Option Options → Type 0
+OptionsRead k None = Unit {0}
+OptionsRead k (Some o) = HasMode k (mode_or_fail o.error_mode)
 
-opened_read : (k : CellKind) (mode : Option ErrorMode) (form : Form) → ModeRead k mode → IsRead IsSymbol form → DefiningRead (opened k mode form)
+opened_read : (k : CellKind) (o : Option Options) (form : Form) → OptionsRead k o → IsRead IsSymbol form → DefiningRead (opened k o form)
 opened_read k None form h r = tt
-opened_read k (Some mode) form h r = only_read (Some (record { kind = k; error_mode = mode })) form h r
+opened_read k (Some o) form h r = only_read (Some (record { kind = k; error_mode = mode_or_fail o.error_mode })) o.validator form h r
 
-any_agent : (o : Option ErrorMode) → ModeRead Agent o
+fails : (k : CellKind) → HasMode k Fail
+fails Ref = refl
+fails Atom = refl
+fails Agent = tt
+
+any_agent : (o : Option Options) → OptionsRead Agent o
 any_agent None = tt
-any_agent (Some mode) = tt
+any_agent (Some o) = tt
 
-mode_read : (k : CellKind) (behind : Forms) → ModeRead k (mode_behind k behind)
-mode_read Ref no_forms = refl
-mode_read Ref (first key behind) = tt
-mode_read Atom no_forms = refl
-mode_read Atom (first key behind) = tt
-mode_read Agent behind = any_agent (mode_behind Agent behind)
+mode_read : (k : CellKind) (form : Form) (o : Options) → OptionsRead k (with_mode k form o)
+mode_read Ref form o = tt
+mode_read Atom form o = tt
+mode_read Agent form o = any_agent (first_mode o.error_mode (mode_of form) o.validator)
+
+validator_read : (k : CellKind) (was : Option Form) (form : Form) (mode : Option ErrorMode) → HasMode k (mode_or_fail mode) → OptionsRead k (first_validator was form mode)
+validator_read k None form mode h = h
+validator_read k (Some other) form mode h = tt
+
+option_read : (k : CellKind) (key form : Form) (o : Options) → HasMode k (mode_or_fail o.error_mode) → OptionsRead k (with_option k key form o)
+option_read k key form o h = here (is_validator key) (is_error_mode key) where
+  here : (v m : Bool) → OptionsRead k (if v then first_validator o.validator form o.error_mode else (if m then with_mode k form o else None))
+  here true m = validator_read k o.validator form o.error_mode h
+  here false true = mode_read k form o
+  here false false = tt
+
+options_read : (k : CellKind) (o : Options) (behind : Forms) → HasMode k (mode_or_fail o.error_mode) → OptionsRead k (options_from k o behind)
+options_read k o no_forms h = h
+options_read k o (first key no_forms) h = tt
+options_read k o (first key (first form rest)) h = here (with_option k key form o) (option_read k key form o h) (λ p r. options_read k p rest r) where
+  here : (p : Option Options) → OptionsRead k p → ((q : Options) → HasMode k (mode_or_fail q.error_mode) → OptionsRead k (options_from k q rest)) → OptionsRead k (with_options p (λ q. options_from k q rest))
+  here None r go = tt
+  here (Some q) r go = go q r
 
 cell_read : (o : Option CellKind) (args : Forms) → AreRead IsSymbol args → DefiningRead (cell_of o args)
 cell_read None args h = tt
 cell_read (Some k) no_forms h = tt
-cell_read (Some k) (first form behind) h = opened_read k (mode_behind k behind) form (mode_read k behind) h.0
+cell_read (Some k) (first form behind) h = opened_read k (options_behind k behind) form (options_read k no_options behind (fails k)) h.0
 
 defining_read : (form : Form) → IsRead IsSymbol form → DefiningRead (defining_of form)
-defining_read (leaf x at) h = only_read None (leaf x at) tt h
-defining_read (group Square forms at) h = only_read None (group Square forms at) tt h
-defining_read (group Round no_forms at) h = only_read None (group Round no_forms at) tt h
+defining_read (leaf x at) h = only_read None None (leaf x at) tt h
+defining_read (group Square forms at) h = only_read None None (group Square forms at) tt h
+defining_read (group Round no_forms at) h = only_read None None (group Round no_forms at) tt h
 defining_read (group Round (first head args) at) h = cell_read (kind_at (form_at head)) args h.0.1
 
-definition_read : (sort : Option CellSort) (s : State) (name : List ℕ) (v : Value) → SortRead sort → IsSymbol name → IsLiteral v → StateRead s → StateRead (with_definition sort s name v)
-definition_read None s name v k n l h = record { defined = named_more s.defined (record { name = name; what = Constant v }) h.defined l; functions = h.functions; threads = h.threads; cells = h.cells }
-definition_read (Some sort) s name v k n l h = record {
+definition_read : (sort : Option CellSort) (s : State) (name : List ℕ) (v : Value) (w : Validation) → SortRead sort → IsSymbol name → IsLiteral v → StateRead s → StateRead (with_definition sort s name v w)
+definition_read None s name v w k n l h = record { defined = named_more s.defined (record { name = name; what = Constant v }) h.defined l; functions = h.functions; threads = h.threads; cells = h.cells }
+definition_read (Some sort) s name v w k n l h = record {
   defined = named_more s.defined (record { name = name; what = ACell (record { kind = sort.kind; number = length s.cells }) }) h.defined tt;
   functions = h.functions;
   threads = h.threads;
-  cells = all_more CellIsRead s.cells (new_cell name sort v) h.cells (record { name = n; mode = k; opening = l; validator = refl });
+  cells = all_more CellIsRead s.cells (new_cell name sort v w.callee) h.cells (record { name = n; mode = k; opening = l });
 }
 
 -- a name that can be defined is the name that was asked for
@@ -622,9 +647,11 @@ new_name_is defined name at =
 one_read : (s : State) (name : List ℕ) (at span : Span) (o : Option Defining) → DefiningRead o → IsSymbol name → StateRead s → Every StateRead (defined_as_one s name at span o)
 one_read s name at span None k n h = tt
 one_read s name at span (Some d) k n h =
-    if_every StateRead (nat_lt s.defs most_definitions) (literal most_depth d.value >>= λ v. new_name s.defined name at >>= λ n. Ok (with_definition d.sort s n v)) (record { kind = TooMany; at = span })
-    (λ _. two_every IsLiteral (λ m. m ≡ name) StateRead (literal most_depth d.value) (new_name s.defined name at) (λ v n. with_definition d.sort s n v) (literal_read IsSymbol most_depth d.value k.1) (new_name_is s.defined name at)
-    (λ v m l e. definition_read d.sort s m v k.0 (subst IsSymbol (sym e) n) l h))
+    let w : Option Callee → Validation = λ callee. record { callee = callee; at = validator_place span d.validator } in
+    if_every StateRead (nat_lt s.defs most_definitions) (entered s name at span d) (record { kind = TooMany; at = span })
+    (λ _. three_every IsLiteral Any (λ m. m ≡ name) StateRead (literal most_depth d.value) (validator_named s.defined span d.validator) (new_name s.defined name at) (λ v callee m. with_definition d.sort s m v (w callee))
+    (literal_read IsSymbol most_depth d.value k.1) (any (validator_named s.defined span d.validator)) (new_name_is s.defined name at)
+    (λ v callee m l _ e. definition_read d.sort s m v (w callee) k.0 (subst IsSymbol (sym e) n) l h))
 
 abbrev NamedRead : Option NamedForm → Type 0
 NamedRead None = Unit {0}

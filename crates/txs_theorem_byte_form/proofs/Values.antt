@@ -1,4 +1,4 @@
--- Literals and cells that are defined have a byte form.
+-- Literals have a byte form.
 use Rattle.std.proofs.Common.{◌≡◌, ℕ, zero, suc, ◌-◌, ◌<◌, ◌≤◌, Bool, true, false, not, ◌&&◌, ◌||◌, List, [], ◌∷◌, length, Some, None, ℤ, pos, negsuc, refl, sym, ap, subst, arith}
 use Rattle.std.specs.Prelude.{◌==◌, nat_lt, nat_le, IsUtf8, slice_index, slice_index_or, bytes_eq, codes}
 use Rattle.std.specs.Int.{w64}
@@ -14,24 +14,22 @@ use Rattle.txs_value_data.specs.Names.{IsName}
 use Rattle.txs_value_data.specs.PlainValue.{PlainValue, PlainValues, nil, truth, int, key, text, vector, cell, end, more, plain_list}
 use Rattle.txs_value_data.specs.View.{plain_of}
 use Rattle.txs_value_cell.specs.declared.cell.CellDefinition.{CellDefinition}
-use Rattle.txs_value_cell.specs.declared.cell.ErrorMode.{ErrorMode}
-use Rattle.txs_value_cell.specs.declared.cell.ErrorMode.TheVariants.{Fail, Continue}
 use Rattle.txs_value_data.specs.declared.value.CellId.{CellId}
 use Rattle.txs_value_data.specs.declared.value.CellKind.{CellKind}
-use Rattle.txs_value_data.specs.declared.value.CellKind.TheVariants.{Ref, Atom, Agent}
+use Rattle.txs_value_data.specs.declared.value.CellKind.TheVariants.{Ref}
 use Rattle.txs_value_data.specs.declared.value.Value.{Value}
 use Rattle.txs_reader.specs.Bytes.{is_i64, is_symbol, is_numeric, is_sign, IsOther}
 use Rattle.txs_reader.proofs.Numbers.{fits_from_i64}
-use Rattle.txs_code_meaning.specs.OwnCells.{kind_at, IsDefined, HoldsDefined, RowHoldsDefined, NameDefined, OpeningsNameNone}
+use Rattle.txs_code_meaning.specs.OwnCells.{kind_at, IsDefined, HoldsDefined, RowHoldsDefined, NameDefined}
 use Rattle.txs_code_decode.specs.declared.error.CodeErrorKind.{CodeErrorKind}
 use Rattle.txs_code_decode.specs.declared.error.CodeErrorKind.TheVariants.{BadOperand}
-use Rattle.txs_code_decode.specs.CellForm.{kind_format, mode_format, cell_format, constant_format, kinds_of}
+use Rattle.txs_code_decode.specs.CellForm.{constant_format, kinds_of}
 use Rattle.txs_code_decode.specs.Format.{Format, never}
 use Rattle.txs_code_decode.specs.Names.{begins_number, begins_foreign, is_literal_word, names_keyword, names_cell}
 use Rattle.txs_code_decode.specs.ValueForm.{must, name_over, keyword_format, cell_name_format, text_format, tag_format, value_over, value_format}
 use Rattle.txs_code_decode.proofs.ValueExact.{value_again, plain_list_again}
 use Rattle.txs_theorem_byte_form.specs.ReadForms.{IsSymbol}
-use Rattle.txs_theorem_byte_form.specs.ReadProgram.{IsLiteralIn, AreLiteralsIn, IsLiteral, HasMode, CellIsRead}
+use Rattle.txs_theorem_byte_form.specs.ReadProgram.{IsLiteralIn, AreLiteralsIn, IsLiteral}
 
 -- a test that holds doesn't refuse
 pub must_true : (kind : CodeErrorKind) (b : Bool) → b ≡ true → must kind b ≡ None
@@ -93,7 +91,7 @@ symbol_named w h o =
     neither : IsOther w → ((bytes_eq w (codes "nil") || bytes_eq w (codes "true")) || bytes_eq w (codes "false")) ≡ false
     neither o = or_false _ _ (or_false _ _ o.no_nil o.no_true) o.no_false
 
-cell_name_fits : (name : List ℕ) → IsSymbol name → cell_name_format.fits name
+pub cell_name_fits : (name : List ℕ) → IsSymbol name → cell_name_format.fits name
 unfolding cell_name_format
 cell_name_fits name h = name_fits names_cell name h.0.0 h.0.1 (symbol_named name h.1 h.2)
 
@@ -171,39 +169,13 @@ module _ (cells : Bool) (defs : List CellDefinition) (may : (c : CellId) → IsD
     row_fits room end h k = tt
     row_fits room (more v vs) h k = (value_fits room v h.0 k.0, row_fits room vs h.1 k.1)
 
-  constant_fits : (v : Value) → IsLiteral v → HoldsDefined defs (plain_of v) → (constant_format cells (kinds_of defs)).fits v
+  pub constant_fits : (v : Value) → IsLiteral v → HoldsDefined defs (plain_of v) → (constant_format cells (kinds_of defs)).fits v
   unfolding constant_format
   constant_fits v h k = (value_fits 32 (plain_of v) h k, value_again v)
 
-no_cell : (c : CellId) → IsDefined [] c → false ≡ true
+pub no_cell : (c : CellId) → IsDefined [] c → false ≡ true
 no_cell c e = absurd cc
 
 pub constants_fit : (defs : List CellDefinition) → length defs ≤ 1000 → (vs : List Value) → AllByRecursion IsLiteral vs → NameDefined defs vs → AllByRecursion (constant_format true (kinds_of defs)).fits vs
 constants_fit defs few [] h k = tt
 constants_fit defs few (v ∷ vs) h k = (constant_fits true defs (λ c e. refl) few v h.0 k.0, constants_fit defs few vs h.1 k.1)
-
--- ---- cells
-
-mode_fits : (k : CellKind) (mode : ErrorMode) → HasMode k mode → (mode_format k).fits mode
-unfolding mode_format
-mode_fits Ref Fail h = (omega arith, refl)
-mode_fits Ref Continue h = absurd cc
-mode_fits Atom Fail h = (omega arith, refl)
-mode_fits Atom Continue h = absurd cc
-mode_fits Agent Fail h = (omega arith, refl)
-mode_fits Agent Continue h = (omega arith, refl)
-
-kind_fits : (k : CellKind) → kind_format.fits k
-unfolding kind_format
-kind_fits Ref = (omega arith, refl)
-kind_fits Atom = (omega arith, refl)
-kind_fits Agent = (omega arith, refl)
-
-cell_fits : (d : CellDefinition) → CellIsRead d → HoldsDefined [] (plain_of d.opening) → cell_format.fits d
-unfolding cell_format
-cell_fits d h k =
-    ((kind_fits d.kind, (mode_fits d.kind d.error_mode h.mode, (cell_name_fits d.name h.name, constant_fits false [] no_cell (omega arith) d.opening h.opening k))), λ i. record { kind = d.kind; name = d.name; opening = d.opening; error_mode = d.error_mode; validator = sym h.validator i })
-
-pub cells_fit : (ds : List CellDefinition) → AllByRecursion CellIsRead ds → OpeningsNameNone ds → AllByRecursion cell_format.fits ds
-cells_fit [] h k = tt
-cells_fit (d ∷ ds) h k = (cell_fits d h.0 k.0, cells_fit ds h.1 k.1)

@@ -1,5 +1,5 @@
 -- What the program of a script has, since its forms were read.
-use Rattle.std.specs.Prelude.{◌≡◌, ◌<◌, ◌≤◌, ◌-◌, ℕ, true, length, IsUtf8, None}
+use Rattle.std.specs.Prelude.{◌≡◌, ◌<◌, ◌≤◌, ◌-◌, ℕ, true, length, IsUtf8}
 use Rattle.std.specs.List.{AllByRecursion}
 use Rattle.txs_value_data.specs.Limits.{most_depth, most_items, most_text}
 use Rattle.txs_value_data.specs.Names.{IsName}
@@ -44,12 +44,11 @@ HasMode Ref mode = mode ≡ Fail
 HasMode Atom mode = mode ≡ Fail
 HasMode Agent mode = Unit {0}
 
--- a cell with the name of a symbol, that opens with a literal and has no validator
+-- a cell with the name of a symbol, that opens with a literal
 pub record CellIsRead (d : CellDefinition) : Type 0 where
   pub name : IsSymbol d.name
   pub mode : HasMode d.kind d.error_mode
   pub opening : IsLiteral d.opening
-  pub validator : d.validator ≡ None
 
 -- each constant is a literal or a cell, and the span of each node is in order
 abbrev pub is_read : Facts

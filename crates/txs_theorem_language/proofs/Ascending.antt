@@ -98,5 +98,5 @@ pub bodies_ascend : (bytes : List â„•) (forms : List Form) (p : PlainProgram) â†
 bodies_ascend bytes forms p reads resolves =
     let h = behind_nest 0 (length bytes) forms (forms_nest bytes forms reads) in
     program_rises p (steps nothing (behind_namespace forms))
-    (steps_rise h.0 (length bytes) nothing (behind_namespace forms) h.1 (record { upto = record { bodies = omega arith; functions = tt; threads = tt }; ascend = tt; early = tt }))
+    (steps_rise h.0 (length bytes) nothing (behind_namespace forms) h.1 (record { upto = record { functions = tt; threads = tt }; ascend = tt; early = tt }))
     resolves

@@ -1,5 +1,5 @@
 -- No fault of a tree begins before its refusal, where its forms begin in the order in which they are checked.
-use Rattle.std.proofs.Common.{◌≡◌, ℕ, zero, suc, ◌+◌, ◌<◌, ◌≤◌, ◌⊎◌, inl, inr, Bool, true, false, not, ◌&&◌, nat_eq, List, [], ◌∷◌, Option, Some, None, Ok, Err, refl, sym, ap, subst, ◌∙◌, arith, if◌then◌else◌}
+use Rattle.std.proofs.Common.{◌≡◌, ℕ, zero, suc, ◌+◌, ◌<◌, ◌≤◌, ◌⊎◌, inl, inr, Bool, true, false, not, ◌&&◌, nat_eq, List, [], ◌∷◌, ◌++◌, map, take, drop, Option, Some, None, Ok, Err, refl, sym, ap, subst, ◌∙◌, arith, if◌then◌else◌}
 use Rattle.txs_value_apply.specs.Core.{takes}
 use Rattle.txs_value_cell.specs.Forms.{rule}
 use Rattle.txs_value_base.specs.Places.{nth}
@@ -17,7 +17,7 @@ use Rattle.txs_value_base.specs.declared.op.Callee.{Callee}
 use Rattle.txs_value_base.specs.declared.op.Callee.TheVariants.{Core as CoreOp, Function}
 use Rattle.txs_tree_meaning.specs.Known.{Known, is_pure, known}
 use Rattle.txs_tree_meaning.specs.Tree.{Tree, Mark, Const, Local, If, Do, Let, Loop, Recur, Core, Call, VectorOf, Println, Dosync, Look, Put, Update, Send, Trees, none, more, count, PlainProgram}
-use Rattle.txs_check.specs.Faulty.{IsAmong, is_first, is_later, IsLast, is_only, is_behind, IsBefore, is_now, is_then, Stands, as_whole, in_test, in_first, in_second, in_block, in_last, in_bound, in_let, in_start, in_loop, in_recur, in_operation, in_call, in_vector, in_line, in_transaction, in_looked, in_filled, in_value, in_updated, in_further, in_agent, in_sent, IsForm, it_looks, it_puts, it_updates, it_sends, HasApplied, in_update, in_action, callee_takes, HasFault, recurs_nowhere, recurs_before_end, recurs_across, recurs_with_others, operates_on_others, calls_with_others, applies_to_others, applies_impurely, calls_outside, stands_outside, calls_inside, stands_inside, prints_inside, FaultIn, IsBody, body_first, body_later}
+use Rattle.txs_check.specs.Faulty.{IsAmong, is_first, is_later, IsLast, is_only, is_behind, IsBefore, is_now, is_then, Stands, as_whole, in_test, in_first, in_second, in_block, in_last, in_bound, in_let, in_start, in_loop, in_recur, in_operation, in_call, in_vector, in_line, in_transaction, in_looked, in_filled, in_value, in_updated, in_further, in_agent, in_sent, IsForm, it_looks, it_puts, it_updates, it_sends, HasApplied, in_update, in_action, callee_takes, HasFault, recurs_nowhere, recurs_before_end, recurs_across, recurs_with_others, operates_on_others, calls_with_others, applies_to_others, applies_impurely, calls_outside, stands_outside, calls_inside, stands_inside, prints_inside, FaultIn, IsBody, body_first, body_later, IsValidator, ValidatorFault, validates_others, validates_impurely, FaultOfValidator}
 use Rattle.txs_check.specs.declared.error.CheckError.{CheckError}
 use Rattle.txs_check.specs.declared.error.CheckErrorKind.{CheckErrorKind}
 use Rattle.txs_check.specs.declared.error.CheckErrorKind.TheVariants.{RecurNotTail, RecurCount, RecurAcrossDosync, Arity, NotPure, InsideOnly, OutsideOnly, CodeTooLarge}
@@ -25,7 +25,7 @@ use Rattle.txs_check.specs.declared.place.Target.{Target}
 use Rattle.txs_check.specs.declared.place.Target.TheVariants.{Nowhere, Across, Nearest}
 use Rattle.txs_check.specs.declared.place.Zone.{Zone}
 use Rattle.txs_check.specs.declared.place.Zone.TheVariants.{InFunction, InFuture, InDosync}
-use Rattle.txs_check.specs.Refused.{Checked, fine, ◌>>◌, only, inner, across, recurs, operates, accepts, zoned, calls, called, placed, formed, applied, here, place_of, turned_in, in_turn, checked, checked_all, checked_do, Body, in_order, checked_body, checked_bodies, room, few, refusal, CheckStops}
+use Rattle.txs_check.specs.Refused.{Checked, fine, ◌>>◌, only, inner, across, recurs, operates, accepts, zoned, calls, called, placed, formed, applied, here, place_of, turned_in, in_turn, checked, checked_all, checked_do, Body, in_order, Validator, validators_in, validates, Checkable, of_body, of_validator, earlier, together, checked_one, checked_each, room, few, refusal, CheckStops}
 use Rattle.txs_theorem_language.proofs.Spreads.{InTurn, Spreads, SpreadRow, spreads_order, row_order}
 
 -- ---- one form
@@ -528,35 +528,111 @@ module _ (ks : List Known) where
         (spreads_order lo h.0 e h.1) (row_order h.0 hi (more f rest) h.2) (part_of z (inner t) e lo h.0 h.1) (part_do z t (more f rest) h.0 hi h.2))
         (λ n k. block_split z t e f rest n k)
 
--- ---- bodies
+-- ---- bodies and validators
 
--- bodies whose forms begin in this stretch, one body behind the other
-abbrev pub BodiesLie : ℕ → ℕ → List Body → Type 0
-BodiesLie lo hi [] = lo ≤ hi
-BodiesLie lo hi (b ∷ bs) = (n : ℕ) × Spreads lo n b.tree × BodiesLie n hi bs
+-- bodies and validators whose forms begin in this stretch, one behind the other
+abbrev pub EachLies : ℕ → ℕ → List Checkable → Type 0
+EachLies lo hi [] = lo ≤ hi
+EachLies lo hi (of_body b ∷ cs) = (n : ℕ) × Spreads lo n b.tree × EachLies n hi cs
+EachLies lo hi (of_validator v ∷ cs) = (lo ≤ v.span.from) × EachLies v.span.from hi cs
 
-bodies_order : (lo hi : ℕ) (bs : List Body) → BodiesLie lo hi bs → lo ≤ hi
-bodies_order lo hi [] h = h
-bodies_order lo hi (b ∷ bs) h = omega (arith, spreads_order lo h.0 b.tree h.1, bodies_order h.0 hi bs h.2)
+each_order : (lo hi : ℕ) (cs : List Checkable) → EachLies lo hi cs → lo ≤ hi
+each_order lo hi [] h = h
+each_order lo hi (of_body b ∷ cs) h = omega (arith, spreads_order lo h.0 b.tree h.1, each_order h.0 hi cs h.2)
+each_order lo hi (of_validator v ∷ cs) h = omega (arith, h.0, each_order v.span.from hi cs h.1)
 
 module _ (ks : List Known) where
-  abbrev BodyFault : List Body → ℕ → Type 0
-  BodyFault bs n = (b : Body) × IsBody b bs × FaultAt ks b.zone b.target b.tree n
+  -- a validator has a fault, and begins here
+  abbrev OwnValidator : Validator → ℕ → Type 0
+  OwnValidator v n = ((callee : Callee) × (kind : CheckErrorKind) × (v.callee ≡ Some callee) × ValidatorFault ks callee kind) × (n ≡ v.span.from)
 
-  no_body : (b : Body) → IsBody b [] → ⊥
-  no_body b is = elim is [ ]
+  validates_at : (o : Option Callee) (at : Span) → IsAt at (validates ks o at)
+  validates_at None at = tt
+  validates_at (Some callee) at = at_called ks callee 1 at
 
-  body_split : (b : Body) (bs : List Body) (n : ℕ) (c : Body) → IsBody c (b ∷ bs) → FaultAt ks c.zone c.target c.tree n → FaultAt ks b.zone b.target b.tree n ⊎ BodyFault bs n
-  body_split b bs n _ (body_first _) h = inl h
-  body_split b bs n c (body_later _ _ is) h = inr (c, is, h)
+  validator_refuses : (callee : Callee) (kind : CheckErrorKind) → ValidatorFault ks callee kind → (at : Span) → Refuses (called ks callee 1 at)
+  validator_refuses callee _ (validates_others h) at = called_refuses ks callee 1 at h
+  validator_refuses callee _ (validates_impurely f is h) at =
+      subst (λ x. Refuses (called ks x 1 at)) (sym is) (second_refuses (only (accepts (nth ks f) 1) Arity at) (only (is_pure (nth ks f)) NotPure at) (only_refuses (is_pure (nth ks f)) NotPure at h))
 
-  bodies_part : (bs : List Body) (lo hi : ℕ) → BodiesLie lo hi bs → Part ks lo hi (checked_bodies ks bs) (BodyFault bs)
-  bodies_part [] lo hi h = no_part ks lo hi (BodyFault []) (λ n k. no_body k.0 k.1)
-  bodies_part (b ∷ bs) lo hi h =
-      map_part ks lo hi (checked_body ks b >> checked_bodies ks bs) (λ n. FaultAt ks b.zone b.target b.tree n ⊎ BodyFault bs n) (BodyFault (b ∷ bs))
-      (then_part ks lo h.0 hi (checked_body ks b) (checked_bodies ks bs) (FaultAt ks b.zone b.target b.tree) (BodyFault bs)
-      (spreads_order lo h.0 b.tree h.1) (bodies_order h.0 hi bs h.2) (part_of ks b.zone b.target b.tree lo h.0 h.1) (bodies_part bs h.0 hi h.2))
-      (λ n k. body_split b bs n k.0 k.1 k.2)
+  validator_part : (v : Validator) (lo : ℕ) → lo ≤ v.span.from → Part ks lo v.span.from (validates ks v.callee v.span) (OwnValidator v)
+  validator_part v lo le = record {
+    low = λ n h. omega (arith, le, h.1);
+    told = by (validates ks v.callee v.span) (validates_at v.callee v.span)
+        (λ callee kind is f. subst (λ (o : Option Callee). Refuses (validates ks o v.span)) (sym is) (validator_refuses callee kind f v.span));
+  }
+    where
+      by : (r : Checked) → IsAt v.span r → ((callee : Callee) (kind : CheckErrorKind) → v.callee ≡ Some callee → ValidatorFault ks callee kind → Refuses r) → First ks v.span.from r (OwnValidator v)
+      by (Ok u) at refuses = λ n h. refuses h.0.0 h.0.1 h.0.2 h.0.3
+      by (Err error) at refuses = (omega (arith, ap (λ (p : Span). p.from) at), λ n h. omega (arith, ap (λ (p : Span). p.from) at, h.1))
+
+  -- a fault in one of these begins here
+  abbrev EachFault : List Checkable → ℕ → Type 0
+  EachFault [] n = ⊥
+  EachFault (of_body b ∷ cs) n = FaultAt ks b.zone b.target b.tree n ⊎ EachFault cs n
+  EachFault (of_validator v ∷ cs) n = OwnValidator v n ⊎ EachFault cs n
+
+  each_part : (cs : List Checkable) (lo hi : ℕ) → EachLies lo hi cs → Part ks lo hi (checked_each ks cs) (EachFault cs)
+  each_part [] lo hi h = no_part ks lo hi (EachFault []) (λ n k. k)
+  each_part (of_body b ∷ cs) lo hi h =
+      then_part ks lo h.0 hi (checked_one ks (of_body b)) (checked_each ks cs) (FaultAt ks b.zone b.target b.tree) (EachFault cs)
+      (spreads_order lo h.0 b.tree h.1) (each_order h.0 hi cs h.2) (part_of ks b.zone b.target b.tree lo h.0 h.1) (each_part cs h.0 hi h.2)
+  each_part (of_validator v ∷ cs) lo hi h =
+      then_part ks lo v.span.from hi (checked_one ks (of_validator v)) (checked_each ks cs) (OwnValidator v) (EachFault cs)
+      h.0 (each_order v.span.from hi cs h.1) (validator_part v lo h.0) (each_part cs v.span.from hi h.1)
+
+  -- ---- a fault of one is a fault of all together
+
+  fault_left : (xs cs : List Checkable) (n : ℕ) → EachFault xs n → EachFault (xs ++ cs) n
+  fault_left [] cs n h = absurd h
+  fault_left (of_body b ∷ xs) cs n (inl h) = inl h
+  fault_left (of_body b ∷ xs) cs n (inr h) = inr (fault_left xs cs n h)
+  fault_left (of_validator v ∷ xs) cs n (inl h) = inl h
+  fault_left (of_validator v ∷ xs) cs n (inr h) = inr (fault_left xs cs n h)
+
+  fault_right : (xs cs : List Checkable) (n : ℕ) → EachFault cs n → EachFault (xs ++ cs) n
+  fault_right [] cs n h = h
+  fault_right (of_body b ∷ xs) cs n h = inr (fault_right xs cs n h)
+  fault_right (of_validator v ∷ xs) cs n h = inr (fault_right xs cs n h)
+
+  body_fault : (b : Body) (bs : List Body) (vs : List Validator) (n : ℕ) → IsBody b bs → FaultAt ks b.zone b.target b.tree n → EachFault (together bs vs) n
+  body_fault b _ vs n (body_first bs) h =
+      let k = earlier b.span.from vs in
+      fault_right (map of_validator (take k vs)) (of_body b ∷ together bs (drop k vs)) n (inl h)
+  body_fault b _ vs n (body_later c bs is) h =
+      let k = earlier c.span.from vs in
+      fault_right (map of_validator (take k vs)) (of_body c ∷ together bs (drop k vs)) n (inr (body_fault b bs (drop k vs) n is h))
+
+  alone_fault : (v : Validator) (vs : List Validator) (n : ℕ) → IsValidator v vs → OwnValidator v n → EachFault (map of_validator vs) n
+  alone_fault v [] n is h = absurd is
+  alone_fault v (w ∷ ws) n (inl is) h = inl (subst (λ x. OwnValidator x n) is h)
+  alone_fault v (w ∷ ws) n (inr is) h = inr (alone_fault v ws n is h)
+
+  -- it is one of the first, or one of the others
+  in_two : (k : ℕ) (v : Validator) (vs : List Validator) → IsValidator v vs → IsValidator v (take k vs) ⊎ IsValidator v (drop k vs)
+  in_two zero v vs is = inr is
+  in_two (suc k) v [] is = absurd is
+  in_two (suc k) v (w ∷ ws) (inl is) = inl (inl is)
+  in_two (suc k) v (w ∷ ws) (inr is) = by (in_two k v ws is)
+    where
+      by : IsValidator v (take k ws) ⊎ IsValidator v (drop k ws) → IsValidator v (w ∷ take k ws) ⊎ IsValidator v (drop k ws)
+      by (inl h) = inl (inr h)
+      by (inr h) = inr h
+
+  validator_fault : (bs : List Body) (v : Validator) (vs : List Validator) (n : ℕ) → IsValidator v vs → OwnValidator v n → EachFault (together bs vs) n
+  validator_fault [] v vs n is h = alone_fault v vs n is h
+  validator_fault (b ∷ bs) v vs n is h =
+      let k = earlier b.span.from vs in
+      by (in_two k v vs is) (λ one. validator_fault bs v (drop k vs) n one h)
+    where
+      by : IsValidator v (take (earlier b.span.from vs) vs) ⊎ IsValidator v (drop (earlier b.span.from vs) vs)
+          → (IsValidator v (drop (earlier b.span.from vs) vs) → EachFault (together bs (drop (earlier b.span.from vs) vs)) n) → EachFault (together (b ∷ bs) vs) n
+      by (inl one) later =
+          let k = earlier b.span.from vs in
+          fault_left (map of_validator (take k vs)) (of_body b ∷ together bs (drop k vs)) n (alone_fault v (take k vs) n one h)
+      by (inr one) later =
+          let k = earlier b.span.from vs in
+          fault_right (map of_validator (take k vs)) (of_body b ∷ together bs (drop k vs)) n (inr (later one))
 
   as_begun : (z : Zone) (t : Target) (e : Tree) (d : CheckError) → FaultIn ks z t e d → FaultAt ks z t e d.at.from
   as_begun z t e d h = record { form_zone = h.form_zone; form_target = h.form_target; form = h.form; kind = d.kind; stands = h.stands; fault = h.fault; begins = ap (λ (p : Span). p.from) h.place }
@@ -565,19 +641,27 @@ abbrev error_or : CheckError → Checked → CheckError
 error_or d (Ok u) = d
 error_or d (Err e) = e
 
-pub earliest : (p : PlainProgram) (hi : ℕ) → BodiesLie 0 hi (in_order p.functions p.threads) → (e : CheckError) → CheckStops p e → (b : Body) → IsBody b (in_order p.functions p.threads)
-    → (d : CheckError) → FaultIn (known p.functions) b.zone b.target b.tree d → e.at.from ≤ d.at.from
-earliest p hi lie e stops b is d fault = by (checked_bodies ks bs) (bodies_part ks bs 0 hi lie).told stops
-  where
-    ks : List Known
-    ks = known p.functions
+module _ (p : PlainProgram) (hi : ℕ) (lie : EachLies 0 hi (together (in_order p.functions p.threads) (validators_in p.cells p.validator_spans))) (e : CheckError) (stops : CheckStops p e) (d : CheckError) where
+  before_fault : EachFault (known p.functions) (together (in_order p.functions p.threads) (validators_in p.cells p.validator_spans)) d.at.from → e.at.from ≤ d.at.from
+  before_fault there = by (checked_each ks cs) (each_part ks cs 0 hi lie).told stops
+    where
+      ks : List Known
+      ks = known p.functions
 
-    bs : List Body
-    bs = in_order p.functions p.threads
+      cs : List Checkable
+      cs = together (in_order p.functions p.threads) (validators_in p.cells p.validator_spans)
 
-    there : BodyFault ks bs d.at.from
-    there = (b, is, as_begun ks b.zone b.target b.tree d fault)
+      by : (r : Checked) → First ks hi r (EachFault ks cs) → (r >> few (room 200000 (in_order p.functions p.threads))) ≡ Err e → e.at.from ≤ d.at.from
+      by (Ok u) first same = absurd (first d.at.from there)
+      by (Err error) first same = subst (λ (x : CheckError). x.at.from ≤ d.at.from) (ap (error_or error) same) (first.1 d.at.from there)
 
-    by : (r : Checked) → First ks hi r (BodyFault ks bs) → (r >> few (room 200000 bs)) ≡ Err e → e.at.from ≤ d.at.from
-    by (Ok u) first same = absurd (first d.at.from there)
-    by (Err error) first same = subst (λ (x : CheckError). x.at.from ≤ d.at.from) (ap (error_or error) same) (first.1 d.at.from there)
+  pub earliest : (b : Body) → IsBody b (in_order p.functions p.threads) → FaultIn (known p.functions) b.zone b.target b.tree d → e.at.from ≤ d.at.from
+  earliest b is fault =
+      let ks = known p.functions in
+      before_fault (body_fault ks b (in_order p.functions p.threads) (validators_in p.cells p.validator_spans) d.at.from is (as_begun ks b.zone b.target b.tree d fault))
+
+  pub earliest_validator : FaultOfValidator (known p.functions) (validators_in p.cells p.validator_spans) d → e.at.from ≤ d.at.from
+  earliest_validator fault =
+      let v : Validator = record { callee = Some fault.callee; span = fault.span } in
+      before_fault (validator_fault (known p.functions) (in_order p.functions p.threads) v (validators_in p.cells p.validator_spans) d.at.from fault.stands
+      ((fault.callee, d.kind, refl, fault.fault), ap (λ (x : Span). x.from) fault.place))

@@ -10,6 +10,7 @@ pub mod Levels
 pub mod Limits
 pub mod Logic
 pub mod Names
+pub mod Options
 pub mod Parameters
 pub mod Reading
 pub mod Renamed
@@ -20,4 +21,5 @@ pub mod Told
 pub mod Tops
 pub mod Treeless
 pub mod Undefined
+pub mod Validators
 pub mod Windows

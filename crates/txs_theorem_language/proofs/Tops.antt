@@ -7,7 +7,10 @@ use Rattle.txs_value_base.specs.declared.fault.Span.{Span}
 use Rattle.txs_value_data.specs.declared.value.Value.{Value}
 use Rattle.txs_value_data.specs.declared.value.Value.TheVariants.{Vector}
 use Rattle.txs_value_data.specs.declared.value.CellKind.{CellKind}
-use Rattle.txs_value_cell.specs.declared.cell.ErrorMode.{ErrorMode}
+use Rattle.txs_value_base.specs.Operations.{op_name}
+use Rattle.txs_value_base.specs.declared.op.Op.{Op}
+use Rattle.txs_value_base.specs.declared.op.Callee.{Callee}
+use Rattle.txs_value_base.specs.declared.op.Callee.TheVariants.{Function as TheFunction}
 use Rattle.txs_value_data.specs.View.{plains_of}
 use Rattle.txs_reader.specs.declared.form.Bracket.TheVariants.{Round, Square}
 use Rattle.txs_reader.specs.Tree.{PlainForm as Form, PlainForms as Forms, leaf, group, first, place, number, symbol, nil, truth, text, keyword, parts}
@@ -15,17 +18,20 @@ use Rattle.txs_reader.specs.Tree.{none as no_forms}
 use Rattle.txs_tree_meaning.specs.Tree.{Tree}
 use Rattle.txs_resolve_scope.specs.declared.names.FormName.{FormName}
 use Rattle.txs_resolve_scope.specs.declared.names.FormName.TheVariants as kind
-use Rattle.txs_resolve_scope.specs.Scope.{definition_of, may_bind}
+use Rattle.txs_resolve_scope.specs.declared.scope.Definition.{Definition}
+use Rattle.txs_resolve_scope.specs.declared.scope.Definition.TheVariants.{Constant, Cell as ACell, Function as AFunction}
+use Rattle.std.specs.List.{list_any}
+use Rattle.txs_resolve_scope.specs.Scope.{Entry, Meaning, a_form, dotted, a_local, the_current, defined_as, operation, unknown, definition_of, form_name, form_names, is_dot, may_bind, meaning, operations, or_defined, or_form, or_unknown, with_name}
 use Rattle.txs_resolve.specs.declared.definition.CellSort.{CellSort}
 use Rattle.txs_resolve_expand.specs.declared.error.ResolveError.{ResolveError}
 use Rattle.txs_resolve_expand.specs.declared.error.ResolveErrorKind.TheVariants.{BadForm, Redefined, TooMany}
 use Rattle.txs_resolve_expand.specs.Answers.{◌>>=◌, refuse}
 use Rattle.txs_resolve_expand.specs.Expansions.{body, form_at}
-use Rattle.txs_resolve_expand.specs.Expressions.{Answer, is_symbol, named}
+use Rattle.txs_resolve_expand.specs.Expressions.{Answer, callee_at, callee_of, is_symbol, named, spot_at}
 use Rattle.txs_resolve_body.specs.Literals.{is_literal, are_literals, literal, literals}
-use Rattle.txs_resolve.specs.Names.{State, nothing, new_name, Defining, NamedForm, only_literal, mode_behind, opened, cell_of, kind_at, defining_of, named_form, with_definition, entered, defined_as_one, defined_at, are_symbols, parameter, parameters, Written, written, written_behind, untold, with_function, function, with_thread, future, top_level, step, ResolveStops}
+use Rattle.txs_resolve.specs.Names.{State, nothing, new_name, Defining, NamedForm, Options, mode_or_fail, only_literal, options_behind, opened, top_scope, validator_named, validator_place, cell_of, kind_at, defining_of, named_form, with_definition, entered, defined_as_one, defined_at, are_symbols, parameter, parameters, Written, written, written_behind, untold, with_function, function, with_thread, future, top_level, step, ResolveStops}
 use Rattle.txs_theorem_language.specs.Standing.{IsOne, one_now, one_later}
-use Rattle.txs_theorem_language.specs.Faults.{FaultInForm, is_free, is_definition, is_top_level, Defines, by_def, by_defn, IsTooMuch, is_too_deep, is_too_long, has_too_much, IsNth, nth_now, nth_later, HasParameter, has_parameter, HasTopFault, is_no_definition, defines_other, defines_no_literal, defines_no_function, defines_reserved, parameter_reserved, defines_again, defines_too_many, functions_too_many, threads_too_many, parameters_too_many, defines_too_much, FaultAtTop, of_itself, of_body, of_thread, FaultInScript}
+use Rattle.txs_theorem_language.specs.Faults.{FaultInForm, is_free, is_definition, is_top_level, Defines, by_def, by_defn, IsTooMuch, is_too_deep, is_too_long, has_too_much, IsNth, nth_now, nth_later, HasParameter, has_parameter, HasTopFault, is_no_definition, defines_other, defines_no_literal, defines_no_function, defines_reserved, parameter_reserved, defines_again, defines_too_many, functions_too_many, threads_too_many, parameters_too_many, defines_too_much, defines_with_validator, ValidatorFault, validator_unknown, validator_dotted, validator_no_symbol, validator_no_function, validator_too_deep, is_no_function, FaultAtTop, of_itself, of_body, of_thread, FaultInScript}
 use Rattle.txs_theorem_language.proofs.Faults.{IfErr, if_then, and_left, and_right, fault_in_form}
 use Rattle.txs_theorem_language.proofs.FirstForm.{stops_at}
 
@@ -70,27 +76,87 @@ abbrev OfLiteral : Option Defining → Type 0
 OfLiteral (Some d) = is_literal d.value ≡ true
 OfLiteral None = Unit {0}
 
-only_is : (sort : Option CellSort) (f : Form) → OfLiteral (only_literal sort f)
-only_is sort f = by (is_literal f) refl
+only_is : (sort : Option CellSort) (v : Option Form) (f : Form) → OfLiteral (only_literal sort v f)
+only_is sort v f = by (is_literal f) refl
   where
-    by : (y : Bool) → is_literal f ≡ y → OfLiteral (if y then Some (record { sort = sort; value = f }) else None)
+    by : (y : Bool) → is_literal f ≡ y → OfLiteral (if y then Some (record { sort = sort; value = f; validator = v }) else None)
     by true is = is
     by false is = tt
 
-opened_is : (k : CellKind) (mode : Option ErrorMode) (f : Form) → OfLiteral (opened k mode f)
-opened_is k (Some mode) f = only_is (Some (record { kind = k; error_mode = mode })) f
+opened_is : (k : CellKind) (o : Option Options) (f : Form) → OfLiteral (opened k o f)
+opened_is k (Some o) f = only_is (Some (record { kind = k; error_mode = mode_or_fail o.error_mode })) o.validator f
 opened_is k None f = tt
 
 cell_is : (k : Option CellKind) (fs : Forms) → OfLiteral (cell_of k fs)
-cell_is (Some k) (first f rest) = opened_is k (mode_behind k rest) f
+cell_is (Some k) (first f rest) = opened_is k (options_behind k rest) f
 cell_is (Some k) no_forms = tt
 cell_is None fs = tt
 
 defining_is : (f : Form) → OfLiteral (defining_of f)
-defining_is (leaf x at) = only_is None (leaf x at)
-defining_is (group Square fs at) = only_is None (group Square fs at)
-defining_is (group Round no_forms at) = only_is None (group Round no_forms at)
+defining_is (leaf x at) = only_is None None (leaf x at)
+defining_is (group Square fs at) = only_is None None (group Square fs at)
+defining_is (group Round no_forms at) = only_is None None (group Round no_forms at)
 defining_is (group Round (first head args) at) = cell_is (kind_at (form_at head)) args
+
+-- ---- validators
+
+-- neither a local nor the function that is being defined
+abbrev IsOuter : Meaning → Type 0
+IsOuter (a_local i) = ⊥
+IsOuter the_current = ⊥
+IsOuter _ = Unit {0}
+
+form_outer : (o : Option FormName) (m : Meaning) → IsOuter m → IsOuter (or_form o m)
+form_outer None m h = h
+form_outer (Some f) m h = tt
+
+dot_outer : (y : Bool) (m : Meaning) → IsOuter m → IsOuter (if y then dotted else m)
+dot_outer true m h = tt
+dot_outer false m h = h
+
+defined_outer : (o : Option Definition) (m : Meaning) → IsOuter m → IsOuter (or_defined o m)
+defined_outer None m h = h
+defined_outer (Some d) m h = tt
+
+unknown_outer : (o : Option Op) → IsOuter (or_unknown o)
+unknown_outer None = tt
+unknown_outer (Some op) = tt
+
+top_outer : (name : List ℕ) (es : List Entry) → IsOuter (meaning name (top_scope es))
+unfolding meaning
+top_outer name es =
+    let last = or_unknown (with_name op_name name operations) in
+    let defined = or_defined (definition_of name es) last in
+    form_outer (with_name form_name name form_names) (if list_any is_dot name then dotted else defined)
+    (dot_outer (list_any is_dot name) defined (defined_outer (definition_of name es) last (unknown_outer (with_name op_name name operations))))
+
+module _ (s : State) (at : Span) where
+  abbrev Refused : Form → ResolveError → Type 0
+  Refused v e = ValidatorFault s at e.kind e.at v
+
+  symbol_is : (name : List ℕ) (there : Span) (m : Meaning) → meaning name (top_scope s.defined) ≡ m → IsOuter m → IfErr (Refused (leaf (symbol name) there)) (callee_at m (spot_at 1001 at true) there)
+  symbol_is name there (a_form f) is outer = validator_no_function name there (ap is_no_function is)
+  symbol_is name there dotted is outer = validator_dotted name there is
+  symbol_is name there (a_local i) is outer = absurd outer
+  symbol_is name there the_current is outer = absurd outer
+  symbol_is name there (defined_as (Constant v)) is outer = validator_no_function name there (ap is_no_function is)
+  symbol_is name there (defined_as (ACell c)) is outer = validator_no_function name there (ap is_no_function is)
+  symbol_is name there (defined_as (AFunction n l)) is outer = by (nat_lt l 1001) refl
+    where
+      by : (y : Bool) → nat_lt l 1001 ≡ y → IfErr {A = Callee} (Refused (leaf (symbol name) there)) (if y then Ok (TheFunction n) else refuse TooMany at)
+      by true lt = tt
+      by false lt = let le : 1000 < l = grind (arith, nat_tests, lt) in validator_too_deep name there n l is le
+  symbol_is name there (operation op) is outer = tt
+  symbol_is name there unknown is outer = validator_unknown name there is
+
+  called_is : (v : Form) → IfErr (Refused v) (callee_of (top_scope s.defined) (spot_at 1001 at true) v)
+  called_is (leaf nil there) = validator_no_symbol (leaf nil there) refl
+  called_is (leaf (truth b) there) = validator_no_symbol (leaf (truth b) there) refl
+  called_is (leaf (number z) there) = validator_no_symbol (leaf (number z) there) refl
+  called_is (leaf (text t) there) = validator_no_symbol (leaf (text t) there) refl
+  called_is (leaf (keyword k) there) = validator_no_symbol (leaf (keyword k) there) refl
+  called_is (leaf (symbol name) there) = symbol_is name there (meaning name (top_scope s.defined)) refl (top_outer name s.defined)
+  called_is (group b fs there) = validator_no_symbol (group b fs there) refl
 
 -- ---- names
 
@@ -112,21 +178,33 @@ module _ (s : State) where
     abbrev form : Form
     form = group Round (first head es) at
 
-    entered_is : (f : NamedForm) (d : Defining) → named_form es ≡ Some f → defining_of f.form ≡ Some d → IfErr (Top form) (entered s f.name f.at d)
+    entered_is : (f : NamedForm) (d : Defining) → named_form es ≡ Some f → defining_of f.form ≡ Some d → IfErr (Top form) (entered s f.name f.at at d)
     entered_is f d is eq =
-        if_then (Top form) (literal most_depth d.value) (λ v. new_name s.defined f.name f.at >>= λ n. Ok (with_definition d.sort s n v))
+        if_then (Top form) (literal most_depth d.value) (λ v. validator_named s.defined at d.validator >>= λ c. new_name s.defined f.name f.at >>= λ n. Ok (made v c n))
         (value (literal most_depth d.value) (literal_is most_depth d.value (subst OfLiteral eq (defining_is f.form))))
-        (λ v. if_then (Top form) (new_name s.defined f.name f.at) (λ n. Ok (with_definition d.sort s n v)) (name_is f.name f.at form (by_def head es at f is_def is)) (λ n. tt))
+        (λ v. if_then (Top form) (validator_named s.defined at d.validator) (λ c. new_name s.defined f.name f.at >>= λ n. Ok (made v c n)) (validator d.validator refl)
+        (λ c. if_then (Top form) (new_name s.defined f.name f.at) (λ n. Ok (made v c n)) (name_is f.name f.at form (by_def head es at f is_def is)) (λ n. tt)))
       where
+        made : Value → Option Callee → List ℕ → State
+        made v c n = with_definition d.sort s n v (record { callee = c; at = validator_place at d.validator })
+
         value : (a : Answer Value) → IfErr (LiteralFault most_depth d.value) a → IfErr (Top form) a
         value (Ok v) h = tt
         value (Err e) h = of_itself form (subst (λ k. HasTopFault s k e.at form) (sym h.0) (defines_too_much head es at e.at f d is_def is eq h.1))
+
+        of_validator : (v : Form) → d.validator ≡ Some v → (a : Answer Callee) → IfErr (Refused s at v) a → IfErr (Top form) (a >>= λ c. Ok (Some c))
+        of_validator v same (Ok c) h = tt
+        of_validator v same (Err e) h = of_itself form (defines_with_validator e.kind head es at e.at f d v is_def is eq same h)
+
+        validator : (o : Option Form) → d.validator ≡ o → IfErr (Top form) (validator_named s.defined at o)
+        validator None same = tt
+        validator (Some v) same = of_validator v same (callee_of (top_scope s.defined) (spot_at 1001 at true) v) (called_is s at v)
 
     one_is : (f : NamedForm) → named_form es ≡ Some f → (o : Option Defining) → defining_of f.form ≡ o → IfErr (Top form) (defined_as_one s f.name f.at at o)
     one_is f is None eq = of_itself form (defines_no_literal head es at f is_def is eq)
     one_is f is (Some d) eq = by (nat_lt s.defs 1000) refl
       where
-        by : (y : Bool) → nat_lt s.defs 1000 ≡ y → IfErr (Top form) (if y then entered s f.name f.at d else refuse TooMany at)
+        by : (y : Bool) → nat_lt s.defs 1000 ≡ y → IfErr (Top form) (if y then entered s f.name f.at at d else refuse TooMany at)
         by true lt = entered_is f d is eq
         by false lt = let le : 1000 ≤ s.defs = grind (arith, nat_tests, lt) in of_itself form (defines_too_many head es at is_def le)
 

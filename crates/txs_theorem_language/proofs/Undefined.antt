@@ -8,22 +8,25 @@ use Rattle.txs_value_data.specs.declared.value.Value.{Value}
 use Rattle.txs_value_data.specs.declared.value.Value.TheVariants.{Vector}
 use Rattle.txs_value_data.specs.View.{plains_of}
 use Rattle.txs_reader.specs.declared.form.Bracket.TheVariants.{Round, Square}
-use Rattle.txs_reader.specs.Tree.{PlainForm as Form, PlainForms as Forms, leaf, group, first, symbol, parts}
+use Rattle.txs_reader.specs.Tree.{PlainForm as Form, PlainForms as Forms, leaf, group, first, symbol, nil, truth, number, text, keyword, parts}
 use Rattle.txs_reader.specs.Tree.{none as no_forms}
 use Rattle.txs_resolve_scope.specs.declared.names.FormName.{FormName}
 use Rattle.txs_resolve_scope.specs.declared.names.FormName.TheVariants as kind
-use Rattle.txs_resolve_scope.specs.Scope.{may_bind}
+use Rattle.txs_value_base.specs.declared.op.Callee.{Callee}
+use Rattle.txs_value_base.specs.declared.op.Callee.TheVariants.{Function as TheFunction}
+use Rattle.txs_resolve_scope.specs.declared.scope.Definition.TheVariants.{Constant, Cell as ACell, Function as AFunction}
+use Rattle.txs_resolve_scope.specs.Scope.{Meaning, a_form, dotted, a_local, the_current, defined_as, operation, unknown, may_bind, meaning}
 use Rattle.txs_resolve_expand.specs.declared.error.ResolveError.{ResolveError}
 use Rattle.txs_resolve_expand.specs.declared.error.ResolveErrorKind.{ResolveErrorKind}
 use Rattle.txs_resolve_expand.specs.declared.error.ResolveErrorKind.TheVariants.{BadForm, Redefined, TooMany}
 use Rattle.txs_resolve_expand.specs.Answers.{◌>>=◌, refuse}
 use Rattle.txs_resolve_expand.specs.Expansions.{body, form_at}
-use Rattle.txs_resolve_expand.specs.Expressions.{Answer, named}
+use Rattle.txs_resolve_expand.specs.Expressions.{Answer, callee_at, callee_of, is_symbol, named, spot_at}
 use Rattle.txs_resolve_body.specs.Literals.{literal, literals}
-use Rattle.txs_resolve.specs.Names.{State, nothing, new_name, Defining, NamedForm, defining_of, named_form, with_definition, entered, defined_as_one, defined_at, parameter, parameters, Written, written, with_function, function, with_thread, future, top_level, step, steps}
+use Rattle.txs_resolve.specs.Names.{State, nothing, new_name, Defining, NamedForm, defining_of, named_form, top_scope, validator_named, validator_place, with_definition, entered, defined_as_one, defined_at, parameter, parameters, Written, written, with_function, function, with_thread, future, top_level, step, steps}
 use Rattle.txs_theorem_language.specs.FirstForm.{StopsAt}
 use Rattle.txs_theorem_language.specs.Standing.{IsOne, one_now, one_later}
-use Rattle.txs_theorem_language.specs.Faults.{is_free, is_definition, is_top_level, Defines, by_def, by_defn, IsTooMuch, is_too_deep, is_too_long, has_too_much, IsNth, nth_now, nth_later, HasParameter, has_parameter, HasTopFault, is_no_definition, defines_other, defines_no_literal, defines_no_function, defines_reserved, parameter_reserved, defines_again, defines_too_many, functions_too_many, threads_too_many, parameters_too_many, defines_too_much, FaultAtTop, of_itself, of_body, of_thread}
+use Rattle.txs_theorem_language.specs.Faults.{is_free, is_definition, is_top_level, Defines, by_def, by_defn, IsTooMuch, is_too_deep, is_too_long, has_too_much, IsNth, nth_now, nth_later, HasParameter, has_parameter, HasTopFault, is_no_definition, defines_other, defines_no_literal, defines_no_function, defines_reserved, parameter_reserved, defines_again, defines_too_many, functions_too_many, threads_too_many, parameters_too_many, defines_too_much, defines_with_validator, ValidatorFault, validator_unknown, validator_dotted, validator_no_symbol, validator_no_function, validator_too_deep, is_no_function, FaultAtTop, of_itself, of_body, of_thread}
 use Rattle.txs_theorem_language.proofs.Treeless.{IsRefused, now, next, form_refused}
 
 -- ---- literals
@@ -72,6 +75,41 @@ late_parameter name at k le =
     pick true = tt
     pick false = tt
 
+-- ---- validators
+
+module _ (s : State) (at : Span) where
+  abbrev called_as : Meaning → Span → Answer (Option Callee)
+  called_as m there = callee_at m (spot_at 1001 at true) there >>= λ callee. Ok (Some callee)
+
+  no_function_refused : (m : Meaning) (there : Span) → is_no_function m ≡ true → IsRefused (called_as m there)
+  no_function_refused (a_form f) there h = tt
+  no_function_refused dotted there h = absurd (false≢true h)
+  no_function_refused (a_local i) there h = absurd (false≢true h)
+  no_function_refused the_current there h = absurd (false≢true h)
+  no_function_refused (defined_as (Constant v)) there h = tt
+  no_function_refused (defined_as (ACell c)) there h = tt
+  no_function_refused (defined_as (AFunction n l)) there h = absurd (false≢true h)
+  no_function_refused (operation op) there h = absurd (false≢true h)
+  no_function_refused unknown there h = absurd (false≢true h)
+
+  no_symbol_refused : (v : Form) → is_symbol v ≡ false → IsRefused (validator_named s.defined at (Some v))
+  no_symbol_refused (leaf nil there) h = tt
+  no_symbol_refused (leaf (truth b) there) h = tt
+  no_symbol_refused (leaf (number z) there) h = tt
+  no_symbol_refused (leaf (text t) there) h = tt
+  no_symbol_refused (leaf (keyword k) there) h = tt
+  no_symbol_refused (leaf (symbol name) there) h = absurd (false≢true (sym h))
+  no_symbol_refused (group b fs there) h = tt
+
+  validator_refused : (why : ResolveErrorKind) (there : Span) (v : Form) → ValidatorFault s at why there v → IsRefused (validator_named s.defined at (Some v))
+  validator_refused _ _ _ (validator_unknown name there is) = subst (λ m. IsRefused (called_as m there)) (sym is) tt
+  validator_refused _ _ _ (validator_dotted name there is) = subst (λ m. IsRefused (called_as m there)) (sym is) tt
+  validator_refused _ _ _ (validator_no_symbol form is) = no_symbol_refused form is
+  validator_refused _ _ _ (validator_no_function name there is) = no_function_refused (meaning name (top_scope s.defined)) there is
+  validator_refused _ _ _ (validator_too_deep name there n levels is lt) =
+      let deep : nat_lt levels 1001 ≡ false = grind (arith, nat_tests, lt) in
+      subst (λ m. IsRefused (called_as m there)) (sym is) (subst (λ (y : Bool). IsRefused {A = Option Callee} ((if y then Ok (TheFunction n) else refuse TooMany at) >>= λ callee. Ok (Some callee))) (sym deep) tt)
+
 -- ---- definitions
 
 module _ (s : State) where
@@ -88,19 +126,24 @@ module _ (s : State) where
     at_future is h = subst (λ x. IsRefused (top_level x s at es)) (sym is) h
 
   -- a definition that there is room for, or not
-  entering : (f : NamedForm) (at : Span) (d : Defining) → IsRefused (entered s f.name f.at d) → IsRefused (defined_as_one s f.name f.at at (Some d))
+  entering : (f : NamedForm) (at : Span) (d : Defining) → IsRefused (entered s f.name f.at at d) → IsRefused (defined_as_one s f.name f.at at (Some d))
   entering f at d h = pick (nat_lt s.defs 1000)
     where
-      pick : (y : Bool) → IsRefused (if y then entered s f.name f.at d else refuse TooMany at)
+      pick : (y : Bool) → IsRefused (if y then entered s f.name f.at at d else refuse TooMany at)
       pick true = h
       pick false = tt
+
+  -- what a definition of a constant or a cell gives
+  abbrev Made : NamedForm → Span → Defining → Value → Option Callee → List ℕ → State
+  Made f at d v c n = with_definition d.sort s n v (record { callee = c; at = validator_place at d.validator })
 
   naming : (f : NamedForm) (at : Span) → IsRefused (new_name s.defined f.name f.at) → (o : Option Defining) → IsRefused (defined_as_one s f.name f.at at o)
   naming f at h None = tt
   naming f at h (Some d) =
       entering f at d
-      (next (literal most_depth d.value) (λ v. new_name s.defined f.name f.at >>= λ n. Ok (with_definition d.sort s n v))
-      (λ v. now (new_name s.defined f.name f.at) (λ n. Ok (with_definition d.sort s n v)) h))
+      (next (literal most_depth d.value) (λ v. validator_named s.defined at d.validator >>= λ c. new_name s.defined f.name f.at >>= λ n. Ok (Made f at d v c n))
+      (λ v. next (validator_named s.defined at d.validator) (λ c. new_name s.defined f.name f.at >>= λ n. Ok (Made f at d v c n))
+      (λ c. now (new_name s.defined f.name f.at) (λ n. Ok (Made f at d v c n)) h)))
 
   -- what is made of a function's parts
   abbrev Whole : Written → Span → List ℕ → Answer State
@@ -162,7 +205,7 @@ module _ (s : State) where
     where
       pick : (o : Option Defining) → IsRefused (defined_as_one s f.name f.at at o)
       pick None = tt
-      pick (Some d) = subst (λ (y : Bool). IsRefused (if y then entered s f.name f.at d else refuse TooMany at)) (sym is) tt
+      pick (Some d) = subst (λ (y : Bool). IsRefused (if y then entered s f.name f.at at d else refuse TooMany at)) (sym is) tt
 
   many_functions : (at : Span) → nat_lt (length s.functions) 1000 ≡ false → (o : Option Written) → IsRefused (function s at o)
   many_functions at is None = tt
@@ -186,7 +229,15 @@ module _ (s : State) where
   top_refused _ _ _ (defines_too_much head es at there f d is same eq h) =
       at_def head es at is (Some f) same
       (subst (λ o. IsRefused (defined_as_one s f.name f.at at o)) (sym eq)
-      (entering f at d (now (literal most_depth d.value) (λ v. new_name s.defined f.name f.at >>= λ n. Ok (with_definition d.sort s n v)) (literal_refused most_depth there d.value h))))
+      (entering f at d
+      (now (literal most_depth d.value) (λ v. validator_named s.defined at d.validator >>= λ c. new_name s.defined f.name f.at >>= λ n. Ok (Made f at d v c n)) (literal_refused most_depth there d.value h))))
+  top_refused _ _ _ (defines_with_validator why head es at there f d v is same eq has h) =
+      at_def head es at is (Some f) same
+      (subst (λ o. IsRefused (defined_as_one s f.name f.at at o)) (sym eq)
+      (entering f at d
+      (next (literal most_depth d.value) (λ x. validator_named s.defined at d.validator >>= λ c. new_name s.defined f.name f.at >>= λ n. Ok (Made f at d x c n))
+      (λ x. now (validator_named s.defined at d.validator) (λ c. new_name s.defined f.name f.at >>= λ n. Ok (Made f at d x c n))
+      (subst (λ o. IsRefused (validator_named s.defined at o)) (sym has) (validator_refused s at why there v h))))))
 
   fault_refused : (e : ResolveError) (f : Form) → FaultAtTop s e f → IsRefused (step s f)
   fault_refused e _ (of_itself f h) = top_refused e.kind e.at f h

@@ -16,7 +16,7 @@ use Rattle.txs_resolve_expand.specs.declared.error.ResolveErrorKind.{ResolveErro
 use Rattle.txs_resolve_expand.specs.declared.error.ResolveErrorKind.TheVariants.{UnknownName, Redefined, BadForm, NotCallable, LocalCalled, SelfCall, TooMany}
 use Rattle.txs_resolve_expand.specs.Expansions.{alone, body, form_at, is_even}
 use Rattle.txs_resolve_expand.specs.Expressions.{are_pairs, is_chain, is_symbol}
-use Rattle.txs_resolve.specs.Names.{State, Defining, NamedForm, Written, defining_of, named_form, parameters, written}
+use Rattle.txs_resolve.specs.Names.{State, Defining, NamedForm, Written, defining_of, named_form, parameters, top_scope, written}
 use Rattle.txs_theorem_language.specs.FirstForm.{StopsAt}
 use Rattle.txs_theorem_language.specs.Standing.{IsOne, StandsIn}
 
@@ -195,6 +195,20 @@ pub data IsNth (form : Form) : ℕ → Forms → Type 0 where
 pub data HasParameter (name : Form) (i : ℕ) : Form → Type 0 where
   has_parameter : (head : Form) (es : Forms) (at : Span) (w : Written) → form_at head ≡ Some kind.Defn → written es ≡ Some w → IsNth name i w.parameters → HasParameter name i (group Round (first head es) at)
 
+-- A form in the place of the function is refused for this reason at this place, in a definition with this span: by what the forms before it
+-- define, for it sees no local, and no function is being defined.
+pub data ValidatorFault (s : State) (whole : Span) : ResolveErrorKind → Span → Form → Type 0 where
+  -- a name that stands for nothing
+  validator_unknown : (name : List ℕ) (at : Span) → meaning name (top_scope s.defined) ≡ unknown → ValidatorFault s whole UnknownName at (leaf (symbol name) at)
+  -- a name with a dot
+  validator_dotted : (name : List ℕ) (at : Span) → meaning name (top_scope s.defined) ≡ dotted → ValidatorFault s whole BadForm at (leaf (symbol name) at)
+  -- what is no symbol, or the name of a form, of a constant or of a cell
+  validator_no_symbol : (form : Form) → is_symbol form ≡ false → ValidatorFault s whole NotCallable (place form) form
+  validator_no_function : (name : List ℕ) (at : Span) → is_no_function (meaning name (top_scope s.defined)) ≡ true → ValidatorFault s whole NotCallable at (leaf (symbol name) at)
+  -- a function of more than 1,000 levels, which no script defines
+  validator_too_deep : (name : List ℕ) (at : Span) (n levels : ℕ) → meaning name (top_scope s.defined) ≡ defined_as (AFunction n levels) → most_levels < levels
+      → ValidatorFault s whole TooMany whole (leaf (symbol name) at)
+
 -- A top-level form has the fault of this kind, at this place, where the forms before it define this.
 pub data HasTopFault (s : State) : ResolveErrorKind → Span → Form → Type 0 where
   -- no form of the top level; a definition of another shape, or of no literal; a name that no definition may have, or no parameter
@@ -213,6 +227,9 @@ pub data HasTopFault (s : State) : ResolveErrorKind → Span → Form → Type 0
   parameters_too_many : (name : List ℕ) (at : Span) (i : ℕ) (form : Form) → HasParameter (leaf (symbol name) at) i form → most_parameters ≤ i → HasTopFault s TooMany at form
   defines_too_much : (head : Form) (es : Forms) (at there : Span) (f : NamedForm) (d : Defining) → form_at head ≡ Some kind.Def → named_form es ≡ Some f → defining_of f.form ≡ Some d → IsTooMuch most_depth there d.value
       → HasTopFault s TooMany there (group Round (first head es) at)
+  -- the validator of a cell
+  defines_with_validator : (why : ResolveErrorKind) (head : Form) (es : Forms) (at there : Span) (f : NamedForm) (d : Defining) (v : Form) → form_at head ≡ Some kind.Def → named_form es ≡ Some f
+      → defining_of f.form ≡ Some d → d.validator ≡ Some v → ValidatorFault s at why there v → HasTopFault s why there (group Round (first head es) at)
 
 -- The fault of a top-level form is its own, or that of a form that is in the body of its function or of its thread.
 pub data FaultAtTop (s : State) (e : ResolveError) : Form → Type 0 where

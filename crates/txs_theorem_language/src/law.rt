@@ -1,28 +1,32 @@
 //! Laws of scripts, told of the text, the program and its meaning together.
 
 ghost use Rattle.std.specs.Prelude.{◌≡◌, ◌≢◌, ◌≤◌, ◌<◌, ◌∷◌, [], ◌++◌, ◌+◌, suc, ℕ, Bool, true, false, List, Some, None, Ok, Err, Option, length, if◌then◌else◌};
-ghost use Rattle.txs_check.specs.Faulty.{FaultIn, IsBody};
+ghost use Rattle.txs_check.specs.Faulty.{FaultIn, FaultOfValidator, IsBody};
 ghost use Rattle.txs_check.specs.Order.{Ascend};
-ghost use Rattle.txs_check.specs.Refused.{Body, CheckStops, in_order};
+ghost use Rattle.txs_check.specs.Refused.{Body, CheckStops, in_order, validators_in};
 ghost use Rattle.txs_check.specs.declared.error.CheckError.{CheckError};
 ghost use Rattle.txs_resolve_scope.specs.Nearest.{NoneNamed};
-ghost use Rattle.txs_resolve_scope.specs.Scope.{Scope, a_local, defined_as, operation, unknown, definition_of, is_current, may_bind, meaning, operations, with_local, with_name};
+ghost use Rattle.txs_resolve_scope.specs.Scope.{Entry, Scope, a_local, defined_as, operation, unknown, definition_of, is_current, may_bind, meaning, operations, with_local, with_name};
 ghost use Rattle.txs_resolve_scope.specs.declared.names.FormName.TheVariants.{And, Let, Loop, Or};
 ghost use Rattle.txs_resolve_scope.specs.declared.scope.Definition.{Definition};
+ghost use Rattle.txs_resolve_scope.specs.declared.scope.Definition.TheVariants.{Function as AFunction};
+ghost use Rattle.txs_resolve_expand.specs.Answers.{refuse};
+ghost use Rattle.txs_resolve_expand.specs.declared.error.ResolveErrorKind.TheVariants.{UnknownName};
 ghost use Rattle.txs_reader.specs.Script.{Reads};
 ghost use Rattle.txs_reader.specs.Tree.{PlainForm as Form, PlainForms as Forms, first, leaf, place, symbol, trees_of};
 ghost use Rattle.txs_reader.specs.Tree.{none as no_forms};
 ghost use Rattle.txs_resolve_expand.specs.Expansions.{body, list};
 ghost use Rattle.txs_resolve_expand.specs.Expressions.{are_pairs, named};
-ghost use Rattle.txs_resolve.specs.Names.{State, nothing, step, steps, Resolves, ResolveStops};
+ghost use Rattle.txs_resolve.specs.Names.{State, nothing, step, steps, validator_named, Resolves, ResolveStops};
 ghost use Rattle.txs_resolve_expand.specs.declared.error.ResolveError.{ResolveError};
 ghost use Rattle.txs_tree_meaning.specs.Known.{known, levels};
 ghost use Rattle.txs_tree_meaning.specs.Meaning.{Completion, Effects, eval};
 ghost use Rattle.txs_tree_meaning.specs.Tree.{Tree, Const, PlainProgram};
 ghost use Rattle.txs_tree_meaning.specs.View.{mark_of};
-ghost use Rattle.txs_value_data.specs.Limits.{most_locals};
+ghost use Rattle.txs_value_data.specs.Limits.{most_levels, most_locals};
 ghost use Rattle.txs_value_base.specs.Operations.{op_name};
 ghost use Rattle.txs_value_base.specs.declared.fault.Span.{Span};
+ghost use Rattle.txs_value_base.specs.declared.op.Callee.TheVariants.{Core as CoreOp, Function as TheFunction};
 ghost use Rattle.txs_value_base.specs.declared.op.Op.{Op};
 ghost use Rattle.txs_value_data.specs.declared.value.Value.{Value};
 ghost use Rattle.txs_value_data.specs.declared.value.Value.TheVariants.{Nil, Truth};
@@ -82,10 +86,12 @@ pub fn no_fault_stands_before_a_refusal()
         → (d : ResolveError) → FaultAtTop s d form → ⊥ }
 {}
 
-/// The refusal of a script's program is the first in its text: no form with a fault begins before it.
+/// The refusal of a script's program is the first in its text: no form with a fault begins before it, and no validator with one.
 pub fn checks_refuse_the_first()
-    ensures { (bytes : List ℕ) (forms : List Form) (p : PlainProgram) (e : CheckError) → Reads bytes forms → Resolves forms p → CheckStops p e
+    ensures bodies { (bytes : List ℕ) (forms : List Form) (p : PlainProgram) (e : CheckError) → Reads bytes forms → Resolves forms p → CheckStops p e
         → (b : Body) → IsBody b (in_order p.functions p.threads) → (d : CheckError) → FaultIn (known p.functions) b.zone b.target b.tree d → e.at.from ≤ d.at.from }
+    ensures validators { (bytes : List ℕ) (forms : List Form) (p : PlainProgram) (e : CheckError) → Reads bytes forms → Resolves forms p → CheckStops p e
+        → (d : CheckError) → FaultOfValidator (known p.functions) (validators_in p.cells p.validator_spans) d → e.at.from ≤ d.at.from }
 {}
 
 /// Behind a binding the name means the new local, and every other name what it meant; so no name of a script means a hidden local.
@@ -119,6 +125,17 @@ pub fn names_without_locals()
         → (op : Op) → definition_of name scope.defined ≡ None → with_name op_name name operations ≡ Some op → meaning name scope ≡ operation op }
     ensures nothing { (name : List ℕ) (scope : Scope) → may_bind name ≡ true → NoneNamed name scope.locals → is_current name scope.current ≡ false
         → definition_of name scope.defined ≡ None → with_name op_name name operations ≡ None → meaning name scope ≡ unknown }
+{}
+
+/// The validator of a cell is the function or the core operation of its name, by what the forms before the cell define: so its own name isn't
+/// defined there. Where neither has the name, it is unknown.
+pub fn a_validator_is_what_stands_before()
+    ensures function { (es : List Entry) (span : Span) (name : List ℕ) (at : Span) → may_bind name ≡ true → (n levels : ℕ) → definition_of name es ≡ Some (AFunction n levels) → levels ≤ most_levels
+        → validator_named es span (Some (leaf (symbol name) at)) ≡ Ok (Some (TheFunction n)) }
+    ensures operation { (es : List Entry) (span : Span) (name : List ℕ) (at : Span) → may_bind name ≡ true → (op : Op) → definition_of name es ≡ None → with_name op_name name operations ≡ Some op
+        → validator_named es span (Some (leaf (symbol name) at)) ≡ Ok (Some (CoreOp op)) }
+    ensures nothing { (es : List Entry) (span : Span) (name : List ℕ) (at : Span) → may_bind name ≡ true → definition_of name es ≡ None → with_name op_name name operations ≡ None
+        → validator_named es span (Some (leaf (symbol name) at)) ≡ refuse UnknownName at }
 {}
 
 /// A form that has a tree where it may have so many levels has the same tree where it may have one more: the limit refuses, and changes nothing.

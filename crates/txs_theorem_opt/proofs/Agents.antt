@@ -1,14 +1,16 @@
 -- Code that does in actions what optimised functions mean does what those from before mean.
 use Rattle.std.proofs.Common.{◌≡◌, ℕ, false, List, [], ◌∷◌, length, refl, sym, ◌∙◌, subst, arith}
 use Rattle.txs_value_base.specs.Places.{nth}
+use Rattle.txs_value_cell.specs.Cells.{validators_of}
+use Rattle.txs_value_cell.specs.declared.cell.CellDefinition.{CellDefinition}
 use Rattle.txs_value_data.specs.declared.value.Value.{Value}
 use Rattle.txs_tree_meaning.specs.Known.{known}
 use Rattle.txs_tree_meaning.specs.Meaning.{Completion, Completes, Recurs, Faults, Retries, Waits, OutOfTurns, Invalid, Effects}
 use Rattle.txs_tree_meaning.specs.Pure.{no_effects, pure_calls}
-use Rattle.txs_tree_meaning.specs.Sound.{Sound}
+use Rattle.txs_tree_meaning.specs.Sound.{Sound, SoundCells}
 use Rattle.txs_tree_meaning.specs.Tree.{PlainFunction, PlainProgram}
-use Rattle.txs_code_meaning.specs.Machine.{Library, ThreadCode, Configuration, agent_code, called, to_stack}
-use Rattle.txs_theorem_threads.specs.ActionsBehave.{ActionsBehave, CallComes, acting}
+use Rattle.txs_code_meaning.specs.Machine.{Library, ThreadCode, Configuration, agent_code, called, to_stack, to_validation, answered}
+use Rattle.txs_theorem_threads.specs.ActionsBehave.{ActionsBehave, CallComes, SoundValidators, acting}
 use Rattle.txs_opt.specs.Fold.{folded_functions, folded_program}
 use Rattle.txs_opt.specs.Inline.{functions_inlined, budget_of, inlined_program}
 use Rattle.txs_opt.proofs.Below.{Each}
@@ -65,6 +67,11 @@ actions_before code fs gs eases kept b = record {
   calls = λ g a f n vs s pure.
       comes_before (agent_code code g) n (called (agent_code code g) f vs to_stack 2 [] (acting g a 1 [] s)) (λ v. acting g a 2 (v ∷ []) s) (pure_calls n fs (length fs) false f vs tt) (pure_calls n gs (length gs) false f vs tt) (kept n f vs)
       (b.calls g a f n vs s (pure_at (nth (known fs) f) (nth (known gs) f) (eases_at (known fs) (known gs) eases f) pure));
+  validators = λ g a f n w s pure.
+      let code1 = agent_code code g in
+      let there = acting g a 2 (w ∷ []) s in
+      comes_before code1 n (called code1 f (w ∷ []) to_validation 2 (w ∷ []) there) (λ v. acting g a 2 (w ∷ []) (answered v s)) (pure_calls n fs (length fs) false f (w ∷ []) tt) (pure_calls n gs (length gs) false f (w ∷ []) tt) (kept n f (w ∷ []))
+      (b.validators g a f n w s (pure_at (nth (known fs) f) (nth (known gs) f) (eases_at (known fs) (known gs) eases f) pure));
 }
 
 pub agents_before : (code : Library) (limit : ℕ) (p : PlainProgram) → Sound p → ActionsBehave code (optimised limit p).functions → ActionsBehave code p.functions
@@ -76,3 +83,8 @@ agents_before code limit p sound b =
     actions_before code p.functions q.functions (folded_functions_sound p.functions [] [] tt sound.functions).1 (folded_kept p.functions)
     (actions_before code q.functions r.functions (inlined_functions_sound q.functions [] [] (budget_of limit q) tt tt qs.functions).1 (inlined_kept (budget_of limit q) q.functions)
     (actions_before code r.functions (optimised limit p).functions (folded_functions_sound r.functions [] [] tt rs.functions).1 (folded_kept r.functions) b))
+
+-- the validators of sound cells are sound
+pub validators_sound : (fs : List PlainFunction) (ds : List CellDefinition) → SoundCells (known fs) ds → SoundValidators fs (validators_of ds)
+validators_sound fs [] h = tt
+validators_sound fs (d ∷ ds) h = (h.0, validators_sound fs ds h.1)

@@ -1,5 +1,5 @@
 -- Code of an optimised program.
-use Rattle.std.proofs.Common.{◌≡◌, ℕ, zero, suc, ◌<◌, List, [], ◌∷◌, length, Option, Some, None, refl, ap, ◌∙◌, arith}
+use Rattle.std.proofs.Common.{◌≡◌, ℕ, zero, suc, ◌<◌, List, [], ◌∷◌, length, Some, refl, ap, ◌∙◌, arith}
 use Rattle.txs_value_base.specs.Places.{nth}
 use Rattle.txs_tree_meaning.proofs.Callable.{nth-length}
 use Rattle.txs_tree_meaning.specs.Sound.{Sound}

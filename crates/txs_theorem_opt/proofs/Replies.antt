@@ -1,22 +1,25 @@
 -- What a thread on replies makes of the forms on cells is alike, where bodies of transactions and callees are; and it is no recur.
 use Rattle.std.proofs.Common.{ℕ, zero, suc, Bool, true, false, not, List, [], ◌∷◌, length, refl, subst}
 use Rattle.txs_world_protocol.specs.Ask.{Writes}
-use Rattle.txs_frame.specs.Frame.{commuted, phase_work}
+use Rattle.txs_frame.specs.Frame.{commuted, set_writes, phase_work}
 use Rattle.txs_value_data.specs.Limits.{reruns}
 use Rattle.txs_value_base.specs.declared.fault.Span.{Span}
-use Rattle.txs_value_cell.specs.Cells.{Validators}
+use Rattle.txs_value_cell.specs.Cells.{Validators, validator_at}
+use Rattle.txs_value_cell.specs.declared.form.CellForm.TheVariants as form_of
+use Rattle.txs_value_cell.specs.declared.form.PutForm.{PutForm}
+use Rattle.txs_value_cell.specs.declared.form.PutForm.TheVariants.{RefSet, Reset}
 use Rattle.txs_value_cell.specs.declared.form.UpdateForm.{UpdateForm}
 use Rattle.txs_value_cell.specs.declared.form.UpdateForm.TheVariants.{Alter, Commute, Swap}
 use Rattle.txs_value_base.specs.declared.op.Callee.{Callee}
 use Rattle.txs_value_data.specs.declared.value.CellId.{CellId}
 use Rattle.txs_value_data.specs.declared.value.Value.{Value}
 use Rattle.txs_tree_meaning.specs.Meaning.{Completion, Completes, Recurs, Faults, Retries, Waits, OutOfTurns, Invalid, bind, allowed, Applies}
-use Rattle.txs_tree_meaning.specs.Transaction.{redone}
-use Rattle.txs_code_meaning.specs.ActorState.{ActorState, StepResult, Continue, Break, Redo, Await, Malformed, begin, fail, view, Verdict, Landed, Outdated, Undone, Denied, commit, open_swap, close_swap, break_swap, read, assign, RefUpdate, Alters, Commutes, open_update, close_update, send_to, print}
-use Rattle.txs_theorem_threads.specs.OnReplies.{res, telling, Start, Anew, Behind, concludes, lands_on, closing, attempt, retrying, tries, joined, swap_concludes, swaps_on, updates_ref, updates, on_replies}
-use Rattle.txs_opt.proofs.Below.{Each, each, all_fine}
+use Rattle.txs_tree_meaning.specs.Transaction.{redone, merged, accepted}
+use Rattle.txs_code_meaning.specs.ActorState.{ActorState, StepResult, Continue, Break, Redo, Await, Malformed, begin, fail, view, Verdict, Landed, Outdated, Undone, Denied, commit, open_swap, close_swap, break_swap, read, cell_at, assign, assign_cell, RefUpdate, Alters, Commutes, open_update, close_update, send_to, print}
+use Rattle.txs_theorem_threads.specs.OnReplies.{res, telling, Start, Anew, Behind, concludes, lands_on, if_all_accepted, closing, attempt, retrying, tries, joined, swap_concludes, accepts, swaps_on, updates_ref, updates, puts, on_replies}
+use Rattle.txs_opt.proofs.Below.{Each}
 use Rattle.txs_opt.proofs.Like.{Likeness, Like, PartsLike, AppliesLike, bind_like, loose_any, like_itself, improving}
-use Rattle.txs_opt.proofs.OneWorld.{Any, any_fine, redone_like}
+use Rattle.txs_opt.proofs.OneWorld.{Any, any_callee, any_fine, any_valid, valid_at, redone_like, validated_like, accepted_like}
 use Rattle.txs_opt.proofs.Parts.{FormsLike}
 use Rattle.txs_opt.proofs.Recurring.{IsEnd, FormsEnd, bind_end}
 
@@ -74,12 +77,22 @@ lands_like span v go go1 h ws s t r = bind_like ActorState K (res (commit ws s))
 redoing : (f g : Applies ActorState) → AppliesLike ActorState K Each f g → (ws : Writes) → PartsLike ActorState K (λ s. redone f (phase_work s.done) ws s) (λ s. redone g (phase_work s.done) ws s)
 redoing f g a ws s t r = subst (λ u. Like K (redone f (phase_work s.done) ws s) (redone g (phase_work u.done) ws u)) r (redone_like ActorState K Each f g a (phase_work s.done) ws (any_fine (phase_work s.done)) s s refl)
 
+all_accepted_like : (va : Validators) (span : Span) (f g : Applies ActorState) → AppliesLike ActorState K Each f g → (xs : Writes) → PartsLike ActorState K (if_all_accepted va span f xs) (if_all_accepted va span g xs)
+all_accepted_like va span f g a xs s t r =
+    subst (λ u. Like K (if_all_accepted va span f xs s) (if_all_accepted va span g xs u)) r
+    (bind_like ActorState K (accepted f va span (merged (set_writes s.done) xs) s) (accepted g va span (merged (set_writes s.done) xs) s) (λ u s1. Completes xs s1) (λ u s1. Completes xs s1)
+    (accepted_like ActorState K Each f g a va (any_valid va) span (merged (set_writes s.done) xs) s s refl) (λ u s1 t1 r1. (refl, r1)))
+
 closing_like : (va : Validators) (cs : List CellId) (span : Span) (f g : Applies ActorState) → AppliesLike ActorState K Each f g → (v : Value) (go go1 : Start → ActorState → Completion ActorState Value) → GoesLike go go1 → PartsLike ActorState K (closing va cs span f v go) (closing va cs span g v go1)
-closing_like va [] span f g a v go go1 h s t r = lands_like span v go go1 h [] s t r
+closing_like va [] span f g a v go go1 h s t r =
+    telling_like fail (if_all_accepted va span f [] s) (if_all_accepted va span g [] t) (λ xs s1. lands_on span v go xs s1) (λ xs s1. lands_on span v go1 xs s1) (all_accepted_like va span f g a [] s t r) (λ xs. lands_like span v go go1 h xs)
 closing_like va (c ∷ cs) span f g a v go go1 h s t r =
-    bind_like ActorState K (res (view s)) (res (view t)) (λ ws s1. telling fail (redone f (phase_work s1.done) ws s1) (λ xs s2. lands_on span v go xs s2)) (λ ws s1. telling fail (redone g (phase_work s1.done) ws s1) (λ xs s2. lands_on span v go1 xs s2))
+    bind_like ActorState K (res (view s)) (res (view t))
+    (λ ws s1. telling fail (bind (redone f (phase_work s1.done) ws s1) (λ xs s2. if_all_accepted va span f xs s2)) (λ xs s2. lands_on span v go xs s2))
+    (λ ws s1. telling fail (bind (redone g (phase_work s1.done) ws s1) (λ xs s2. if_all_accepted va span g xs s2)) (λ xs s2. lands_on span v go1 xs s2))
     (itself (λ u. res (view u)) s t r)
-    (λ ws s1 t1 r1. telling_like fail (redone f (phase_work s1.done) ws s1) (redone g (phase_work t1.done) ws t1) (λ xs s2. lands_on span v go xs s2) (λ xs s2. lands_on span v go1 xs s2) (redoing f g a ws s1 t1 r1) (λ xs. lands_like span v go go1 h xs))
+    (λ ws s1 t1 r1. telling_like fail (bind (redone f (phase_work s1.done) ws s1) (λ xs s2. if_all_accepted va span f xs s2)) (bind (redone g (phase_work t1.done) ws t1) (λ xs s2. if_all_accepted va span g xs s2)) (λ xs s2. lands_on span v go xs s2) (λ xs s2. lands_on span v go1 xs s2)
+    (bind_like ActorState K (redone f (phase_work s1.done) ws s1) (redone g (phase_work t1.done) ws t1) (λ xs s2. if_all_accepted va span f xs s2) (λ xs s2. if_all_accepted va span g xs s2) (redoing f g a ws s1 t1 r1) (λ xs. all_accepted_like va span f g a xs)) (λ xs. lands_like span v go go1 h xs))
 
 closing_at : (va : Validators) (span : Span) (f g : Applies ActorState) → AppliesLike ActorState K Each f g → (v : Value) (go go1 : Start → ActorState → Completion ActorState Value) → GoesLike go go1 → PartsLike ActorState K (λ s. closing va (commuted s.done) span f v go s) (λ s. closing va (commuted s.done) span g v go1 s)
 closing_at va span f g a v go go1 h s t r = subst (λ u. Like K (closing va (commuted s.done) span f v go s) (closing va (commuted u.done) span g v go1 u)) r (closing_like va (commuted s.done) span f g a v go go1 h s s refl)
@@ -126,7 +139,10 @@ updates_ref_like : (u : RefUpdate) (inside : Bool) (span : Span) (c : Value) (ca
 updates_ref_like u inside span c callee vs f g a s t r =
     bind_like ActorState K (res (open_update u inside span c vs s)) (res (open_update u inside span c vs t)) (λ v s1. bind (f callee (v ∷ vs) s1) (λ w s2. res (close_update span c w s2))) (λ v s1. bind (g callee (v ∷ vs) s1) (λ w s2. res (close_update span c w s2)))
     (itself (λ x. res (open_update u inside span c vs x)) s t r)
-    (λ v s1 t1 r1. bind_like ActorState K (f callee (v ∷ vs) s1) (g callee (v ∷ vs) t1) (λ w s2. res (close_update span c w s2)) (λ w s2. res (close_update span c w s2)) (a callee (v ∷ vs) (all_fine Each each callee) s1 t1 r1) (λ w. itself (λ x. res (close_update span c w x))))
+    (λ v s1 t1 r1. bind_like ActorState K (f callee (v ∷ vs) s1) (g callee (v ∷ vs) t1) (λ w s2. res (close_update span c w s2)) (λ w s2. res (close_update span c w s2)) (a callee (v ∷ vs) (any_callee callee) s1 t1 r1) (λ w. itself (λ x. res (close_update span c w x))))
+
+accepts_like : (va : Validators) (d : CellId) (span : Span) (f g : Applies ActorState) → AppliesLike ActorState K Each f g → (w : Value) → PartsLike ActorState K (accepts va f d span w) (accepts va g d span w)
+accepts_like va d span f g a w = validated_like ActorState K Each f g a (validator_at va d.number) span w (valid_at Each va d.number (any_valid va))
 
 allowed_like : (b : Bool) (x y : Completion ActorState Value) → Like K x y → Like K (allowed b x) (allowed b y)
 allowed_like true x y h = h
@@ -136,18 +152,30 @@ updates_like : (va : Validators) (form : UpdateForm) (inside : Bool) (span : Spa
 updates_like va Alter inside span c callee vs f g a s t r = updates_ref_like Alters inside span c callee vs f g a s t r
 updates_like va Commute inside span c callee vs f g a s t r = updates_ref_like (Commutes callee) inside span c callee vs f g a s t r
 updates_like va Swap inside span c callee vs f g a s t r =
+    let made : CellId → Value → ActorState → Completion ActorState Value = λ d v s1. bind (f callee (v ∷ vs) s1) (accepts va f d span) in
+    let made1 : CellId → Value → ActorState → Completion ActorState Value = λ d v s1. bind (g callee (v ∷ vs) s1) (accepts va g d span) in
     subst (λ u. Like K (updates va Swap inside span c callee vs f s) (updates va Swap inside span c callee vs g u)) r
-    (allowed_like (not inside) (swaps_on (suc (length s.todo)) span c (λ d v s1. f callee (v ∷ vs) s1) s) (swaps_on (suc (length s.todo)) span c (λ d v s1. g callee (v ∷ vs) s1) s)
-    (swaps_like (suc (length s.todo)) span c (λ d v s1. f callee (v ∷ vs) s1) (λ d v s1. g callee (v ∷ vs) s1) (λ d v. a callee (v ∷ vs) (all_fine Each each callee)) s s refl))
+    (allowed_like (not inside) (swaps_on (suc (length s.todo)) span c made s) (swaps_on (suc (length s.todo)) span c made1 s)
+    (swaps_like (suc (length s.todo)) span c made made1
+    (λ d v s1 t1 r1. bind_like ActorState K (f callee (v ∷ vs) s1) (g callee (v ∷ vs) t1) (accepts va f d span) (accepts va g d span) (a callee (v ∷ vs) (any_callee callee) s1 t1 r1) (accepts_like va d span f g a)) s s refl))
+
+puts_like : (va : Validators) (form : PutForm) (inside : Bool) (span : Span) (c v : Value) (f g : Applies ActorState) → AppliesLike ActorState K Each f g → PartsLike ActorState K (puts va form inside span c v f) (puts va form inside span c v g)
+puts_like va RefSet inside span c v f g a s t r = itself (λ u. res (assign RefSet inside span c v u)) s t r
+puts_like va Reset inside span c v f g a s t r =
+    bind_like ActorState K (res (cell_at (form_of.Put Reset) inside span c s)) (res (cell_at (form_of.Put Reset) inside span c t))
+    (λ d s1. bind (accepts va f d span v s1) (λ w s2. res (assign_cell Reset inside span w d s2))) (λ d t1. bind (accepts va g d span v t1) (λ w t2. res (assign_cell Reset inside span w d t2)))
+    (itself (λ u. res (cell_at (form_of.Put Reset) inside span c u)) s t r)
+    (λ d s1 t1 r1. bind_like ActorState K (accepts va f d span v s1) (accepts va g d span v t1) (λ w s2. res (assign_cell Reset inside span w d s2)) (λ w t2. res (assign_cell Reset inside span w d t2)) (accepts_like va d span f g a v s1 t1 r1)
+    (λ w. itself (λ u. res (assign_cell Reset inside span w d u))))
 
 pub reply_forms : (va : Validators) → FormsLike ActorState K Each Any (on_replies va) (on_replies va)
 reply_forms va = record {
   print = λ inside vs. itself (λ u. res (print inside vs u));
   look = λ form inside m c. itself (λ u. res (read form inside m.span c u));
-  put = λ form inside m c v f g a. itself (λ u. res (assign form inside m.span c v u));
-  update = λ form inside m c callee vs f g fine a. updates_like va form inside m.span c callee vs f g a;
+  put = λ form inside m c v f g here a. puts_like va form inside m.span c v f g a;
+  update = λ form inside m c callee vs f g fine here a. updates_like va form inside m.span c callee vs f g a;
   send = λ inside m c callee vs. itself (λ u. res (send_to inside m.span c callee vs u));
-  dosync = λ inside m e e1 env env1 b b1 f g linked parts a. joined_like va inside (suc reruns) m.span b b1 parts f g a;
+  dosync = λ inside m e e1 env env1 b b1 f g linked here parts a. joined_like va inside (suc reruns) m.span b b1 parts f g a;
 }
 
 -- ---- no recur
@@ -209,13 +237,21 @@ allowed_end false x h = tt
 updates_end : (va : Validators) (form : UpdateForm) (inside : Bool) (span : Span) (c : Value) (callee : Callee) (vs : List Value) (f : Applies ActorState) (s : ActorState) → IsEnd (updates va form inside span c callee vs f s)
 updates_end va Alter inside span c callee vs f s = updates_ref_end Alters inside span c callee vs f s
 updates_end va Commute inside span c callee vs f s = updates_ref_end (Commutes callee) inside span c callee vs f s
-updates_end va Swap inside span c callee vs f s = allowed_end (not inside) (swaps_on (suc (length s.todo)) span c (λ d v s1. f callee (v ∷ vs) s1) s) (swaps_end (suc (length s.todo)) span c (λ d v s1. f callee (v ∷ vs) s1) s)
+updates_end va Swap inside span c callee vs f s =
+    let made : CellId → Value → ActorState → Completion ActorState Value = λ d v s1. bind (f callee (v ∷ vs) s1) (accepts va f d span) in
+    allowed_end (not inside) (swaps_on (suc (length s.todo)) span c made s) (swaps_end (suc (length s.todo)) span c made s)
+
+puts_end : (va : Validators) (form : PutForm) (inside : Bool) (span : Span) (c v : Value) (f : Applies ActorState) (s : ActorState) → IsEnd (puts va form inside span c v f s)
+puts_end va RefSet inside span c v f s = res_end (assign RefSet inside span c v s)
+puts_end va Reset inside span c v f s =
+    bind_end (res (cell_at (form_of.Put Reset) inside span c s)) (λ d s1. bind (accepts va f d span v s1) (λ w s2. res (assign_cell Reset inside span w d s2)))
+    (λ d s1. bind_end (accepts va f d span v s1) (λ w s2. res (assign_cell Reset inside span w d s2)) (λ w s2. res_end (assign_cell Reset inside span w d s2)))
 
 pub reply_ends : (va : Validators) → FormsEnd ActorState (on_replies va)
 reply_ends va = record {
   print = λ inside vs s. res_end (print inside vs s);
   look = λ form inside m c s. res_end (read form inside m.span c s);
-  put = λ form inside m c v f s h. res_end (assign form inside m.span c v s);
+  put = λ form inside m c v f s h. puts_end va form inside m.span c v f s;
   update = λ form inside m c callee vs f s h. updates_end va form inside m.span c callee vs f s;
   send = λ inside m c callee vs s. res_end (send_to inside m.span c callee vs s);
   dosync = λ inside m e env b f s h a. joined_end va inside (suc reruns) m.span b f s h;

@@ -11,7 +11,7 @@ use Rattle.txs_theorem_threads.specs.OnReplies.{on_replies}
 use Rattle.txs_opt.specs.Fold.{folded, folded_functions}
 use Rattle.txs_opt.specs.Inline.{inlined, functions_inlined}
 use Rattle.txs_opt.specs.Keeps.{folded_source, inlined_source}
-use Rattle.txs_opt.proofs.Below.{Each, each, below_any}
+use Rattle.txs_opt.proofs.Below.{Each, any_below}
 use Rattle.txs_opt.proofs.FoldedProgram.{bodies_folded, length_folded}
 use Rattle.txs_opt.proofs.InlinedFunctions.{length_inlined}
 use Rattle.txs_opt.proofs.InlinedProgram.{Bodies, bodies_inlined}
@@ -37,7 +37,7 @@ fold_kept p n todo =
 
 -- no condition on what bodies call
 pub each_bodies : (gs : List PlainFunction) → Bodies (λ j. Each) gs
-each_bodies gs d f fun found may = below_any Each each fun.body
+each_bodies gs d f fun found may = any_below fun.body
 
 pub inline_kept : (budget left : ℕ) (p : ThreadSource) (m : ℕ) (todo : List Exchange) → SourceKept p (inlined_source budget left p) m todo
 inline_kept budget left p m todo =
@@ -50,4 +50,4 @@ inline_kept budget left p m todo =
     subst (λ j. Like K (source p m todo) (closed (eval (on_replies va) (call_at (fx va) m gs j) m false main [] (fresh todo)))) same
     (closed_like ActorState K (eval (on_replies va) (call_at (fx va) m fs d) m false p.main [] (fresh todo)) (eval (on_replies va) (call_at (fx va) m gs d) m false main [] (fresh todo))
     (bodies_inlined ActorState K (λ j. Each) (λ f h. tt) (λ j f h. tt) (λ s t r. refl) (λ s t u p1 q1. p1 ∙ q1) (λ j. Any) (λ j. Any) (λ j. Any) (fx va) (fx va) m fs budget (each_bodies fs) (each_bodies gs) (λ j. reply_forms va) (λ j front within c l e env low is. tt)
-    (λ j. reply_forms va) (λ j e env low. tt) (λ j c i e env env1 low w. tt) (λ j. reply_forms va) (λ j e env low. tt) (λ j. reply_ends va) d gs (λ f fun is. is) false p.main [] 0 left (below_any Each each p.main) refl (fresh todo) (fresh todo) refl))
+    (λ j. reply_forms va) (λ j e env low. tt) (λ j c i e env env1 low w. tt) (λ j. reply_forms va) (λ j e env low. tt) (λ j. reply_ends va) d gs (λ f fun is. is) false p.main [] 0 left (any_below p.main) refl (fresh todo) (fresh todo) refl))

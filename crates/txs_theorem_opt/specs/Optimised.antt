@@ -1,5 +1,6 @@
 -- Code that behaves as an optimised program's trees follows the program from before.
-use Rattle.std.specs.Prelude.{ℕ, List}
+use Rattle.std.specs.Prelude.{◌≡◌, ℕ, List}
+use Rattle.txs_value_cell.specs.Cells.{validators_of}
 use Rattle.txs_tree_meaning.specs.Sound.{Sound}
 use Rattle.txs_tree_meaning.specs.Tree.{PlainProgram}
 use Rattle.txs_code_meaning.specs.Machine.{Library, ThreadCode}
@@ -21,9 +22,10 @@ OptimisedFollows = (codes : List ThreadCode) (limit : ℕ) (p : PlainProgram) �
 abbrev pub OptimisedSound : Type 0
 OptimisedSound = (limit : ℕ) (p : PlainProgram) → Sound p → Sound (optimised limit p)
 
--- code that does in actions what the optimised functions mean follows the agents' actions by the functions from before
+-- code with the cells' validators that does in actions what the optimised functions mean follows the agents' actions by the functions
+-- from before
 abbrev pub OptimisedFollowsAgents : Type 0
-OptimisedFollowsAgents = (code : Library) (limit : ℕ) (p : PlainProgram) → Sound p → ActionsBehave code (optimised limit p).functions → FollowsAgents code p.functions
+OptimisedFollowsAgents = (code : Library) (limit : ℕ) (p : PlainProgram) → Sound p → code.validators ≡ validators_of p.cells → ActionsBehave code (optimised limit p).functions → FollowsAgents code p.functions
 
 -- an optimised program means what the program means, on any events
 abbrev pub OptimisedMeansSame : Type 0

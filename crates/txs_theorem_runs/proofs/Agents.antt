@@ -10,6 +10,7 @@ use Rattle.txs_world_protocol.specs.declared.event.Event.{Event}
 use Rattle.txs_world_protocol.specs.declared.event.EventKind.{EventKind}
 use Rattle.txs_world_protocol.specs.declared.event.EventKind.TheVariants as event
 use Rattle.txs_value_data.proofs.SameLemmas.{numbers, number-itself}
+use Rattle.txs_value_cell.specs.Cells.{validators_of}
 use Rattle.txs_value_cell.specs.declared.cell.CellDefinition.{CellDefinition}
 use Rattle.txs_value_data.specs.declared.value.CellId.{CellId}
 use Rattle.txs_tree_meaning.specs.Tree.{PlainFunction}
@@ -122,7 +123,7 @@ module _ (cells : List CellDefinition) (threads : ℕ) (code : Library) (functio
   quiet_means done (event.Swap new) h = tt
   quiet_means done (event.Broke at) h = tt
 
-  module _ (follows : FollowsAgents code functions) (codes : ℕ → ThreadCode) (run_agents : RunsAgents cells threads codes code) (by : ThreadsSendSound threads codes functions) where
+  module _ (follows : FollowsAgents code functions) (ours : code.validators ≡ validators_of cells) (codes : ℕ → ThreadCode) (run_agents : RunsAgents cells threads codes code) (by : ThreadsSendSound threads codes functions) where
     abbrev WorksAll : State → Type 0
     WorksAll st = (g : CellId) → has_agent (cells_of cells) g ≡ true → Works cells threads code functions st.shared g (st.actors (agent_actor cells threads g))
 
@@ -134,7 +135,7 @@ module _ (cells : List CellDefinition) (threads : ℕ) (code : Library) (functio
           let m = both (b == agent_actor cells threads g) _ may in
           let n = both (has_agent (cells_of cells) g) (is_taken st.shared.taken g && true) m.1 in
           let i = numbers b (agent_actor cells threads g) m.0 in
-          finish_means cells threads code functions follows g n.0 st.shared sound long (st.actors (agent_actor cells threads g)) (all g n.0) c s
+          finish_means cells threads code functions follows ours g n.0 st.shared sound long (st.actors (agent_actor cells threads g)) (all g n.0) c s
           (subst (λ j. (st.actors j).at ≡ Unfinished c) i at) (subst (λ kd. turn kd c ≡ Asking s) (ap codes i ∙ run_agents g n.0) e) new w (both (is_taken st.shared.taken g) true n.1).0
       finishes c s ask.Begin at e w may = tt
       finishes c s (ask.Look d p) at e w may = tt
@@ -193,9 +194,9 @@ module _ (cells : List CellDefinition) (threads : ℕ) (code : Library) (functio
       own_well (TakesTurn b) e =
           subst (λ i. OwnWell (TakesTurn i)) (sym e)
           (subst (λ kd. Works cells threads code functions (turns_from cells threads kd own (st.actors own).at (st.actors own).stopped (st.actors own) st.shared).shared g (turns_from cells threads kd own (st.actors own).at (st.actors own).stopped (st.actors own) st.shared).actor) (sym (run_agents g has))
-          (turns_well cells threads code functions follows g has st.shared sound long (st.actors own) (all g has) (st.actors own).at (st.actors own).stopped refl))
+          (turns_well cells threads code functions follows ours g has st.shared sound long (st.actors own) (all g has) (st.actors own).at (st.actors own).stopped refl))
       own_well (IsStopped b why) e =
-          subst (λ i. OwnWell (IsStopped i why)) (sym e) (stops_well cells threads code functions follows g has st.shared sound long (st.actors own) (all g has) why (st.actors own).at (st.actors own).stopped)
+          subst (λ i. OwnWell (IsStopped i why)) (sym e) (stops_well cells threads code functions follows ours g has st.shared sound long (st.actors own) (all g has) why (st.actors own).at (st.actors own).stopped)
 
     -- what holds between plays
     record Standing (st : State) : Type 0 where
@@ -295,4 +296,4 @@ module _ (cells : List CellDefinition) (threads : ℕ) (code : Library) (functio
             go (inr p) = inr p.1
 
 pub run_acts_mean : ServeKeeps → ActionStays → FreshStands → RunActsMean
-run_acts_mean keeps stays fresh cells threads codes code functions ys follows run_agents by = explained cells threads code functions follows codes run_agents by keeps stays fresh ys
+run_acts_mean keeps stays fresh cells threads codes code functions ys ours follows run_agents by = explained cells threads code functions follows ours codes run_agents by keeps stays fresh ys

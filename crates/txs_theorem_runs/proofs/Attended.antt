@@ -9,6 +9,7 @@ use Rattle.txs_world_protocol.specs.declared.event.Event.{Event}
 use Rattle.txs_world_protocol.specs.declared.event.EventKind.TheVariants as event
 use Rattle.txs_value_data.specs.Limits.{most_events}
 use Rattle.txs_value_cell.specs.declared.action.Action.{Action}
+use Rattle.txs_value_cell.specs.Cells.{validators_of}
 use Rattle.txs_value_cell.specs.declared.cell.CellDefinition.{CellDefinition}
 use Rattle.txs_value_base.specs.declared.fault.Fault.{Fault}
 use Rattle.txs_value_data.specs.declared.value.CellId.{CellId}
@@ -50,7 +51,7 @@ done_so : (b : Bool) (d : Event) (book : List Event) (r : Reply) → r ≡ (if b
 done_so true d book r e h = e
 done_so false d book r e h = absurd (subst IsExchanged e h)
 
-module _ (cells : List CellDefinition) (threads : ℕ) (code : Library) (functions : List PlainFunction) (follows : FollowsAgents code functions) (books : ℕ → List Event)
+module _ (cells : List CellDefinition) (threads : ℕ) (code : Library) (functions : List PlainFunction) (follows : FollowsAgents code functions) (ours : code.validators ≡ validators_of cells) (books : ℕ → List Event)
     (sound : (k : ℕ) → k ≤ length (books 0) → AllSound functions (take k (books 0))) (g : CellId) (a : ℕ) where
   abbrev tc : ThreadCode
   tc = agent_code code g
@@ -199,7 +200,7 @@ module _ (cells : List CellDefinition) (threads : ℕ) (code : Library) (functio
           (subst (λ q. AsksNext q (agent_target code g next.0 (map exchange_of done ++ exchange (ask.Take g) (reply.Action out.number out.action out.state) ∷ []))) turns.3
           (subst (λ x. AsksNext f.ask (agent_target code g next.0 (map exchange_of done ++ x ∷ []))) (taking_is e turns.0 out) next.1)) in
           subst (λ n. ActMeans functions cells (take n (books 0)) (event.Act g i turns.2 [])) turns.1
-          (out.action, out.next, m.0, subst (λ v. action_meaning m.0 functions out.action v ≡ Some turns.2) (sym out.found) m.1)
+          (out.action, out.next, m.0, subst (λ v. action_meaning m.0 functions (validators_of cells) out.action v ≡ Some turns.2) (sym out.found) (subst (λ vs. action_meaning m.0 functions vs out.action out.state ≡ Some turns.2) ours m.1))
 
       two : (xs : List Exchange) (y z : Exchange) → (xs ++ y ∷ []) ++ z ∷ [] ≡ xs ++ y ∷ z ∷ []
       two [] y z = refl

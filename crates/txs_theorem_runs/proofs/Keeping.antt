@@ -5,10 +5,15 @@ use Rattle.txs_world_protocol.specs.declared.ask.Ask.{Ask}
 use Rattle.txs_world_protocol.specs.declared.ask.Ask.TheVariants as ask
 use Rattle.txs_world_protocol.specs.declared.ask.Reply.{Reply}
 use Rattle.txs_frame.specs.Frame.{PlainTxFrame, empty_frame, is_commuted, commuted, with_cell, set_writes, ensure_ref, commute_ref, hold_send}
+use Rattle.txs_frame.specs.Phase.{tasks_of, to_write}
 use Rattle.txs_frame.specs.declared.frame.Commute.{Commute}
+use Rattle.txs_frame.specs.declared.phase.Task.{Task}
+use Rattle.txs_frame.specs.declared.phase.Task.TheVariants.{Redoes, Validates}
 use Rattle.txs_value_apply.specs.Core.{core, vector_of}
+use Rattle.txs_value_apply.specs.Truth.{choose}
+use Rattle.txs_value_cell.specs.Cells.{validator_at}
 use Rattle.txs_value_cell.specs.Forms.{rule, cell_of}
-use Rattle.txs_value_base.specs.Places.{nth}
+use Rattle.txs_value_base.specs.Places.{nth, fault_at}
 use Rattle.txs_value_data.specs.Printed.{printed_line}
 use Rattle.txs_value_cell.specs.declared.action.Action.{Action}
 use Rattle.txs_value_base.specs.declared.fault.Fault.{Fault}
@@ -28,7 +33,7 @@ use Rattle.txs_value_base.specs.declared.op.Callee.TheVariants as callee
 use Rattle.txs_value_data.specs.declared.value.CellId.{CellId}
 use Rattle.txs_value_data.specs.declared.value.Value.{Value}
 use Rattle.txs_code_meaning.specs.ActorState.{ActorState, Replied, Unreplied, receives, asks, StepResult, Continue, Break, Redo, Await, Malformed, on_step, step_of, Reading, Says, SaysRetry, SaysNothing, read_as, heard, read_point, just_done, value_there, newest_value, views, Verdict, Landed, Outdated, Undone, Denied, commit_verdict, opened, swap_verdict, send_verdict, Taken, handed_out, begun, begin, fail, buffered_or, look, paired, viewed, view, commit, peek, SwapInHand, open_atom, close_swap, break_swap, reset_atom, sent, send_now, take_action, finish, read_cell, read, set_own, assign_cell, assign, RefUpdate, Alters, Commutes, update_form, kept_open, open_update, close_own, close_update, open_swap, send_action, send_to, print, InHand, send_or_hold, now_holding}
-use Rattle.txs_code_meaning.specs.Machine.{PlainInstr, Push, Load, Store, Pop, Jump, JumpFalse, CoreOf, CallOf, Return, MakeVector, PrintOf, TxBegin, TxEnd, LookOf, PutOf, OpenOf, CloseOf, SendOf, Halt, TakeOf, RunOf, FinishOf, ThreadCode, fetch, Frame, Savepoint, Activity, Outside, Restarting, Running, Applying, Swapping, is_inside, Configuration, ahead, arguments_of, Turned, Ended, Failed, Asking, Unfinished, Stuck, told, raise, try_more, retried, on, found, on_top, on_args, on_args_of, on_two, gives, starts, begins, decided, lands, settles, applies, ends, returns_to, opens_ref, opens_atom, opens, swap_decided, closes_swap, closes, started, runs_callee, runs, act, turn, ends_with, rested}
+use Rattle.txs_code_meaning.specs.Machine.{PlainInstr, Push, Load, Store, Pop, Jump, JumpFalse, CoreOf, CallOf, Return, MakeVector, PrintOf, TxBegin, TxEnd, LookOf, PutOf, OpenOf, CloseOf, SendOf, Halt, TakeOf, RunOf, FinishOf, ThreadCode, fetch, Frame, Savepoint, Activity, Outside, Restarting, Running, Applying, Swapping, is_inside, Configuration, ahead, arguments_of, Turned, Ended, Failed, Asking, Unfinished, Stuck, told, raise, try_more, retried, on, found, on_top, on_args, on_args_of, on_two, gives, starts, begins, decided, lands, settles, applies, ends, returns_to, opens_ref, opens_atom, opens, swap_decided, closes_swap, closes, started, runs_callee, runs, act, turn, ends_with, rested, staying, first_place, answered, validates, where_accepted, where_valid, works, puts, finishes, Destination, to_stack, to_commutes, to_validation, state_after}
 use Rattle.txs_code_meaning.specs.declared.instr.OpenForm.{OpenForm}
 use Rattle.txs_code_meaning.specs.declared.instr.OpenForm.TheVariants as open_form
 
@@ -42,13 +47,14 @@ SendsOwn P s _ = Unit {0}
 abbrev pub SendsSuch : (Action → Type 0) → Option PlainInstr → Type 0
 SendsSuch P i = (f : Callee) (n : ℕ) (span : Span) → i ≡ Some (SendOf f n span) → (g : CellId) (vs : List Value) → length vs ≡ n → P (record { agent = g; callee = f; args = vs; span = span })
 
--- A property of an actor's state that replies, transactions, actions and waiting keep, where such actions alone are sent.
+-- A property of an actor's state that replies, transactions, actions, validators and waiting keep, where such actions alone are sent.
 pub record IsKept (P : Action → Type 0) (A : ActorState → Type 0) : Type 0 where
   pub on_reply : (s : ActorState) (x : Exchange) (xs : List Exchange) → s.todo ≡ x ∷ xs → A s → A (record s { todo = xs })
   pub on_begin : (s : ActorState) (p : ℕ) → A s → A (record s { at = p; view = p; done = empty_frame; commuting = None })
   pub on_work : (s : ActorState) (view : ℕ) (w : PlainTxFrame) (o : Option Commute) → w.sends ≡ s.done.sends → A s → A (record s { view = view; done = w; commuting = o })
   pub on_hold : (s : ActorState) (x : Action) → P x → A s → A (record s { done = hold_send x s.done })
   pub on_acting : (s : ActorState) (o : Option InHand) → A s → A (record s { acting = o })
+  pub on_accepted : (s : ActorState) (o : Option Bool) → A s → A (record s { accepted = o })
   pub on_wait : (s : ActorState) (q : Ask) → SendsOwn P s q → A s → A (record s { wants = Some q })
 
 -- any action
@@ -300,9 +306,59 @@ module _ (P : Action → Type 0) (A Z : ActorState → Type 0) (kept : IsKept P 
   sends_keep : (n : ℕ) (stack : List Value) (go : List Value → Value → List Value → Turned Configuration) → ((vs : List Value) (v : Value) (rest : List Value) → length vs ≡ n → Holds A Z (go vs v rest)) → Holds A Z (on_args_of n stack go)
   sends_keep n stack go h = as_many_keep n n stack [] (λ vs under. on_top under (go vs)) (omega arith) (λ vs under e. top_keeps under (go vs) (λ v rest. h vs v rest e))
 
+  gives_from : (c : Configuration) (rest : List Value) (r : StepResult Value) → InStep r → Holds A Z (gives c rest r)
+  gives_from c rest r p = on_keeps c.doing r (λ v s. Unfinished (ahead (v ∷ rest) s c)) p (λ v s q. on_end s q)
+
+  decided_keeps : (c : Configuration) (left : ℕ) (from : Savepoint) (v : Verdict) (s : ActorState) → A s → Holds A Z (decided v left from c s)
+  decided_keeps c left from Landed s q = on_end s q
+  decided_keeps c left from Outdated s q = try_keeps left from s _ q (λ k. on_end s q)
+  decided_keeps c left from Undone s q = try_keeps left from s _ q (λ k. on_end s q)
+  decided_keeps c left from Denied s q = q
+
+  lands_keeps : (c : Configuration) → A c.state → (left : ℕ) (from : Savepoint) (values : Writes) → Holds A Z (lands left from values c)
+  lands_keeps c h left from values = on_keeps c.doing (commit values c.state) (λ verdict s. decided verdict left from c s) (commit_keeps values c.state h) (λ v s q. decided_keeps c left from v s q)
+
+  applies_keeps : (code : ThreadCode) (c : Configuration) → A c.state → (f : Callee) (left : ℕ) (from : Savepoint) (k : Commute) (work : List Task) (values : Writes) → Holds A Z (applies code f left from k work values c)
+  applies_keeps code c h (callee.Core op) left from k work values =
+      on_keeps c.doing (step_of (core op (arguments_of k values)) from.span c.state) _ (result_keeps (core op (arguments_of k values)) from.span c.state h) (λ v s q. on_end s q)
+  applies_keeps code c h (callee.Function f) left from k work values = on_end c.state h
+
+  swap_decided_keeps : (c : Configuration) (from : Savepoint) (w : Value) (rest : List Value) (v : Verdict) (s : ActorState) → A s → Holds A Z (swap_decided v from w rest c s)
+  swap_decided_keeps c from w rest Landed s q = on_end s q
+  swap_decided_keeps c from w rest Outdated s q = on_end s q
+  swap_decided_keeps c from w rest Undone s q = tt
+  swap_decided_keeps c from w rest Denied s q = tt
+
+  -- ---- validators
+
+  validates_keeps : (code : ThreadCode) (c : Configuration) → A c.state → (f : Callee) (v : Value) (span : Span) → Holds A Z (validates code f v span c)
+  validates_keeps code c h (callee.Core op) v span =
+      on_keeps c.doing (step_of (core op (v ∷ [])) span c.state) _ (result_keeps (core op (v ∷ [])) span c.state h) (λ answer s q. on_end (answered answer s) (kept.on_accepted s (Some (choose answer true false)) q))
+  validates_keeps code c h (callee.Function f) v span = on_end c.state h
+
+  -- what goes on keeps it
+  abbrev NextKeeps : (Configuration → Turned Configuration) → Type 0
+  NextKeeps go = (c : Configuration) → A c.state → Holds A Z (go c)
+
+  accepted_keeps : (code : ThreadCode) (o : Option Bool) (f : Callee) (v : Value) (span : Span) (c : Configuration) (go : Configuration → Turned Configuration) → A c.state → NextKeeps go → Holds A Z (where_accepted code o f v span c go)
+  accepted_keeps code None f v span c go h k = validates_keeps code c h f v span
+  accepted_keeps code (Some true) f v span c go h k = k (record c { state = record c.state { accepted = None } }) (kept.on_accepted c.state None h)
+  accepted_keeps code (Some false) f v span c go h k = raise_keeps c.doing (fault_at fault_kind.InvalidState span) (record c.state { accepted = None }) (kept.on_accepted c.state None h)
+
+  valid_keeps : (code : ThreadCode) (o : Option Callee) (v : Value) (span : Span) (c : Configuration) (go : Configuration → Turned Configuration) → A c.state → NextKeeps go → Holds A Z (where_valid code o v span c go)
+  valid_keeps code None v span c go h k = k c h
+  valid_keeps code (Some f) v span c go h k = accepted_keeps code c.state.accepted f v span c go h k
+
+  works_keeps : (code : ThreadCode) (left : ℕ) (from : Savepoint) (work : List Task) (values : Writes) (c : Configuration) → A c.state → Holds A Z (works code left from work values c)
+  works_keeps code left from [] values c h = lands_keeps c h left from values
+  works_keeps code left from (Redoes k ∷ work) values c h = applies_keeps code c h k.callee left from k work values
+  works_keeps code left from (Validates r f ∷ work) values c h =
+      accepted_keeps code c.state.accepted f (to_write values c.state.done r.number) from.span (staying (Applying left from (Validates r f ∷ work) values) c.state c)
+      (λ c1. works code left from work values (staying (Applying left from work values) c1.state c1)) h (λ c1 h1. works_keeps code left from work values (staying (Applying left from work values) c1.state c1) h1)
+
   module _ (code : ThreadCode) (c : Configuration) (h : A c.state) where
     gives_keeps : (rest : List Value) (r : StepResult Value) → InStep r → Holds A Z (gives c rest r)
-    gives_keeps rest r p = on_keeps c.doing r (λ v s. Unfinished (ahead (v ∷ rest) s c)) p (λ v s q. on_end s q)
+    gives_keeps rest r p = gives_from c rest r p
 
     prints : (inside : Bool) (vs rest : List Value) → Holds A Z (gives c rest (print inside vs c.state))
     unfolding print
@@ -319,36 +375,26 @@ module _ (P : Action → Type 0) (A Z : ActorState → Type 0) (kept : IsKept P 
     begins_keeps span (Applying left from work values) = tt
     begins_keeps span (Swapping swap from) = tt
 
-    decided_keeps : (left : ℕ) (from : Savepoint) (v : Verdict) (s : ActorState) → A s → Holds A Z (decided v left from c s)
-    decided_keeps left from Landed s q = on_end s q
-    decided_keeps left from Outdated s q = try_keeps left from s _ q (λ k. on_end s q)
-    decided_keeps left from Undone s q = try_keeps left from s _ q (λ k. on_end s q)
-    decided_keeps left from Denied s q = q
-
-    lands_keeps : (left : ℕ) (from : Savepoint) (values : Writes) → Holds A Z (lands left from values c)
-    lands_keeps left from values = on_keeps c.doing (commit values c.state) (λ verdict s. decided verdict left from c s) (commit_keeps values c.state h) (λ v s q. decided_keeps left from v s q)
-
-    settles_keeps : (cs : List CellId) (left : ℕ) (from : Savepoint) → Holds A Z (settles cs left from c)
-    settles_keeps [] left from = lands_keeps left from []
+    settles_keeps : (cs : List CellId) (left : ℕ) (from : Savepoint) → Holds A Z (settles code cs left from c)
+    settles_keeps [] left from = works_keeps code left from (tasks_of code.validators c.state.done) [] c h
     settles_keeps (d ∷ cs) left from = on_keeps c.doing (view c.state) _ (view_keeps c.state h) (λ v s q. on_end s q)
-
-    applies_keeps : (f : Callee) (left : ℕ) (from : Savepoint) (k : Commute) (work : List Commute) (values : Writes) → Holds A Z (applies code f left from k work values c)
-    applies_keeps (callee.Core op) left from k work values =
-        on_keeps c.doing (step_of (core op (arguments_of k values)) from.span c.state) _ (result_keeps (core op (arguments_of k values)) from.span c.state h) (λ v s q. on_end s q)
-    applies_keeps (callee.Function f) left from k work values = on_end c.state h
 
     ends_keeps : (doing : Activity) → Holds A Z (ends code doing c)
     ends_keeps Outside = tt
     ends_keeps (Restarting left) = tt
     ends_keeps (Running left (suc inner) from) = on_end c.state h
     ends_keeps (Running left zero from) = settles_keeps (commuted c.state.done) left from
-    ends_keeps (Applying left from [] values) = lands_keeps left from values
-    ends_keeps (Applying left from (k ∷ work) values) = applies_keeps k.callee left from k work values
+    ends_keeps (Applying left from work values) = works_keeps code left from work values c h
     ends_keeps (Swapping swap from) = tt
 
     returns_keep : (frames : List Frame) (v : Value) → Holds A Z (returns_to frames v c)
     returns_keep [] v = tt
-    returns_keep (f ∷ frames) v = on_end c.state h
+    returns_keep (f ∷ frames) v = by f.awaits
+      where
+        by : (d : Destination) → Z (state_after d v c.state)
+        by to_stack = on_end c.state h
+        by to_commutes = on_end c.state h
+        by to_validation = on_end (answered v c.state) (kept.on_accepted c.state (Some (choose v true false)) h)
 
     opens_ref_keep : (u : RefUpdate) (span : Span) (vs : List Value) (cell : Value) (rest : List Value) → Holds A Z (opens_ref u span vs cell rest c)
     opens_ref_keep u span vs cell rest = on_keeps c.doing (open_update u (is_inside c.doing) span cell vs c.state) _ (open_keeps u (is_inside c.doing) span cell vs c.state h) (λ v s q. on_end s q)
@@ -365,23 +411,33 @@ module _ (P : Action → Type 0) (A Z : ActorState → Type 0) (kept : IsKept P 
     opens_keep (open_form.Commute k) span vs cell rest = opens_ref_keep (Commutes k) span vs cell rest
     opens_keep (open_form.Swap k) span vs cell rest = opens_atom_keep c.doing span vs cell rest
 
-    swap_decided_keeps : (from : Savepoint) (w : Value) (rest : List Value) (v : Verdict) (s : ActorState) → A s → Holds A Z (swap_decided v from w rest c s)
-    swap_decided_keeps from w rest Landed s q = on_end s q
-    swap_decided_keeps from w rest Outdated s q = on_end s q
-    swap_decided_keeps from w rest Undone s q = tt
-    swap_decided_keeps from w rest Denied s q = tt
-
-    closes_swap_keeps : (doing : Activity) (w : Value) (rest : List Value) → Holds A Z (closes_swap doing w rest c)
-    closes_swap_keeps (Swapping swap from) w rest = on_keeps c.doing (close_swap swap w c.state) (λ verdict s. swap_decided verdict from w rest c s) (close_swap_keeps swap w c.state h) (λ v s q. swap_decided_keeps from w rest v s q)
+    closes_swap_keeps : (doing : Activity) (w : Value) (rest : List Value) → Holds A Z (closes_swap code doing w rest c)
+    closes_swap_keeps (Swapping swap from) w rest =
+        valid_keeps code (validator_at code.validators swap.cell.number) w from.span c (λ c1. on c1.doing (close_swap swap w c1.state) (λ verdict s. swap_decided verdict from w rest c1 s)) h
+        (λ c1 h1. on_keeps c1.doing (close_swap swap w c1.state) (λ verdict s. swap_decided verdict from w rest c1 s) (close_swap_keeps swap w c1.state h1) (λ v s q. swap_decided_keeps c1 from w rest v s q))
     closes_swap_keeps Outside w rest = tt
     closes_swap_keeps (Restarting left) w rest = tt
     closes_swap_keeps (Running left inner from) w rest = tt
     closes_swap_keeps (Applying left from work values) w rest = tt
 
-    closes_keep : (f : UpdateForm) (span : Span) (w cell : Value) (rest : List Value) → Holds A Z (closes f span w cell rest c)
+    closes_keep : (f : UpdateForm) (span : Span) (w cell : Value) (rest : List Value) → Holds A Z (closes code f span w cell rest c)
     closes_keep update.Alter span w cell rest = gives_keeps rest (close_update span cell w c.state) (close_keeps span cell w c.state h)
     closes_keep update.Commute span w cell rest = gives_keeps rest (close_update span cell w c.state) (close_keeps span cell w c.state h)
     closes_keep update.Swap span w cell rest = closes_swap_keeps c.doing w rest
+
+    puts_keep : (f : PutForm) (span : Span) (w cell : Value) (rest : List Value) → Holds A Z (puts code f span w cell rest c)
+    puts_keep RefSet span w cell rest = gives_keeps rest (assign RefSet (is_inside c.doing) span cell w c.state) (assign_keeps RefSet (is_inside c.doing) span cell w c.state h)
+    puts_keep Reset span w cell rest =
+        on_keeps c.doing (cell_result (form.Put Reset) (is_inside c.doing) span cell c.state) (λ a s. where_valid code (validator_at code.validators a.number) w span c (λ c1. gives c1 rest (assign_cell Reset (is_inside c.doing) span w a c1.state)))
+        (result_keeps (cell_of (rule (form.Put Reset)) (is_inside c.doing) cell) span c.state h)
+        (λ a s q. valid_keeps code (validator_at code.validators a.number) w span c (λ c1. gives c1 rest (assign_cell Reset (is_inside c.doing) span w a c1.state)) h
+        (λ c1 h1. gives_from c1 rest (assign_cell Reset (is_inside c.doing) span w a c1.state) (assign_cell_keeps Reset (is_inside c.doing) span w a c1.state h1)))
+
+    finishes_keeps : (g : CellId) (o : Option InHand) (v : Value) → Holds A Z (finishes code g o v c)
+    finishes_keeps g None v = tt
+    finishes_keeps g (Some x) v =
+        valid_keeps code (validator_at code.validators x.action.agent.number) v x.action.span c (λ c1. told (finish g (Ok v) c1.state) (λ s. Unfinished (first_place [] (rested s)))) h
+        (λ c1 h1. told_keeps (finish g (Ok v) c1.state) _ (finish_keeps g (Ok v) c1.state h1) (λ s q. on_end (rested s) (kept.on_acting s None q)))
 
     started_keeps : (g : CellId) (o : Option Taken) (s : ActorState) → A s → Holds A Z (started g o c s)
     started_keeps g None s q = on_end s q
@@ -411,7 +467,7 @@ module _ (P : Action → Type 0) (A Z : ActorState → Type 0) (kept : IsKept P 
     act_keeps (Some (TxBegin span)) such = begins_keeps span c.doing
     act_keeps (Some TxEnd) such = ends_keeps c.doing
     act_keeps (Some (LookOf f span)) such = top_keeps c.stack _ (λ cell rest. gives_keeps rest (read f (is_inside c.doing) span cell c.state) (read_form_keeps f (is_inside c.doing) span cell c.state h))
-    act_keeps (Some (PutOf f span)) such = two_keep c.stack _ (λ w cell rest. gives_keeps rest (assign f (is_inside c.doing) span cell w c.state) (assign_keeps f (is_inside c.doing) span cell w c.state h))
+    act_keeps (Some (PutOf f span)) such = two_keep c.stack _ (λ w cell rest. puts_keep f span w cell rest)
     act_keeps (Some (OpenOf f n span)) such = args_of_keep n c.stack _ (λ vs cell rest. opens_keep f span vs cell rest)
     act_keeps (Some (CloseOf f span)) such = two_keep c.stack _ (λ w cell rest. closes_keep f span w cell rest)
     act_keeps (Some (SendOf f n span)) such =
@@ -419,7 +475,7 @@ module _ (P : Action → Type 0) (A Z : ActorState → Type 0) (kept : IsKept P 
     act_keeps (Some Halt) such = h
     act_keeps (Some (TakeOf g)) such = on_keeps c.doing (take_action g c.state) (λ o s. started g o c s) (take_keeps g c.state h) (λ o s q. started_keeps g o s q)
     act_keeps (Some RunOf) such = top_keeps c.stack _ (λ v rest. runs_keeps c.state.acting v rest)
-    act_keeps (Some (FinishOf g)) such = top_keeps c.stack _ (λ v rest. told_keeps (finish g (Ok v) c.state) _ (finish_keeps g (Ok v) c.state h) (λ s q. on_end (rested s) (kept.on_acting s None q)))
+    act_keeps (Some (FinishOf g)) such = top_keeps c.stack _ (λ v rest. finishes_keeps g c.state.acting v)
 
     -- an instruction keeps it
     pub turn_keeps : SendsSuch P (fetch code c.body c.place) → Holds A Z (turn code c)

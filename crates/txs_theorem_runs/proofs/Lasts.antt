@@ -40,6 +40,7 @@ prints_kept out = record {
   on_work = λ s view w o e h. h;
   on_hold = λ s x such h. h;
   on_acting = λ s o h. h;
+  on_accepted = λ s o h. h;
   on_wait = λ s q own h. h;
 }
 
@@ -58,6 +59,7 @@ waits_kept out = record {
   on_work = λ s view w o e h. h;
   on_hold = λ s x such h. h;
   on_acting = λ s o h. h;
+  on_accepted = λ s o h. h;
   on_wait = λ s q own h. h;
 }
 

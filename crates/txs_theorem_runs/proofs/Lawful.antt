@@ -26,17 +26,18 @@ use Rattle.txs_theorem_runs.specs.Invariant.{ActorInvariant, RunInvariant}
 use Rattle.txs_theorem_runs.specs.Lawful.{CodeIsKnown, OpeningIsKnown, AsksAreLawful, RunAsksLawful}
 use Rattle.txs_theorem_runs.specs.Run.{Stop, Actor, Moved, moved, exchange, replied, asked, asks_for, turned, turns_from, stops_from, Play, TakesTurn, IsStopped, State, moves, actor_of, play, plays_from, opens}
 use Rattle.txs_theorem_runs.specs.Shared.{Shared, book_for, serve_on, may_ask, has_atom}
-use Rattle.txs_theorem_runs.specs.Staged.{IsStaged, StagedFrom, stage_in, stage_of}
+use Rattle.txs_theorem_runs.specs.Staged.{redoes_some, stage_at_end, IsStaged, StagedFrom, stage_in, stage_of}
 use Rattle.txs_theorem_runs.specs.Stages.{Stage, Idle, Open, Viewing, Swapping, AsksIn, stage_after}
 use Rattle.txs_theorem_runs.specs.Standing.{MayStandHere, StandingCode}
 use Rattle.txs_theorem_runs.specs.Told.{exchange_of, IsExchanged}
+use Rattle.txs_theorem_runs.proofs.Ending.{IsUnviewedEnd, WhereUnviewed, unviewed_so}
 use Rattle.txs_theorem_runs.proofs.Growing.{Serves, Grown}
 use Rattle.txs_theorem_runs.proofs.Known.{standing_staged}
 use Rattle.txs_theorem_runs.proofs.Naming.{MayName, names_stay, names_same, names_after, NamesView, IsView, IsViewing, view_after, still_named}
 use Rattle.txs_theorem_runs.proofs.ServedKnown.{BookKnown, serve_known}
 use Rattle.txs_theorem_runs.proofs.Serving.{serves}
 use Rattle.txs_theorem_runs.proofs.Steps.{moves_stand, play_holds}
-use Rattle.txs_theorem_runs.proofs.Values.{SendsKnown, ReplyKnown, TodoKnown, AskKnown, WantsKnown, ConfigurationKnown, TurnKnown, IsTry, IsFree, IsEnd, AreSome, FreshIn, RedoIn, nothing_known, locals_known, turn_known}
+use Rattle.txs_theorem_runs.proofs.Values.{SendsKnown, ReplyKnown, TodoKnown, AskKnown, WantsKnown, ConfigurationKnown, TurnKnown, IsTry, IsUnviewed, IsEnd, AreSome, FreshIn, RedoIn, nothing_known, locals_known, turn_known}
 use Rattle.txs_theorem_runs.proofs.Whole.{FreshStands, opening_holds}
 
 append_nil : {A : Type 0} (xs : List A) → xs ++ [] ≡ xs
@@ -86,12 +87,12 @@ module _ (cells : List CellDefinition) where
   unfolding view asks
   view_asks doing s go e = subst (λ l. AsksView (on doing (on_step (heard views (receives (ask.View (commuted s.done)) s l)) (λ x s1. viewed x.0 (paired (commuted s.done) x.1) s1)) go)) (sym e) tt
 
-  settles_ask : (c : Configuration) (cs : List CellId) (left : ℕ) (from : Savepoint) → c.state.todo ≡ [] → AreSome cells cs → AsksView (settles cs left from c)
-  settles_ask c [] left from e h = absurd h
-  settles_ask c (d ∷ cs) left from e h = view_asks c.doing c.state _ e
+  settles_ask : (code : ThreadCode) (c : Configuration) (cs : List CellId) (left : ℕ) (from : Savepoint) → c.state.todo ≡ [] → AreSome cells cs → AsksView (settles code cs left from c)
+  settles_ask code c [] left from e h = absurd h
+  settles_ask code c (d ∷ cs) left from e h = view_asks c.doing c.state _ e
 
   ends_ask : (code : ThreadCode) (c : Configuration) (doing : Activity) (i : Option PlainInstr) → c.state.todo ≡ [] → RedoIn cells doing i c.state.done → AsksView (ends code doing c)
-  ends_ask code c (Running left zero from) i e h = settles_ask c (commuted c.state.done) left from e h.1
+  ends_ask code c (Running left zero from) i e h = settles_ask code c (commuted c.state.done) left from e h.1
   ends_ask code c (Running left (suc inner) from) i e h = absurd h
   ends_ask code c Outside i e h = absurd h
   ends_ask code c (Restarting left) i e h = absurd h
@@ -133,7 +134,7 @@ module _ (cells : List CellDefinition) where
       FreshNow c = StandingCode code × IsTry cells c.doing × (c.state.view ≡ c.state.at)
 
       abbrev pub CleanNow : Configuration → Type 0
-      CleanNow c = IsFree cells c.doing
+      CleanNow c = IsUnviewed cells c.doing
 
       abbrev pub TurnIsKnown : Configuration → Turned Configuration → Type 0
       TurnIsKnown c o = TurnKnown cells (StandingCode code) (FreshNow c) (CleanNow c) code o
@@ -145,7 +146,7 @@ module _ (cells : List CellDefinition) where
       forgotten X Outside s h = tt
       forgotten X (Restarting left) s h = tt
       forgotten X (Running left inner from) s h = (h.0, tt)
-      forgotten X (Applying left from work values) s h = tt
+      forgotten X (Applying left from work values) s h = unviewed_so ((s.view ≡ s.at) × X) ((s.view ≡ s.at) × Unit {0}) (redoes_some work) values (λ o x. (x.0, tt)) h
       forgotten X (Swapping swap from) s h = tt
 
       pub placed_of : (c : Configuration) (o : Turned Configuration) → TurnIsKnown c o → PlaceKnown o
@@ -167,7 +168,7 @@ module _ (cells : List CellDefinition) where
       given_fresh Outside c xs h = tt
       given_fresh (Restarting left) c xs h = tt
       given_fresh (Running left inner from) c xs h = h
-      given_fresh (Applying left from work values) c xs h = tt
+      given_fresh (Applying left from work values) c xs h = h
       given_fresh (Swapping swap from) c xs h = tt
 
       pub given_known : (c : Configuration) (x : Exchange) → Known c → ReplyKnown cells x.reply → Known (given (x ∷ []) c)
@@ -243,12 +244,12 @@ module _ (cells : List CellDefinition) where
 
       -- ---- the places that it may name
 
-      -- a try's read point may be named as a view, or its commute phase has to begin again
+      -- the read point of a try, and of its end without a view, may be named as a view; or a try's commute phase has to begin again
       abbrev pub TryNamed : (ℕ → List Event) → ℕ → Configuration → Activity → Type 0
       TryNamed books a c Outside = Unit {0}
       TryNamed books a c (Restarting left) = Unit {0}
       TryNamed books a c (Running left inner from) = (may_name true (books 0) a c.state.at ≡ true) ⊎ RedoIn cells (Running left inner from) (fetch code c.body c.place) c.state.done
-      TryNamed books a c (Applying left from work values) = Unit {0}
+      TryNamed books a c (Applying left from work values) = WhereUnviewed (may_name true (books 0) a c.state.at ≡ true) (redoes_some work) values
       TryNamed books a c (Swapping swap from) = Unit {0}
 
       abbrev pub NamedAt : (ℕ → List Event) → ℕ → Turned Configuration → Type 0
@@ -258,34 +259,52 @@ module _ (cells : List CellDefinition) where
       NamedAt books a (Unfinished c) = MayName cells books a (stage_of c) × TryNamed books a c c.doing
       NamedAt books a Stuck = Unit {0}
 
+      -- so it is said of the stage of a transaction's end
+      pub end_views : (books : ℕ → List Event) (a : ℕ) (s : ActorState) (b : Bool) (ws : Writes) → WhereUnviewed (may_name true (books 0) a s.at ≡ true) b ws → NamesView books a (stage_at_end b ws s)
+      end_views books a s true ws h = tt
+      end_views books a s false [] h = h
+      end_views books a s false (w ∷ ws) h = tt
+
+      pub end_named : (books : ℕ → List Event) (a : ℕ) (s : ActorState) (b : Bool) (ws : Writes) → NamesView books a (stage_at_end b ws s) → WhereUnviewed (may_name true (books 0) a s.at ≡ true) b ws
+      end_named books a s true ws h = tt
+      end_named books a s false [] h = h
+      end_named books a s false (w ∷ ws) h = tt
+
       view_or : (books : ℕ → List Event) (a : ℕ) (c : Configuration) (doing : Activity) → TryNamed books a c doing → NamesView books a (stage_in doing c.state) ⊎ RedoIn cells doing (fetch code c.body c.place) c.state.done
       view_or books a c Outside h = inl tt
       view_or books a c (Restarting left) h = inl tt
       view_or books a c (Running left inner from) h = h
-      view_or books a c (Applying left from work values) h = inl tt
+      view_or books a c (Applying left from work values) h = inl (end_views books a c.state (redoes_some work) values h)
       view_or books a c (Swapping swap from) h = inl tt
 
       pub try_of : (books : ℕ → List Event) (a : ℕ) (c : Configuration) (doing : Activity) → NamesView books a (stage_in doing c.state) → TryNamed books a c doing
       try_of books a c Outside h = tt
       try_of books a c (Restarting left) h = tt
       try_of books a c (Running left inner from) h = inl h
-      try_of books a c (Applying left from work values) h = tt
+      try_of books a c (Applying left from work values) h = end_named books a c.state (redoes_some work) values h
       try_of books a c (Swapping swap from) h = tt
 
-      -- after a turn of a commute phase a try is at its end
+      -- after a turn of an end with a view a try is at its end
       try_redo : (X : Type 0) (books : ℕ → List Event) (a : ℕ) (c : Configuration) (doing : Activity) → (X → ⊥) → FreshIn cells X doing c.state ⊎ RedoIn cells doing (fetch code c.body c.place) c.state.done → TryNamed books a c doing
       try_redo X books a c Outside n h = tt
       try_redo X books a c (Restarting left) n h = tt
       try_redo X books a c (Running left inner from) n (inl x) = absurd (n x.1)
       try_redo X books a c (Running left inner from) n (inr x) = inr x
-      try_redo X books a c (Applying left from work values) n h = tt
+      try_redo X books a c (Applying left from work values) n (inl x) =
+          unviewed_so ((c.state.view ≡ c.state.at) × X) (may_name true (books 0) a c.state.at ≡ true) (redoes_some work) values (λ o y. absurd (n y.1)) x
+      try_redo X books a c (Applying left from work values) n (inr x) = absurd x
       try_redo X books a c (Swapping swap from) n h = tt
 
-      free_or : (doing : Activity) (s : ActorState) → (IsFree cells doing → ⊥) ⊎ (IsViewing (stage_in doing s) → ⊥)
+      free_or : (doing : Activity) (s : ActorState) → (IsUnviewed cells doing → ⊥) ⊎ (IsViewing (stage_in doing s) → ⊥)
       free_or Outside s = inr (λ x. x)
       free_or (Restarting left) s = inr (λ x. x)
       free_or (Running left inner from) s = inr (λ x. x)
-      free_or (Applying left from work values) s = inl (λ x. x)
+      free_or (Applying left from work values) s = go (redoes_some work) values
+        where
+          go : (b : Bool) (ws : Writes) → (IsUnviewedEnd b ws → ⊥) ⊎ (IsViewing (stage_at_end b ws s) → ⊥)
+          go true ws = inl (λ x. x)
+          go false [] = inr (λ x. x)
+          go false (w ∷ ws) = inl (λ x. x)
       free_or (Swapping swap from) s = inr (λ x. x)
 
       -- books that are as before leave what is named
@@ -294,7 +313,7 @@ module _ (cells : List CellDefinition) where
       try_same books bs a c (Restarting left) f h = tt
       try_same books bs a c (Running left inner from) f (inl x) = inl (f x)
       try_same books bs a c (Running left inner from) f (inr x) = inr x
-      try_same books bs a c (Applying left from work values) f h = tt
+      try_same books bs a c (Applying left from work values) f h = unviewed_so (may_name true (books 0) a c.state.at ≡ true) (may_name true (bs 0) a c.state.at ≡ true) (redoes_some work) values (λ o x. f x) h
       try_same books bs a c (Swapping swap from) f h = tt
 
       named_same : (books bs : ℕ → List Event) (a : ℕ) → ((i : ℕ) → bs i ≡ books i) → (o : Turned Configuration) → NamedAt books a o → NamedAt bs a o
@@ -341,13 +360,13 @@ module _ (cells : List CellDefinition) where
         quiet_named c Stuck at e h = tt
 
         -- where the actor comes to with a reply
-        came_named : (c : Configuration) (bs : ℕ → List Event) (st : Stage) (o : Turned Configuration) → IsStaged st o → MayName cells bs a st → NamesView bs a st ⊎ (IsFree cells c.doing → ⊥) → TurnIsKnown c o → NamedAt bs a o
+        came_named : (c : Configuration) (bs : ℕ → List Event) (st : Stage) (o : Turned Configuration) → IsStaged st o → MayName cells bs a st → NamesView bs a st ⊎ (IsUnviewed cells c.doing → ⊥) → TurnIsKnown c o → NamedAt bs a o
         came_named c bs st (Ended s) h m v g = tt
         came_named c bs st (Failed f s) h m v g = tt
         came_named c bs st (Asking s) h m v g = tt
         came_named c bs st (Unfinished d) h m v g = (subst (λ i. MayName cells bs a i) (sym h.1) m, go v)
           where
-            go : NamesView bs a st ⊎ (IsFree cells c.doing → ⊥) → TryNamed bs a d d.doing
+            go : NamesView bs a st ⊎ (IsUnviewed cells c.doing → ⊥) → TryNamed bs a d d.doing
             go (inl w) = try_of bs a d d.doing (subst (λ i. NamesView bs a i) (sym h.1) w)
             go (inr f) = try_redo (CleanNow c) bs a d d.doing f (g.5 t).1
         came_named c bs st Stuck h m v g = tt
@@ -360,14 +379,14 @@ module _ (cells : List CellDefinition) where
           abbrev bs : ℕ → List Event
           bs i = if i == book_for cells q then v.book else sh.books i
 
-          views_or : NamesView bs a (stage_after (stage_of c) q v.reply) ⊎ (IsFree cells c.doing → ⊥)
+          views_or : NamesView bs a (stage_after (stage_of c) q v.reply) ⊎ (IsUnviewed cells c.doing → ⊥)
           views_or = go (free_or c.doing c.state)
             where
               named : NamesView sh.books a (stage_of c) ⊎ RedoIn cells c.doing (fetch code c.body c.place) c.state.done → NamesView sh.books a (stage_of c) ⊎ IsView q
               named (inl w) = inl w
               named (inr r) = inr (view_if r)
 
-              go : (IsFree cells c.doing → ⊥) ⊎ (IsViewing (stage_of c) → ⊥) → NamesView bs a (stage_after (stage_of c) q v.reply) ⊎ (IsFree cells c.doing → ⊥)
+              go : (IsUnviewed cells c.doing → ⊥) ⊎ (IsViewing (stage_of c) → ⊥) → NamesView bs a (stage_after (stage_of c) q v.reply) ⊎ (IsUnviewed cells c.doing → ⊥)
               go (inl f) = inr f
               go (inr f) = inl (view_after cells a sh.books (stage_of c) q ok f (named (view_or sh.books a c c.doing (named_here c at).1)))
 
@@ -554,7 +573,14 @@ module _ (cells : List CellDefinition) where
           fresh_or c (Running left inner from) q e r (inl m) (inl f) = inl (m, (t, e tt, f.0))
           fresh_or c (Running left inner from) q e r (inr m) f = inr (r m)
           fresh_or c (Running left inner from) q e r (inl m) (inr f) = inr (r f)
-          fresh_or c (Applying left from work values) q e r m f = inl (tt, tt)
+          fresh_or c (Applying left from work values) q e r m (inl f) = inl (go (redoes_some work) values e m f)
+            where
+              go : (b : Bool) (ws : Writes) → (IsUnviewedEnd b ws → IsTry cells c.doing) → WhereUnviewed (may_name true (sh.books 0) a c.state.at ≡ true) b ws → WhereUnviewed ((c.state.view ≡ c.state.at) × Unit {0}) b ws
+                  → NamesView sh.books a (stage_at_end b ws c.state) × FreshOf c (stage_at_end b ws c.state)
+              go true ws e m f = (tt, tt)
+              go false [] e m f = (m, (t, e tt, f.0))
+              go false (w ∷ ws) e m f = (tt, tt)
+          fresh_or c (Applying left from work values) q e r m (inr f) = absurd f
           fresh_or c (Swapping swap from) q e r m f = inl (tt, tt)
 
           pub asks_lawful : (c : Configuration) (s : ActorState) (q : Ask) → x.at ≡ Unfinished c → turn code c ≡ Asking s → s.wants ≡ Some q → MayAsk q

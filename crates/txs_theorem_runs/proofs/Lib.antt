@@ -5,6 +5,7 @@ pub mod Alone
 pub mod Attended
 pub mod Booked
 pub mod CoreKnown
+pub mod Ending
 pub mod Fits
 pub mod Going
 pub mod Growing

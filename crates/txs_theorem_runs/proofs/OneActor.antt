@@ -14,12 +14,12 @@ use Rattle.txs_theorem_runs.specs.Invariant.{ActorInvariant}
 use Rattle.txs_theorem_runs.specs.Lawful.{CodeIsKnown, OpeningIsKnown}
 use Rattle.txs_theorem_runs.specs.Run.{Actor, Moved, exchange, replied, asked, asks_for, turned}
 use Rattle.txs_theorem_runs.specs.Shared.{Shared, book_for, serve_on, may_ask}
-use Rattle.txs_theorem_runs.specs.Staged.{stage_in, stage_of}
+use Rattle.txs_theorem_runs.specs.Staged.{redoes_some, stage_in, stage_of}
 use Rattle.txs_theorem_runs.specs.Stages.{Stage, Idle, Open, Viewing, Swapping}
 use Rattle.txs_theorem_runs.specs.Standing.{MayStandHere, StandingCode}
 use Rattle.txs_theorem_runs.specs.Told.{Entry, exchange_of, IsExchanged, ToldBy}
 use Rattle.txs_theorem_runs.proofs.Growing.{Grown}
-use Rattle.txs_theorem_runs.proofs.Lawful.{BooksKnown, Known, PlaceKnown, FreshNow, CleanNow, TurnIsKnown, TryNamed, NamedAt, AsksView, redo_asks, turn_of, placed_of, turns_named, asks_lawful}
+use Rattle.txs_theorem_runs.proofs.Lawful.{BooksKnown, Known, PlaceKnown, FreshNow, CleanNow, TurnIsKnown, TryNamed, NamedAt, end_views, end_named, AsksView, redo_asks, turn_of, placed_of, turns_named, asks_lawful}
 use Rattle.txs_theorem_runs.proofs.Naming.{MayName, NamesView, later, still_named}
 use Rattle.txs_theorem_runs.proofs.ServedKnown.{ServedKnown, serve_known}
 use Rattle.txs_theorem_runs.proofs.Values.{TodoKnown, AskKnown, WantsKnown, RedoIn, locals_known, nothing_known}
@@ -92,14 +92,15 @@ module _ (cells : List CellDefinition) (threads : ℕ) (opened : OpeningIsKnown 
   try_named books a c Outside h = tt
   try_named books a c (Restarting left) h = tt
   try_named books a c (Running left inner from) h = h
-  try_named books a c (Applying left from work values) h = tt
+  try_named books a c (Applying left from work values) (inl h) = end_named cells threads opened code known books a c.state (redoes_some work) values h
+  try_named books a c (Applying left from work values) (inr h) = absurd h
   try_named books a c (Swapping swap from) h = tt
 
   may_view : (books : ℕ → List Event) (a : ℕ) (c : Configuration) (doing : Activity) → TryNamed cells threads opened code known books a c doing → NamesView books a (stage_in doing c.state) ⊎ RedoIn cells doing (fetch code c.body c.place) c.state.done
   may_view books a c Outside h = inl tt
   may_view books a c (Restarting left) h = inl tt
   may_view books a c (Running left inner from) h = h
-  may_view books a c (Applying left from work values) h = inl tt
+  may_view books a c (Applying left from work values) h = inl (end_views cells threads opened code known books a c.state (redoes_some work) values h)
   may_view books a c (Swapping swap from) h = inl tt
 
   -- where an actor that goes on may name what it has to, it may view

@@ -104,10 +104,10 @@ module _ (p : PlainProgram) (threads : List ThreadCode) (functions : Library) (c
     agent_placed = subst (λ c. ActorPlaced p.cells (length p.threads) c books (actor g) (st.actors (actor g))) (run.agents_run g has) (h.actors (actor g))
 
     agent_means : (e : Entry) → In e (told (actor g)) → Brings (ActMeans p.functions p.cells) (before_entry p.cells books e) e.ask
-    agent_means = means_at p.cells (length p.threads) functions p.functions agents books sound_before g (actor g) (st.actors (actor g)) agent_placed (h.agents g has)
+    agent_means = means_at p.cells (length p.threads) functions p.functions agents run.validators books sound_before g (actor g) (st.actors (actor g)) agent_placed (h.agents g has)
 
     agent_so : AgentExplained p.cells functions p.functions (books 0) g (st.actors (actor g))
-    agent_so = agent_explained p.cells (length p.threads) functions p.functions agents books sound_before g (actor g) (st.actors (actor g)) agent_placed (h.agents g has)
+    agent_so = agent_explained p.cells (length p.threads) functions p.functions agents run.validators books sound_before g (actor g) (st.actors (actor g)) agent_placed (h.agents g has)
 
   -- what is handed in, the agent's actor handed in
   brings_means : (a : ℕ) (e : Entry) → In e (told a) → EntryHolds p.cells (length p.threads) books a e → Brings (ActMeans p.functions p.cells) (before_entry p.cells books e) e.ask

@@ -65,7 +65,7 @@ module _ (p : PlainProgram) (threads : List ThreadCode) (functions : Library) (c
 pub run_reported : Lower → ServeKeeps → ActionStays → RefusedIsUndisturbed → FreshStands → RunReported
 run_reported lower keeps stays refused fresh p threads functions codes ys f agents staged sends run = record {
   threads = program;
-  agents = run_acts_mean keeps stays fresh p.cells (length p.threads) codes functions p.functions ys agents run.agents_run (threads_send p threads functions codes ys f agents staged sends run);
+  agents = run_acts_mean keeps stays fresh p.cells (length p.threads) codes functions p.functions ys run.validators agents run.agents_run (threads_send p threads functions codes ys f agents staged sends run);
   traced = traces;
   refused = refusals;
   transactions = λ i t e. entries_undisturbed p.cells st.shared.books i (length p.threads) (st.actors i).entries (txs_of (thread_meaning (source_of p t) (st.actors i).turns (history_of p.cells st.shared.books i (st.actors i).entries)))

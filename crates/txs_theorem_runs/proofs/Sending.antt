@@ -64,6 +64,7 @@ module _ (functions : List PlainFunction) where
     on_work = λ s view w o e h. (subst (AreSound functions) (sym e) h.0, h.1);
     on_hold = λ s x such h. (sound_append functions s.done.sends (x ∷ []) h.0 (such, tt), h.1);
     on_acting = λ s o h. h;
+    on_accepted = λ s o h. h;
     on_wait = λ s q own h. (h.0, own_sound s q own h.0);
   }
 

@@ -145,6 +145,7 @@ module _ (P : Action → Type 0) where
     on_work = λ s view w o e h. (subst (AreSuch) (sym e) h.0, h.1);
     on_hold = λ s x such h. (such_append s.done.sends (x ∷ []) h.0 (such, tt), h.1);
     on_acting = λ s o h. h;
+    on_accepted = λ s o h. h;
     on_wait = λ s q own h. (h.0, own_sound s q own h.0);
   }
 

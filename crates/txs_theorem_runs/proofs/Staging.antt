@@ -1,5 +1,6 @@
 -- An instruction that may stand where it does asks at most once, and its ask comes in its stage.
-use Rattle.std.proofs.Common.{◌≡◌, ℕ, zero, suc, Bool, true, false, List, [], ◌∷◌, ◌++◌, ◌+◌, Option, Some, None, Result, Ok, Err, if◌then◌else◌, refl, sym, ap, ◌∙◌, subst}
+use Rattle.std.proofs.lemmas.Bool.{false≢true}
+use Rattle.std.proofs.Common.{nat_lt, ◌==◌, ◌≡◌, ℕ, zero, suc, Bool, true, false, List, [], ◌∷◌, ◌++◌, ◌+◌, Option, Some, None, Result, Ok, Err, if◌then◌else◌, refl, sym, ap, ◌∙◌, subst}
 use Rattle.txs_world_protocol.specs.Ask.{Writes, buffered, with_write}
 use Rattle.txs_value_apply.specs.Truth.{choose}
 use Rattle.txs_value_data.specs.Printed.{printed_line}
@@ -8,14 +9,19 @@ use Rattle.txs_world_protocol.specs.declared.ask.Ask.TheVariants as ask
 use Rattle.txs_world_protocol.specs.declared.ask.Reply.{Reply}
 use Rattle.txs_world_protocol.specs.declared.ask.Reply.TheVariants as reply
 use Rattle.txs_world_protocol.proofs.AskLemmas.{same_ask-itself}
+use Rattle.txs_frame.specs.Phase.{tasks_of, to_write}
 use Rattle.txs_frame.specs.declared.frame.Commute.{Commute}
-use Rattle.txs_frame.specs.Frame.{set_writes, commuted, phase_work, ensure_ref, set_ref, hold_send, commute_ref}
+use Rattle.txs_frame.specs.declared.phase.Task.{Task}
+use Rattle.txs_frame.specs.declared.phase.Task.TheVariants.{Redoes, Validates}
+use Rattle.txs_value_cell.specs.Cells.{validator_at}
+use Rattle.txs_frame.specs.Frame.{set_writes, commuted, ensure_ref, set_ref, hold_send, commute_ref}
 use Rattle.txs_value_apply.specs.Core.{core, vector_of}
 use Rattle.txs_value_cell.specs.Forms.{rule, cell_of}
 use Rattle.txs_value_base.specs.Places.{nth, fault_at}
 use Rattle.txs_value_cell.specs.declared.action.Action.{Action}
 use Rattle.txs_value_base.specs.declared.fault.Fault.{Fault}
 use Rattle.txs_value_base.specs.declared.fault.FaultKind.{FaultKind}
+use Rattle.txs_value_base.specs.declared.fault.FaultKind.TheVariants.{InvalidState}
 use Rattle.txs_value_base.specs.declared.fault.Span.{Span}
 use Rattle.txs_value_cell.specs.declared.form.CellForm.TheVariants as form
 use Rattle.txs_value_cell.specs.declared.form.LookForm.{LookForm}
@@ -28,14 +34,15 @@ use Rattle.txs_value_base.specs.declared.op.Callee.{Callee}
 use Rattle.txs_value_base.specs.declared.op.Callee.TheVariants as callee
 use Rattle.txs_value_data.specs.declared.value.CellId.{CellId}
 use Rattle.txs_value_data.specs.declared.value.Value.{Value}
-use Rattle.txs_code_meaning.specs.ActorState.{ActorState, Reception, Replied, Unreplied, asks, StepResult, Continue, Break, Redo, Await, Malformed, on_step, step_of, heard, read_point, just_done, value_there, newest_value, views, Verdict, Landed, Outdated, Undone, Denied, commit_verdict, opened, swap_verdict, send_verdict, begun, begin, fail, buffered_or, look, paired, viewed, view, commit, peek, SwapInHand, open_atom, close_swap, break_swap, reset_atom, sent, send_now, read_cell, read, set_own, assign_cell, assign, RefUpdate, Alters, Commutes, update_form, kept_open, open_update, close_own, close_update, open_swap, send_action, send_to, print, InHand, send_or_hold}
-use Rattle.txs_code_meaning.specs.Machine.{PlainInstr, Push, Load, Store, Pop, Jump, JumpFalse, CoreOf, CallOf, Return, MakeVector, PrintOf, TxBegin, TxEnd, LookOf, PutOf, OpenOf, CloseOf, SendOf, Halt, TakeOf, RunOf, FinishOf, ThreadCode, Destination, to_stack, to_commutes, Frame, Savepoint, Activity, Outside, Restarting, Running, Applying, Swapping, is_inside, Configuration, ahead, staying, saved, called, arguments_of, Turned, Ended, Failed, Asking, Unfinished, Stuck, told, raise, rerun, on, found, on_top, on_args, on_args_of, on_two, push_all, put, starts, begins, decided, lands, settles, applies, ends, doing_after, returns_to, opens_atom, opens, swap_decided, closes_swap, closes, act, ends_with}
+use Rattle.txs_code_meaning.specs.ActorState.{ActorState, Reception, Replied, Unreplied, asks, StepResult, Continue, Break, Redo, Await, Malformed, on_step, step_of, heard, read_point, just_done, value_there, newest_value, views, Verdict, Landed, Outdated, Undone, Denied, commit_verdict, opened, swap_verdict, send_verdict, begun, begin, fail, buffered_or, look, with_first, paired, viewed, view, commit, peek, SwapInHand, open_atom, close_swap, break_swap, reset_atom, sent, send_now, read_cell, read, set_own, assign_cell, assign, RefUpdate, Alters, Commutes, update_form, kept_open, open_update, close_own, close_update, open_swap, send_action, send_to, print, InHand, send_or_hold}
+use Rattle.txs_code_meaning.specs.Machine.{PlainInstr, Push, Load, Store, Pop, Jump, JumpFalse, CoreOf, CallOf, Return, MakeVector, PrintOf, TxBegin, TxEnd, LookOf, PutOf, OpenOf, CloseOf, SendOf, Halt, TakeOf, RunOf, FinishOf, ThreadCode, Destination, to_stack, to_commutes, to_validation, state_after, gives, answered, validates, where_accepted, where_valid, works, puts, Frame, Savepoint, Activity, Outside, Restarting, Running, Applying, Swapping, is_inside, Configuration, ahead, staying, saved, called, arguments_of, Turned, Ended, Failed, Asking, Unfinished, Stuck, told, raise, rerun, on, found, on_top, on_args, on_args_of, on_two, push_all, put, starts, begins, decided, lands, settles, applies, ends, doing_after, returns_to, opens_atom, opens, swap_decided, closes_swap, closes, act, ends_with}
 use Rattle.txs_code_meaning.specs.declared.instr.OpenForm.{OpenForm}
 use Rattle.txs_code_meaning.specs.declared.instr.OpenForm.TheVariants as open_form
 use Rattle.txs_theorem_runs.specs.Stages.{Idle, Open, Viewing, Stage, AsksIn, stage_after}
 use Rattle.txs_theorem_runs.specs.Stages as stages
-use Rattle.txs_theorem_runs.specs.Staged.{stage_in, IsStaged, StagedFrom}
+use Rattle.txs_theorem_runs.specs.Staged.{redoes_some, stage_at_end, stage_in, IsStaged, StagedFrom}
 use Rattle.txs_theorem_runs.specs.Run.{exchange}
+use Rattle.txs_theorem_runs.proofs.Ending.{tasks_redo_none}
 use Rattle.txs_theorem_runs.specs.Standing.{MayStandIn, MayStandHere, IsThreads}
 
 module _ (c : Configuration) (ok : IsThreads c.state.acting) where
@@ -110,11 +117,50 @@ module _ (c : Configuration) (ok : IsThreads c.state.acting) where
   over_fails None h f = refl
   over_fails (Some x) h f = absurd h
 
+  -- a fault at a transaction's end
+  end_fails : (b : Bool) (values : Writes) (f : Fault) → StagedFrom (stage_at_end b values s0) (told (fail s0) (λ s. Failed f s)) (λ q r. told (fail (ans q r)) (λ s. Failed f s))
+  end_fails true values f = fails_staged f (Viewing c.state.at c.state.view) (refl, refl)
+  end_fails false [] f = fails_staged f (Open c.state.at) refl
+  end_fails false (w ∷ ws) f = fails_staged f (Viewing c.state.at c.state.view) (refl, refl)
+
+  -- the stage is that of the read point and the view
+  same_view : (t : ActorState) → t.at ≡ c.state.at → t.view ≡ c.state.view → Viewing t.at t.view ≡ Viewing c.state.at c.state.view
+  same_view t p q = ap (λ i. Viewing i t.view) p ∙ ap (λ i. Viewing c.state.at i) q
+
+  same_end : (b : Bool) (values : Writes) (t : ActorState) → t.at ≡ c.state.at → t.view ≡ c.state.view → stage_at_end b values t ≡ stage_at_end b values s0
+  same_end true values t p q = same_view t p q
+  same_end false [] t p q = ap Open p
+  same_end false (w ∷ ws) t p q = same_view t p q
+
+  same_stage : (doing : Activity) (t : ActorState) → t.at ≡ c.state.at → t.view ≡ c.state.view → stage_in doing t ≡ stage_in doing s0
+  same_stage Outside t p q = refl
+  same_stage (Restarting left) t p q = refl
+  same_stage (Running left inner from) t p q = ap Open p
+  same_stage (Applying left from work values) t p q = same_end (redoes_some work) values t p q
+  same_stage (Swapping swap from) t p q = refl
+
+  -- where a value was viewed, or one was made
+  viewing_end : (b : Bool) (x : CellId × Value) (xs : Writes) (t : ActorState) → stage_at_end b (x ∷ xs) t ≡ Viewing t.at t.view
+  viewing_end true x xs t = refl
+  viewing_end false x xs t = refl
+
+  written_end : (b : Bool) (values : Writes) (d : CellId) (v : Value) → stage_at_end b (with_write values d v) s0 ≡ Viewing c.state.at c.state.view
+  written_end b [] d v = viewing_end b (d, v) [] s0
+  written_end b (w ∷ ws) d v = first (w.0.number == d.number)
+    where
+      second : (x : Bool) → stage_at_end b (if x then (d, v) ∷ w ∷ ws else w ∷ with_write ws d v) s0 ≡ Viewing c.state.at c.state.view
+      second true = viewing_end b (d, v) (w ∷ ws) s0
+      second false = viewing_end b w (with_write ws d v) s0
+
+      first : (x : Bool) → stage_at_end b (if x then (d, v) ∷ ws else if nat_lt d.number w.0.number then (d, v) ∷ w ∷ ws else w ∷ with_write ws d v) s0 ≡ Viewing c.state.at c.state.view
+      first true = viewing_end b (d, v) ws s0
+      first false = second (nat_lt d.number w.0.number)
+
   raise_staged : (doing : Activity) (f : Fault) → StagedFrom (stage_in doing s0) (raise doing f s0) (λ q r. raise doing f (ans q r))
   raise_staged Outside f = over_staged c.state.acting ok f
   raise_staged (Restarting left) f = refl
   raise_staged (Running left inner from) f = fails_staged f (Open c.state.at) refl
-  raise_staged (Applying left from work values) f = fails_staged f (Viewing c.state.at c.state.view) (refl, refl)
+  raise_staged (Applying left from work values) f = end_fails (redoes_some work) values f
   raise_staged (Swapping swap from) f = breaks_staged f swap
 
   rerun_staged : (left : ℕ) (from : Savepoint) → IsStaged Idle (rerun left from s0)
@@ -451,19 +497,16 @@ module _ (c : Configuration) (ok : IsThreads c.state.acting) where
   swap_same t Denied from w rest s = refl
 
   -- the close of a swap
-  close_swap_staged : (w : Value) (rest : List Value) (doing : Activity) → c.doing ≡ doing → StagedFrom (stage_in doing s0) (closes_swap doing w rest (in_state s0)) (λ q r. closes_swap doing w rest (in_state (ans q r)))
+  close_now_staged : (swap : SwapInHand) (from : Savepoint) (w : Value) (rest : List Value) → c.doing ≡ Swapping swap from
+      → StagedFrom (stages.Swapping swap.cell swap.at) (on c.doing (close_swap swap w s0) (λ v s. swap_decided v from w rest (in_state s0) s)) (λ q r. on c.doing (close_swap swap w (ans q r)) (λ v s. swap_decided v from w rest (in_state (ans q r)) s))
   unfolding close_swap
-  close_swap_staged w rest (Swapping swap from) e =
+  close_now_staged swap from w rest e =
       subst (λ i. StagedFrom (stages.Swapping swap.cell swap.at) (on i (heard swap_verdict (asks (ask.CloseAt swap.cell (Some swap.at) w) s0)) (λ v s. swap_decided v from w rest (in_state s0) s))
       (λ q r. on i (heard swap_verdict (asks (ask.CloseAt swap.cell (Some swap.at) w) (ans q r))) (λ v s. swap_decided v from w rest (in_state (ans q r)) s))) (sym e)
       (staged_same (stages.Swapping swap.cell swap.at) _ _ _ _
       (on_same (Swapping swap from) (heard swap_verdict (asks (ask.CloseAt swap.cell (Some swap.at) w) s0)) (λ v s. swap_decided v from w rest c s) (λ v s. swap_decided v from w rest (in_state s0) s) (λ v s. swap_same s0 v from w rest s))
       (λ q r. on_same (Swapping swap from) (heard swap_verdict (asks (ask.CloseAt swap.cell (Some swap.at) w) (ans q r))) (λ v s. swap_decided v from w rest c s) (λ v s. swap_decided v from w rest (in_state (ans q r)) s) (λ v s. swap_same (ans q r) v from w rest s))
       (one_ask (stages.Swapping swap.cell swap.at) (ask.CloseAt swap.cell (Some swap.at) w) (closes_heard swap from w rest) (λ t. refl) (refl, refl) (closed_heard swap from w rest)))
-  close_swap_staged w rest Outside e = tt
-  close_swap_staged w rest (Restarting left) e = tt
-  close_swap_staged w rest (Running left inner from) e = tt
-  close_swap_staged w rest (Applying left from work values) e = tt
 
   -- `alter` and `commute` with what the callee gave
   close_update_staged : (span : Span) (w cell : Value) (rest : List Value) (doing : Activity) → c.doing ≡ doing
@@ -471,19 +514,12 @@ module _ (c : Configuration) (ok : IsThreads c.state.acting) where
   close_update_staged span w cell rest doing e =
       step_staged doing (cell_of (rule (form.Update update.Alter)) true cell) span (close_own c.state.commuting span w) (goes_on rest) (λ d. own d c.state.commuting)
     where
-      same : (doing : Activity) (t : ActorState) → t.at ≡ c.state.at → t.view ≡ c.state.view → stage_in doing t ≡ stage_in doing s0
-      same Outside t p q = refl
-      same (Restarting left) t p q = refl
-      same (Running left inner from) t p q = ap Open p
-      same (Applying left from work values) t p q = rw (p, q) refl
-      same (Swapping swap from) t p q = refl
-
       own : (d : CellId) (o : Option Commute) → StagedFrom (stage_in doing s0) (on doing (close_own o span w d s0) (goes_on rest)) (λ q r. on doing (close_own o span w d (ans q r)) (goes_on rest))
       own d None =
           step_staged doing (set_ref d w c.state.done) span (λ u s1. Continue w (record s1 { done = u })) (goes_on rest)
-          (λ u. (refl, ap (λ i. stage_in i (record s0 { done = u })) e ∙ same doing (record s0 { done = u }) refl refl))
+          (λ u. (refl, ap (λ i. stage_in i (record s0 { done = u })) e ∙ same_stage doing (record s0 { done = u }) refl refl))
       own d (Some k) =
-          (refl, ap (λ i. stage_in i (record s0 { done = commute_ref d k.callee k.args w c.state.done; commuting = None })) e ∙ same doing (record s0 { done = commute_ref d k.callee k.args w c.state.done; commuting = None }) refl refl)
+          (refl, ap (λ i. stage_in i (record s0 { done = commute_ref d k.callee k.args w c.state.done; commuting = None })) e ∙ same_stage doing (record s0 { done = commute_ref d k.callee k.args w c.state.done; commuting = None }) refl refl)
 
   -- ---- transactions
 
@@ -575,70 +611,75 @@ module _ (c : Configuration) (ok : IsThreads c.state.acting) where
       (λ q r. on_same c.doing (heard commit_verdict (asks (commit_ask values) (ans q r))) (λ v s. decided v left from c s) (λ v s. decided v left from (in_state (ans q r)) s) (λ v s. decided_same (ans q r) v left from s))
       (one_ask st (commit_ask values) (lands_heard c.doing left from) (λ t. refl) ok h)
 
-  abbrev settles_with : ℕ → Savepoint → Writes → ActorState → Turned Configuration
-  settles_with left from values s = Unfinished (staying (Applying left from (phase_work s.done) values) s c)
+  abbrev settles_with : ThreadCode → ℕ → Savepoint → Writes → ActorState → Turned Configuration
+  settles_with code left from values s = Unfinished (staying (Applying left from (tasks_of code.validators s.done) values) s c)
 
-  abbrev settles_heard : List CellId → ℕ → Savepoint → Reception → Turned Configuration
-  settles_heard cs left from o = on c.doing (on_step (heard views o) (λ x s1. viewed x.0 (paired cs x.1) s1)) (settles_with left from)
+  abbrev settles_heard : ThreadCode → List CellId → ℕ → Savepoint → Reception → Turned Configuration
+  settles_heard code cs left from o = on c.doing (on_step (heard views o) (λ x s1. viewed x.0 (paired cs x.1) s1)) (settles_with code left from)
 
-  paired_staged : (left : ℕ) (from : Savepoint) (q : ℕ) (o : Option Writes) → IsStaged (Viewing c.state.at q) (on c.doing (viewed q o s0) (settles_with left from))
-  paired_staged left from q None = tt
-  paired_staged left from q (Some ws) = (refl, refl)
+  paired_staged : (code : ThreadCode) (left : ℕ) (from : Savepoint) (q : ℕ) (d : CellId) (cs : List CellId) (ws : List Value) → IsStaged (Viewing c.state.at q) (on c.doing (viewed q (paired (d ∷ cs) ws) s0) (settles_with code left from))
+  paired_staged code left from q d cs [] = tt
+  paired_staged code left from q d cs (w ∷ ws) = by (paired cs ws)
+    where
+      by : (o : Option Writes) → IsStaged (Viewing c.state.at q) (on c.doing (viewed q (with_first d w o) s0) (settles_with code left from))
+      by None = tt
+      by (Some xs) = (refl, viewing_end (redoes_some (tasks_of code.validators c.state.done)) (d, w) xs (record s0 { view = q }))
 
-  settled_heard : (cs : List CellId) (left : ℕ) (from : Savepoint) (r : Reply) → IsStaged (stage_after (Open c.state.at) (ask.View cs) r) (settles_heard cs left from (Replied r s0))
-  settled_heard cs left from (reply.At p) = tt
-  settled_heard cs left from (reply.Is w) = tt
-  settled_heard cs left from (reply.Views p ws) = paired_staged left from p (paired cs ws)
-  settled_heard cs left from reply.Done = tt
-  settled_heard cs left from (reply.Retry f) = tt
-  settled_heard cs left from (reply.Changed f) = tt
-  settled_heard cs left from (reply.AgentIsFailed g) = tt
-  settled_heard cs left from (reply.Action n y w) = tt
-  settled_heard cs left from reply.Idle = tt
-  settled_heard cs left from (reply.Opened p w) = tt
-  settled_heard cs left from reply.Full = tt
-  settled_heard cs left from reply.Memory = tt
+  settled_heard : (code : ThreadCode) (d : CellId) (cs : List CellId) (left : ℕ) (from : Savepoint) (r : Reply) → IsStaged (stage_after (Open c.state.at) (ask.View (d ∷ cs)) r) (settles_heard code (d ∷ cs) left from (Replied r s0))
+  settled_heard code d cs left from (reply.At p) = tt
+  settled_heard code d cs left from (reply.Is w) = tt
+  settled_heard code d cs left from (reply.Views p ws) = paired_staged code left from p d cs ws
+  settled_heard code d cs left from reply.Done = tt
+  settled_heard code d cs left from (reply.Retry f) = tt
+  settled_heard code d cs left from (reply.Changed f) = tt
+  settled_heard code d cs left from (reply.AgentIsFailed g) = tt
+  settled_heard code d cs left from (reply.Action n y w) = tt
+  settled_heard code d cs left from reply.Idle = tt
+  settled_heard code d cs left from (reply.Opened p w) = tt
+  settled_heard code d cs left from reply.Full = tt
+  settled_heard code d cs left from reply.Memory = tt
 
-  views_staged : (left : ℕ) (from : Savepoint) → StagedFrom (Open c.state.at) (on c.doing (view s0) (settles_with left from)) (λ q r. on c.doing (view (ans q r)) (settles_with left from))
+  views_staged : (code : ThreadCode) (d : CellId) (cs : List CellId) → commuted c.state.done ≡ d ∷ cs → (left : ℕ) (from : Savepoint) → StagedFrom (Open c.state.at) (on c.doing (view s0) (settles_with code left from)) (λ q r. on c.doing (view (ans q r)) (settles_with code left from))
   unfolding view
-  views_staged left from = one_ask (Open c.state.at) (ask.View (commuted c.state.done)) (settles_heard (commuted c.state.done) left from) (λ t. refl) tt (settled_heard (commuted c.state.done) left from)
-
-  settles_staged : (cs : List CellId) (left : ℕ) (from : Savepoint) → StagedFrom (Open c.state.at) (settles cs left from (in_state s0)) (λ q r. settles cs left from (in_state (ans q r)))
-  settles_staged [] left from = lands_staged left from [] (Open c.state.at) (refl, refl) (tried_heard c.doing left from [])
-  settles_staged (d ∷ cs) left from = views_staged left from
+  views_staged code d cs e left from =
+      one_ask (Open c.state.at) (ask.View (commuted c.state.done)) (settles_heard code (commuted c.state.done) left from) (λ t. refl) tt
+      (λ r. subst (λ l. IsStaged (stage_after (Open c.state.at) (ask.View l) r) (settles_heard code l left from (Replied r s0))) (sym e) (settled_heard code d cs left from r))
 
   -- one commute of the phase
-  applies_staged : (code : ThreadCode) (f : Callee) (left : ℕ) (from : Savepoint) (k : Commute) (work : List Commute) (values : Writes) → c.doing ≡ Applying left from (k ∷ work) values
+  applies_staged : (code : ThreadCode) (f : Callee) (left : ℕ) (from : Savepoint) (k : Commute) (work : List Task) (values : Writes) → c.doing ≡ Applying left from (Redoes k ∷ work) values
       → StagedFrom (Viewing c.state.at c.state.view) (applies code f left from k work values (in_state s0)) (λ q r. applies code f left from k work values (in_state (ans q r)))
   applies_staged code (callee.Core op) left from k work values e =
       subst (λ i. StagedFrom (Viewing c.state.at c.state.view) (on i (step_of (core op (arguments_of k values)) from.span s0) (λ v s. Unfinished (staying (Applying left from work (with_write values k.cell v)) s c)))
       (λ q r. on i (step_of (core op (arguments_of k values)) from.span (ans q r)) (λ v s. Unfinished (staying (Applying left from work (with_write values k.cell v)) s c)))) (sym e)
-      (result_staged (Applying left from (k ∷ work) values) (core op (arguments_of k values)) from.span (λ v s. Unfinished (staying (Applying left from work (with_write values k.cell v)) s c)) (λ v. (refl, refl)))
+      (result_staged (Applying left from (Redoes k ∷ work) values) (core op (arguments_of k values)) from.span (λ v s. Unfinished (staying (Applying left from work (with_write values k.cell v)) s c)) (λ v. (refl, written_end (redoes_some work) values k.cell v)))
   applies_staged code (callee.Function f) left from k work values e = (refl, ap (λ i. stage_in i s0) e)
 
-  ends_staged : (code : ThreadCode) (doing : Activity) → c.doing ≡ doing → StagedFrom (stage_in doing s0) (ends code doing (in_state s0)) (λ q r. ends code doing (in_state (ans q r)))
-  ends_staged code Outside e = tt
-  ends_staged code (Restarting left) e = tt
-  ends_staged code (Running left (suc inner) from) e = (refl, refl)
-  ends_staged code (Running left zero from) e = settles_staged (commuted c.state.done) left from
-  ends_staged code (Applying left from [] values) e = lands_staged left from values (Viewing c.state.at c.state.view) (refl, refl) (phased_heard c.doing left from values)
-  ends_staged code (Applying left from (k ∷ work) values) e = applies_staged code k.callee left from k work values e
-  ends_staged code (Swapping swap from) e = tt
+  -- the commit, once no task is left
+  end_lands : (left : ℕ) (from : Savepoint) (values : Writes) → StagedFrom (stage_at_end false values s0) (lands left from values (in_state s0)) (λ q r. lands left from values (in_state (ans q r)))
+  end_lands left from [] = lands_staged left from [] (Open c.state.at) (refl, refl) (tried_heard c.doing left from [])
+  end_lands left from (w ∷ ws) = lands_staged left from (w ∷ ws) (Viewing c.state.at c.state.view) (refl, refl) (phased_heard c.doing left from (w ∷ ws))
 
   -- ---- instructions
 
-  stage_returned : (awaits : Destination) (v : Value) (doing : Activity) → stage_in (doing_after awaits v doing) s0 ≡ stage_in doing s0
+  stage_returned : (awaits : Destination) (v : Value) (doing : Activity) → stage_in (doing_after awaits v doing) (state_after awaits v s0) ≡ stage_in doing s0
   stage_returned to_stack v doing = refl
   stage_returned to_commutes v Outside = refl
   stage_returned to_commutes v (Restarting left) = refl
   stage_returned to_commutes v (Running left inner from) = refl
   stage_returned to_commutes v (Applying left from [] values) = refl
-  stage_returned to_commutes v (Applying left from (k ∷ work) values) = refl
+  stage_returned to_commutes v (Applying left from (Redoes k ∷ work) values) = written_end (redoes_some work) values k.cell v
+  stage_returned to_commutes v (Applying left from (Validates x f ∷ work) values) = refl
   stage_returned to_commutes v (Swapping swap from) = refl
+  stage_returned to_validation v doing = same_stage doing (answered v s0) refl refl
+
+  none_back : (awaits : Destination) (v : Value) → (state_after awaits v s0).todo ≡ []
+  none_back to_stack v = refl
+  none_back to_commutes v = refl
+  none_back to_validation v = refl
 
   returns_staged : (frames : List Frame) (v : Value) → StagedFrom (stage_in c.doing s0) (returns_to frames v (in_state s0)) (λ q r. returns_to frames v (in_state (ans q r)))
   returns_staged [] v = tt
-  returns_staged (f ∷ frames) v = (refl, stage_returned f.awaits v c.doing)
+  returns_staged (f ∷ frames) v = (none_back f.awaits v, stage_returned f.awaits v c.doing)
 
   found_staged : (o : Option Value) → StagedFrom (stage_in c.doing s0) (on c.doing (found o s0) (goes_on c.stack)) (λ q r. on c.doing (found o (ans q r)) (goes_on c.stack))
   found_staged None = tt
@@ -647,14 +688,7 @@ module _ (c : Configuration) (ok : IsThreads c.state.acting) where
   print_staged : (inside : Bool) (vs rest : List Value) → StagedFrom (stage_in c.doing s0) (on c.doing (print inside vs s0) (goes_on rest)) (λ q r. on c.doing (print inside vs (ans q r)) (goes_on rest))
   unfolding print
   print_staged true vs rest = tt
-  print_staged false vs rest = (refl, same c.doing)
-    where
-      same : (doing : Activity) → stage_in doing (record s0 { printed = c.state.printed ++ printed_line vs }) ≡ stage_in doing s0
-      same Outside = refl
-      same (Restarting left) = refl
-      same (Running left inner from) = refl
-      same (Applying left from work values) = refl
-      same (Swapping swap from) = refl
+  print_staged false vs rest = (refl, same_stage c.doing (record s0 { printed = c.state.printed ++ printed_line vs }) refl refl)
 
   opens_any : (f : OpenForm) (n : ℕ) (span : Span) → MayStandIn c.doing (OpenOf f n span) → (vs : List Value) (cell : Value) (rest : List Value)
       → StagedFrom (stage_in c.doing s0) (opens f span vs cell rest (in_state s0)) (λ q r. opens f span vs cell rest (in_state (ans q r)))
@@ -676,45 +710,164 @@ module _ (c : Configuration) (ok : IsThreads c.state.acting) where
       any_open (Swapping swap from) h = h
   opens_any (open_form.Swap k) n span may vs cell rest = open_atom_staged span cell vs rest c.doing refl
 
-  closes_any : (f : UpdateForm) (span : Span) (w cell : Value) (rest : List Value)
-      → StagedFrom (stage_in c.doing s0) (closes f span w cell rest (in_state s0)) (λ q r. closes f span w cell rest (in_state (ans q r)))
-  closes_any update.Alter span w cell rest = close_update_staged span w cell rest c.doing refl
-  closes_any update.Commute span w cell rest = close_update_staged span w cell rest c.doing refl
-  closes_any update.Swap span w cell rest = close_swap_staged w rest c.doing refl
+-- ---- validators
 
-  pub act_staged : (code : ThreadCode) (i : Option PlainInstr) → MayStandHere c.doing i → StagedFrom (stage_in c.doing s0) (act code i (in_state s0)) (λ q r. act code i (in_state (ans q r)))
-  act_staged code None may = tt
-  act_staged code (Some (Push v)) may = (refl, refl)
-  act_staged code (Some (Load i)) may = found_staged (nth c.locals i)
-  act_staged code (Some (Store i)) may = top_staged (stage_in c.doing s0) c.stack _ (λ v rest q r. Unfinished (record (ahead rest (ans q r) c) { locals = put c.locals i v })) (λ v rest. (refl, refl))
-  act_staged code (Some Pop) may = top_staged (stage_in c.doing s0) c.stack _ (λ v rest q r. Unfinished (ahead rest (ans q r) c)) (λ v rest. (refl, refl))
-  act_staged code (Some (Jump to)) may = (refl, refl)
-  act_staged code (Some (JumpFalse to)) may = top_staged (stage_in c.doing s0) c.stack _ (λ v rest q r. Unfinished (record (in_state (ans q r)) { place = choose v (c.place + 1) to; stack = rest })) (λ v rest. (refl, refl))
-  act_staged code (Some (CoreOf op n span)) may =
-      args_staged (stage_in c.doing s0) n c.stack [] _ (λ vs rest q r. on c.doing (step_of (core op vs) span (ans q r)) (goes_on rest))
-      (λ vs rest. result_staged c.doing (core op vs) span (goes_on rest) (λ v. (refl, refl)))
-  act_staged code (Some (CallOf f n)) may =
-      args_staged (stage_in c.doing s0) n c.stack [] _ (λ vs rest q r. Unfinished (called code f vs to_stack (c.place + 1) rest (in_state (ans q r)))) (λ vs rest. (refl, refl))
-  act_staged code (Some Return) may = top_staged (stage_in c.doing s0) c.stack _ (λ v rest q r. returns_to c.frames v (in_state (ans q r))) (λ v rest. returns_staged c.frames v)
-  act_staged code (Some (MakeVector n span)) may =
-      args_staged (stage_in c.doing s0) n c.stack [] _ (λ vs rest q r. on c.doing (step_of (vector_of vs) span (ans q r)) (goes_on rest))
-      (λ vs rest. result_staged c.doing (vector_of vs) span (goes_on rest) (λ v. (refl, refl)))
-  act_staged code (Some (PrintOf n)) may =
-      args_staged (stage_in c.doing s0) n c.stack [] _ (λ vs rest q r. on c.doing (print (is_inside c.doing) vs (ans q r)) (goes_on rest)) (λ vs rest. print_staged (is_inside c.doing) vs rest)
-  act_staged code (Some (TxBegin span)) may = begins_staged span c.doing refl
-  act_staged code (Some TxEnd) may = ends_staged code c.doing refl
-  act_staged code (Some (LookOf f span)) may =
-      top_staged (stage_in c.doing s0) c.stack _ (λ cell rest q r. on c.doing (read f (is_inside c.doing) span cell (ans q r)) (goes_on rest)) (λ cell rest. read_staged f span cell rest c.doing refl may)
-  act_staged code (Some (PutOf f span)) may =
-      two_staged (stage_in c.doing s0) c.stack _ (λ w cell rest q r. on c.doing (assign f (is_inside c.doing) span cell w (ans q r)) (goes_on rest)) (λ w cell rest. assign_staged f span cell w rest c.doing refl may)
-  act_staged code (Some (OpenOf f n span)) may =
-      args_of_staged (stage_in c.doing s0) n c.stack _ (λ vs cell rest q r. opens f span vs cell rest (in_state (ans q r))) (λ vs cell rest. opens_any f n span may vs cell rest)
-  act_staged code (Some (CloseOf f span)) may =
-      two_staged (stage_in c.doing s0) c.stack _ (λ w cell rest q r. closes f span w cell rest (in_state (ans q r))) (λ w cell rest. closes_any f span w cell rest)
-  act_staged code (Some (SendOf f n span)) may =
-      args_of_staged (stage_in c.doing s0) n c.stack _ (λ vs cell rest q r. on c.doing (send_to (is_inside c.doing) span cell f vs (ans q r)) (goes_on rest))
-      (λ vs cell rest. send_to_staged f n span cell vs rest c.doing refl may)
-  act_staged code (Some Halt) may = refl
-  act_staged code (Some (TakeOf g)) may = absurd may
-  act_staged code (Some RunOf) may = absurd may
-  act_staged code (Some (FinishOf g)) may = absurd may
+module _ (code : ThreadCode) where
+  -- a configuration with no exchange left, and one with this answer
+  abbrev none_left : Configuration → Configuration
+  none_left c = record c { state = record c.state { todo = [] } }
+
+  abbrev one_left : Configuration → Ask → Reply → Configuration
+  one_left c q r = record c { state = record c.state { todo = exchange q r ∷ [] } }
+
+  abbrev FromStage : Stage → Configuration → (Configuration → Turned Configuration) → Type 0
+  FromStage st c go = StagedFrom st (go (none_left c)) (λ q r. go (one_left c q r))
+
+  abbrev here : Configuration → Stage
+  here c = stage_in c.doing (record c.state { todo = [] })
+
+  abbrev cleared : Configuration → Option Bool → Configuration
+  cleared c o = record c { state = record c.state { accepted = o } }
+
+  validates_staged : (c : Configuration) → IsThreads c.state.acting → (f : Callee) (v : Value) (span : Span) → FromStage (here c) c (validates code f v span)
+  validates_staged c ok (callee.Core op) v span =
+      result_staged c ok c.doing (core op (v ∷ [])) span (λ answer s. Unfinished (record c { state = answered answer s })) (λ answer. (refl, same_stage c ok c.doing (answered answer (record c.state { todo = [] })) refl refl))
+  validates_staged c ok (callee.Function f) v span = (refl, refl)
+
+  -- what goes on is staged, once the answer is looked at
+  accepted_staged : (o : Option Bool) (f : Callee) (v : Value) (span : Span) (c : Configuration) → IsThreads c.state.acting → (go : Configuration → Turned Configuration) → FromStage (here c) (cleared c None) go → FromStage (here c) c (λ d. where_accepted code o f v span d go)
+  accepted_staged None f v span c ok go h = validates_staged c ok f v span
+  accepted_staged (Some true) f v span c ok go h = h
+  accepted_staged (Some false) f v span c ok go h =
+      subst (λ st. StagedFrom st (raise c.doing (fault_at InvalidState span) (record c.state { todo = []; accepted = None })) (λ q r. raise c.doing (fault_at InvalidState span) (record c.state { todo = exchange q r ∷ []; accepted = None })))
+      (same_stage c ok c.doing (record c.state { todo = []; accepted = None }) refl refl) (raise_staged (cleared c None) ok c.doing (fault_at InvalidState span))
+
+  valid_staged : (o : Option Callee) (v : Value) (span : Span) (c : Configuration) → IsThreads c.state.acting → (go : Configuration → Turned Configuration) → FromStage (here c) c go → FromStage (here c) (cleared c None) go → FromStage (here c) c (λ d. where_valid code o v span d go)
+  valid_staged None v span c ok go h k = h
+  valid_staged (Some f) v span c ok go h k = accepted_staged c.state.accepted f v span c ok go k
+
+  works_staged : (left : ℕ) (from : Savepoint) (work : List Task) (values : Writes) (c : Configuration) → IsThreads c.state.acting → c.doing ≡ Applying left from work values → FromStage (stage_at_end (redoes_some work) values (record c.state { todo = [] })) c (works code left from work values)
+  works_staged left from [] values c ok e = end_lands c ok left from values
+  works_staged left from (Redoes k ∷ work) values c ok e = applies_staged c ok code k.callee left from k work values e
+  works_staged left from (Validates x f ∷ work) values c ok e =
+      let d : Configuration = staying (Applying left from (Validates x f ∷ work) values) c.state c in
+      accepted_staged c.state.accepted f (to_write values c.state.done x.number) from.span d ok (λ c1. works code left from work values (staying (Applying left from work values) c1.state c1))
+      (subst (λ st. FromStage st (cleared d None) (λ c1. works code left from work values (staying (Applying left from work values) c1.state c1))) (same_end c ok (redoes_some work) values (record c.state { todo = []; accepted = None }) refl refl)
+      (works_staged left from work values (staying (Applying left from work values) (record c.state { accepted = None }) c) ok refl))
+
+  plain_staged : (left : ℕ) (from : Savepoint) (work : List Task) (c : Configuration) → IsThreads c.state.acting → redoes_some work ≡ false → FromStage (Open c.state.at) c (works code left from work [])
+  plain_staged left from [] c ok e = end_lands c ok left from []
+  plain_staged left from (Redoes k ∷ work) c ok e = absurd (false≢true (sym e))
+  plain_staged left from (Validates x f ∷ work) c ok e =
+      subst (λ b. FromStage (stage_at_end b [] (record c.state { todo = [] })) c (works code left from (Validates x f ∷ work) [])) e
+      (works_staged left from (Validates x f ∷ work) [] (staying (Applying left from (Validates x f ∷ work) []) c.state c) ok refl)
+
+  settles_staged : (cs : List CellId) (left : ℕ) (from : Savepoint) (c : Configuration) → IsThreads c.state.acting → commuted c.state.done ≡ cs → FromStage (Open c.state.at) c (settles code cs left from)
+  settles_staged [] left from c ok e =
+      let w = c.state.done in
+      plain_staged left from (tasks_of code.validators w) c ok (tasks_redo_none code.validators w e)
+  settles_staged (d ∷ cs) left from c ok e = views_staged c ok code d cs e left from
+
+  ends_staged : (doing : Activity) (c : Configuration) → IsThreads c.state.acting → c.doing ≡ doing → FromStage (stage_in doing (record c.state { todo = [] })) c (ends code doing)
+  ends_staged Outside c ok e = tt
+  ends_staged (Restarting left) c ok e = tt
+  ends_staged (Running left (suc inner) from) c ok e = (refl, refl)
+  ends_staged (Running left zero from) c ok e = settles_staged (commuted c.state.done) left from c ok refl
+  ends_staged (Applying left from work values) c ok e = works_staged left from work values c ok e
+  ends_staged (Swapping swap from) c ok e = tt
+
+  -- the same stage once the answer was looked at
+  cleared_stage : (c : Configuration) → IsThreads c.state.acting → (go : Configuration → Turned Configuration) → FromStage (here (cleared c None)) (cleared c None) go → FromStage (here c) (cleared c None) go
+  cleared_stage c ok go h = subst (λ st. FromStage st (cleared c None) go) (same_stage c ok c.doing (record c.state { todo = []; accepted = None }) refl refl) h
+
+  closes_swap_staged : (doing : Activity) (w : Value) (rest : List Value) (c : Configuration) → IsThreads c.state.acting → c.doing ≡ doing → FromStage (stage_in doing (record c.state { todo = [] })) c (closes_swap code doing w rest)
+  closes_swap_staged (Swapping swap from) w rest c ok e =
+      let go : Configuration → Turned Configuration = λ c1. on c1.doing (close_swap swap w c1.state) (λ verdict s. swap_decided verdict from w rest c1 s) in
+      let there : here c ≡ stages.Swapping swap.cell swap.at = ap (λ i. stage_in i (record c.state { todo = [] })) e in
+      subst (λ st. FromStage st c (λ d. where_valid code (validator_at code.validators swap.cell.number) w from.span d go)) there
+      (valid_staged (validator_at code.validators swap.cell.number) w from.span c ok go
+      (subst (λ st. FromStage st c go) (sym there) (close_now_staged c ok swap from w rest e))
+      (subst (λ st. FromStage st (cleared c None) go) (sym there) (close_now_staged (cleared c None) ok swap from w rest e)))
+  closes_swap_staged Outside w rest c ok e = tt
+  closes_swap_staged (Restarting left) w rest c ok e = tt
+  closes_swap_staged (Running left inner from) w rest c ok e = tt
+  closes_swap_staged (Applying left from work values) w rest c ok e = tt
+
+  closes_any : (f : UpdateForm) (span : Span) (w cell : Value) (rest : List Value) (c : Configuration) → IsThreads c.state.acting → FromStage (here c) c (closes code f span w cell rest)
+  closes_any update.Alter span w cell rest c ok = close_update_staged c ok span w cell rest c.doing refl
+  closes_any update.Commute span w cell rest c ok = close_update_staged c ok span w cell rest c.doing refl
+  closes_any update.Swap span w cell rest c ok = closes_swap_staged c.doing w rest c ok refl
+
+  -- `reset!`, once the atom's validator has accepted the value
+  reset_any : (span : Span) (w : Value) (rest : List Value) (a : CellId) (c : Configuration) (ok : IsThreads c.state.acting) (doing : Activity) → c.doing ≡ doing → MayStandIn doing (PutOf Reset span)
+      → StagedFrom (stage_in doing (record c.state { todo = [] })) (on doing (assign_cell Reset (is_inside doing) span w a (record c.state { todo = [] })) (goes_on c ok rest)) (λ q r. on doing (assign_cell Reset (is_inside doing) span w a (record c.state { todo = exchange q r ∷ [] })) (goes_on c ok rest))
+  reset_any span w rest a c ok Outside e may = reset_staged c ok Outside (ap (λ i. stage_in i (record c.state { todo = [] })) e) a w rest
+  reset_any span w rest a c ok (Restarting left) e may = reset_staged c ok (Restarting left) (ap (λ i. stage_in i (record c.state { todo = [] })) e) a w rest
+  reset_any span w rest a c ok (Running left inner from) e may = tt
+  reset_any span w rest a c ok (Applying left from work values) e may = absurd may
+  reset_any span w rest a c ok (Swapping swap from) e may = absurd may
+
+  puts_staged : (f : PutForm) (span : Span) (w cell : Value) (rest : List Value) (c : Configuration) → IsThreads c.state.acting → MayStandIn c.doing (PutOf f span) → FromStage (here c) c (puts code f span w cell rest)
+  puts_staged RefSet span w cell rest c ok may = assign_staged c ok RefSet span cell w rest c.doing refl may
+  puts_staged Reset span w cell rest c ok may = by (cell_of (rule (form.Put Reset)) (is_inside c.doing) cell)
+    where
+      go : CellId → Configuration → Turned Configuration
+      go a c1 = gives c1 rest (assign_cell Reset (is_inside c.doing) span w a c1.state)
+
+      by : (x : Result CellId FaultKind) → StagedFrom (here c) (on c.doing (step_of x span (none_left c).state) (λ a s. where_valid code (validator_at code.validators a.number) w span (none_left c) (go a)))
+          (λ q r. on c.doing (step_of x span (one_left c q r).state) (λ a s. where_valid code (validator_at code.validators a.number) w span (one_left c q r) (go a)))
+      by (Ok a) =
+          valid_staged (validator_at code.validators a.number) w span c ok (go a) (reset_any span w rest a c ok c.doing refl may)
+          (cleared_stage c ok (go a) (reset_any span w rest a (cleared c None) ok c.doing refl may))
+      by (Err k) = raise_staged c ok c.doing (fault_at k span)
+
+module _ (c : Configuration) (ok : IsThreads c.state.acting) (code : ThreadCode) where
+  abbrev st0 : Stage
+  st0 = stage_in c.doing (record c.state { todo = [] })
+
+  abbrev answer_of : Ask → Reply → ActorState
+  answer_of q r = record c.state { todo = exchange q r ∷ [] }
+
+  abbrev put_state : ActorState → Configuration
+  put_state s = record c { state = s }
+
+  abbrev next_on : List Value → Value → ActorState → Turned Configuration
+  next_on rest v s = Unfinished (ahead (v ∷ rest) s c)
+
+  acts_staged : (i : Option PlainInstr) → MayStandHere c.doing i → StagedFrom st0 (act code i (put_state (record c.state { todo = [] }))) (λ q r. act code i (put_state (answer_of q r)))
+  acts_staged None may = tt
+  acts_staged (Some (Push v)) may = (refl, refl)
+  acts_staged (Some (Load i)) may = found_staged c ok (nth c.locals i)
+  acts_staged (Some (Store i)) may = top_staged c ok st0 c.stack _ (λ v rest q r. Unfinished (record (ahead rest (answer_of q r) c) { locals = put c.locals i v })) (λ v rest. (refl, refl))
+  acts_staged (Some Pop) may = top_staged c ok st0 c.stack _ (λ v rest q r. Unfinished (ahead rest (answer_of q r) c)) (λ v rest. (refl, refl))
+  acts_staged (Some (Jump to)) may = (refl, refl)
+  acts_staged (Some (JumpFalse to)) may = top_staged c ok st0 c.stack _ (λ v rest q r. Unfinished (record (put_state (answer_of q r)) { place = choose v (c.place + 1) to; stack = rest })) (λ v rest. (refl, refl))
+  acts_staged (Some (CoreOf op n span)) may =
+      args_staged c ok st0 n c.stack [] _ (λ vs rest q r. on c.doing (step_of (core op vs) span (answer_of q r)) (next_on rest)) (λ vs rest. result_staged c ok c.doing (core op vs) span (next_on rest) (λ v. (refl, refl)))
+  acts_staged (Some (CallOf f n)) may =
+      args_staged c ok st0 n c.stack [] _ (λ vs rest q r. Unfinished (called code f vs to_stack (c.place + 1) rest (put_state (answer_of q r)))) (λ vs rest. (refl, refl))
+  acts_staged (Some Return) may = top_staged c ok st0 c.stack _ (λ v rest q r. returns_to c.frames v (put_state (answer_of q r))) (λ v rest. returns_staged c ok c.frames v)
+  acts_staged (Some (MakeVector n span)) may =
+      args_staged c ok st0 n c.stack [] _ (λ vs rest q r. on c.doing (step_of (vector_of vs) span (answer_of q r)) (next_on rest)) (λ vs rest. result_staged c ok c.doing (vector_of vs) span (next_on rest) (λ v. (refl, refl)))
+  acts_staged (Some (PrintOf n)) may =
+      args_staged c ok st0 n c.stack [] _ (λ vs rest q r. on c.doing (print (is_inside c.doing) vs (answer_of q r)) (next_on rest)) (λ vs rest. print_staged c ok (is_inside c.doing) vs rest)
+  acts_staged (Some (TxBegin span)) may = begins_staged c ok span c.doing refl
+  acts_staged (Some TxEnd) may = ends_staged code c.doing c ok refl
+  acts_staged (Some (LookOf f span)) may =
+      top_staged c ok st0 c.stack _ (λ cell rest q r. on c.doing (read f (is_inside c.doing) span cell (answer_of q r)) (next_on rest)) (λ cell rest. read_staged c ok f span cell rest c.doing refl may)
+  acts_staged (Some (PutOf f span)) may =
+      two_staged c ok st0 c.stack _ (λ w cell rest q r. puts code f span w cell rest (put_state (answer_of q r))) (λ w cell rest. puts_staged code f span w cell rest c ok may)
+  acts_staged (Some (OpenOf f n span)) may =
+      args_of_staged c ok st0 n c.stack _ (λ vs cell rest q r. opens f span vs cell rest (put_state (answer_of q r))) (λ vs cell rest. opens_any c ok f n span may vs cell rest)
+  acts_staged (Some (CloseOf f span)) may =
+      two_staged c ok st0 c.stack _ (λ w cell rest q r. closes code f span w cell rest (put_state (answer_of q r))) (λ w cell rest. closes_any code f span w cell rest c ok)
+  acts_staged (Some (SendOf f n span)) may =
+      args_of_staged c ok st0 n c.stack _ (λ vs cell rest q r. on c.doing (send_to (is_inside c.doing) span cell f vs (answer_of q r)) (next_on rest)) (λ vs cell rest. send_to_staged c ok f n span cell vs rest c.doing refl may)
+  acts_staged (Some Halt) may = refl
+  acts_staged (Some (TakeOf g)) may = absurd may
+  acts_staged (Some RunOf) may = absurd may
+  acts_staged (Some (FinishOf g)) may = absurd may
+
+pub act_staged : (c : Configuration) (ok : IsThreads c.state.acting) (code : ThreadCode) (i : Option PlainInstr) → MayStandHere c.doing i
+    → StagedFrom (stage_in c.doing (record c.state { todo = [] })) (act code i (record c { state = record c.state { todo = [] } })) (λ q r. act code i (record c { state = record c.state { todo = exchange q r ∷ [] } }))
+act_staged c ok code i may = acts_staged c ok code i may

@@ -6,16 +6,20 @@ use Rattle.txs_world_protocol.specs.Ask.{Writes, Exchange, buffered, same_ask, w
 use Rattle.txs_world_protocol.specs.declared.ask.Ask.{Ask}
 use Rattle.txs_world_protocol.specs.declared.ask.Ask.TheVariants as ask
 use Rattle.txs_world_protocol.specs.declared.ask.Reply.{Reply}
-use Rattle.txs_frame.specs.Frame.{with_cell, commuted, is_commuted, commutes_of, by_ref}
+use Rattle.txs_frame.specs.Frame.{PlainTxFrame, with_cell, commuted, is_commuted, commutes_of, by_ref, phase_work, written}
+use Rattle.txs_frame.specs.Phase.{with_validation, validations, tasks_of, callee_of, to_write}
 use Rattle.txs_frame.specs.declared.frame.Commute.{Commute}
+use Rattle.txs_frame.specs.declared.phase.Task.{Task}
+use Rattle.txs_frame.specs.declared.phase.Task.TheVariants.{Redoes, Validates}
 use Rattle.txs_value_apply.specs.Core.{core, vector_of}
 use Rattle.txs_value_apply.specs.Truth.{choose}
+use Rattle.txs_value_cell.specs.Cells.{Validators, validator_at}
 use Rattle.txs_value_cell.specs.Forms.{rule, cell_of}
-use Rattle.txs_value_base.specs.Places.{nth}
+use Rattle.txs_value_base.specs.Places.{nth, fault_at}
 use Rattle.txs_value_cell.specs.declared.action.Action.{Action}
 use Rattle.txs_value_base.specs.declared.fault.Fault.{Fault}
 use Rattle.txs_value_base.specs.declared.fault.FaultKind.{FaultKind}
-use Rattle.txs_value_base.specs.declared.fault.FaultKind.TheVariants.{SetAfterCommute}
+use Rattle.txs_value_base.specs.declared.fault.FaultKind.TheVariants.{SetAfterCommute, InvalidState}
 use Rattle.txs_value_base.specs.declared.fault.Span.{Span}
 use Rattle.txs_value_cell.specs.declared.form.CellForm.TheVariants as form
 use Rattle.txs_value_cell.specs.declared.form.LookForm.{LookForm}
@@ -29,12 +33,12 @@ use Rattle.txs_value_base.specs.declared.op.Callee.TheVariants as callee
 use Rattle.txs_value_data.specs.declared.value.CellId.{CellId}
 use Rattle.txs_value_data.specs.declared.value.Value.{Value}
 use Rattle.txs_value_data.specs.declared.value.Value.TheVariants.{Nil, Truth, Int, Key, Text, Vector, Cell}
-use Rattle.txs_code_meaning.specs.ActorState.{ActorState, Replied, Unreplied, receives, asks, StepResult, Continue, Break, Redo, Await, Malformed, on_step, step_of, Reading, Says, SaysRetry, SaysNothing, read_as, heard, read_point, just_done, value_there, newest_value, views, Verdict, Landed, Outdated, Undone, Denied, commit_verdict, opened, swap_verdict, send_verdict, begun, begin, fail, buffered_or, look, paired, viewed, view, commit, peek, SwapInHand, open_atom, close_swap, break_swap, reset_atom, sent, send_now, read_cell, read, set_own, assign_cell, assign, RefUpdate, Alters, Commutes, update_form, kept_open, open_update, close_own, close_update, open_swap, send_action, send_to, print, InHand, send_or_hold}
-use Rattle.txs_code_meaning.specs.Machine.{PlainInstr, Push, Load, Store, Pop, Jump, JumpFalse, CoreOf, CallOf, Return, MakeVector, PrintOf, TxBegin, TxEnd, LookOf, PutOf, OpenOf, CloseOf, SendOf, Halt, TakeOf, RunOf, FinishOf, ThreadCode, instr_at, fetch, Destination, to_stack, to_commutes, Frame, Savepoint, Activity, Outside, Restarting, Running, Applying, Swapping, is_inside, Configuration, ahead, called, arguments_of, Turned, Ended, Failed, Asking, Unfinished, Stuck, told, raise, rerun, retried, on, found, on_top, on_args, on_args_of, on_two, push_all, put, gives, begins, decided, lands, settles, applies, ends, stack_after, doing_after, returns_to, opens_ref, opens_atom, opens, swap_decided, closes_swap, closes, act, turn, run, ends_with}
+use Rattle.txs_code_meaning.specs.ActorState.{ActorState, Replied, Unreplied, receives, asks, StepResult, Continue, Break, Redo, Await, Malformed, on_step, step_of, Reading, Says, SaysRetry, SaysNothing, read_as, heard, read_point, just_done, value_there, newest_value, views, Verdict, Landed, Outdated, Undone, Denied, commit_verdict, opened, swap_verdict, send_verdict, begun, begin, fail, buffered_or, look, paired, viewed, view, commit, peek, SwapInHand, open_atom, close_swap, break_swap, reset_atom, sent, send_now, read_cell, read, set_own, assign_cell, assign, RefUpdate, Alters, Commutes, update_form, kept_open, open_update, close_own, close_update, open_swap, send_action, send_to, print, InHand, send_or_hold, cell_at}
+use Rattle.txs_code_meaning.specs.Machine.{PlainInstr, Push, Load, Store, Pop, Jump, JumpFalse, CoreOf, CallOf, Return, MakeVector, PrintOf, TxBegin, TxEnd, LookOf, PutOf, OpenOf, CloseOf, SendOf, Halt, TakeOf, RunOf, FinishOf, ThreadCode, instr_at, fetch, Destination, to_stack, to_commutes, to_validation, Frame, Savepoint, Activity, Outside, Restarting, Running, Applying, Swapping, is_inside, Configuration, ahead, called, arguments_of, Turned, Ended, Failed, Asking, Unfinished, Stuck, told, raise, rerun, retried, on, found, on_top, on_args, on_args_of, on_two, push_all, put, gives, begins, decided, lands, settles, applies, ends, stack_after, doing_after, returns_to, opens_ref, opens_atom, opens, swap_decided, closes_swap, closes, act, turn, run, ends_with, staying, answered, validates, where_accepted, where_valid, works, puts, state_after}
 use Rattle.txs_code_meaning.specs.Opening.{given, opening}
 use Rattle.txs_code_meaning.specs.PlainCode.{CodeBody, PlainCode, parameters_of, plain_instr, plain_instrs, plain_bodies, thread_code}
 use Rattle.txs_code_meaning.specs.WellTyped as typed
-use Rattle.txs_code_meaning.specs.WellTyped.{form_of, FunctionKind, Functions, Owner, a_thread, a_function, IsImpure, MayCall, IsPureFunction, IsPureCallee, Stages, stage_at, LeadsTo, FitsStage, IsStaging, WellTypedThreads, WellTypedFunctions}
+use Rattle.txs_code_meaning.specs.WellTyped.{form_of, FunctionKind, Functions, Owner, a_thread, a_function, IsImpure, MayCall, IsPureFunction, IsPureCallee, Stages, stage_at, LeadsTo, FitsStage, IsStaging, WellTypedThreads, WellTypedFunctions, WellTypedValidators}
 use Rattle.txs_code_meaning.specs.declared.instr.Instr.{Instr}
 use Rattle.txs_code_meaning.specs.declared.instr.Instr.TheVariants as instr
 use Rattle.txs_code_meaning.specs.declared.instr.OpenForm.{OpenForm}
@@ -132,7 +136,7 @@ IsPurePlain RunOf = ⊥
 IsPurePlain (FinishOf g) = ⊥
 IsPurePlain _ = Unit {0}
 
-may_apply : (left : ℕ) (from : Savepoint) (work : List Commute) (values : Writes) (p : PlainInstr) → IsPurePlain p → MayStandIn (Applying left from work values) p
+may_apply : (left : ℕ) (from : Savepoint) (work : List Task) (values : Writes) (p : PlainInstr) → IsPurePlain p → MayStandIn (Applying left from work values) p
 may_apply left from work values (Push v) h = tt
 may_apply left from work values (Load i) h = tt
 may_apply left from work values (Store i) h = tt
@@ -324,6 +328,10 @@ module _ (code : PlainCode) (main : CodeBody) (kinds : List FunctionKind) where
   CommutesPure [] = Unit {0}
   CommutesPure (k ∷ cs) = IsPureCallee kinds k.callee × CommutesPure cs
 
+  abbrev TasksPure : List Task → Type 0
+  TasksPure [] = Unit {0}
+  TasksPure (x ∷ work) = IsPureCallee kinds (callee_of x) × TasksPure work
+
   abbrev CommutingPure : Option Commute → Type 0
   CommutingPure None = Unit {0}
   CommutingPure (Some k) = IsPureCallee kinds k.callee
@@ -355,7 +363,7 @@ module _ (code : PlainCode) (main : CodeBody) (kinds : List FunctionKind) where
   DoingOk c Outside = Unit {0}
   DoingOk c (Restarting left) = Unit {0}
   DoingOk c (Running left inner from) = SavedAt from
-  DoingOk c (Applying left from work values) = SavedAt from × CommutesPure work × PlaceIn EndHere c
+  DoingOk c (Applying left from work values) = SavedAt from × TasksPure work × PlaceIn EndHere c
   DoingOk c (Swapping swap from) = SavedAt from × PlaceIn SwapHere c
 
   abbrev Holds : Configuration → Type 0
@@ -550,6 +558,23 @@ module _ (code : PlainCode) (main : CodeBody) (kinds : List FunctionKind) where
   phase_pure [] cs h = tt
   phase_pure (d ∷ ds) cs h = commutes_append (commutes_of d.number cs) (by_ref ds cs) (commutes_among d.number cs h) (phase_pure ds cs h)
 
+  redoes_pure : (ks : List Commute) (work : List Task) → CommutesPure ks → TasksPure work → TasksPure (map Redoes ks ++ work)
+  redoes_pure [] work h g = g
+  redoes_pure (k ∷ ks) work h g = (h.0, redoes_pure ks work h.1 g)
+
+  -- the state says nothing of what is going on
+  state_ok : (c : Configuration) (s : ActorState) (doing : Activity) → DoingOk c doing → DoingOk (record c { state = s }) doing
+  state_ok c s Outside ok = ok
+  state_ok c s (Restarting left) ok = ok
+  state_ok c s (Running left inner from) ok = ok
+  state_ok c s (Applying left from work values) ok = ok
+  state_ok c s (Swapping swap from) ok = ok
+
+  returned_ok : (awaits : Destination) (v : Value) (s : ActorState) → StateOk s → StateOk (state_after awaits v s)
+  returned_ok to_stack v s h = h
+  returned_ok to_commutes v s h = h
+  returned_ok to_validation v s h = h
+
   -- ---- turns
 
   told_lands : (x : StepResult (Unit {0})) (f : Fault) → Lands (told x (λ s. Failed f s))
@@ -609,8 +634,10 @@ module _ (code : PlainCode) (main : CodeBody) (kinds : List FunctionKind) where
   after_ok c to_commutes v (Restarting left) h = h
   after_ok c to_commutes v (Running left inner from) h = h
   after_ok c to_commutes v (Applying left from [] values) h = h
-  after_ok c to_commutes v (Applying left from (k ∷ work) values) h = (h.0, h.1.1, h.2)
+  after_ok c to_commutes v (Applying left from (Redoes k ∷ work) values) h = (h.0, h.1.1, h.2)
+  after_ok c to_commutes v (Applying left from (Validates d f ∷ work) values) h = h
   after_ok c to_commutes v (Swapping swap from) h = h
+  after_ok c to_validation v doing h = h
 
   choose_at : (P : ℕ → Type 0) (v : Value) (x y : ℕ) → P x → P y → P (choose v x y)
   choose_at P Nil x y h g = g
@@ -623,15 +650,53 @@ module _ (code : PlainCode) (main : CodeBody) (kinds : List FunctionKind) where
   choose_at P (Cell d) x y h g = h
 
   -- what is known of all bodies
-  module _ (functions : (f : ℕ) (kind : FunctionKind) → nth kinds f ≡ Some kind → Body (suc f) (a_function kind)) where
+  module _ (functions : (f : ℕ) (kind : FunctionKind) → nth kinds f ≡ Some kind → Body (suc f) (a_function kind)) (valid : (k : ℕ) (f : Callee) → validator_at tc.validators k ≡ Some f → IsPureCallee kinds f) where
     function_at : (f : ℕ) (kind : FunctionKind) → nth kinds f ≡ Some kind → Somewhere (suc f) 0
     function_at f kind e = let b = functions f kind e in (typed.plain 0, record { owner = a_function kind; body = b; here = b.staging.first })
 
     pure_function_at : (f : ℕ) → IsPureFunction kinds f → PureAt (suc f) 0
     pure_function_at f p = let b = functions f p.0 p.1 in record { owner = a_function p.0; body = b; pure = p.2; here = b.staging.first }
 
+    validations_pure : (ds : List CellId) → TasksPure (validations tc.validators ds)
+    validations_pure [] = tt
+    validations_pure (d ∷ ds) = go (validator_at tc.validators d.number) (valid d.number) (validations_pure ds)
+      where
+        go : (o : Option Callee) → ((f : Callee) → o ≡ Some f → IsPureCallee kinds f) → TasksPure (validations tc.validators ds) → TasksPure (with_validation d o (validations tc.validators ds))
+        go None k h = h
+        go (Some f) k h = (k f refl, h)
+
+    tasks_pure : (w : PlainTxFrame) → CommutesPure w.commutes → TasksPure (tasks_of tc.validators w)
+    tasks_pure w h = redoes_pure (phase_work w) (validations tc.validators (written w)) (phase_pure (commuted w) w.commutes h) (validations_pure (written w))
+
     module _ (c : Configuration) (h : Holds c) where
+      -- ---- validators
+
+      -- a validator's function may be called from here
+      abbrev MayValidate : Value → Type 0
+      MayValidate v = (n : ℕ) → PureAt (suc n) 0 → DoingOk (called tc n (v ∷ []) to_validation c.place c.stack c) c.doing
+
+      abbrev NextLands : (Configuration → Turned Configuration) → Type 0
+      NextLands go = (s : ActorState) → StateOk s → Lands (go (record c { state = s }))
+
+      validates_land : (f : Callee) → IsPureCallee kinds f → (v : Value) (span : Span) → MayValidate v → Lands (validates tc f v span c)
+      validates_land (callee.Core op) p v span calls =
+          on_lands c c.doing h.2 (step_of (core op (v ∷ [])) span c.state) _ (result_ok (core op (v ∷ [])) span c.state h.3) (λ answer s q. (h.0, h.1, state_ok c (answered answer s) c.doing h.2, q))
+      validates_land (callee.Function f) p v span calls = (pure_somewhere (suc f) 0 (pure_function_at f p), (h.0, h.1), calls f (pure_function_at f p), h.3)
+
+      accepted_lands : (o : Option Bool) (f : Callee) → IsPureCallee kinds f → (v : Value) (span : Span) (go : Configuration → Turned Configuration) → MayValidate v → NextLands go → Lands (where_accepted tc o f v span c go)
+      accepted_lands None f p v span go calls k = validates_land f p v span calls
+      accepted_lands (Some true) f p v span go calls k = k (record c.state { accepted = None }) h.3
+      accepted_lands (Some false) f p v span go calls k = raise_lands c c.doing h.2 (fault_at InvalidState span) (record c.state { accepted = None }) h.3
+
+      valid_lands : (o : Option Callee) → ((f : Callee) → o ≡ Some f → IsPureCallee kinds f) → (v : Value) (span : Span) (go : Configuration → Turned Configuration) → MayValidate v → NextLands go → Lands (where_valid tc o v span c go)
+      valid_lands None p v span go calls k = k c.state h.3
+      valid_lands (Some f) p v span go calls k = accepted_lands c.state.accepted f (p f refl) v span go calls k
+
       -- ---- ends
+
+      -- what is going on may be so at the end of a transaction, and in what is applied there
+      abbrev MayApply : Type 0
+      MayApply = (d : Configuration) → PlaceIn EndHere d → DoingOk d c.doing
 
       decided_lands : Somewhere c.body (c.place + 1) → (left : ℕ) (from : Savepoint) → SavedAt from → (v : Verdict) (s : ActorState) → StateOk s → Lands (decided v left from c s)
       decided_lands next left from g Landed s q = (next, h.1, tt, q)
@@ -644,46 +709,56 @@ module _ (code : PlainCode) (main : CodeBody) (kinds : List FunctionKind) where
       lands_land next left from values g =
           on_lands c c.doing h.2 (commit values c.state) (λ verdict s. decided verdict left from c s) (commit_ok values c.state h.3) (λ v s q. decided_lands next left from g v s q)
 
-      settles_land : Somewhere c.body (c.place + 1) → EndHere c.body c.place → (cs : List CellId) (left : ℕ) (from : Savepoint) → SavedAt from → Lands (settles cs left from c)
-      settles_land next end [] left from g = lands_land next left from [] g
-      settles_land next end (d ∷ cs) left from g =
-          on_lands c c.doing h.2 (view c.state) _ (view_ok c.state h.3) (λ values s q. (h.0, h.1, (g, phase_pure (commuted s.done) s.done.commutes q.0, inl end), q))
-
-      applies_land : EndHere c.body c.place → (f : Callee) (left : ℕ) (from : Savepoint) (k : Commute) (work : List Commute) (values : Writes) → IsPureCallee kinds f → SavedAt from → CommutesPure work → CommutesPure (k ∷ work)
-          → c.doing ≡ Applying left from (k ∷ work) values → Lands (applies tc f left from k work values c)
-      applies_land end (callee.Core op) left from k work values p g w kw e =
+      applies_land : EndHere c.body c.place → MayApply → (f : Callee) (left : ℕ) (from : Savepoint) (k : Commute) (work : List Task) (values : Writes) → IsPureCallee kinds f → SavedAt from → TasksPure work → Lands (applies tc f left from k work values c)
+      applies_land end may (callee.Core op) left from k work values p g w =
           on_lands c c.doing h.2 (step_of (core op (arguments_of k values)) from.span c.state) _ (result_ok (core op (arguments_of k values)) from.span c.state h.3) (λ v s q. (h.0, h.1, (g, w, inl end), q))
-      applies_land end (callee.Function f) left from k work values p g w kw e = (
-        pure_somewhere (suc f) 0 (pure_function_at f p),
-        (h.0, h.1),
-        subst (λ i. DoingOk (called tc f (arguments_of k values) to_commutes c.place c.stack c) i) (sym e) (g, kw, inr (pure_function_at f p, inl end)),
-        h.3,
-      )
+      applies_land end may (callee.Function f) left from k work values p g w =
+          (pure_somewhere (suc f) 0 (pure_function_at f p), (h.0, h.1), may (called tc f (arguments_of k values) to_commutes c.place c.stack c) (inr (pure_function_at f p, inl end)), h.3)
+
+    works_land : (work : List Task) (left : ℕ) (from : Savepoint) (values : Writes) → SavedAt from → TasksPure work → (c : Configuration) (h : Holds c) → Somewhere c.body (c.place + 1) → EndHere c.body c.place → MayApply c h → Lands (works tc left from work values c)
+    works_land [] left from values g w c h next end may = lands_land c h next left from values g
+    works_land (Redoes k ∷ work) left from values g w c h next end may = applies_land c h end may k.callee left from k work values w.0 g w.1
+    works_land (Validates d f ∷ work) left from values g w c h next end may =
+        accepted_lands (staying (Applying left from (Validates d f ∷ work) values) c.state c) (h.0, h.1, (g, w, inl end), h.3) c.state.accepted f w.0 (to_write values c.state.done d.number) from.span
+        (λ c1. works tc left from work values (staying (Applying left from work values) c1.state c1)) (λ n q. (g, w, inr (q, inl end)))
+        (λ s q. works_land work left from values g w.1 (staying (Applying left from work values) s c) (h.0, h.1, (g, w.1, inl end), q) next end (λ e p. (g, w.1, p)))
+
+    module _ (c : Configuration) (h : Holds c) where
+      settles_land : Somewhere c.body (c.place + 1) → EndHere c.body c.place → MayApply c h → (cs : List CellId) (left : ℕ) (from : Savepoint) → SavedAt from → Lands (settles tc cs left from c)
+      settles_land next end may [] left from g = works_land (tasks_of tc.validators c.state.done) left from [] g (tasks_pure c.state.done h.3.0) c h next end may
+      settles_land next end may (d ∷ cs) left from g = on_lands c c.doing h.2 (view c.state) _ (view_ok c.state h.3) (λ values s q. (h.0, h.1, (g, tasks_pure s.done q.0, inl end), q))
 
       ends_land : Somewhere c.body (c.place + 1) → EndHere c.body c.place → (doing : Activity) → c.doing ≡ doing → DoingOk c doing → Lands (ends tc doing c)
       ends_land next end Outside e ok = tt
       ends_land next end (Restarting left) e ok = tt
       ends_land next end (Running left (suc inner) from) e ok = (next, h.1, ok, h.3)
-      ends_land next end (Running left zero from) e ok = settles_land next end (commuted c.state.done) left from ok
-      ends_land next end (Applying left from [] values) e ok = lands_land next left from values ok.0
-      ends_land next end (Applying left from (k ∷ work) values) e ok = applies_land end k.callee left from k work values ok.1.0 ok.0 ok.1.1 ok.1 e
+      ends_land next end (Running left zero from) e ok = settles_land next end (λ d p. subst (DoingOk d) (sym e) ok) (commuted c.state.done) left from ok
+      ends_land next end (Applying left from work values) e ok = works_land work left from values ok.0 ok.1 c h next end (λ d p. subst (DoingOk d) (sym e) (ok.0, ok.1, p))
       ends_land next end (Swapping swap from) e ok = tt
 
       -- ---- swaps
 
-      swap_decided_lands : Somewhere c.body (c.place + 1) → (from : Savepoint) → SavedAt from → (w : Value) (rest : List Value) (v : Verdict) (s : ActorState) → StateOk s → Lands (swap_decided v from w rest c s)
-      swap_decided_lands next from g w rest Landed s q = (next, h.1, tt, q)
-      swap_decided_lands next from g w rest Outdated s q = (g.0, g.1, tt, q)
-      swap_decided_lands next from g w rest Undone s q = tt
-      swap_decided_lands next from g w rest Denied s q = tt
+      swap_decided_lands : Somewhere c.body (c.place + 1) → (from : Savepoint) → SavedAt from → (w : Value) (rest : List Value) (v : Verdict) (t s : ActorState) → StateOk s → Lands (swap_decided v from w rest (record c { state = t }) s)
+      swap_decided_lands next from g w rest Landed t s q = (next, h.1, tt, q)
+      swap_decided_lands next from g w rest Outdated t s q = (g.0, g.1, tt, q)
+      swap_decided_lands next from g w rest Undone t s q = tt
+      swap_decided_lands next from g w rest Denied t s q = tt
 
-      closes_swap_lands : Somewhere c.body (c.place + 1) → (doing : Activity) → DoingOk c doing → (w : Value) (rest : List Value) → Lands (closes_swap doing w rest c)
-      closes_swap_lands next (Swapping swap from) ok w rest =
-          on_lands c c.doing h.2 (close_swap swap w c.state) (λ verdict s. swap_decided verdict from w rest c s) (close_swap_ok swap w c.state h.3) (λ v s q. swap_decided_lands next from ok.0 w rest v s q)
-      closes_swap_lands next Outside ok w rest = tt
-      closes_swap_lands next (Restarting left) ok w rest = tt
-      closes_swap_lands next (Running left inner from) ok w rest = tt
-      closes_swap_lands next (Applying left from work values) ok w rest = tt
+      closes_swap_lands : Somewhere c.body (c.place + 1) → (doing : Activity) → DoingOk c doing → (w : Value) (rest : List Value) → MayValidate c h w → Lands (closes_swap tc doing w rest c)
+      closes_swap_lands next (Swapping swap from) ok w rest calls =
+          valid_lands c h (validator_at tc.validators swap.cell.number) (valid swap.cell.number) w from.span (λ c1. on c1.doing (close_swap swap w c1.state) (λ verdict s. swap_decided verdict from w rest c1 s)) calls
+          (λ t p. on_lands c c.doing h.2 (close_swap swap w t) (λ verdict s. swap_decided verdict from w rest (record c { state = t }) s) (close_swap_ok swap w t p) (λ v s q. swap_decided_lands next from ok.0 w rest v t s q))
+      closes_swap_lands next Outside ok w rest calls = tt
+      closes_swap_lands next (Restarting left) ok w rest calls = tt
+      closes_swap_lands next (Running left inner from) ok w rest calls = tt
+      closes_swap_lands next (Applying left from work values) ok w rest calls = tt
+
+      -- ---- returns
+
+      -- where the last caller continues
+      abbrev returned : Frame → List Frame → Value → Configuration
+      returned f frames v =
+          record c { body = f.body; place = f.place; stack = stack_after f.awaits v f.stack; locals = f.locals; frames = frames; doing = doing_after f.awaits v c.doing; state = state_after f.awaits v c.state }
 
       -- ---- where what is going on says nothing of the place
 
@@ -741,10 +816,18 @@ module _ (code : PlainCode) (main : CodeBody) (kinds : List FunctionKind) where
             opens_ref_lands (typed.opened t n (open_form.Commute k), next) (Commutes k) (opened_pure c.body (c.place + 1) t n k next) span vs cell rest
         opens_land t n (open_form.Swap k) next span vs cell rest = opens_atom_lands (typed.opened t n (open_form.Swap k), next, refl) c.doing span vs cell rest
 
-        closes_land : (f : UpdateForm) → Somewhere c.body (c.place + 1) → (span : Span) (w cell : Value) (rest : List Value) → Lands (closes f span w cell rest c)
+        puts_land : (f : PutForm) → Somewhere c.body (c.place + 1) → (span : Span) (w cell : Value) (rest : List Value) → Lands (puts tc f span w cell rest c)
+        puts_land RefSet next span w cell rest = gives_lands next rest (assign RefSet (is_inside c.doing) span cell w c.state) (assign_ok RefSet (is_inside c.doing) span cell w c.state h.3)
+        puts_land Reset next span w cell rest =
+            on_lands c c.doing h.2 (cell_at (form.Put Reset) (is_inside c.doing) span cell c.state) _ (result_ok (cell_of (rule (form.Put Reset)) (is_inside c.doing) cell) span c.state h.3)
+            (λ a s q. valid_lands c h (validator_at tc.validators a.number) (valid a.number) w span (λ c1. gives c1 rest (assign_cell Reset (is_inside c.doing) span w a c1.state)) (λ n p. free (called tc n (w ∷ []) to_validation c.place c.stack c))
+            (λ t p. on_lands c c.doing h.2 (assign_cell Reset (is_inside c.doing) span w a t) (λ v s1. Unfinished (ahead (v ∷ rest) s1 (record c { state = t }))) (assign_cell_ok Reset (is_inside c.doing) span w a t p)
+            (λ v s1 q1. (next, h.1, free (ahead (v ∷ rest) s1 (record c { state = t })), q1))))
+
+        closes_land : (f : UpdateForm) → Somewhere c.body (c.place + 1) → (span : Span) (w cell : Value) (rest : List Value) → Lands (closes tc f span w cell rest c)
         closes_land update.Alter next span w cell rest = gives_lands next rest (close_update span cell w c.state) (close_ok span cell w c.state h.3)
         closes_land update.Commute next span w cell rest = gives_lands next rest (close_update span cell w c.state) (close_ok span cell w c.state h.3)
-        closes_land update.Swap next span w cell rest = closes_swap_lands next c.doing h.2 w rest
+        closes_land update.Swap next span w cell rest = closes_swap_lands next c.doing h.2 w rest (λ n p. free (called tc n (w ∷ []) to_validation c.place c.stack c))
 
         call_lands : Somewhere c.body (c.place + 1) → (f : ℕ) → Somewhere (suc f) 0 → (vs rest : List Value) → Holds (called tc f vs to_stack (c.place + 1) rest c)
         call_lands next f there vs rest = (there, (next, h.1), free (called tc f vs to_stack (c.place + 1) rest c), h.3)
@@ -754,9 +837,8 @@ module _ (code : PlainCode) (main : CodeBody) (kinds : List FunctionKind) where
         returns_land (f ∷ frames) g v = (
           g.0,
           g.1,
-          after_ok (record c { body = f.body; place = f.place; stack = stack_after f.awaits v f.stack; locals = f.locals; frames = frames; doing = doing_after f.awaits v c.doing }) f.awaits v c.doing
-              (free (record c { body = f.body; place = f.place; stack = stack_after f.awaits v f.stack; locals = f.locals; frames = frames; doing = doing_after f.awaits v c.doing })),
-          h.3,
+          after_ok (returned f frames v) f.awaits v c.doing (free (returned f frames v)),
+          returned_ok f.awaits v c.state h.3,
         )
 
         module _ (a : Somewhere c.body c.place) where
@@ -786,7 +868,7 @@ module _ (code : PlainCode) (main : CodeBody) (kinds : List FunctionKind) where
           plain_lands t (instr.Look f) span x en =
               top_lands c.stack _ (λ cell rest. gives_lands (there (c.place + 1) (typed.plain t) x.1) rest (read f (is_inside c.doing) span cell c.state) (read_form_ok f (is_inside c.doing) span cell c.state h.3))
           plain_lands t (instr.Put f) span x en =
-              two_land c.stack _ (λ w cell rest. gives_lands (there (c.place + 1) (typed.plain t) x.1) rest (assign f (is_inside c.doing) span cell w c.state) (assign_ok f (is_inside c.doing) span cell w c.state h.3))
+              two_land c.stack _ (λ w cell rest. puts_land f (there (c.place + 1) (typed.plain t) x.1) span w cell rest)
           plain_lands t instr.TxBegin span x en = begins_lands (there (c.place + 1) (typed.plain (suc t)) x.1) span c.doing h.2
           plain_lands t instr.TxEnd span x en = ends_land (there (c.place + 1) (typed.plain (t - 1)) x.1) (en tt) c.doing refl h.2
           plain_lands t (instr.Open f n) span x en = args_of_land n c.stack _ (λ vs cell rest. opens_land t n f (there (c.place + 1) (typed.opened t n f) x.1).1 span vs cell rest)
@@ -885,9 +967,8 @@ module _ (code : PlainCode) (main : CodeBody) (kinds : List FunctionKind) where
         pure_returns (f ∷ frames) e g v = (
           g.0,
           g.1,
-          after_ok (record c { body = f.body; place = f.place; stack = stack_after f.awaits v f.stack; locals = f.locals; frames = frames; doing = doing_after f.awaits v c.doing }) f.awaits v c.doing
-              (returns (record c { body = f.body; place = f.place; stack = stack_after f.awaits v f.stack; locals = f.locals; frames = frames; doing = doing_after f.awaits v c.doing }) f frames e refl refl refl),
-          h.3,
+          after_ok (returned f frames v) f.awaits v c.doing (returns (returned f frames v) f frames e refl refl refl),
+          returned_ok f.awaits v c.state h.3,
         )
 
         pure_instr : (i : Instr) (span : Span) → FitsStage fs p.owner p.body.stages c.place (typed.plain 0) i → Lands (act tc (Some (plain_instr ps ks i span)) c)
@@ -941,6 +1022,9 @@ module _ (code : PlainCode) (main : CodeBody) (kinds : List FunctionKind) where
           h.3,
         )
 
+        swap_validates : (v : Value) → MayValidate c h v
+        swap_validates v n q = calls (called tc n (v ∷ []) to_validation c.place c.stack c) (record { body = c.body; place = c.place; stack = c.stack; locals = c.locals; awaits = to_validation }) q w refl
+
         swap_opened : (t n : ℕ) (by : OpenForm) → form_of by ≡ update.Swap → (i : Instr) (span : Span) → FitsStage fs w.1.owner w.1.body.stages c.place (typed.opened t n by) i → Lands (act tc (Some (plain_instr ps ks i span)) c)
         swap_opened t n by e (instr.Const k) span x = absurd x
         swap_opened t n by e (instr.Local k) span x = absurd x
@@ -980,7 +1064,7 @@ module _ (code : PlainCode) (main : CodeBody) (kinds : List FunctionKind) where
         swap_applied t by e instr.TxBegin span x = absurd x
         swap_applied t by e instr.TxEnd span x = absurd x
         swap_applied t by e (instr.Open f n) span x = absurd x
-        swap_applied t by e (instr.Close f) span x = two_land c.stack _ (λ v cell rest. subst (λ g. Lands (closes g span v cell rest c)) (sym e ∙ x.0) (closes_swap_lands (typed.plain t, record { owner = w.1.owner; body = w.1.body; here = x.1 }) c.doing h.2 v rest))
+        swap_applied t by e (instr.Close f) span x = two_land c.stack _ (λ v cell rest. subst (λ g. Lands (closes tc g span v cell rest c)) (sym e ∙ x.0) (closes_swap_lands (typed.plain t, record { owner = w.1.owner; body = w.1.body; here = x.1 }) c.doing h.2 v rest (swap_validates v)))
         swap_applied t by e (instr.Send f n) span x = absurd x
         swap_applied t by e instr.Halt span x = absurd x
 
@@ -1165,7 +1249,7 @@ module _ (code : PlainCode) (main : CodeBody) (kinds : List FunctionKind) where
           purely : (P : PlainInstr → Type 0) → PureAt c.body c.place → ((p : PlainInstr) → IsPurePlain p → P p) → OfThere P (fetch tc c.body c.place)
           purely P q k = fetched_so P c.body c.place q.owner q.body (typed.plain 0) q.here (λ i span x. k (plain_instr ps ks i span) (pure_plain q.owner q.pure q.body.stages c.place i span x)) (fetch tc c.body c.place) refl
 
-          at_end : (left : ℕ) (from : Savepoint) (work : List Commute) (values : Writes) (o : Option PlainInstr) → EndThere o → MayStandHere (Applying left from work values) o
+          at_end : (left : ℕ) (from : Savepoint) (work : List Task) (values : Writes) (o : Option PlainInstr) → EndThere o → MayStandHere (Applying left from work values) o
           at_end left from work values None e = tt
           at_end left from work values (Some p) e = subst (MayStandIn (Applying left from work values)) (sym (is_end p e)) tt
 
@@ -1281,16 +1365,28 @@ module _ (code : PlainCode) (main : CodeBody) (kinds : List FunctionKind) where
       body_or y (Some z) = z
   typed_thread (x ∷ bs) (room ∷ rooms) h (suc i) b e = typed_thread bs rooms h.2 i b e
 
-  pub typed_stands_of : (function_rooms thread_rooms : List ℕ) (i : ℕ) → nth code.threads i ≡ Some main → WellTypedFunctions fs 0 ks code.functions kinds function_rooms → WellTypedThreads fs ks code.threads thread_rooms → StandingCode tc
-  typed_stands_of function_rooms thread_rooms i e functions threads =
+  pub typed_validators : (vs : Validators) → WellTypedValidators fs vs → (k : ℕ) (f : Callee) → validator_at vs k ≡ Some f → IsPureCallee kinds f
+  typed_validators [] h k f e = absurd (subst is_some (sym e) tt)
+  typed_validators (None ∷ vs) h zero f e = absurd (subst is_some (sym e) tt)
+  typed_validators (None ∷ vs) h (suc k) f e = typed_validators vs h k f e
+  typed_validators (Some g ∷ vs) h zero f e = subst (IsPureCallee kinds) (ap (callee_in g) e) h.1
+    where
+      callee_in : Callee → Option Callee → Callee
+      callee_in g None = g
+      callee_in g (Some x) = x
+  typed_validators (Some g ∷ vs) h (suc k) f e = typed_validators vs h.2 k f e
+
+  pub typed_stands_of : (function_rooms thread_rooms : List ℕ) (i : ℕ) → nth code.threads i ≡ Some main → WellTypedValidators fs tc.validators → WellTypedFunctions fs 0 ks code.functions kinds function_rooms → WellTypedThreads fs ks code.threads thread_rooms → StandingCode tc
+  typed_stands_of function_rooms thread_rooms i e validators functions threads =
       let t = typed_thread code.threads thread_rooms threads i main e in
       stands_all
       (λ f kind k. (let x = typed_function 0 code.functions kinds function_rooms functions f kind k in record { body = x.0; stages = x.1.0; staging = x.1.1; fetches = x.2 }))
+      (typed_validators tc.validators validators)
       (record { body = main; stages = t.0; staging = t.1; fetches = λ at. fetched ps ks main.instrs main.spans at })
 
 -- the instructions of each thread of well-typed code stand where they may
 pub typed_stands : TypedStands
-typed_stands code function_rooms thread_rooms i b well e = typed_stands_of code b well.kinds function_rooms thread_rooms i e well.functions well.threads
+typed_stands code function_rooms thread_rooms i b well e = typed_stands_of code b well.kinds function_rooms thread_rooms i e well.validators well.functions well.threads
 
 -- ---- all actors
 

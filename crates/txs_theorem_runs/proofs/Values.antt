@@ -7,10 +7,14 @@ use Rattle.txs_world_protocol.specs.declared.ask.Ask.{Ask}
 use Rattle.txs_world_protocol.specs.declared.ask.Ask.TheVariants as ask
 use Rattle.txs_world_protocol.specs.declared.ask.Reply.{Reply}
 use Rattle.txs_world_protocol.specs.declared.ask.Reply.TheVariants as reply
-use Rattle.txs_frame.specs.Frame.{PlainTxFrame, empty_frame, with_cell, with_cells, has_number, outside_of, writes_to, refs_of, is_commuted, commuted, set_writes, ensure_ref, commutes_of, by_ref, phase_work}
+use Rattle.txs_frame.specs.Frame.{PlainTxFrame, empty_frame, with_cell, with_cells, has_number, outside_of, writes_to, refs_of, is_commuted, commuted, set_writes, ensure_ref, commutes_of, by_ref, phase_work, written}
+use Rattle.txs_frame.specs.Phase.{with_validation, validations, tasks_of, first_of, to_write}
 use Rattle.txs_frame.specs.declared.frame.Commute.{Commute}
+use Rattle.txs_frame.specs.declared.phase.Task.{Task}
+use Rattle.txs_frame.specs.declared.phase.Task.TheVariants.{Redoes, Validates}
 use Rattle.txs_value_apply.specs.Core.{core, vector_of}
 use Rattle.txs_value_data.proofs.SameLemmas.{numbers}
+use Rattle.txs_value_cell.specs.Cells.{Validators, validator_at}
 use Rattle.txs_value_cell.specs.Forms.{same_kind, rule, cell_if, cell_of_kind, cell_of}
 use Rattle.txs_value_base.specs.Places.{nth, fault_at}
 use Rattle.txs_value_data.specs.Printed.{printed_line}
@@ -18,7 +22,7 @@ use Rattle.txs_value_cell.specs.declared.action.Action.{Action}
 use Rattle.txs_value_cell.specs.declared.cell.CellDefinition.{CellDefinition}
 use Rattle.txs_value_base.specs.declared.fault.Fault.{Fault}
 use Rattle.txs_value_base.specs.declared.fault.FaultKind.{FaultKind}
-use Rattle.txs_value_base.specs.declared.fault.FaultKind.TheVariants.{SetAfterCommute}
+use Rattle.txs_value_base.specs.declared.fault.FaultKind.TheVariants.{SetAfterCommute, InvalidState}
 use Rattle.txs_value_base.specs.declared.fault.Span.{Span}
 use Rattle.txs_value_cell.specs.declared.form.CellForm.TheVariants as form
 use Rattle.txs_value_cell.specs.declared.form.FormRule.{FormRule}
@@ -35,8 +39,8 @@ use Rattle.txs_value_data.specs.declared.value.CellKind.{CellKind}
 use Rattle.txs_value_data.specs.declared.value.CellKind.TheVariants.{Ref, Atom, Agent}
 use Rattle.txs_value_data.specs.declared.value.Value.{Value}
 use Rattle.txs_value_data.specs.declared.value.Value.TheVariants.{Nil, Truth, Int, Key, Text, Vector, Cell}
-use Rattle.txs_code_meaning.specs.ActorState.{ActorState, Reception, Replied, Unreplied, receives, asks, StepResult, Continue, Break, Redo, Await, Malformed, on_step, step_of, Reading, Says, SaysRetry, SaysNothing, read_as, heard, read_point, just_done, value_there, newest_value, views, Verdict, Landed, Outdated, Undone, Denied, commit_verdict, opened, swap_verdict, send_verdict, Taken, handed_out, begun, begin, fail, buffered_or, look, with_first, paired, viewed, view, commit, peek, SwapInHand, open_atom, close_swap, break_swap, reset_atom, sent, send_now, take_action, finish, read_cell, read, set_own, assign_cell, assign, RefUpdate, Alters, Commutes, update_form, kept_open, open_update, close_own, close_update, open_swap, send_action, send_to, print, InHand, send_or_hold, now_holding}
-use Rattle.txs_code_meaning.specs.Machine.{PlainInstr, Push, Load, Store, Pop, Jump, JumpFalse, CoreOf, CallOf, Return, MakeVector, PrintOf, TxBegin, TxEnd, LookOf, PutOf, OpenOf, CloseOf, SendOf, Halt, TakeOf, RunOf, FinishOf, PlainBody, ThreadCode, fetch, nils, locals_of, Destination, to_stack, to_commutes, Frame, Savepoint, Activity, Outside, Restarting, Running, Applying, Swapping, is_inside, Configuration, ahead, staying, saved, value_or_nil, arguments_of, Turned, Ended, Failed, Asking, Unfinished, Stuck, told, raise, rerun, retried, on, found, on_top, on_args, on_args_of, on_two, push_all, put, gives, starts, begins, decided, lands, settles, applies, ends, applied, stack_after, doing_after, returns_to, opens_ref, opens_atom, opens, swap_decided, closes_swap, closes, started, runs_callee, runs, act, turn, ends_with}
+use Rattle.txs_code_meaning.specs.ActorState.{ActorState, Reception, Replied, Unreplied, receives, asks, StepResult, Continue, Break, Redo, Await, Malformed, on_step, step_of, Reading, Says, SaysRetry, SaysNothing, read_as, heard, read_point, just_done, value_there, newest_value, views, Verdict, Landed, Outdated, Undone, Denied, commit_verdict, opened, swap_verdict, send_verdict, Taken, handed_out, begun, begin, fail, buffered_or, look, with_first, paired, viewed, view, commit, peek, SwapInHand, open_atom, close_swap, break_swap, reset_atom, sent, send_now, take_action, finish, read_cell, read, set_own, assign_cell, assign, RefUpdate, Alters, Commutes, update_form, kept_open, open_update, close_own, close_update, open_swap, send_action, send_to, print, InHand, send_or_hold, now_holding, cell_at}
+use Rattle.txs_code_meaning.specs.Machine.{PlainInstr, Push, Load, Store, Pop, Jump, JumpFalse, CoreOf, CallOf, Return, MakeVector, PrintOf, TxBegin, TxEnd, LookOf, PutOf, OpenOf, CloseOf, SendOf, Halt, TakeOf, RunOf, FinishOf, PlainBody, ThreadCode, fetch, nils, locals_of, Destination, to_stack, to_commutes, to_validation, Frame, Savepoint, Activity, Outside, Restarting, Running, Applying, Swapping, is_inside, Configuration, ahead, staying, saved, value_or_nil, arguments_of, Turned, Ended, Failed, Asking, Unfinished, Stuck, told, raise, rerun, retried, on, found, on_top, on_args, on_args_of, on_two, push_all, put, gives, starts, begins, decided, lands, settles, applies, ends, applied, stack_after, doing_after, returns_to, opens_ref, opens_atom, opens, swap_decided, closes_swap, closes, started, runs_callee, runs, act, turn, ends_with, rested, first_place, answered, validates, where_accepted, where_valid, works, puts, finishes, state_after}
 use Rattle.txs_code_meaning.specs.declared.instr.OpenForm.{OpenForm}
 use Rattle.txs_code_meaning.specs.declared.instr.OpenForm.TheVariants as open_form
 use Rattle.txs_world_book.proofs.Outcomes.{both}
@@ -47,8 +51,10 @@ use Rattle.txs_world.specs.Store.{is_among, are_apart}
 use Rattle.txs_world_book.specs.declared.cell.StoreCell.{StoreCell}
 use Rattle.txs_theorem_runs.specs.Lawful.{IsKnown, CodeIsKnown}
 use Rattle.txs_theorem_runs.specs.Shared.{has_atom}
+use Rattle.txs_theorem_runs.specs.Staged.{redoes_some}
 use Rattle.txs_theorem_runs.specs.Standing.{MayStandIn, MayStandHere}
 use Rattle.txs_theorem_runs.proofs.CoreKnown.{AllKnown, AnswerKnown, core_known, vector_known}
+use Rattle.txs_theorem_runs.proofs.Ending.{IsUnviewedEnd, WhereUnviewed, WhereViewed, unviewed_so, viewed_so, put_viewed, tasks_redo_none}
 
 module _ (cells : List CellDefinition) where
   abbrev store : List StoreCell
@@ -70,6 +76,15 @@ module _ (cells : List CellDefinition) where
   abbrev pub CommutesKnown : List Commute → Type 0
   CommutesKnown [] = Unit {0}
   CommutesKnown (k ∷ ks) = CommuteKnown k × CommutesKnown ks
+
+  -- a validator's task has no values of its own
+  abbrev pub TaskKnown : Task → Type 0
+  TaskKnown (Redoes k) = CommuteKnown k
+  TaskKnown (Validates c f) = Unit {0}
+
+  abbrev pub TasksKnown : List Task → Type 0
+  TasksKnown [] = Unit {0}
+  TasksKnown (x ∷ work) = TaskKnown x × TasksKnown work
 
   abbrev pub CommutingKnown : Option Commute → Type 0
   CommutingKnown None = Unit {0}
@@ -126,7 +141,7 @@ module _ (cells : List CellDefinition) where
   ActivityKnown Outside = Unit {0}
   ActivityKnown (Restarting left) = Unit {0}
   ActivityKnown (Running left inner from) = SavepointKnown from
-  ActivityKnown (Applying left from work values) = SavepointKnown from × CommutesKnown work × WritesKnown values
+  ActivityKnown (Applying left from work values) = SavepointKnown from × TasksKnown work × WritesKnown values
   ActivityKnown (Swapping swap from) = (has_atom cells swap.cell ≡ true) × SavepointKnown from
 
   -- none of these refs was set
@@ -137,6 +152,14 @@ module _ (cells : List CellDefinition) where
   abbrev pub WorkUnset : PlainTxFrame → List Commute → Type 0
   WorkUnset w [] = Unit {0}
   WorkUnset w (k ∷ ks) = (has_number w.sets k.cell.number ≡ false) × WorkUnset w ks
+
+  abbrev pub TaskUnset : PlainTxFrame → Task → Type 0
+  TaskUnset w (Redoes k) = has_number w.sets k.cell.number ≡ false
+  TaskUnset w (Validates c f) = Unit {0}
+
+  abbrev pub TasksUnset : PlainTxFrame → List Task → Type 0
+  TasksUnset w [] = Unit {0}
+  TasksUnset w (x ∷ work) = TaskUnset w x × TasksUnset w work
 
   abbrev pub ResultKnown : {E : Type 0} → Result Value E → Type 0
   ResultKnown (Ok v) = IsKnown cells v
@@ -289,6 +312,21 @@ module _ (cells : List CellDefinition) where
   phase_known [] ks h = tt
   phase_known (d ∷ ds) ks h = commutes_append (commutes_of d.number ks) (by_ref ds ks) (commutes_among d.number ks h) (phase_known ds ks h)
 
+  redoes_known : (ks : List Commute) (work : List Task) → CommutesKnown ks → TasksKnown work → TasksKnown (map Redoes ks ++ work)
+  redoes_known [] work h g = g
+  redoes_known (k ∷ ks) work h g = (h.0, redoes_known ks work h.1 g)
+
+  validations_known : (vs : Validators) (cs : List CellId) → TasksKnown (validations vs cs)
+  validations_known vs [] = tt
+  validations_known vs (c ∷ cs) = by (validator_at vs c.number) (validations_known vs cs)
+    where
+      by : (o : Option Callee) → TasksKnown (validations vs cs) → TasksKnown (with_validation c o (validations vs cs))
+      by None h = h
+      by (Some f) h = (tt, h)
+
+  tasks_known : (vs : Validators) (w : PlainTxFrame) → WorkKnown w → TasksKnown (tasks_of vs w)
+  tasks_known vs w h = redoes_known (phase_work w) (validations vs (written w)) (phase_known (commuted w) w.commutes h.commutes) (validations_known vs (written w))
+
   set_known : (w : PlainTxFrame) → WorkKnown w → WritesKnown (set_writes w)
   set_known w h = (refs_among w.sets 0 w.values h.values.0, values_among w.sets w.values h.values.1)
 
@@ -317,6 +355,22 @@ module _ (cells : List CellDefinition) where
   phase_unset : (w : PlainTxFrame) (ds : List CellId) (ks : List Commute) → AllUnset w ds → WorkUnset w (by_ref ds ks)
   phase_unset w [] ks h = tt
   phase_unset w (d ∷ ds) ks h = unset_append w (commutes_of d.number ks) (by_ref ds ks) (unset_of w d.number ks h.0) (phase_unset w ds ks h.1)
+
+  redoes_unset : (w : PlainTxFrame) (ks : List Commute) (work : List Task) → WorkUnset w ks → TasksUnset w work → TasksUnset w (map Redoes ks ++ work)
+  redoes_unset w [] work h g = g
+  redoes_unset w (k ∷ ks) work h g = (h.0, redoes_unset w ks work h.1 g)
+
+  validations_unset : (w : PlainTxFrame) (vs : Validators) (cs : List CellId) → TasksUnset w (validations vs cs)
+  validations_unset w vs [] = tt
+  validations_unset w vs (c ∷ cs) = by (validator_at vs c.number) (validations_unset w vs cs)
+    where
+      by : (o : Option Callee) → TasksUnset w (validations vs cs) → TasksUnset w (with_validation c o (validations vs cs))
+      by None h = h
+      by (Some f) h = (tt, h)
+
+  tasks_unset : (vs : Validators) (w : PlainTxFrame) → TasksUnset w (tasks_of vs w)
+  tasks_unset vs w =
+      redoes_unset w (phase_work w) (validations vs (written w)) (phase_unset w (commuted w) w.commutes (outside_unset w (refs_of w.commutes))) (validations_unset w vs (written w))
 
   unset_put : (w : PlainTxFrame) (ws : Writes) (c : CellId) (v : Value) → AllUnset w (cells_in ws) → has_number w.sets c.number ≡ false → AllUnset w (cells_in (with_write ws c v))
   unset_put w [] c v h g = (g, tt)
@@ -353,12 +407,20 @@ module _ (cells : List CellDefinition) where
   IsFree (Applying left from work values) = ⊥
   IsFree (Swapping swap from) = Unit {0}
 
-  -- what is going on is a try
+  -- what is going on is no end of a transaction with a view
+  abbrev pub IsUnviewed : Activity → Type 0
+  IsUnviewed Outside = Unit {0}
+  IsUnviewed (Restarting left) = Unit {0}
+  IsUnviewed (Running left inner from) = Unit {0}
+  IsUnviewed (Applying left from work values) = IsUnviewedEnd (redoes_some work) values
+  IsUnviewed (Swapping swap from) = Unit {0}
+
+  -- what is going on is a try, or its end without a view
   abbrev pub IsTry : Activity → Type 0
   IsTry Outside = ⊥
   IsTry (Restarting left) = ⊥
   IsTry (Running left inner from) = Unit {0}
-  IsTry (Applying left from work values) = ⊥
+  IsTry (Applying left from work values) = IsUnviewedEnd (redoes_some work) values
   IsTry (Swapping swap from) = ⊥
 
   -- there are some
@@ -366,20 +428,20 @@ module _ (cells : List CellDefinition) where
   AreSome [] = ⊥
   AreSome (c ∷ cs) = Unit {0}
 
-  -- in a commute phase, no ref that is viewed or still to be commuted was set, and some refs were commuted and not set
+  -- at a transaction's end, no ref that is viewed or still to be commuted was set; where there is a view, some refs were commuted and not set
   abbrev pub ApartIn : Activity → PlainTxFrame → Type 0
   ApartIn Outside w = Unit {0}
   ApartIn (Restarting left) w = Unit {0}
   ApartIn (Running left inner from) w = Unit {0}
-  ApartIn (Applying left from work values) w = AllUnset w (cells_in values) × WorkUnset w work × AreSome (commuted w)
+  ApartIn (Applying left from work values) w = AllUnset w (cells_in values) × TasksUnset w work × WhereViewed (AreSome (commuted w)) (redoes_some work) values
   ApartIn (Swapping swap from) w = Unit {0}
 
-  -- a try has no view but its read point, and this holds
+  -- a try, and its end without a view, has no view but its read point, and this holds
   abbrev pub FreshIn : Type 0 → Activity → ActorState → Type 0
   FreshIn X Outside s = Unit {0}
   FreshIn X (Restarting left) s = Unit {0}
   FreshIn X (Running left inner from) s = (s.view ≡ s.at) × X
-  FreshIn X (Applying left from work values) s = Unit {0}
+  FreshIn X (Applying left from work values) s = WhereUnviewed ((s.view ≡ s.at) × X) (redoes_some work) values
   FreshIn X (Swapping swap from) s = Unit {0}
 
   abbrev pub IsEnd : Option PlainInstr → Type 0
@@ -396,7 +458,7 @@ module _ (cells : List CellDefinition) where
   RedoIn (Swapping swap from) i w = ⊥
 
   -- Tidy says that the instructions stand where they may, Fresh that the try at hand has no view but its read point, and Clean that the
-  -- turn doesn't begin in a commute phase
+  -- turn doesn't begin at a transaction's end with a view
   module _ (Tidy Fresh Clean : Type 0) (code : ThreadCode) where
     abbrev pub ConfigurationStands : Type 0 → Configuration → Type 0
     ConfigurationStands X c = ApartIn c.doing c.state.done × (FreshIn X c.doing c.state ⊎ RedoIn c.doing (fetch code c.body c.place) c.state.done)
@@ -832,6 +894,10 @@ module _ (cells : List CellDefinition) where
         go true = h
         go false = (k, (record { values = writes_put s.done.values d v r k h.0.values; ensures = h.0.ensures; commutes = h.0.commutes; sends = h.0.sends }, h.1, h.2, h.3, h.4))
 
+    reset_cell_known : (inside : Bool) (span : Span) (v : Value) (d : CellId) (s : ActorState) → has_atom cells d ≡ true → IsKnown cells v → MidKnown s → StepKnown (IsKnown cells) (assign_cell Reset inside span v d s)
+    reset_cell_known true span v d s r k h = tt
+    reset_cell_known false span v d s r k h = reset_known d v s r k h
+
     assign_known : (f : PutForm) (inside : Bool) (span : Span) (cell v : Value) (s : ActorState) → IsKnown cells cell → IsKnown cells v → MidKnown s → StepKnown (IsKnown cells) (assign f inside span cell v s)
     assign_known RefSet inside span cell v s kc k h =
         then_known RefThere (IsKnown cells) (step_of (cell_of (rule (form.Put RefSet)) inside cell) span s) (assign_cell RefSet inside span v)
@@ -842,11 +908,7 @@ module _ (cells : List CellDefinition) where
         here false d s r h = tt
     assign_known Reset inside span cell v s kc k h =
         then_known AtomThere (IsKnown cells) (step_of (cell_of (rule (form.Put Reset)) inside cell) span s) (assign_cell Reset inside span v)
-        (cell_known AtomThere (cell_of (rule (form.Put Reset)) inside cell) span s (kind_known Atom (rule (form.Put Reset)) inside cell refl kc) h) (λ d s1 r h1. here inside d s1 r h1)
-      where
-        here : (inside : Bool) (d : CellId) (s : ActorState) → has_atom cells d ≡ true → MidKnown s → StepKnown (IsKnown cells) (assign_cell Reset inside span v d s)
-        here true d s r h = tt
-        here false d s r h = reset_known d v s r k h
+        (cell_known AtomThere (cell_of (rule (form.Put Reset)) inside cell) span s (kind_known Atom (rule (form.Put Reset)) inside cell refl kc) h) (λ d s1 r h1. reset_cell_known inside span v d s1 r k h1)
 
     update_rule : (u : RefUpdate) → (rule (form.Update (update_form u))).takes ≡ Some Ref
     update_rule Alters = refl
@@ -943,6 +1005,15 @@ module _ (cells : List CellDefinition) where
     arguments_known : (k : Commute) (values : Writes) → CommuteKnown k → ValuesKnown values → AllKnown cells (arguments_of k values)
     arguments_known k values h g = (or_nil_known (buffered values k.cell.number) (buffered_known values k.cell.number g), h.1)
 
+    first_known : (a b : Option Value) → OptionKnown a → OptionKnown b → OptionKnown (first_of a b)
+    first_known None b h g = g
+    first_known (Some v) b h g = h
+
+    -- what a ref is to get
+    write_known : (values : Writes) (w : PlainTxFrame) (k : ℕ) → ValuesKnown values → WorkKnown w → IsKnown cells (to_write values w k)
+    write_known values w k h g =
+        or_nil_known (first_of (buffered values k) (buffered w.values k)) (first_known (buffered values k) (buffered w.values k) (buffered_known values k h) (buffered_known w.values k g.values.1))
+
     -- ---- turns
 
     told_known : (x : StepResult (Unit {0})) (go : ActorState → Turned Configuration) → StepKnown Anything x → ((s : ActorState) → MidKnown s → TurnKnown (go s)) → TurnKnown (told x go)
@@ -1003,82 +1074,53 @@ module _ (cells : List CellDefinition) where
 
     -- ---- instructions
 
-    module _ (c : Configuration) (h : ConfigurationKnown (Unit {0}) c) (start : Fresh → c.state.view ≡ c.state.at) (runs_fresh : Tidy → IsTry c.doing → c.state.view ≡ c.state.at → Fresh) (clean : IsFree c.doing → Clean) where
-      mid : MidKnown c.state
-      mid = (h.4.0, h.4.1, h.4.2, start, h.4.3)
+    -- a try that had no view has none
+    still_fresh : (doing : Activity) (s s1 : ActorState) → FreshIn Clean doing s → (IsTry doing → s.view ≡ s.at → Fresh) → (Fresh → s1.view ≡ s1.at) → FreshIn Clean doing s1
+    still_fresh Outside s s1 f r g = tt
+    still_fresh (Restarting left) s s1 f r g = tt
+    still_fresh (Running left inner from) s s1 f r g = (g (r tt f.0), f.1)
+    still_fresh (Applying left from work values) s s1 f r g = unviewed_so ((s.view ≡ s.at) × Clean) ((s1.view ≡ s1.at) × Clean) (redoes_some work) values (λ o x. (g (r o x.0), x.1)) f
+    still_fresh (Swapping swap from) s s1 f r g = tt
 
-      -- a try that had no view has none
-      still_fresh : (doing : Activity) (s : ActorState) → FreshIn Clean doing c.state → (IsTry doing → c.state.view ≡ c.state.at → Fresh) → (Fresh → s.view ≡ s.at) → FreshIn Clean doing s
-      still_fresh Outside s f r g = tt
-      still_fresh (Restarting left) s f r g = tt
-      still_fresh (Running left inner from) s f r g = (g (r tt f.0), f.1)
-      still_fresh (Applying left from work values) s f r g = tt
-      still_fresh (Swapping swap from) s f r g = tt
+    -- an ask, and what is done with its reply
+    asked_known : (s : ActorState) → TodoKnown s.todo → (q : Ask) (go : Reception → Turned Configuration) → TurnKnown (go (Unreplied (record s { wants = Some q })))
+        → ((r : Reply) (xs : List Exchange) → ReplyKnown r → TodoKnown xs → TurnKnown (go (Replied r (record s { todo = xs })))) → TurnKnown (go (asks q s))
+    unfolding asks
+    asked_known s k q go none some = received s.todo k
+      where
+        received : (todo : List Exchange) → TodoKnown todo → TurnKnown (go (receives q s todo))
+        received [] t = none
+        received (x ∷ xs) t = test (same_ask q x.ask)
+          where
+            test : (b : Bool) → TurnKnown (go (if b then Replied x.reply (record s { todo = xs }) else Unreplied (record s { wants = Some q })))
+            test true = some x.reply xs t.0 t.1
+            test false = none
 
-      -- an ask, and what is done with its reply
-      asked_known : (q : Ask) (go : Reception → Turned Configuration) → TurnKnown (go (Unreplied (record c.state { wants = Some q })))
-          → ((r : Reply) (xs : List Exchange) → ReplyKnown r → TodoKnown xs → TurnKnown (go (Replied r (record c.state { todo = xs })))) → TurnKnown (go (asks q c.state))
-      unfolding asks
-      asked_known q go none some = received c.state.todo h.4.2
-        where
-          received : (todo : List Exchange) → TodoKnown todo → TurnKnown (go (receives q c.state todo))
-          received [] t = none
-          received (x ∷ xs) t = test (same_ask q x.ask)
-            where
-              test : (b : Bool) → TurnKnown (go (if b then Replied x.reply (record c.state { todo = xs }) else Unreplied (record c.state { wants = Some q })))
-              test true = some x.reply xs t.0 t.1
-              test false = none
+    module _ (c : Configuration) (h : ConfigurationKnown (Unit {0}) c) (start : Fresh → c.state.view ≡ c.state.at) (runs_fresh : Tidy → IsTry c.doing → c.state.view ≡ c.state.at → Fresh) (clean : IsUnviewed c.doing → Clean) where
+      middle : MidKnown c.state
+      middle = (h.4.0, h.4.1, h.4.2, start, h.4.3)
 
-      -- what a form gives, where no commute phase goes on
-      gives_known : (Tidy → IsFree c.doing) → (Tidy → FreshIn Clean c.doing c.state) → (rest : List Value) (r : StepResult Value) → AllKnown cells rest → StepKnown (IsKnown cells) r → TurnKnown (gives c rest r)
-      gives_known free fr rest r kr g =
-          on_known (IsKnown cells) c.doing r (λ v s. Unfinished (ahead (v ∷ rest) s c)) h.3 g
-          (λ v s k q. ((k, kr), h.1, h.2, h.3, known_of s q, λ t. (free_apart c.doing s.done free t, inl (still_fresh c.doing s (fr t) (runs_fresh t) q.3))))
+      -- ---- validators
 
-      module _ (fr : Tidy → FreshIn Clean c.doing c.state) where
-        -- a result of no ask
-        result_lies : (rest : List Value) (x : Result Value FaultKind) (span : Span) → AllKnown cells rest → AnswerKnown cells x → TurnKnown (gives c rest (step_of x span c.state))
-        result_lies rest x span kr k = on_result c.doing x span c.state (λ v s. Unfinished (ahead (v ∷ rest) s c)) h.3 k mid (λ v kv. ((kv, kr), h.1, h.2, h.3, h.4, λ t. ((h.5 t).0, inl (fr t))))
+      -- what continues with the value that was looked at
+      abbrev NextKnown : (Configuration → Turned Configuration) → Type 0
+      NextKnown go = (o : Option Bool) → TurnKnown (go (record c { state = record c.state { accepted = o } }))
 
-        found_lies : (o : Option Value) → OptionKnown o → TurnKnown (gives c c.stack (found o c.state))
-        found_lies None k = tt
-        found_lies (Some v) k = ((k, h.0), h.1, h.2, h.3, h.4, λ t. ((h.5 t).0, inl (fr t)))
+      module _ (fr : Tidy → FreshIn Clean c.doing c.state) (v : Value) (kv : IsKnown cells v) (span : Span) where
+        validates_known : (f : Callee) → TurnKnown (validates code f v span c)
+        validates_known (callee.Core op) =
+            on_result c.doing (core op (v ∷ [])) span c.state (λ answer s. Unfinished (record c { state = answered answer s })) h.3 (core_known cells op (v ∷ []) (kv, tt)) middle
+            (λ answer k. (h.0, h.1, h.2, h.3, h.4, λ t. ((h.5 t).0, inl (still_fresh c.doing c.state (answered answer c.state) (fr t) (runs_fresh t) start))))
+        validates_known (callee.Function f) = (tt, locals_known (nth code.functions f) (v ∷ []) (kv, tt), (h.0, h.1, h.2), h.3, h.4, λ t. ((h.5 t).0, inl (fr t)))
 
-        print_lies : (inside : Bool) (vs rest : List Value) → AllKnown cells rest → TurnKnown (gives c rest (print inside vs c.state))
-        unfolding print
-        print_lies true vs rest kr = tt
-        print_lies false vs rest kr =
-            ((tt, kr), h.1, h.2, h.3, h.4, λ t. ((h.5 t).0, inl (still_fresh c.doing (record c.state { printed = c.state.printed ++ printed_line vs }) (fr t) (runs_fresh t) start)))
+        accepted_known : (o : Option Bool) (f : Callee) (go : Configuration → Turned Configuration) → NextKnown go → TurnKnown (where_accepted code o f v span c go)
+        accepted_known None f go k = validates_known f
+        accepted_known (Some true) f go k = k None
+        accepted_known (Some false) f go k = raise_known c.doing (fault_at InvalidState span) (record c.state { accepted = None }) h.3 middle
 
-      -- ---- transactions
-
-      abbrev tries_with : ℕ → Span → ActorState → Turned Configuration
-      tries_with left span s = Unfinished (record (ahead c.stack s c) { doing = Running left 0 (saved span c) })
-
-      begun_heard : Clean → (left : ℕ) (span : Span) (r : Reply) (xs : List Exchange) → ReplyKnown r → TodoKnown xs → TurnKnown (on c.doing (on_step (heard read_point (Replied r (record c.state { todo = xs }))) begun) (λ u s. tries_with left span s))
-      begun_heard cl left span (reply.At p) xs k t = (h.0, h.1, h.2, (h.0, h.1, h.2), (nothing_known, tt, t, h.4.3), λ u. (tt, inl (refl, cl)))
-      begun_heard cl left span (reply.Is v) xs k t = tt
-      begun_heard cl left span (reply.Views p vs) xs k t = tt
-      begun_heard cl left span reply.Done xs k t = tt
-      begun_heard cl left span (reply.Retry d) xs k t = tt
-      begun_heard cl left span (reply.Changed d) xs k t = tt
-      begun_heard cl left span (reply.AgentIsFailed a) xs k t = tt
-      begun_heard cl left span (reply.Action n x v) xs k t = tt
-      begun_heard cl left span reply.Idle xs k t = tt
-      begun_heard cl left span (reply.Opened p v) xs k t = tt
-      begun_heard cl left span reply.Full xs k t = tt
-      begun_heard cl left span reply.Memory xs k t = tt
-
-      starts_known : Clean → (left : ℕ) (span : Span) → TurnKnown (starts left span c)
-      unfolding begin
-      starts_known cl left span = asked_known ask.Begin (λ o. on c.doing (on_step (heard read_point o) begun) (λ u s. tries_with left span s)) tt (begun_heard cl left span)
-
-      begins_known : (span : Span) (doing : Activity) → ActivityKnown doing → (IsFree doing → Clean) → (Tidy → FreshIn Clean doing c.state) → TurnKnown (begins doing span c)
-      begins_known span Outside g cl fr = starts_known (cl tt) _ span
-      begins_known span (Restarting left) g cl fr = starts_known (cl tt) left span
-      begins_known span (Running left inner from) g cl fr = (h.0, h.1, h.2, g, h.4, λ t. (tt, inl (fr t)))
-      begins_known span (Applying left from work values) g cl fr = tt
-      begins_known span (Swapping swap from) g cl fr = tt
+        valid_known : (o : Option Callee) (go : Configuration → Turned Configuration) → NextKnown go → TurnKnown (where_valid code o v span c go)
+        valid_known None go k = k c.state.accepted
+        valid_known (Some f) go k = accepted_known c.state.accepted f go k
 
       -- a commit, whose values are of refs that weren't set; where the commutes are made again, the try is as it was
       module _ (left : ℕ) (from : Savepoint) (g : SavepointKnown from) (values : Writes) (k : WritesKnown values) (u : Tidy → AllUnset c.state.done (cells_in values)) (end : Tidy → ((c.state.view ≡ c.state.at) × Clean) ⊎ (IsEnd (fetch code c.body c.place) × AreSome (commuted c.state.done))) where
@@ -1106,26 +1148,131 @@ module _ (cells : List CellDefinition) where
         lands_known : TurnKnown (lands left from values c)
         unfolding commit
         lands_known =
-            asked_known (ask.Commit c.state.at (set_writes c.state.done) c.state.done.ensures c.state.view values c.state.done.sends) (λ o. on c.doing (heard commit_verdict o) (λ verdict s. decided verdict left from c s))
+            asked_known c.state h.4.2 (ask.Commit c.state.at (set_writes c.state.done) c.state.done.ensures c.state.view values c.state.done.sends) (λ o. on c.doing (heard commit_verdict o) (λ verdict s. decided verdict left from c s))
             (set_known c.state.done h.4.0, h.4.0.ensures, k, h.4.0.sends, (λ t. apart_of c.state.done (cells_in values) (u t)), start) landed_heard
+
+      -- a commute that is applied again, where the tasks of this end are done
+      applies_known : (f : Callee) (left : ℕ) (from : Savepoint) (k : Commute) (work : List Task) (values : Writes)
+          → SavepointKnown from → CommuteKnown k → TasksKnown work → WritesKnown values → (Tidy → ApartIn (Applying left from (Redoes k ∷ work) values) c.state.done) → (Tidy → FreshIn Clean c.doing c.state) → TurnKnown (applies code f left from k work values c)
+      applies_known (callee.Core op) left from k work values g kk kw kv u fr =
+          on_result c.doing (core op (arguments_of k values)) from.span c.state _ h.3 (core_known cells op (arguments_of k values) (arguments_known k values kk kv.1)) middle
+          (λ v i. (
+            h.0,
+            h.1,
+            h.2,
+            (g, kw, writes_put values k.cell v kk.0 i kv),
+            h.4,
+            λ t. (
+              (unset_put c.state.done values k.cell v (u t).0 (u t).1.0, (u t).1.1, viewed_so (AreSome (commuted c.state.done)) (redoes_some work) (with_write values k.cell v) (u t).2),
+              inl (put_viewed ((c.state.view ≡ c.state.at) × Clean) (redoes_some work) values k.cell v),
+            ),
+          ))
+      applies_known (callee.Function f) left from k work values g kk kw kv u fr =
+          (tt, locals_known (nth code.functions f) (arguments_of k values) (arguments_known k values kk kv.1), (h.0, h.1, h.2), h.3, h.4, λ t. ((h.5 t).0, inl (fr t)))
+
+    -- the tasks of a transaction's end
+    works_known : (work : List Task) (left : ℕ) (from : Savepoint) (values : Writes) → SavepointKnown from → TasksKnown work → WritesKnown values
+        → (c : Configuration) (h : ConfigurationKnown (Unit {0}) c) (start : Fresh → c.state.view ≡ c.state.at) (runs_fresh : Tidy → IsTry c.doing → c.state.view ≡ c.state.at → Fresh) (clean : IsUnviewed c.doing → Clean)
+        → IsEnd (fetch code c.body c.place) → (Tidy → FreshIn Clean c.doing c.state) → (Tidy → ApartIn (Applying left from work values) c.state.done) → (Tidy → FreshIn Clean (Applying left from work values) c.state)
+        → (Tidy → IsUnviewedEnd (redoes_some work) values → c.state.view ≡ c.state.at → Fresh) → (IsUnviewedEnd (redoes_some work) values → Clean) → TurnKnown (works code left from work values c)
+    works_known [] left from values g kw kv c h start runs_fresh clean i fr u f r cl = lands_known c h start runs_fresh clean left from g values kv (λ t. (u t).0) (λ t. last values (f t) (u t).2)
+      where
+        last : (ws : Writes) → WhereUnviewed ((c.state.view ≡ c.state.at) × Clean) false ws → WhereViewed (AreSome (commuted c.state.done)) false ws → ((c.state.view ≡ c.state.at) × Clean) ⊎ (IsEnd (fetch code c.body c.place) × AreSome (commuted c.state.done))
+        last [] x y = inl x
+        last (w ∷ ws) x y = inr (i, y)
+    works_known (Redoes k ∷ work) left from values g kw kv c h start runs_fresh clean i fr u f r cl = applies_known c h start runs_fresh clean k.callee left from k work values g kw.0 kw.1 kv u fr
+    works_known (Validates d y ∷ work) left from values g kw kv c h start runs_fresh clean i fr u f r cl =
+        accepted_known (staying (Applying left from (Validates d y ∷ work) values) c.state c) (h.0, h.1, h.2, (g, kw, kv), h.4, λ t. (u t, inl (forgotten t))) start r cl f (to_write values c.state.done d.number)
+        (write_known values c.state.done d.number kv.1 h.4.0) from.span c.state.accepted y (λ c1. works code left from work values (staying (Applying left from work values) c1.state c1))
+        (λ o. works_known work left from values g kw.1 kv (staying (Applying left from work values) (record c.state { accepted = o }) c) (h.0, h.1, h.2, (g, kw.1, kv), h.4, λ t. (apart t, inl (forgotten t))) start r cl i f apart f r cl)
+      where
+        apart : Tidy → ApartIn (Applying left from work values) c.state.done
+        apart t = ((u t).0, (u t).1.1, (u t).2)
+
+        forgotten : Tidy → FreshIn (Unit {0}) (Applying left from work values) c.state
+        forgotten t = unviewed_so ((c.state.view ≡ c.state.at) × Clean) ((c.state.view ≡ c.state.at) × Unit {0}) (redoes_some work) values (λ o x. (x.0, tt)) (f t)
+
+    module _ (c : Configuration) (h : ConfigurationKnown (Unit {0}) c) (start : Fresh → c.state.view ≡ c.state.at) (runs_fresh : Tidy → IsTry c.doing → c.state.view ≡ c.state.at → Fresh) (clean : IsUnviewed c.doing → Clean) where
+      mid : MidKnown c.state
+      mid = (h.4.0, h.4.1, h.4.2, start, h.4.3)
+
+      -- what a form gives, where no commute phase goes on
+      gives_known : (Tidy → IsFree c.doing) → (Tidy → FreshIn Clean c.doing c.state) → (rest : List Value) (r : StepResult Value) → AllKnown cells rest → StepKnown (IsKnown cells) r → TurnKnown (gives c rest r)
+      gives_known free fr rest r kr g =
+          on_known (IsKnown cells) c.doing r (λ v s. Unfinished (ahead (v ∷ rest) s c)) h.3 g
+          (λ v s k q. ((k, kr), h.1, h.2, h.3, known_of s q, λ t. (free_apart c.doing s.done free t, inl (still_fresh c.doing c.state s (fr t) (runs_fresh t) q.3))))
+
+      module _ (fr : Tidy → FreshIn Clean c.doing c.state) where
+        -- a result of no ask
+        result_lies : (rest : List Value) (x : Result Value FaultKind) (span : Span) → AllKnown cells rest → AnswerKnown cells x → TurnKnown (gives c rest (step_of x span c.state))
+        result_lies rest x span kr k = on_result c.doing x span c.state (λ v s. Unfinished (ahead (v ∷ rest) s c)) h.3 k mid (λ v kv. ((kv, kr), h.1, h.2, h.3, h.4, λ t. ((h.5 t).0, inl (fr t))))
+
+        found_lies : (o : Option Value) → OptionKnown o → TurnKnown (gives c c.stack (found o c.state))
+        found_lies None k = tt
+        found_lies (Some v) k = ((k, h.0), h.1, h.2, h.3, h.4, λ t. ((h.5 t).0, inl (fr t)))
+
+        print_lies : (inside : Bool) (vs rest : List Value) → AllKnown cells rest → TurnKnown (gives c rest (print inside vs c.state))
+        unfolding print
+        print_lies true vs rest kr = tt
+        print_lies false vs rest kr =
+            ((tt, kr), h.1, h.2, h.3, h.4, λ t. ((h.5 t).0, inl (still_fresh c.doing c.state (record c.state { printed = c.state.printed ++ printed_line vs }) (fr t) (runs_fresh t) start)))
+
+      -- ---- transactions
+
+      abbrev tries_with : ℕ → Span → ActorState → Turned Configuration
+      tries_with left span s = Unfinished (record (ahead c.stack s c) { doing = Running left 0 (saved span c) })
+
+      begun_heard : Clean → (left : ℕ) (span : Span) (r : Reply) (xs : List Exchange) → ReplyKnown r → TodoKnown xs → TurnKnown (on c.doing (on_step (heard read_point (Replied r (record c.state { todo = xs }))) begun) (λ u s. tries_with left span s))
+      begun_heard cl left span (reply.At p) xs k t = (h.0, h.1, h.2, (h.0, h.1, h.2), (nothing_known, tt, t, h.4.3), λ u. (tt, inl (refl, cl)))
+      begun_heard cl left span (reply.Is v) xs k t = tt
+      begun_heard cl left span (reply.Views p vs) xs k t = tt
+      begun_heard cl left span reply.Done xs k t = tt
+      begun_heard cl left span (reply.Retry d) xs k t = tt
+      begun_heard cl left span (reply.Changed d) xs k t = tt
+      begun_heard cl left span (reply.AgentIsFailed a) xs k t = tt
+      begun_heard cl left span (reply.Action n x v) xs k t = tt
+      begun_heard cl left span reply.Idle xs k t = tt
+      begun_heard cl left span (reply.Opened p v) xs k t = tt
+      begun_heard cl left span reply.Full xs k t = tt
+      begun_heard cl left span reply.Memory xs k t = tt
+
+      starts_known : Clean → (left : ℕ) (span : Span) → TurnKnown (starts left span c)
+      unfolding begin
+      starts_known cl left span = asked_known c.state h.4.2 ask.Begin (λ o. on c.doing (on_step (heard read_point o) begun) (λ u s. tries_with left span s)) tt (begun_heard cl left span)
+
+      begins_known : (span : Span) (doing : Activity) → ActivityKnown doing → (IsUnviewed doing → Clean) → (Tidy → FreshIn Clean doing c.state) → TurnKnown (begins doing span c)
+      begins_known span Outside g cl fr = starts_known (cl tt) _ span
+      begins_known span (Restarting left) g cl fr = starts_known (cl tt) left span
+      begins_known span (Running left inner from) g cl fr = (h.0, h.1, h.2, g, h.4, λ t. (tt, inl (fr t)))
+      begins_known span (Applying left from work values) g cl fr = tt
+      begins_known span (Swapping swap from) g cl fr = tt
 
       -- the commute phase begins with what was viewed
       abbrev phase_with : ℕ → Savepoint → Writes → ActorState → Turned Configuration
-      phase_with left from values s = Unfinished (staying (Applying left from (phase_work s.done) values) s c)
+      phase_with left from values s = Unfinished (staying (Applying left from (tasks_of code.validators s.done) values) s c)
 
       paired_views : (left : ℕ) (from : Savepoint) (q : ℕ) (o : Option Writes) (xs : List Exchange) → SavepointKnown from → AreSome (commuted c.state.done) → PairedKnown (commuted c.state.done) o → TodoKnown xs
           → TurnKnown (on c.doing (viewed q o (record c.state { todo = xs })) (phase_with left from))
       paired_views left from q None xs g some k t = tt
       paired_views left from q (Some ws) xs g some k t =
           let asc = subst (λ l. are_refs store 0 l ≡ true) (sym k.0) (commuted_known c.state.done h.4.0) in
-          let unset = outside_unset c.state.done (refs_of c.state.done.commutes) in (
+          let unset = outside_unset c.state.done (refs_of c.state.done.commutes) in
+          let redoes = redoes_some (tasks_of code.validators c.state.done) in (
             h.0,
             h.1,
             h.2,
-            (g, phase_known (commuted c.state.done) c.state.done.commutes h.4.0.commutes, (asc, k.1)),
+            (g, tasks_known code.validators c.state.done h.4.0, (asc, k.1)),
             (h.4.0, h.4.1, t, h.4.3),
-            λ u. ((subst (λ l. AllUnset c.state.done l) (sym k.0) unset, phase_unset c.state.done (commuted c.state.done) c.state.done.commutes unset, some), inl tt),
+            λ u. (
+              (subst (λ l. AllUnset c.state.done l) (sym k.0) unset, tasks_unset code.validators c.state.done, viewed_so (AreSome (commuted c.state.done)) redoes ws some),
+              inl (some_viewed redoes ws (subst AreSome (sym k.0) some)),
+            ),
           )
+        where
+          some_viewed : (b : Bool) (ws : Writes) → AreSome (cells_in ws) → WhereUnviewed ((q ≡ c.state.at) × Clean) b ws
+          some_viewed true ws y = tt
+          some_viewed false [] y = absurd y
+          some_viewed false (w ∷ ws) y = tt
 
       abbrev phase_heard : ℕ → Savepoint → Reception → Turned Configuration
       phase_heard left from o = on c.doing (on_step (heard views o) (λ x s1. viewed x.0 (paired (commuted c.state.done) x.1) s1)) (phase_with left from)
@@ -1147,21 +1294,27 @@ module _ (cells : List CellDefinition) where
       views_known : (left : ℕ) (from : Savepoint) → SavepointKnown from → AreSome (commuted c.state.done) → TurnKnown (on c.doing (view c.state) (phase_with left from))
       unfolding view
       views_known left from g some =
-          asked_known (ask.View (commuted c.state.done)) (phase_heard left from) (refs_has store 0 (commuted c.state.done) (commuted_known c.state.done h.4.0)) (views_heard left from g some)
+          asked_known c.state h.4.2 (ask.View (commuted c.state.done)) (phase_heard left from) (refs_has store 0 (commuted c.state.done) (commuted_known c.state.done h.4.0)) (views_heard left from g some)
 
-      settles_known : (cs : List CellId) (left : ℕ) (from : Savepoint) → commuted c.state.done ≡ cs → SavepointKnown from → (Tidy → ((c.state.view ≡ c.state.at) × Clean) ⊎ (IsEnd (fetch code c.body c.place) × AreSome (commuted c.state.done))) → TurnKnown (settles cs left from c)
-      settles_known [] left from e g end = lands_known left from g [] (refl, tt) (λ t. tt) end
-      settles_known (d ∷ cs) left from e g end = views_known left from g (subst AreSome (sym e) tt)
+      settles_known : (cs : List CellId) (left : ℕ) (from : Savepoint) → commuted c.state.done ≡ cs → SavepointKnown from → IsTry c.doing → Clean → (((c.state.view ≡ c.state.at) × Clean) → FreshIn Clean c.doing c.state)
+          → IsEnd (fetch code c.body c.place) → (Tidy → ((c.state.view ≡ c.state.at) × Clean) ⊎ (IsEnd (fetch code c.body c.place) × AreSome (commuted c.state.done))) → TurnKnown (settles code cs left from c)
+      settles_known [] left from e g y cl place i end =
+          works_known (tasks_of code.validators c.state.done) left from [] g (tasks_known code.validators c.state.done h.4.0) (refl, tt) c h start runs_fresh clean i (λ t. place (fresh t))
+          (λ t. (tt, tasks_unset code.validators c.state.done, subst (λ b. WhereViewed (AreSome (commuted c.state.done)) b []) (sym none) tt))
+          (λ t. subst (λ b. WhereUnviewed ((c.state.view ≡ c.state.at) × Clean) b []) (sym none) (fresh t)) (λ t o v. runs_fresh t y v) (λ o. cl)
+        where
+          none : redoes_some (tasks_of code.validators c.state.done) ≡ false
+          none = tasks_redo_none code.validators c.state.done e
 
-      applies_known : (f : Callee) (left : ℕ) (from : Savepoint) (k : Commute) (work : List Commute) (values : Writes)
-          → SavepointKnown from → CommuteKnown k → CommutesKnown work → WritesKnown values → (Tidy → ApartIn (Applying left from (k ∷ work) values) c.state.done) → c.doing ≡ Applying left from (k ∷ work) values → TurnKnown (applies code f left from k work values c)
-      applies_known (callee.Core op) left from k work values g kk kw kv u e =
-          on_result c.doing (core op (arguments_of k values)) from.span c.state _ h.3 (core_known cells op (arguments_of k values) (arguments_known k values kk kv.1)) mid
-          (λ v i. (h.0, h.1, h.2, (g, kw, writes_put values k.cell v kk.0 i kv), h.4, λ t. ((unset_put c.state.done values k.cell v (u t).0 (u t).1.0, (u t).1.1, (u t).2), inl tt)))
-      applies_known (callee.Function f) left from k work values g kk kw kv u e =
-          (tt, locals_known (nth code.functions f) (arguments_of k values) (arguments_known k values kk kv.1), (h.0, h.1, h.2), h.3, h.4, λ t. ((h.5 t).0, inl (subst (λ d. FreshIn Clean d c.state) (sym e) tt)))
+          fresh : Tidy → (c.state.view ≡ c.state.at) × Clean
+          fresh t = go (end t)
+            where
+              go : ((c.state.view ≡ c.state.at) × Clean) ⊎ (IsEnd (fetch code c.body c.place) × AreSome (commuted c.state.done)) → (c.state.view ≡ c.state.at) × Clean
+              go (inl x) = x
+              go (inr x) = absurd (subst AreSome e x.1)
+      settles_known (d ∷ cs) left from e g y cl place i end = views_known left from g (subst AreSome (sym e) tt)
 
-      ends_known : (doing : Activity) → c.doing ≡ doing → IsEnd (fetch code c.body c.place) → ActivityKnown doing → (Tidy → ApartIn doing c.state.done) → (IsFree doing → Clean) → (Tidy → FreshIn (Unit {0}) doing c.state ⊎ RedoIn doing (fetch code c.body c.place) c.state.done) → TurnKnown (ends code doing c)
+      ends_known : (doing : Activity) → c.doing ≡ doing → IsEnd (fetch code c.body c.place) → ActivityKnown doing → (Tidy → ApartIn doing c.state.done) → (IsUnviewed doing → Clean) → (Tidy → FreshIn (Unit {0}) doing c.state ⊎ RedoIn doing (fetch code c.body c.place) c.state.done) → TurnKnown (ends code doing c)
       ends_known Outside e i g u cl w = tt
       ends_known (Restarting left) e i g u cl w = tt
       ends_known (Running left (suc inner) from) e i g u cl w = (h.0, h.1, h.2, g, h.4, λ t. (tt, inl (one (w t))))
@@ -1169,13 +1322,20 @@ module _ (cells : List CellDefinition) where
           one : ((c.state.view ≡ c.state.at) × Unit {0}) ⊎ ⊥ → (c.state.view ≡ c.state.at) × Clean
           one (inl x) = (x.0, cl tt)
           one (inr x) = absurd x
-      ends_known (Running left zero from) e i g u cl w = settles_known (commuted c.state.done) left from refl g (λ t. either (w t))
+      ends_known (Running left zero from) e i g u cl w = settles_known (commuted c.state.done) left from refl g (subst IsTry (sym e) tt) (cl tt) (λ x. subst (λ d. FreshIn Clean d c.state) (sym e) x) i (λ t. either (w t))
         where
           either : ((c.state.view ≡ c.state.at) × Unit {0}) ⊎ (IsEnd (fetch code c.body c.place) × AreSome (commuted c.state.done)) → ((c.state.view ≡ c.state.at) × Clean) ⊎ (IsEnd (fetch code c.body c.place) × AreSome (commuted c.state.done))
           either (inl x) = inl (x.0, cl tt)
           either (inr x) = inr x
-      ends_known (Applying left from [] values) e i g u cl w = lands_known left from g.0 values g.2 (λ t. (u t).0) (λ t. inr (i, (u t).2))
-      ends_known (Applying left from (k ∷ work) values) e i g u cl w = applies_known k.callee left from k work values g.0 g.1.0 g.1.1 g.2 u e
+      ends_known (Applying left from work values) e i g u cl w =
+          works_known work left from values g.0 g.1 g.2 c h start runs_fresh clean i (λ t. subst (λ d. FreshIn Clean d c.state) (sym e) (fresh t)) u fresh (λ t o v. runs_fresh t (subst IsTry (sym e) o) v) cl
+        where
+          fresh : Tidy → FreshIn Clean (Applying left from work values) c.state
+          fresh t = go (w t)
+            where
+              go : FreshIn (Unit {0}) (Applying left from work values) c.state ⊎ ⊥ → FreshIn Clean (Applying left from work values) c.state
+              go (inl x) = unviewed_so ((c.state.view ≡ c.state.at) × Unit {0}) ((c.state.view ≡ c.state.at) × Clean) (redoes_some work) values (λ o y. (y.0, cl o)) x
+              go (inr x) = absurd x
       ends_known (Swapping swap from) e i g u cl w = tt
 
       -- ---- calls
@@ -1185,7 +1345,8 @@ module _ (cells : List CellDefinition) where
       applied_known v (Restarting left) k g = g
       applied_known v (Running left inner from) k g = g
       applied_known v (Applying left from [] values) k g = g
-      applied_known v (Applying left from (w ∷ work) values) k g = (g.0, g.1.1, writes_put values w.cell v g.1.0.0 k g.2)
+      applied_known v (Applying left from (Redoes w ∷ work) values) k g = (g.0, g.1.1, writes_put values w.cell v g.1.0.0 k g.2)
+      applied_known v (Applying left from (Validates d f ∷ work) values) k g = g
       applied_known v (Swapping swap from) k g = g
 
       applied_apart : (v : Value) (doing : Activity) (w : PlainTxFrame) → ApartIn doing w → ApartIn (applied v doing) w
@@ -1193,7 +1354,8 @@ module _ (cells : List CellDefinition) where
       applied_apart v (Restarting left) w u = u
       applied_apart v (Running left inner from) w u = u
       applied_apart v (Applying left from [] values) w u = u
-      applied_apart v (Applying left from (k ∷ work) values) w u = (unset_put w values k.cell v u.0 u.1.0, u.1.1, u.2)
+      applied_apart v (Applying left from (Redoes k ∷ work) values) w u = (unset_put w values k.cell v u.0 u.1.0, u.1.1, viewed_so (AreSome (commuted w)) (redoes_some work) (with_write values k.cell v) u.2)
+      applied_apart v (Applying left from (Validates d f ∷ work) values) w u = u
       applied_apart v (Swapping swap from) w u = u
 
       applied_fresh : (v : Value) (doing : Activity) → FreshIn Clean doing c.state → FreshIn Clean (applied v doing) c.state
@@ -1201,35 +1363,45 @@ module _ (cells : List CellDefinition) where
       applied_fresh v (Restarting left) u = u
       applied_fresh v (Running left inner from) u = u
       applied_fresh v (Applying left from [] values) u = u
-      applied_fresh v (Applying left from (k ∷ work) values) u = u
+      applied_fresh v (Applying left from (Redoes k ∷ work) values) u = put_viewed ((c.state.view ≡ c.state.at) × Clean) (redoes_some work) values k.cell v
+      applied_fresh v (Applying left from (Validates d f ∷ work) values) u = u
       applied_fresh v (Swapping swap from) u = u
 
       after_known : (awaits : Destination) (v : Value) → IsKnown cells v → ActivityKnown (doing_after awaits v c.doing)
       after_known to_stack v k = h.3
       after_known to_commutes v k = applied_known v c.doing k h.3
+      after_known to_validation v k = h.3
 
-      after_apart : (awaits : Destination) (v : Value) → Tidy → ApartIn (doing_after awaits v c.doing) c.state.done
+      after_apart : (awaits : Destination) (v : Value) → Tidy → ApartIn (doing_after awaits v c.doing) (state_after awaits v c.state).done
       after_apart to_stack v t = (h.5 t).0
       after_apart to_commutes v t = applied_apart v c.doing c.state.done (h.5 t).0
+      after_apart to_validation v t = (h.5 t).0
 
-      after_fresh : (awaits : Destination) (v : Value) → FreshIn Clean c.doing c.state → FreshIn Clean (doing_after awaits v c.doing) c.state
-      after_fresh to_stack v f = f
-      after_fresh to_commutes v f = applied_fresh v c.doing f
+      after_fresh : (awaits : Destination) (v : Value) → Tidy → FreshIn Clean c.doing c.state → FreshIn Clean (doing_after awaits v c.doing) (state_after awaits v c.state)
+      after_fresh to_stack v t f = f
+      after_fresh to_commutes v t f = applied_fresh v c.doing f
+      after_fresh to_validation v t f = still_fresh c.doing c.state (answered v c.state) f (runs_fresh t) start
+
+      after_state : (awaits : Destination) (v : Value) → StateKnown (state_after awaits v c.state)
+      after_state to_stack v = h.4
+      after_state to_commutes v = h.4
+      after_state to_validation v = h.4
 
       stack_known : (awaits : Destination) (v : Value) (stack : List Value) → IsKnown cells v → AllKnown cells stack → AllKnown cells (stack_after awaits v stack)
       stack_known to_stack v stack k g = (k, g)
       stack_known to_commutes v stack k g = g
+      stack_known to_validation v stack k g = g
 
       returns_known : (Tidy → FreshIn Clean c.doing c.state) → (frames : List Frame) (v : Value) → FramesKnown frames → IsKnown cells v → TurnKnown (returns_to frames v c)
       returns_known fr [] v g k = tt
-      returns_known fr (f ∷ frames) v g k = (stack_known f.awaits v f.stack k g.0, g.1, g.2, after_known f.awaits v k, h.4, λ t. (after_apart f.awaits v t, inl (after_fresh f.awaits v (fr t))))
+      returns_known fr (f ∷ frames) v g k = (stack_known f.awaits v f.stack k g.0, g.1, g.2, after_known f.awaits v k, after_state f.awaits v, λ t. (after_apart f.awaits v t, inl (after_fresh f.awaits v t (fr t))))
 
       -- ---- updates
 
       opens_ref_known : (Tidy → IsFree c.doing) → (Tidy → FreshIn Clean c.doing c.state) → (u : RefUpdate) (span : Span) (vs : List Value) (cell : Value) (rest : List Value) → AllKnown cells vs → IsKnown cells cell → AllKnown cells rest → TurnKnown (opens_ref u span vs cell rest c)
       opens_ref_known free fr u span vs cell rest kvs kc kr =
           on_known (IsKnown cells) c.doing (open_update u (is_inside c.doing) span cell vs c.state) _ h.3 (open_known u (is_inside c.doing) span cell vs c.state kc kvs mid)
-          (λ v s k q. (push_known vs (v ∷ cell ∷ rest) kvs (k, (kc, kr)), h.1, h.2, h.3, known_of s q, λ t. (free_apart c.doing s.done free t, inl (still_fresh c.doing s (fr t) (runs_fresh t) q.3))))
+          (λ v s k q. (push_known vs (v ∷ cell ∷ rest) kvs (k, (kc, kr)), h.1, h.2, h.3, known_of s q, λ t. (free_apart c.doing s.done free t, inl (still_fresh c.doing c.state s (fr t) (runs_fresh t) q.3))))
 
       opens_atom_known : (doing : Activity) (span : Span) (vs : List Value) (cell : Value) (rest : List Value) → AllKnown cells vs → IsKnown cells cell → AllKnown cells rest → TurnKnown (opens_atom doing span vs cell rest c)
       opens_atom_known Outside span vs cell rest kvs kc kr =
@@ -1245,24 +1417,37 @@ module _ (cells : List CellDefinition) where
       opens_known free fr (open_form.Commute k) span vs cell rest kvs kc kr = opens_ref_known free fr (Commutes k) span vs cell rest kvs kc kr
       opens_known free fr (open_form.Swap k) span vs cell rest kvs kc kr = opens_atom_known c.doing span vs cell rest kvs kc kr
 
-      swap_decided_known : (from : Savepoint) (w : Value) (rest : List Value) (v : Verdict) (s : ActorState) → SavepointKnown from → IsKnown cells w → AllKnown cells rest → MidKnown s → TurnKnown (swap_decided v from w rest c s)
-      swap_decided_known from w rest Landed s g k kr q = ((k, kr), h.1, h.2, tt, known_of s q, λ t. (tt, inl tt))
-      swap_decided_known from w rest Outdated s g k kr q = (g.0, g.1, g.2, tt, known_of s q, λ t. (tt, inl tt))
-      swap_decided_known from w rest Undone s g k kr q = tt
-      swap_decided_known from w rest Denied s g k kr q = tt
+      swap_decided_known : (from : Savepoint) (w : Value) (rest : List Value) (v : Verdict) (o : Option Bool) (s : ActorState) → SavepointKnown from → IsKnown cells w → AllKnown cells rest → MidKnown s
+          → TurnKnown (swap_decided v from w rest (record c { state = record c.state { accepted = o } }) s)
+      swap_decided_known from w rest Landed o s g k kr q = ((k, kr), h.1, h.2, tt, known_of s q, λ t. (tt, inl tt))
+      swap_decided_known from w rest Outdated o s g k kr q = (g.0, g.1, g.2, tt, known_of s q, λ t. (tt, inl tt))
+      swap_decided_known from w rest Undone o s g k kr q = tt
+      swap_decided_known from w rest Denied o s g k kr q = tt
 
-      closes_swap_known : (doing : Activity) (w : Value) (rest : List Value) → ActivityKnown doing → IsKnown cells w → AllKnown cells rest → TurnKnown (closes_swap doing w rest c)
-      closes_swap_known (Swapping swap from) w rest g k kr =
-          on_known Anything c.doing (close_swap swap w c.state) (λ verdict s. swap_decided verdict from w rest c s) h.3 (close_swap_known swap w c.state g.0 k mid) (λ v s i q. swap_decided_known from w rest v s g.1 k kr q)
-      closes_swap_known Outside w rest g k kr = tt
-      closes_swap_known (Restarting left) w rest g k kr = tt
-      closes_swap_known (Running left inner from) w rest g k kr = tt
-      closes_swap_known (Applying left from work values) w rest g k kr = tt
+      closes_swap_known : (Tidy → FreshIn Clean c.doing c.state) → (doing : Activity) (w : Value) (rest : List Value) → ActivityKnown doing → IsKnown cells w → AllKnown cells rest → TurnKnown (closes_swap code doing w rest c)
+      closes_swap_known fr (Swapping swap from) w rest g k kr =
+          valid_known c h start runs_fresh clean fr w k from.span (validator_at code.validators swap.cell.number) (λ c1. on c1.doing (close_swap swap w c1.state) (λ verdict s. swap_decided verdict from w rest c1 s))
+          (λ o. on_known Anything c.doing (close_swap swap w (record c.state { accepted = o })) (λ verdict s. swap_decided verdict from w rest (record c { state = record c.state { accepted = o } }) s) h.3
+          (close_swap_known swap w (record c.state { accepted = o }) g.0 k mid) (λ v s i q. swap_decided_known from w rest v o s g.1 k kr q))
+      closes_swap_known fr Outside w rest g k kr = tt
+      closes_swap_known fr (Restarting left) w rest g k kr = tt
+      closes_swap_known fr (Running left inner from) w rest g k kr = tt
+      closes_swap_known fr (Applying left from work values) w rest g k kr = tt
 
-      closes_known : (Tidy → IsFree c.doing) → (Tidy → FreshIn Clean c.doing c.state) → (f : UpdateForm) (span : Span) (w cell : Value) (rest : List Value) → IsKnown cells w → IsKnown cells cell → AllKnown cells rest → TurnKnown (closes f span w cell rest c)
+      closes_known : (Tidy → IsFree c.doing) → (Tidy → FreshIn Clean c.doing c.state) → (f : UpdateForm) (span : Span) (w cell : Value) (rest : List Value) → IsKnown cells w → IsKnown cells cell → AllKnown cells rest → TurnKnown (closes code f span w cell rest c)
       closes_known free fr update.Alter span w cell rest k kc kr = gives_known free fr rest (close_update span cell w c.state) kr (close_known span cell w c.state kc k mid)
       closes_known free fr update.Commute span w cell rest k kc kr = gives_known free fr rest (close_update span cell w c.state) kr (close_known span cell w c.state kc k mid)
-      closes_known free fr update.Swap span w cell rest k kc kr = closes_swap_known c.doing w rest h.3 k kr
+      closes_known free fr update.Swap span w cell rest k kc kr = closes_swap_known fr c.doing w rest h.3 k kr
+
+      puts_known : (Tidy → IsFree c.doing) → (Tidy → FreshIn Clean c.doing c.state) → (f : PutForm) (span : Span) (w cell : Value) (rest : List Value) → IsKnown cells w → IsKnown cells cell → AllKnown cells rest → TurnKnown (puts code f span w cell rest c)
+      puts_known free fr RefSet span w cell rest k kc kr = gives_known free fr rest (assign RefSet (is_inside c.doing) span cell w c.state) kr (assign_known RefSet (is_inside c.doing) span cell w c.state kc k mid)
+      puts_known free fr Reset span w cell rest k kc kr =
+          on_known AtomThere c.doing (cell_at (form.Put Reset) (is_inside c.doing) span cell c.state) _ h.3
+          (cell_known AtomThere (cell_of (rule (form.Put Reset)) (is_inside c.doing) cell) span c.state (kind_known Atom (rule (form.Put Reset)) (is_inside c.doing) cell refl kc) mid)
+          (λ a s there q. valid_known c h start runs_fresh clean fr w k span (validator_at code.validators a.number) (λ c1. gives c1 rest (assign_cell Reset (is_inside c.doing) span w a c1.state))
+          (λ o. on_known (IsKnown cells) c.doing (assign_cell Reset (is_inside c.doing) span w a (record c.state { accepted = o })) (λ v s1. Unfinished (ahead (v ∷ rest) s1 c)) h.3
+          (reset_cell_known (is_inside c.doing) span w a (record c.state { accepted = o }) there k mid)
+          (λ v s1 kv q1. ((kv, kr), h.1, h.2, h.3, known_of s1 q1, λ t. (free_apart c.doing s1.done free t, inl (still_fresh c.doing c.state s1 (fr t) (runs_fresh t) q1.3))))))
 
       -- ---- an agent's own instructions
 
@@ -1278,6 +1463,12 @@ module _ (cells : List CellDefinition) where
       runs_known fr None v rest g k kr = tt
       runs_known fr (Some x) v rest g k kr = runs_callee_known fr x.action.callee x.action v rest g k kr
 
+      finishes_known : (Tidy → FreshIn Clean c.doing c.state) → (g : CellId) (o : Option InHand) (v : Value) → IsKnown cells v → TurnKnown (finishes code g o v c)
+      finishes_known fr g None v k = tt
+      finishes_known fr g (Some x) v k =
+          valid_known c h start runs_fresh clean fr v k x.action.span (validator_at code.validators x.action.agent.number) (λ c1. told (finish g (Ok v) c1.state) (λ s. Unfinished (first_place [] (rested s))))
+          (λ o. told_known (finish g (Ok v) (record c.state { accepted = o })) _ (finish_known g (Ok v) (record c.state { accepted = o }) k mid) (λ s q. (tt, tt, tt, tt, (q.0, q.1, q.2, tt), λ t. (tt, inl tt))))
+
       -- ---- an instruction
 
       -- a constant is known
@@ -1288,11 +1479,11 @@ module _ (cells : List CellDefinition) where
       fresh_or : (i : Option PlainInstr) → fetch code c.body c.place ≡ i → (IsEnd i → ⊥) → Tidy → FreshIn Clean c.doing c.state
       fresh_or i e n t = go c.doing (h.5 t).1 clean
         where
-          go : (doing : Activity) → FreshIn (Unit {0}) doing c.state ⊎ RedoIn doing (fetch code c.body c.place) c.state.done → (IsFree doing → Clean) → FreshIn Clean doing c.state
+          go : (doing : Activity) → FreshIn (Unit {0}) doing c.state ⊎ RedoIn doing (fetch code c.body c.place) c.state.done → (IsUnviewed doing → Clean) → FreshIn Clean doing c.state
           go (Running left inner from) (inl x) cl = (x.0, cl tt)
           go Outside (inl x) cl = tt
           go (Restarting left) (inl x) cl = tt
-          go (Applying left from work values) (inl x) cl = tt
+          go (Applying left from work values) (inl x) cl = unviewed_so ((c.state.view ≡ c.state.at) × Unit {0}) ((c.state.view ≡ c.state.at) × Clean) (redoes_some work) values (λ o y. (y.0, cl o)) x
           go (Swapping swap from) (inl x) cl = tt
           go (Running left zero from) (inr x) cl = absurd (n (subst IsEnd e x.0))
           go (Running left (suc inner) from) (inr x) cl = absurd x
@@ -1319,7 +1510,7 @@ module _ (cells : List CellDefinition) where
       act_known (Some (LookOf f span)) e i m =
           top_known c.stack _ h.0 (λ cell rest kc kr. gives_known (λ t. look_free f span c.doing (m t)) (fresh_or (Some (LookOf f span)) e (λ x. x)) rest (read f (is_inside c.doing) span cell c.state) kr (read_form_known f (is_inside c.doing) span cell c.state kc mid))
       act_known (Some (PutOf f span)) e i m =
-          two_known c.stack _ h.0 (λ w cell rest kw kc kr. gives_known (λ t. put_free f span c.doing (m t)) (fresh_or (Some (PutOf f span)) e (λ x. x)) rest (assign f (is_inside c.doing) span cell w c.state) kr (assign_known f (is_inside c.doing) span cell w c.state kc kw mid))
+          two_known c.stack _ h.0 (λ w cell rest kw kc kr. puts_known (λ t. put_free f span c.doing (m t)) (fresh_or (Some (PutOf f span)) e (λ x. x)) f span w cell rest kw kc kr)
       act_known (Some (OpenOf f n span)) e i m =
           args_of_known n c.stack _ h.0 (λ vs cell rest kvs kc kr. opens_known (λ t. open_free f n span c.doing (m t)) (fresh_or (Some (OpenOf f n span)) e (λ x. x)) f span vs cell rest kvs kc kr)
       act_known (Some (CloseOf f span)) e i m =
@@ -1329,7 +1520,7 @@ module _ (cells : List CellDefinition) where
       act_known (Some Halt) e i m = tt
       act_known (Some (TakeOf g)) e i m = on_known TakenKnown c.doing (take_action g c.state) (λ o s. started g o c s) h.3 (take_known g c.state mid) (λ o s k q. started_known m g o s k q)
       act_known (Some RunOf) e i m = top_known c.stack _ h.0 (λ v rest kv kr. runs_known (fresh_or (Some RunOf) e (λ x. x)) c.state.acting v rest h.4.3 kv kr)
-      act_known (Some (FinishOf g)) e i m = top_known c.stack _ h.0 (λ v rest kv kr. told_known (finish g (Ok v) c.state) _ (finish_known g (Ok v) c.state kv mid) (λ s q. (tt, tt, tt, tt, (q.0, q.1, q.2, tt), λ t. (tt, inl tt))))
+      act_known (Some (FinishOf g)) e i m = top_known c.stack _ h.0 (λ v rest kv kr. finishes_known (fresh_or (Some (FinishOf g)) e (λ x. x)) g c.state.acting v kv)
 
       pub turn_known : CodeIsKnown cells code → (Tidy → MayStandHere c.doing (fetch code c.body c.place)) → TurnKnown (turn code c)
       turn_known i m = act_known (fetch code c.body c.place) refl (i c.body c.place) m

@@ -12,6 +12,7 @@ use Rattle.txs_world_protocol.specs.declared.event.EventKind.TheVariants as even
 use Rattle.txs_value_data.proofs.SameLemmas.{numbers}
 use Rattle.txs_value_data.specs.Limits.{most_events}
 use Rattle.txs_value_cell.specs.declared.action.Action.{Action}
+use Rattle.txs_value_cell.specs.Cells.{validators_of}
 use Rattle.txs_value_cell.specs.declared.cell.CellDefinition.{CellDefinition}
 use Rattle.txs_value_base.specs.declared.fault.Fault.{Fault}
 use Rattle.txs_value_data.specs.declared.value.CellId.{CellId}
@@ -56,6 +57,7 @@ empty_kept = record {
   on_work = λ s view w o e h. h;
   on_hold = λ s x such h. h;
   on_acting = λ s o h. h;
+  on_accepted = λ s o h. h;
   on_wait = λ s q own h. h;
 }
 
@@ -85,7 +87,7 @@ module _ (cells : List CellDefinition) (threads : ℕ) (code : Library) (functio
 
   -- ---- the agent whose play it is
 
-  module _ (follows : FollowsAgents code functions) (g : CellId) (has : has_agent (cells_of cells) g ≡ true) (sh : Shared) (sound : AllSound functions (sh.books 0)) (long : length sh.taken ≡ length (cells_of cells)) (x : Actor) (k : Works sh g x) where
+  module _ (follows : FollowsAgents code functions) (ours : code.validators ≡ validators_of cells) (g : CellId) (has : has_agent (cells_of cells) g ≡ true) (sh : Shared) (sound : AllSound functions (sh.books 0)) (long : length sh.taken ≡ length (cells_of cells)) (x : Actor) (k : Works sh g x) where
     abbrev tc : ThreadCode
     tc = agent_code code g
 
@@ -176,7 +178,7 @@ module _ (cells : List CellDefinition) (threads : ℕ) (code : Library) (functio
           let h = busy t in
           let m = (follows g).only (map exchange_of h.done) h.number (suc x.turns) h.action h.state new h.finished h.sound
           (subst (λ l. AsksNext (ask.Finish g new []) (agent_target code g (suc x.turns) l)) (told h) (asks_next c s (ask.Finish g new []) at e w)) in
-          (h.action, h.next, m.0, subst (λ v. action_meaning m.0 functions h.action v ≡ Some new) (sym h.found) m.1)
+          (h.action, h.next, m.0, subst (λ v. action_meaning m.0 functions (validators_of cells) h.action v ≡ Some new) (sym h.found) (subst (λ vs. action_meaning m.0 functions vs h.action h.state ≡ Some new) ours m.1))
 
       finishes_well : (new : Result Value Fault) → s.wants ≡ Some (ask.Finish g new []) → is_taken sh.taken g ≡ true → (d : Event) (b : Bool)
           → Works (shared_after cells (ask.Finish g new []) (if b then served reply.Done (book ++ d ∷ []) else served reply.Full book) sh) g (replied tc c (ask.Finish g new []) (if b then served reply.Done (book ++ d ∷ []) else served reply.Full book).reply (length book) x)

@@ -26,6 +26,7 @@ use Rattle.txs_world.specs.Store.{next_action}
 use Rattle.txs_theorem_runs.specs.Explains.{outcome_at}
 use Rattle.txs_theorem_runs.specs.Told.{Entry, exchange_of}
 use Rattle.txs_theorem_runs.specs.Run.{Actor, State, Play, plays, exchange, entry}
+use Rattle.txs_value_cell.specs.Cells.{validators_of}
 
 -- ---- turns
 
@@ -54,7 +55,7 @@ ConsumesActions =
 -- an action that is handed in is what its callee means on the state that the agent had then, of the action that was the first in its mail
 abbrev pub ActMeans : List PlainFunction → List CellDefinition → List Event → EventKind → Type 0
 ActMeans functions cells done (event.Act g number new sends) =
-    (x : Action) × (next_action (cells_of cells) done g ≡ Some x) × (n : ℕ) × (action_meaning n functions x (newest (world.opening (cells_of cells)) done g.number) ≡ Some new)
+    (x : Action) × (next_action (cells_of cells) done g ≡ Some x) × (n : ℕ) × (action_meaning n functions (validators_of cells) x (newest (world.opening (cells_of cells)) done g.number) ≡ Some new)
 ActMeans functions cells done _ = Unit {0}
 
 -- each action of a book means what it came to
@@ -96,7 +97,7 @@ pub record HasTaken (cells : List CellDefinition) (code : Library) (functions : 
   pub next : next_action (cells_of cells) book g ≡ Some action
   pub found : newest (world.opening (cells_of cells)) book g.number ≡ state
   -- where the action has a meaning, the agent's code comes to hand it in
-  pub comes : (n : ℕ) (new : Result Value Fault) → action_meaning n functions action state ≡ Some new → (j : ℕ) × AsksNext (ask.Finish g new []) (agent_target code g j (map exchange_of es))
+  pub comes : (n : ℕ) (new : Result Value Fault) → action_meaning n functions code.validators action state ≡ Some new → (j : ℕ) × AsksNext (ask.Finish g new []) (agent_target code g j (map exchange_of es))
 
 -- An agent is explained: it is where its code comes to on what it was answered, and has consumed it; it hasn't ended, and has printed nothing; what it took
 -- it has finished, but for one action at most, which it runs.
@@ -124,5 +125,5 @@ ThreadsSendSound threads codes functions = (a : ℕ) → nat_lt a threads ≡ tr
 abbrev pub RunActsMean : Type 0
 RunActsMean =
     (cells : List CellDefinition) (threads : ℕ) (codes : ℕ → ThreadCode) (code : Library) (functions : List PlainFunction) (ys : List Play)
-    → FollowsAgents code functions → RunsAgents cells threads codes code → ThreadsSendSound threads codes functions
+    → code.validators ≡ validators_of cells → FollowsAgents code functions → RunsAgents cells threads codes code → ThreadsSendSound threads codes functions
     → AgentsExplain cells threads code functions (plays cells threads codes ys)

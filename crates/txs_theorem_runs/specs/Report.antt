@@ -2,6 +2,7 @@
 use Rattle.std.specs.Prelude.{◌≡◌, ℕ, List, length, map, Some}
 use Rattle.txs_world_protocol.specs.declared.event.Event.{Event}
 use Rattle.txs_value_base.specs.Places.{nth}
+use Rattle.txs_value_cell.specs.Cells.{validators_of}
 use Rattle.txs_value_cell.specs.declared.cell.CellDefinition.{CellDefinition}
 use Rattle.txs_tree_meaning.specs.Thread.{thread_meaning}
 use Rattle.txs_tree_meaning.specs.Tree.{PlainThread, PlainProgram}
@@ -31,10 +32,12 @@ RunTraced =
     (cells : List CellDefinition) (threads : ℕ) (codes : ℕ → ThreadCode) (ys : List Play) (a : ℕ)
     → ActorTraced cells threads (plays cells threads codes ys).shared.books a ((plays cells threads codes ys).actors a)
 
--- the actors of a program's run: each thread runs its code, and behind the threads each agent runs its own, over the functions
+-- the actors of a program's run: each thread runs its code, and behind the threads each agent runs its own, over the functions, with the
+-- validators of the program's cells
 pub record RunsProgram (p : PlainProgram) (threads : List ThreadCode) (functions : Library) (codes : ℕ → ThreadCode) : Type 0 where
   pub threads_run : (i : ℕ) (c : ThreadCode) → nth threads i ≡ Some c → codes i ≡ c
   pub agents_run : RunsAgents p.cells (length p.threads) codes functions
+  pub validators : functions.validators ≡ validators_of p.cells
 
 -- A run's report is explained: the books are legal and each thread means what it did; what the threads sent a program may send, and each action
 -- means what it came to; the trace of each actor names its own events and no others; commits that were refused were undisturbed; and so were the

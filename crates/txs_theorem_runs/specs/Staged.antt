@@ -1,8 +1,10 @@
 -- Code whose turns ask at most once, and each ask in its stage.
-use Rattle.std.specs.Prelude.{◌≡◌, ℕ, List, [], ◌∷◌, Some}
-use Rattle.txs_world_protocol.specs.Ask.{Exchange}
+use Rattle.std.specs.Prelude.{◌≡◌, ℕ, Bool, true, false, List, [], ◌∷◌, Some}
+use Rattle.txs_world_protocol.specs.Ask.{Exchange, Writes}
 use Rattle.txs_world_protocol.specs.declared.ask.Ask.{Ask}
 use Rattle.txs_world_protocol.specs.declared.ask.Reply.{Reply}
+use Rattle.txs_frame.specs.declared.phase.Task.{Task}
+use Rattle.txs_frame.specs.declared.phase.Task.TheVariants.{Redoes, Validates}
 use Rattle.txs_code_meaning.specs.ActorState.{ActorState}
 use Rattle.txs_code_meaning.specs.Machine.{ThreadCode, Configuration, Turned, Ended, Failed, Asking, Unfinished, Stuck, Activity, turn, run}
 use Rattle.txs_code_meaning.specs.Machine as machine
@@ -10,12 +12,24 @@ use Rattle.txs_code_meaning.specs.Opening.{given, opening}
 use Rattle.txs_theorem_runs.specs.Stages.{Stage, Idle, Open, Viewing, Swapping, AsksIn, stage_after}
 use Rattle.txs_theorem_runs.specs.Run.{exchange}
 
+-- whether some of these tasks redoes a commute
+abbrev pub redoes_some : List Task → Bool
+redoes_some [] = false
+redoes_some (Redoes k ∷ work) = true
+redoes_some (Validates r f ∷ work) = redoes_some work
+
+-- the stage at a transaction's end: there is a view where commutes are redone, or were, and none where validators alone look at what was set
+abbrev pub stage_at_end : Bool → Writes → ActorState → Stage
+stage_at_end true values s = Viewing s.at s.view
+stage_at_end false [] s = Open s.at
+stage_at_end false (w ∷ ws) s = Viewing s.at s.view
+
 -- the stage, by what is going on
 abbrev pub stage_in : Activity → ActorState → Stage
 stage_in machine.Outside s = Idle
 stage_in (machine.Restarting left) s = Idle
 stage_in (machine.Running left inner from) s = Open s.at
-stage_in (machine.Applying left from work values) s = Viewing s.at s.view
+stage_in (machine.Applying left from work values) s = stage_at_end (redoes_some work) values s
 stage_in (machine.Swapping swap from) s = Swapping swap.cell swap.at
 
 -- the stage of a configuration

@@ -12,7 +12,7 @@ use Rattle.txs_tree_meaning.specs.Meaning.{Completion, Completes, Recurs, Faults
 use Rattle.txs_tree_meaning.specs.Pure.{nowhere}
 use Rattle.txs_tree_meaning.specs.Sound.{SoundFunctions}
 use Rattle.txs_tree_meaning.specs.Thread.{TxRun}
-use Rattle.txs_tree_meaning.specs.Transaction.{TxState, in_transaction, tx_start, tx_meaning, merged, commute_writes}
+use Rattle.txs_tree_meaning.specs.Transaction.{TxState, in_transaction, tx_start, tx_meaning, merged, commute_writes, if_accepted}
 use Rattle.txs_tree_meaning.specs.Tree.{PlainFunction}
 use Rattle.txs_tree_meaning.proofs.Callable.{both}
 use Rattle.txs_value_data.specs.declared.value.CellId.{CellId}
@@ -103,7 +103,7 @@ module _ (functions : List PlainFunction) (validators : Validators) (n : ℕ) (x
         state = moved r.1 x.state;
         means = r.2;
         writes_same =
-            ap (λ (ws : Writes). bind (commute_writes (purely n functions) x.state.done C tt) (λ vs u. Completes (merged ws vs) u))
+            ap (λ (ws : Writes). bind (commute_writes (purely n functions) x.state.done C tt) (λ vs u. if_accepted (purely n functions) validators nowhere (merged ws vs) u))
             (sym (alike_sets (loose x.state.done.sets x.state.done.commutes) x.state.done.sets (λ k h. set_tight x.state.done.sets x.state.done.commutes k h) x.state.done.values r.1 r.4.alike))
             ∙ did.writes_same;
         sends_same = did.sends_same;

@@ -9,7 +9,7 @@ use Rattle.txs_world_protocol.specs.declared.ask.Ask.{Ask}
 use Rattle.txs_world_protocol.specs.declared.ask.Ask.TheVariants as ask
 use Rattle.txs_world_protocol.specs.declared.event.EventKind.{EventKind}
 use Rattle.txs_world_protocol.specs.declared.event.EventKind.TheVariants as event
-use Rattle.txs_value_cell.specs.Cells.{World, Validators, validators_of}
+use Rattle.txs_value_cell.specs.Cells.{World, Validators, validators_of, validator_at}
 use Rattle.txs_value_cell.specs.Forms.{rule, may_stand, cell_of}
 use Rattle.txs_value_cell.specs.declared.action.Action.{Action}
 use Rattle.txs_value_cell.specs.declared.cell.CellDefinition.{CellDefinition}
@@ -36,20 +36,22 @@ use Rattle.txs_value_data.specs.declared.value.Value.TheVariants.{Nil, Truth, In
 use Rattle.txs_tree_meaning.specs.Known.{known}
 use Rattle.txs_tree_meaning.specs.Meaning.{Completion, Completes, Recurs, Faults, Retries, Waits, OutOfTurns, Invalid, bind, again, closed, give, result_of, allowed, Applies, turns, apply, eval, eval_all, eval_let, eval_do, call_at}
 use Rattle.txs_tree_meaning.specs.Pure.{nowhere}
-use Rattle.txs_tree_meaning.specs.Sound.{Zone, in_function, in_thread, in_dosync, SoundTree, SoundAll, SoundLet, SoundDo, SoundFunctions}
+use Rattle.txs_tree_meaning.specs.Sound.{Zone, in_function, in_thread, in_dosync, SoundTree, SoundAll, SoundLet, SoundDo, SoundFunctions, SoundCells}
 use Rattle.txs_tree_meaning.specs.Thread.{TxRun, ThreadState, with_tx, eats, meant, reads, resets, faulted, faultless, swaps, sends, sends_or_holds, over, Transacting, run_of, ends_tx, is_retry, uneaten, eats_tx, Surroundings, thread_look, thread_put, thread_update, on_events, thread_meaning}
-use Rattle.txs_tree_meaning.specs.Transaction.{TxState, value_or, valued, merged, redone, final_writes, tx_meaning}
+use Rattle.txs_tree_meaning.specs.Transaction.{TxState, value_or, valued, merged, redone, judged, validated, accepted, if_accepted, final_writes, tx_meaning}
 use Rattle.txs_tree_meaning.specs.Tree.{Mark, Tree, Const, Local, If, Do, Let, Loop, Recur, Core, Call, VectorOf, Println, Dosync, Look, Put, Update, Send, Trees, none, more, count, PlainFunction}
 use Rattle.txs_tree_meaning.proofs.Callable.{both, function_at, nth-take, tree-widened}
 use Rattle.txs_theorem_threads.specs.Noted.{IsNone}
+use Rattle.txs_theorem_threads.proofs.Accepted.{AllValidators, validator_such, validators_pure, validated_carried, made_carried, final_carried}
 use Rattle.txs_theorem_threads.proofs.Callees.{IsPure, sound_pure}
-use Rattle.txs_theorem_threads.proofs.Quiet.{carried, IsQuiet, quietly, callee_carried, AllCommutes, phase_some, redone_carried}
+use Rattle.txs_theorem_threads.proofs.Quiet.{carried, IsQuiet, quietly, callee_carried, AllCommutes}
 use Rattle.txs_theorem_serial.specs.Laws.{ThreadsNote}
 use Rattle.txs_tree_meaning.specs.Marked.{Marked, MarkedAll, MarkedDo, MarkedFunctions}
 use Rattle.txs_theorem_serial.specs.Serial.{purely, Met, Committed, RunOf, RunsOf, Noted, EndsNoted}
 use Rattle.txs_theorem_serial.proofs.Alone.{met_suits}
 use Rattle.txs_theorem_serial.proofs.Bodies.{marked_at}
 use Rattle.txs_theorem_serial.proofs.Deeper.{tx_deeper, quiet_deeper}
+use Rattle.txs_theorem_serial.proofs.Depth.{HasValue}
 use Rattle.txs_theorem_serial.proofs.Remakes.{splits}
 
 -- ---- sends that are found equal are equal
@@ -257,7 +259,10 @@ module _ (cells : List CellDefinition) (functions : List PlainFunction) (n : ℕ
         test false = tt
     send_reaches a span _ R Q C t next = tt
 
-    module _ (sound : SoundFunctions [] functions) (marks : MarkedFunctions functions) where
+    module _ (sound : SoundFunctions [] functions) (marks : MarkedFunctions functions) (sound_cells : SoundCells (known functions) cells) where
+      all_valid : AllValidators (IsPure (known functions)) validators
+      all_valid = validators_pure (known functions) cells sound_cells
+
       abbrev x : Surroundings
       x = record { cells = cells; tries = suc reruns; turns = n; functions = functions }
 
@@ -282,37 +287,16 @@ module _ (cells : List CellDefinition) (functions : List PlainFunction) (n : ℕ
         met : (R : World) (v : Value) (s : TxState) → d.on R ≡ Completes v s → Met functions n (run_of d v s) R
         met R v s h = record { body_sound = body_sound; body_marked = body_marked; means = tx_deeper n functions sound b (length functions) le e env (length env) body_sound R v s h }
 
-        bound : {A B : Type 0} (t : ThreadState) (z : Completion (Unit {0}) A) (go : A → B) → bind (carried t z) (λ a s. Completes (go a) s) ≡ carried t (bind z (λ a s. Completes (go a) s))
-        bound t (Completes a u) go = refl
-        bound t (Recurs vs u) go = refl
-        bound t (Faults g u) go = refl
-        bound t (Retries u) go = refl
-        bound t (Waits u) go = refl
-        bound t (OutOfTurns u) go = refl
-        bound t Invalid go = refl
-
-        quiet_bound : {A B : Type 0} (z : Completion (Unit {0}) A) (go : A → B) → IsQuiet z → IsQuiet (bind z (λ a s. Completes (go a) s))
-        quiet_bound (Completes a u) go h = tt
-        quiet_bound (Recurs vs u) go h = tt
-        quiet_bound (Faults g u) go h = tt
-        quiet_bound (Retries u) go h = h
-        quiet_bound (Waits u) go h = h
-        quiet_bound (OutOfTurns u) go h = tt
-        quiet_bound Invalid go h = tt
-
         -- the final writes leave the state as it was
+        carries : (w : PlainTxFrame) → AllCommutes (IsPure (known functions)) w.commutes → (C : World) (t : ThreadState)
+            → (final_writes f validators m.span w C t ≡ carried t (final_writes q validators m.span w C tt)) × IsQuiet (final_writes q validators m.span w C tt)
+        carries w suits C t = final_carried (IsPure (known functions)) t f q (λ c us p. callee_carried (on_events x) n true functions sound b m.span c us t p) validators all_valid m.span w suits C
+
         finals : (w : PlainTxFrame) → AllCommutes (IsPure (known functions)) w.commutes → (C : World) (t : ThreadState) → final_writes f validators m.span w C t ≡ carried t (final_writes q validators m.span w C tt)
-        finals w suits C t =
-            let P : Callee → Type 0 = IsPure (known functions) in
-            ap (λ z. bind z (λ ws s1. Completes (merged (set_writes w) ws) s1))
-            (redone_carried P t f q (λ c us p. callee_carried (on_events x) n true functions sound b m.span c us t p) (phase_work w) (phase_some P w suits) (valued (commuted w) C)).0
-            ∙ bound t (redone q (phase_work w) (valued (commuted w) C) tt) (λ ws. merged (set_writes w) ws)
+        finals w suits C t = (carries w suits C t).0
 
         quiet_finals : (w : PlainTxFrame) → AllCommutes (IsPure (known functions)) w.commutes → (C : World) (t : ThreadState) → IsQuiet (final_writes q validators m.span w C tt)
-        quiet_finals w suits C t =
-            let P : Callee → Type 0 = IsPure (known functions) in
-            quiet_bound (redone q (phase_work w) (valued (commuted w) C) tt) (λ ws. merged (set_writes w) ws)
-            (redone_carried P t f q (λ c us p. callee_carried (on_events x) n true functions sound b m.span c us t p) (phase_work w) (phase_some P w suits) (valued (commuted w) C)).1
+        quiet_finals w suits C t = (carries w suits C t).1
 
         -- what has final writes there has them with nothing around
         redone_deeper : (cs : List CommuteOf) (ws xs : Writes) → redone q cs ws tt ≡ Completes xs tt → redone (purely n functions) cs ws tt ≡ Completes xs tt
@@ -323,10 +307,36 @@ module _ (cells : List CellDefinition) (functions : List PlainFunction) (n : ℕ
             ap (λ z. bind z (λ v s1. redone (purely n functions) cs (with_write ws c.cell v) s1)) (quiet_deeper n functions sound b (length functions) le m.span nowhere c.callee us r.0 r.2)
             ∙ redone_deeper cs (with_write ws c.cell r.0) xs r.3
 
+        judged_deeper : (answer v u : Value) → judged {S = Unit {0}} answer m.span v tt ≡ Completes u tt → judged {S = Unit {0}} answer nowhere v tt ≡ Completes u tt
+        judged_deeper Nil v u h = absurd (subst HasValue (sym h) tt)
+        judged_deeper (Truth false) v u h = absurd (subst HasValue (sym h) tt)
+        judged_deeper (Truth true) v u h = h
+        judged_deeper (Int z) v u h = h
+        judged_deeper (Key bs) v u h = h
+        judged_deeper (Text bs) v u h = h
+        judged_deeper (Vector vs) v u h = h
+        judged_deeper (Cell c) v u h = h
+
+        validated_deeper : (o : Option Callee) (v u : Value) → validated q o m.span v tt ≡ Completes u tt → validated (purely n functions) o nowhere v tt ≡ Completes u tt
+        validated_deeper None v u h = h
+        validated_deeper (Some c) v u h =
+            let r = splits (q c (v ∷ []) tt) (λ answer s1. judged answer m.span v s1) u tt h in
+            ap (λ z. bind z (λ answer s1. judged answer nowhere v s1)) (quiet_deeper n functions sound b (length functions) le m.span nowhere c (v ∷ []) r.0 r.2) ∙ judged_deeper r.0 v u r.3
+
+        accepted_deeper : (ws : Writes) → accepted q validators m.span ws tt ≡ Completes tt tt → accepted (purely n functions) validators nowhere ws tt ≡ Completes tt tt
+        accepted_deeper [] h = h
+        accepted_deeper (w ∷ ws) h =
+            let o = validator_at validators w.0.number in
+            let r = splits (validated q o m.span w.1 tt) (λ v s1. accepted q validators m.span ws s1) tt tt h in
+            ap (λ z. bind z (λ v s1. accepted (purely n functions) validators nowhere ws s1)) (validated_deeper o w.1 r.0 r.2) ∙ accepted_deeper ws r.3
+
         finals_deeper : (w : PlainTxFrame) (C : World) (ws : Writes) → final_writes q validators m.span w C tt ≡ Completes ws tt → final_writes (purely n functions) validators nowhere w C tt ≡ Completes ws tt
         finals_deeper w C ws h =
-            let r = splits (redone q (phase_work w) (valued (commuted w) C) tt) (λ vs s1. Completes (merged (set_writes w) vs) s1) ws tt h in
-            ap (λ z. bind z (λ vs s1. Completes (merged (set_writes w) vs) s1)) (redone_deeper (phase_work w) (valued (commuted w) C) r.0 r.2) ∙ r.3
+            let r = splits (redone q (phase_work w) (valued (commuted w) C) tt) (λ vs s1. if_accepted q validators m.span (merged (set_writes w) vs) s1) ws tt h in
+            let all = merged (set_writes w) r.0 in
+            let k = splits (accepted q validators m.span all tt) (λ u s1. Completes all s1) ws tt r.3 in
+            ap (λ z. bind z (λ vs s1. if_accepted (purely n functions) validators nowhere (merged (set_writes w) vs) s1)) (redone_deeper (phase_work w) (valued (commuted w) C) r.0 r.2)
+            ∙ ap (λ z. bind z (λ u s1. Completes all s1)) (accepted_deeper all k.2) ∙ k.3
 
         commit_meant : (writes : Writes) (sent : List Action) (R C : World) (ws : Writes) (v : Value) (s : TxState) → d.on R ≡ Completes v s → final_writes q validators m.span s.done C tt ≡ Completes ws tt → (same_writes ws writes && same_actions s.done.sends sent) ≡ true → Committed functions validators n (run_of d v s) R C writes sent
         commit_meant writes sent R C ws v s h k same =
@@ -446,13 +456,32 @@ module _ (cells : List CellDefinition) (functions : List PlainFunction) (n : ℕ
             look_at Deref c = eats_reaches (home cells c) (λ e t1. reads c e.kind e.C t1) (λ e t1 next. read_reaches c e.kind e.R e.Q e.C t1 next) t.todo t g g
             look_at Ensure c = tt
 
-        puts : (form : PutForm) (inside : Bool) (m : Mark) (v w : Value) (f : Applies ThreadState) (t : ThreadState) → NotedAt t → Reaches Any ((on_events x b).put form inside m v w f t)
-        puts form inside m v w f t g =
-            allowed_reaches (may_stand (rule (form_of.Put form)).stands false) _ (on_reaches (cell_of (rule (form_of.Put form)) false v) m.span (λ c t1. thread_put x form m.span c w f t1) t g (λ c. put_at form c))
+        -- what a pure meaning leads to
+        carried_reaches : (z : Completion (Unit {0}) Value) (go : Value → ThreadState → Completion ThreadState Value) (t : ThreadState) → NotedAt t → ((v : Value) → Reaches Any (go v t)) → Reaches Any (bind (carried t z) go)
+        carried_reaches (Completes v u) go t g h = h v
+        carried_reaches (Recurs vs u) go t g h = tt
+        carried_reaches (Faults e u) go t g h = g
+        carried_reaches (Retries u) go t g h = g
+        carried_reaches (Waits u) go t g h = g
+        carried_reaches (OutOfTurns u) go t g h = g
+        carried_reaches Invalid go t g h = tt
+
+        puts : (form : PutForm) (inside : Bool) (m : Mark) (v w : Value) (t : ThreadState) → NotedAt t → Reaches Any ((on_events x b).put form inside m v w (apply (call b inside) m.span) t)
+        puts form inside m v w t g =
+            allowed_reaches (may_stand (rule (form_of.Put form)).stands false) _ (on_reaches (cell_of (rule (form_of.Put form)) false v) m.span (λ c t1. thread_put x form m.span c w (apply (call b inside) m.span) t1) t g (λ c. put_at form c))
           where
-            put_at : (form1 : PutForm) (c : CellId) → Reaches Any (thread_put x form1 m.span c w f t)
+            put_at : (form1 : PutForm) (c : CellId) → Reaches Any (thread_put x form1 m.span c w (apply (call b inside) m.span) t)
             put_at RefSet c = tt
-            put_at Reset c = eats_reaches (home cells c) (λ e t1. resets w e.kind t1) (λ e t1 next. reset_reaches w e.kind e.R e.Q e.C t1 next) t.todo t g g
+            put_at Reset c =
+                let o = validator_at validators c.number in
+                let one =
+                validated_carried (IsPure (known functions)) t (apply (call b inside) m.span) (quietly n functions b m.span) (λ c1 us p. callee_carried (on_events x) n inside functions sound b m.span c1 us t p) o
+                (validator_such (IsPure (known functions)) validators c.number all_valid) m.span w
+                in
+                let go : Value → ThreadState → Completion ThreadState Value = λ u t1. eats (home cells c) (λ e t2. resets u e.kind t2) t1.todo t1 in
+                subst (λ z. Reaches Any (bind z go)) (sym one.0)
+                (carried_reaches (validated (quietly n functions b m.span) o m.span w tt) go t g
+                (λ u. eats_reaches (home cells c) (λ e t1. resets u e.kind t1) (λ e t1 next. reset_reaches u e.kind e.R e.Q e.C t1 next) t.todo t g g))
 
         updates : (form : UpdateForm) (inside : Bool) (m : Mark) (v : Value) (callee : Callee) → IsPure (known functions) callee → (vs : List Value) (t : ThreadState) → NotedAt t → Reaches Any ((on_events x b).update form inside m v callee vs (apply (call b inside) m.span) t)
         updates form inside m v callee pure vs t g =
@@ -462,8 +491,13 @@ module _ (cells : List CellDefinition) (functions : List PlainFunction) (n : ℕ
             update_at Alter c = tt
             update_at Commute c = tt
             update_at Swap c =
-                eats_reaches (home cells c) (λ e t1. swaps c (λ u t2. apply (call b inside) m.span callee (u ∷ vs) t2) e.kind e.R e.C t1)
-                (λ e t1 next. swap_reaches c (λ u t2. apply (call b inside) m.span callee (u ∷ vs) t2) (λ u. quietly n functions b m.span callee (u ∷ vs) tt) (λ u t2. callee_carried (on_events x) n inside functions sound b m.span callee (u ∷ vs) t2 pure) e.kind e.R e.Q e.C t1 next) t.todo t g g
+                let o = validator_at validators c.number in
+                let q = quietly n functions b m.span in
+                let go : Value → ThreadState → Completion ThreadState Value = λ u t2. bind (apply (call b inside) m.span callee (u ∷ vs) t2) (λ w s1. validated (apply (call b inside) m.span) o m.span w s1) in
+                eats_reaches (home cells c) (λ e t1. swaps c go e.kind e.R e.C t1)
+                (λ e t1 next. swap_reaches c go (λ u. bind (q callee (u ∷ vs) tt) (λ w s1. validated q o m.span w s1))
+                (λ u t2. made_carried (IsPure (known functions)) t2 (apply (call b inside) m.span) q (λ c1 us p. callee_carried (on_events x) n inside functions sound b m.span c1 us t2 p) o
+                (validator_such (IsPure (known functions)) validators c.number all_valid) m.span callee (u ∷ vs) pure) e.kind e.R e.Q e.C t1 next) t.todo t g g
 
         sent : (inside : Bool) (m : Mark) (v : Value) (callee : Callee) (vs : List Value) (t : ThreadState) → NotedAt t → Reaches Any ((on_events x b).send inside m v callee vs t)
         sent inside m v callee vs t g =
@@ -510,7 +544,7 @@ module _ (cells : List CellDefinition) (functions : List PlainFunction) (n : ℕ
               bind_reaches Any Any (on inside cell env t) (λ c t1. (on_events x b).look form inside m c t1) (tree_reaches cell inside true zone k None h.1 r.1 env l t g) (λ c t1 p g1. looks form inside m c t1 g1)
           tree_reaches (Put form cell value m) inside w zone k tail h r env l t g =
               bind_reaches Any Any (on inside cell env t) (λ c t1. bind (on inside value env t1) (λ v t2. (on_events x b).put form inside m c v (apply (call b inside) m.span) t2)) (tree_reaches cell inside true zone k None h.1 r.1 env l t g)
-              (λ c t1 p g1. bind_reaches Any Any (on inside value env t1) (λ v t2. (on_events x b).put form inside m c v (apply (call b inside) m.span) t2) (tree_reaches value inside true zone k None h.2 r.2 env l t1 g1) (λ v t2 p2 g2. puts form inside m c v (apply (call b inside) m.span) t2 g2))
+              (λ c t1 p g1. bind_reaches Any Any (on inside value env t1) (λ v t2. (on_events x b).put form inside m c v (apply (call b inside) m.span) t2) (tree_reaches value inside true zone k None h.2 r.2 env l t1 g1) (λ v t2 p2 g2. puts form inside m c v t2 g2))
           tree_reaches (Update form cell callee args m) inside w zone k tail h r env l t g =
               bind_reaches Any Any (on inside cell env t) (λ c t1. bind (eval_all (on_events x b) (call b) n inside args env t1) (λ vs t2. (on_events x b).update form inside m c callee vs (apply (call b inside) m.span) t2)) (tree_reaches cell inside true zone k None h.1 r.1 env l t g)
               (λ c t1 p g1. bind_reaches (Many (count args)) Any (eval_all (on_events x b) (call b) n inside args env t1) (λ vs t2. (on_events x b).update form inside m c callee vs (apply (call b inside) m.span) t2) (all_reaches args inside zone k h.3 r.2 env l t1 g1) (λ vs t2 p2 g2. updates form inside m c callee (sound_pure (known functions) callee (suc (count args)) h.2) vs t2 g2))
@@ -569,4 +603,4 @@ ended cells functions n es (OutOfTurns t) h = h
 ended cells functions n es Invalid h = tt
 
 pub threads_note : ThreadsNote
-threads_note p n es sound marks marked = ended p.cells p.functions n es (thread_meaning p n es) (main_reaches p.cells p.functions n es sound.functions marks p.main sound.main marked)
+threads_note p n es sound marks marked = ended p.cells p.functions n es (thread_meaning p n es) (main_reaches p.cells p.functions n es sound.functions marks sound.cells p.main sound.main marked)

@@ -8,7 +8,7 @@ use Rattle.txs_frame.specs.Frame.{PlainTxFrame, has_number, commuted, set_writes
 use Rattle.txs_frame.specs.declared.frame.Commute.{Commute}
 use Rattle.txs_value_base.specs.declared.op.Callee.{Callee}
 use Rattle.txs_tree_meaning.specs.Meaning.{Completion, Completes, Recurs, Faults, Retries, Waits, OutOfTurns, Invalid, bind, Applies}
-use Rattle.txs_tree_meaning.specs.Transaction.{value_or, valued, merged, redone, commute_writes, final_writes}
+use Rattle.txs_tree_meaning.specs.Transaction.{value_or, valued, merged, redone, commute_writes, if_accepted, final_writes}
 use Rattle.txs_value_data.specs.declared.value.CellId.{CellId}
 use Rattle.txs_value_data.specs.declared.value.Value.{Value}
 use Rattle.txs_value_data.specs.declared.value.Value.TheVariants.{Nil}
@@ -106,5 +106,5 @@ module _ {S : Type 0} (P : Callee → Type 0) (validators : Validators) (span : 
   -- the commutes of each loose ref, from the world's value on
   pub remakes : (w : PlainTxFrame) (C : World) (xs : Writes) (s t : S) → AllCommutes P w.commutes → final_writes f validators span w C s ≡ Completes xs t → (k : ℕ) → has_number (commuted w) k ≡ true → (u : Value) × (remade q (commutes_of k w.commutes) (C k) ≡ Completes u tt)
   remakes w C xs s t suits h k there =
-      let r = splits (commute_writes f w C s) (λ ws s1. Completes (merged (set_writes w) ws) s1) xs t h in
+      let r = splits (commute_writes f w C s) (λ ws s1. if_accepted f validators span (merged (set_writes w) ws) s1) xs t h in
       phased w.commutes suits (commuted w) k (valued (commuted w) C) r.0 (C k) s r.1 there (valued_found (commuted w) C k there) r.2

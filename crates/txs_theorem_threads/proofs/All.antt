@@ -24,7 +24,7 @@ pub sound_follows_all : SoundFollowsAll
 sound_follows_all codes p sound behaves = record {
   as_many = behaves.as_many;
   each = λ i c t e f.
-      let one : SoundSource (source_of p t) = record { functions = sound.functions; main = (sound_at (known p.functions) p.threads i t sound.threads f).0 } in
+      let one : SoundSource (source_of p t) = record { functions = sound.functions; cells = sound.cells; main = (sound_at (known p.functions) p.threads i t sound.threads f).0 } in
       behaves_follows c (source_of p t) (behaves.each i c t e f) one (ever_meant (source_of p t) one);
 }
 
@@ -47,6 +47,6 @@ generated_follows g behaves p sound =
     sound_follows_all (map f p.threads) p sound (record {
       as_many = length_map f p.threads;
       each = λ i c t e k.
-          image_at (λ x u. SoundThread (known p.functions) u → Behaves x (source_of p u)) f (λ u s. behaves (source_of p u) (record { functions = sound.functions; main = s.0 })) p.threads i c t e k
+          image_at (λ x u. SoundThread (known p.functions) u → Behaves x (source_of p u)) f (λ u s. behaves (source_of p u) (record { functions = sound.functions; cells = sound.cells; main = s.0 })) p.threads i c t e k
           (sound_at (known p.functions) p.threads i t sound.threads k);
     })

@@ -6,15 +6,20 @@ use Rattle.txs_world_protocol.specs.declared.ask.Ask.{Ask}
 use Rattle.txs_world_protocol.specs.declared.ask.Ask.TheVariants as ask
 use Rattle.txs_world_protocol.specs.declared.ask.Reply.{Reply}
 use Rattle.txs_frame.specs.Frame.{commuted, set_writes, set_ref}
+use Rattle.txs_frame.specs.Phase.{tasks_of, to_write}
 use Rattle.txs_frame.specs.declared.frame.Commute.{Commute}
+use Rattle.txs_frame.specs.declared.phase.Task.{Task}
+use Rattle.txs_frame.specs.declared.phase.Task.TheVariants.{Redoes, Validates}
 use Rattle.txs_value_apply.specs.Core.{core, vector_of}
+use Rattle.txs_value_cell.specs.Cells.{validator_at}
 use Rattle.txs_value_cell.specs.Forms.{rule, cell_of}
 use Rattle.txs_value_data.specs.Limits.{reruns}
-use Rattle.txs_value_base.specs.Places.{nth}
+use Rattle.txs_value_base.specs.Places.{nth, fault_at}
 use Rattle.txs_value_data.specs.Printed.{printed_line}
 use Rattle.txs_value_cell.specs.declared.action.Action.{Action}
 use Rattle.txs_value_base.specs.declared.fault.Fault.{Fault}
 use Rattle.txs_value_base.specs.declared.fault.FaultKind.{FaultKind}
+use Rattle.txs_value_base.specs.declared.fault.FaultKind.TheVariants.{InvalidState}
 use Rattle.txs_value_base.specs.declared.fault.Span.{Span}
 use Rattle.txs_value_cell.specs.declared.form.CellForm.{CellForm}
 use Rattle.txs_value_cell.specs.declared.form.CellForm.TheVariants as form
@@ -31,7 +36,7 @@ use Rattle.txs_value_data.specs.declared.value.Value.{Value}
 use Rattle.txs_code_meaning.specs.declared.instr.OpenForm.{OpenForm}
 use Rattle.txs_code_meaning.specs.declared.instr.OpenForm.TheVariants as open_form
 use Rattle.txs_code_meaning.specs.ActorState.{ActorState, Reception, Replied, Unreplied, receives, asks, StepResult, Continue, Break, Redo, Await, Malformed, on_step, step_of, Reading, Says, SaysRetry, SaysNothing, read_as, heard, read_point, just_done, value_there, newest_value, views, Verdict, Landed, Outdated, Undone, Denied, commit_verdict, opened, swap_verdict, send_verdict, sent, Taken, handed_out, begun, begin, fail, buffered_or, look, paired, viewed, view, commit, peek, SwapInHand, open_atom, close_swap, break_swap, reset_atom, send_now, take_action, finish, cell_at, read_cell, read, set_own, assign_cell, assign, RefUpdate, Alters, Commutes, update_form, open_update, close_own, close_update, open_swap, send_action, send_to, print, InHand, send_or_hold}
-use Rattle.txs_code_meaning.specs.Machine.{PlainInstr, Push, Load, Store, Pop, Jump, JumpFalse, CoreOf, CallOf, Return, MakeVector, PrintOf, TxBegin, TxEnd, LookOf, PutOf, OpenOf, CloseOf, SendOf, Halt, TakeOf, RunOf, FinishOf, ThreadCode, fetch, Frame, Savepoint, Activity, Outside, Restarting, Running, Applying, Swapping, is_inside, Configuration, Outcome, Turned, Ended, Failed, Asking, Unfinished, Stuck, and_then, told, raise, try_more, retried, on, found, on_top, on_args, gives, starts, begins, decided, lands, settles, arguments_of, applies, ends, returns_to, opens_ref, opens_atom, opens, swap_decided, closes_swap, closes, started, runs_callee, runs, act, turn, exec, ends_with}
+use Rattle.txs_code_meaning.specs.Machine.{PlainInstr, Push, Load, Store, Pop, Jump, JumpFalse, CoreOf, CallOf, Return, MakeVector, PrintOf, TxBegin, TxEnd, LookOf, PutOf, OpenOf, CloseOf, SendOf, Halt, TakeOf, RunOf, FinishOf, ThreadCode, fetch, Frame, Savepoint, Activity, Outside, Restarting, Running, Applying, Swapping, is_inside, Configuration, Outcome, Turned, Ended, Failed, Asking, Unfinished, Stuck, and_then, told, raise, try_more, retried, on, found, on_top, on_args, gives, starts, begins, decided, lands, settles, arguments_of, applies, ends, returns_to, opens_ref, opens_atom, opens, swap_decided, closes_swap, closes, started, runs_callee, runs, act, turn, exec, ends_with, staying, first_place, rested, validates, where_accepted, where_valid, works, puts, finishes, Destination, to_stack, to_commutes, to_validation, state_after}
 use Rattle.txs_code_meaning.proofs.Alike.{then_alike}
 
 pub record Grows (s t : ActorState) : Type 0 where
@@ -324,27 +329,70 @@ decided_grows Denied left from c s = still s s refl refl
 lands_grows : (left : ℕ) (from : Savepoint) (values : Writes) (c : Configuration) → TurnGrows c.state (lands left from values c)
 lands_grows left from values c = on_grows c.doing (commit values c.state) _ c.state (commit_grows values c.state) (λ verdict t. decided_grows verdict left from c t)
 
-settles_grows : (cs : List CellId) (left : ℕ) (from : Savepoint) (c : Configuration) → TurnGrows c.state (settles cs left from c)
-settles_grows [] left from c = lands_grows left from [] c
-settles_grows (d ∷ ds) left from c = on_grows c.doing (view c.state) _ c.state (view_grows c.state) (λ values t. still t t refl refl)
-
-applies_grows : (code : ThreadCode) (callee : Callee) (left : ℕ) (from : Savepoint) (k : Commute) (work : List Commute) (values : Writes) (c : Configuration) → TurnGrows c.state (applies code callee left from k work values c)
+applies_grows : (code : ThreadCode) (callee : Callee) (left : ℕ) (from : Savepoint) (k : Commute) (work : List Task) (values : Writes) (c : Configuration) → TurnGrows c.state (applies code callee left from k work values c)
 applies_grows code (callee_of.Core op) left from k work values c =
     on_grows c.doing (step_of (core op (arguments_of k values)) from.span c.state) _ c.state (of_grows (core op (arguments_of k values)) from.span c.state) (λ v t. still t t refl refl)
 applies_grows code (callee_of.Function f) left from k work values c = still c.state c.state refl refl
+
+validates_grows : (code : ThreadCode) (f : Callee) (v : Value) (span : Span) (c : Configuration) → TurnGrows c.state (validates code f v span c)
+validates_grows code (callee_of.Core op) v span c = on_grows c.doing (step_of (core op (v ∷ [])) span c.state) _ c.state (of_grows (core op (v ∷ [])) span c.state) (λ answer t. still t _ refl refl)
+validates_grows code (callee_of.Function f) v span c = still c.state c.state refl refl
+
+-- what goes on grows from where it goes on
+abbrev NextGrows : (Configuration → Turned Configuration) → Type 0
+NextGrows go = (c : Configuration) → TurnGrows c.state (go c)
+
+accepted_grows : (code : ThreadCode) (o : Option Bool) (f : Callee) (v : Value) (span : Span) (c : Configuration) (go : Configuration → Turned Configuration) → NextGrows go → TurnGrows c.state (where_accepted code o f v span c go)
+accepted_grows code None f v span c go h = validates_grows code f v span c
+accepted_grows code (Some true) f v span c go h =
+    let s : ActorState = record c.state { accepted = None } in
+    turn_after c.state s (go (record c { state = s })) (still c.state s refl refl) (h (record c { state = s }))
+accepted_grows code (Some false) f v span c go h =
+    let s : ActorState = record c.state { accepted = None } in
+    turn_after c.state s (raise c.doing (fault_at InvalidState span) s) (still c.state s refl refl) (raise_grows c.doing (fault_at InvalidState span) s)
+
+valid_grows : (code : ThreadCode) (o : Option Callee) (v : Value) (span : Span) (c : Configuration) (go : Configuration → Turned Configuration) → NextGrows go → TurnGrows c.state (where_valid code o v span c go)
+valid_grows code None v span c go h = h c
+valid_grows code (Some f) v span c go h = accepted_grows code c.state.accepted f v span c go h
+
+works_grows : (code : ThreadCode) (left : ℕ) (from : Savepoint) (work : List Task) (values : Writes) (c : Configuration) → TurnGrows c.state (works code left from work values c)
+works_grows code left from [] values c = lands_grows left from values c
+works_grows code left from (Redoes k ∷ work) values c = applies_grows code k.callee left from k work values c
+works_grows code left from (Validates r f ∷ work) values c =
+    accepted_grows code c.state.accepted f (to_write values c.state.done r.number) from.span (staying (Applying left from (Validates r f ∷ work) values) c.state c)
+    (λ c1. works code left from work values (staying (Applying left from work values) c1.state c1)) (λ c1. works_grows code left from work values (staying (Applying left from work values) c1.state c1))
+
+settles_grows : (code : ThreadCode) (cs : List CellId) (left : ℕ) (from : Savepoint) (c : Configuration) → TurnGrows c.state (settles code cs left from c)
+settles_grows code [] left from c = works_grows code left from (tasks_of code.validators c.state.done) [] c
+settles_grows code (d ∷ ds) left from c = on_grows c.doing (view c.state) _ c.state (view_grows c.state) (λ values t. still t t refl refl)
 
 ends_grows : (code : ThreadCode) (doing : Activity) (c : Configuration) → TurnGrows c.state (ends code doing c)
 ends_grows code Outside c = tt
 ends_grows code (Restarting left) c = tt
 ends_grows code (Running left (suc inner) from) c = still c.state c.state refl refl
-ends_grows code (Running left zero from) c = settles_grows (commuted c.state.done) left from c
-ends_grows code (Applying left from [] values) c = lands_grows left from values c
-ends_grows code (Applying left from (k ∷ work) values) c = applies_grows code k.callee left from k work values c
+ends_grows code (Running left zero from) c = settles_grows code (commuted c.state.done) left from c
+ends_grows code (Applying left from work values) c = works_grows code left from work values c
 ends_grows code (Swapping swap from) c = tt
 
 returns_grows : (frames : List Frame) (v : Value) (c : Configuration) → TurnGrows c.state (returns_to frames v c)
 returns_grows [] v c = tt
-returns_grows (f ∷ frames) v c = still c.state c.state refl refl
+returns_grows (f ∷ frames) v c = by f.awaits
+  where
+    by : (d : Destination) → Grows c.state (state_after d v c.state)
+    by to_stack = still c.state c.state refl refl
+    by to_commutes = still c.state c.state refl refl
+    by to_validation = still c.state _ refl refl
+
+puts_grows : (code : ThreadCode) (f : PutForm) (span : Span) (w cell : Value) (rest : List Value) (c : Configuration) → TurnGrows c.state (puts code f span w cell rest c)
+puts_grows code RefSet span w cell rest c = gives_grows c rest (assign RefSet (is_inside c.doing) span cell w c.state) (assign_grows RefSet (is_inside c.doing) span cell w c.state)
+puts_grows code Reset span w cell rest c = by (cell_of (rule (form.Put Reset)) (is_inside c.doing) cell)
+  where
+    go : CellId → Configuration → Turned Configuration
+    go a c1 = gives c1 rest (assign_cell Reset (is_inside c.doing) span w a c1.state)
+
+    by : (r : Result CellId FaultKind) → TurnGrows c.state (on c.doing (step_of r span c.state) (λ a s. where_valid code (validator_at code.validators a.number) w span c (go a)))
+    by (Ok a) = valid_grows code (validator_at code.validators a.number) w span c (go a) (λ c1. gives_grows c1 rest (assign_cell Reset (is_inside c.doing) span w a c1.state) (assign_cell_grows Reset (is_inside c.doing) span w a c1.state))
+    by (Err k) = raise_grows c.doing (fault_at k span) c.state
 
 opens_ref_grows : (u : RefUpdate) (span : Span) (vs : List Value) (cell : Value) (rest : List Value) (c : Configuration) → TurnGrows c.state (opens_ref u span vs cell rest c)
 opens_ref_grows u span vs cell rest c =
@@ -368,17 +416,25 @@ swap_decided_grows Outdated from w rest c s = still s s refl refl
 swap_decided_grows Undone from w rest c s = tt
 swap_decided_grows Denied from w rest c s = tt
 
-closes_swap_grows : (doing : Activity) (w : Value) (rest : List Value) (c : Configuration) → TurnGrows c.state (closes_swap doing w rest c)
-closes_swap_grows (Swapping swap from) w rest c = on_grows c.doing (close_swap swap w c.state) _ c.state (close_swap_grows swap w c.state) (λ verdict t. swap_decided_grows verdict from w rest c t)
-closes_swap_grows Outside w rest c = tt
-closes_swap_grows (Restarting left) w rest c = tt
-closes_swap_grows (Running left inner from) w rest c = tt
-closes_swap_grows (Applying left from work values) w rest c = tt
+closes_swap_grows : (code : ThreadCode) (doing : Activity) (w : Value) (rest : List Value) (c : Configuration) → TurnGrows c.state (closes_swap code doing w rest c)
+closes_swap_grows code (Swapping swap from) w rest c =
+    valid_grows code (validator_at code.validators swap.cell.number) w from.span c (λ c1. on c1.doing (close_swap swap w c1.state) (λ verdict s. swap_decided verdict from w rest c1 s))
+    (λ c1. on_grows c1.doing (close_swap swap w c1.state) _ c1.state (close_swap_grows swap w c1.state) (λ verdict t. swap_decided_grows verdict from w rest c1 t))
+closes_swap_grows code Outside w rest c = tt
+closes_swap_grows code (Restarting left) w rest c = tt
+closes_swap_grows code (Running left inner from) w rest c = tt
+closes_swap_grows code (Applying left from work values) w rest c = tt
 
-closes_grows : (f : UpdateForm) (span : Span) (w cell : Value) (rest : List Value) (c : Configuration) → TurnGrows c.state (closes f span w cell rest c)
-closes_grows update_of.Alter span w cell rest c = gives_grows c rest (close_update span cell w c.state) (close_update_grows span cell w c.state)
-closes_grows update_of.Commute span w cell rest c = gives_grows c rest (close_update span cell w c.state) (close_update_grows span cell w c.state)
-closes_grows update_of.Swap span w cell rest c = closes_swap_grows c.doing w rest c
+closes_grows : (code : ThreadCode) (f : UpdateForm) (span : Span) (w cell : Value) (rest : List Value) (c : Configuration) → TurnGrows c.state (closes code f span w cell rest c)
+closes_grows code update_of.Alter span w cell rest c = gives_grows c rest (close_update span cell w c.state) (close_update_grows span cell w c.state)
+closes_grows code update_of.Commute span w cell rest c = gives_grows c rest (close_update span cell w c.state) (close_update_grows span cell w c.state)
+closes_grows code update_of.Swap span w cell rest c = closes_swap_grows code c.doing w rest c
+
+finishes_grows : (code : ThreadCode) (g : CellId) (o : Option InHand) (v : Value) (c : Configuration) → TurnGrows c.state (finishes code g o v c)
+finishes_grows code g None v c = tt
+finishes_grows code g (Some h) v c =
+    valid_grows code (validator_at code.validators h.action.agent.number) v h.action.span c (λ c1. told (finish g (Ok v) c1.state) (λ s. Unfinished (first_place [] (rested s))))
+    (λ c1. told_grows (finish g (Ok v) c1.state) _ c1.state (finish_grows g (Ok v) c1.state) (λ t. still t _ refl refl))
 
 started_grows : (g : CellId) (o : Option Taken) (c : Configuration) (s : ActorState) → TurnGrows s (started g o c s)
 started_grows g None c s = still s s refl refl
@@ -408,14 +464,14 @@ act_grows code (Some (PrintOf args)) c = args_grows c.state args c.stack [] _ (�
 act_grows code (Some (TxBegin span)) c = begins_grows c.doing span c
 act_grows code (Some TxEnd) c = ends_grows code c.doing c
 act_grows code (Some (LookOf f span)) c = top_grows c.state c.stack _ (λ cell rest. gives_grows c rest (read f (is_inside c.doing) span cell c.state) (read_grows f (is_inside c.doing) span cell c.state))
-act_grows code (Some (PutOf f span)) c = top_grows c.state c.stack _ (λ w under. top_grows c.state under _ (λ cell rest. gives_grows c rest (assign f (is_inside c.doing) span cell w c.state) (assign_grows f (is_inside c.doing) span cell w c.state)))
+act_grows code (Some (PutOf f span)) c = top_grows c.state c.stack _ (λ w under. top_grows c.state under _ (λ cell rest. puts_grows code f span w cell rest c))
 act_grows code (Some (OpenOf f args span)) c = args_grows c.state args c.stack [] _ (λ vs under. top_grows c.state under _ (λ cell rest. opens_grows f span vs cell rest c))
-act_grows code (Some (CloseOf f span)) c = top_grows c.state c.stack _ (λ w under. top_grows c.state under _ (λ cell rest. closes_grows f span w cell rest c))
+act_grows code (Some (CloseOf f span)) c = top_grows c.state c.stack _ (λ w under. top_grows c.state under _ (λ cell rest. closes_grows code f span w cell rest c))
 act_grows code (Some (SendOf callee args span)) c = args_grows c.state args c.stack [] _ (λ vs under. top_grows c.state under _ (λ cell rest. gives_grows c rest (send_to (is_inside c.doing) span cell callee vs c.state) (send_grows (is_inside c.doing) span cell callee vs c.state)))
 act_grows code (Some Halt) c = still c.state c.state refl refl
 act_grows code (Some (TakeOf g)) c = on_grows c.doing (take_action g c.state) _ c.state (take_grows g c.state) (λ o t. started_grows g o c t)
 act_grows code (Some RunOf) c = top_grows c.state c.stack _ (λ v rest. runs_grows code c.state.acting v rest c)
-act_grows code (Some (FinishOf g)) c = top_grows c.state c.stack _ (λ v rest. told_grows (finish g (Ok v) c.state) _ c.state (finish_grows g (Ok v) c.state) (λ t. still t _ refl refl))
+act_grows code (Some (FinishOf g)) c = top_grows c.state c.stack _ (λ v rest. finishes_grows code g c.state.acting v c)
 
 -- ---- runs
 

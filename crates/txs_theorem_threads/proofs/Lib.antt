@@ -1,7 +1,9 @@
+pub mod Accepted
 pub mod Account
 pub mod Actions
 pub mod All
 pub mod Callees
+pub mod Depth
 pub mod Ends
 pub mod Fitted
 pub mod Follow

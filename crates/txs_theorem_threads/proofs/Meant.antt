@@ -19,9 +19,12 @@ use Rattle.txs_value_data.specs.declared.value.Value.{Value}
 use Rattle.txs_value_data.specs.declared.value.Value.TheVariants.{Nil, Truth, Int, Key, Text, Vector, Cell}
 use Rattle.txs_tree_meaning.specs.Known.{Known, is_pure, known_of, known}
 use Rattle.txs_tree_meaning.specs.Meaning.{Completion, Completes, Recurs, Faults, Retries, Waits, OutOfTurns, Invalid, bind, again, closed, give, result_of, Applies, Effects, turns, apply, eval, eval_all, eval_let, eval_do, call_at}
+use Rattle.txs_tree_meaning.specs.Pure.{nowhere}
 use Rattle.txs_tree_meaning.specs.Sound.{Zone, in_function, in_thread, in_dosync, MayStand, MayCall, SoundTree, SoundAll, SoundLet, SoundDo, SoundCallee, SoundFunctions}
 use Rattle.txs_tree_meaning.specs.Tree.{Mark, Tree, Const, Local, If, Do, Let, Loop, Recur, Core, Call, VectorOf, Println, Dosync, Look, Put, Update, Send, Trees, none, more, count, PlainFunction}
 use Rattle.txs_tree_meaning.proofs.Callable.{nth-take, nth-before, function_at}
+use Rattle.txs_theorem_threads.proofs.Callees.{sound_pure}
+use Rattle.txs_theorem_threads.proofs.Depth.{pures, others, both_kinds, pure_before, other_before, known_there, shallow, agrees_proper}
 use Rattle.txs_theorem_threads.proofs.Functions.{known_free, there, nth_below, thread_sound, dosync_sound}
 use Rattle.txs_theorem_threads.proofs.Quiet.{carried, IsQuiet, quietly, callee_carried}
 use Rattle.txs_theorem_threads.specs.Behaves.{IsProper}
@@ -156,19 +159,22 @@ module _ (S : Type 0) (H : Bool → S → Type 0) where
   carried_proper inside s (OutOfTurns u) w h = tt
   carried_proper inside s Invalid w h = h
 
+-- validators, callees of one value of which this holds, have proper answers
+abbrev pub Valid : (S : Type 0) → (Callee → Type 0) → Applies S → Type 0
+Valid S V f = (c : Callee) (w : Value) → V c → Proper S f c (w ∷ [])
+
 -- What is known of the forms, where this holds of states, by which callees the commutes of a transaction may have: the form stands
 -- where it may, its callee suits, and has a proper answer on any value with the arguments.
-pub record SoundForms (S : Type 0) (fx : Effects S) (Holds : Suits → Bool → S → Type 0) : Type 1 where
+pub record SoundForms (S : Type 0) (fx : Effects S) (Holds : Suits → Bool → S → Type 0) (V : Callee → Type 0) : Type 1 where
   pub print : (P : Suits) (inside : Bool) (vs : List Value) (s : S) → MayStand (zone_of inside) Outside → Holds P inside s → MeantAs (Holds P) inside None Any (fx.print inside vs s)
   pub look : (P : Suits) (form : LookForm) (inside : Bool) (m : Mark) (c : Value) (s : S) → MayStand (zone_of inside) (rule (form_of.Look form)).stands → Holds P inside s → MeantAs (Holds P) inside None Any (fx.look form inside m c s)
-  pub put : (P O : Suits) (form : PutForm) (inside : Bool) (m : Mark) (c v : Value) (f : Applies S) (s : S) → MayStand (zone_of inside) (rule (form_of.Put form)).stands → ((d : Callee) (ws : List Value) → O d (length ws) → Proper S f d ws) →
-      Holds P inside s → MeantAs (Holds P) inside None Any (fx.put form inside m c v f s)
+  pub put : (P : Suits) (form : PutForm) (inside : Bool) (m : Mark) (c v : Value) (f : Applies S) (s : S) → MayStand (zone_of inside) (rule (form_of.Put form)).stands → Valid S V f → Holds P inside s → MeantAs (Holds P) inside None Any (fx.put form inside m c v f s)
   pub update : (P : Suits) (form : UpdateForm) (inside : Bool) (m : Mark) (c : Value) (callee : Callee) (vs : List Value) (f : Applies S) (s : S) → MayStand (zone_of inside) (rule (form_of.Update form)).stands → P callee (suc (length vs)) → ((v : Value) → Proper S f callee (v ∷ vs)) →
-      Holds P inside s → MeantAs (Holds P) inside None Any (fx.update form inside m c callee vs f s)
+      Valid S V f → Holds P inside s → MeantAs (Holds P) inside None Any (fx.update form inside m c callee vs f s)
   pub send : (P : Suits) (inside : Bool) (m : Mark) (c : Value) (callee : Callee) (vs : List Value) (s : S) → Holds P inside s → MeantAs (Holds P) inside None Any (fx.send inside m c callee vs s)
   -- with what is known of the body that joins, and of one with commutes of its own
   pub dosync : (P O : Suits) (inside : Bool) (m : Mark) (e : Tree) (env : List Value) (body : S → Completion S Value) (f : Applies S) (s : S) → ((s1 : S) → Holds P true s1 → MeantAs (Holds P) true None Any (body s1)) → ((s1 : S) → Holds O true s1 → MeantAs (Holds O) true None Any (body s1)) →
-      ((c : Callee) (ws : List Value) → O c (length ws) → Proper S f c ws) → Holds P inside s → MeantAs (Holds P) inside None Any (fx.dosync inside m e env body f s)
+      ((c : Callee) (ws : List Value) → O c (length ws) → Proper S f c ws) → Valid S V f → Holds P inside s → MeantAs (Holds P) inside None Any (fx.dosync inside m e env body f s)
 
 -- each callee that is sound where these functions are defined is such a one
 abbrev pub Wide : List Known → Suits → Type 0
@@ -183,7 +189,8 @@ CallsMeant S Holds ks call =
 abbrev CalleesProper : (S : Type 0) → List Known → (Bool → ℕ → List Value → S → Completion S Value) → Type 0
 CalleesProper S ks call = (inside : Bool) (span : Span) (c : Callee) (vs : List Value) → SoundCallee ks c (length vs) → Proper S (apply (call inside) span) c vs
 
-module _ (S : Type 0) (fx : Effects S) (Holds : Suits → Bool → S → Type 0) (forms : SoundForms S fx Holds) (ks : List Known) (call : Bool → ℕ → List Value → S → Completion S Value) (calls : CallsMeant S Holds ks call) (callees : CalleesProper S ks call) (n : ℕ) where
+module _ (S : Type 0) (fx : Effects S) (Holds : Suits → Bool → S → Type 0) (V : Callee → Type 0) (forms : SoundForms S fx Holds V) (ks : List Known) (call : Bool → ℕ → List Value → S → Completion S Value) (calls : CallsMeant S Holds ks call) (callees : CalleesProper S ks call)
+    (valid : (inside : Bool) (span : Span) → Valid S V (apply (call inside) span)) (n : ℕ) where
   mutual
     pub eval_meant : (P : Suits) → Wide ks P → (e : Tree) (inside : Bool) (d : ℕ) (tail : Option ℕ) → SoundTree ks (zone_of inside) d tail e → (env : List Value) → length env ≡ d → (s : S) → Holds P inside s → MeantAs (Holds P) inside tail Any (eval fx call n inside e env s)
     eval_meant P w (Const v m) inside d tail h env l s g = (tt, g)
@@ -218,20 +225,20 @@ module _ (S : Type 0) (fx : Effects S) (Holds : Suits → Bool → S → Type 0)
         (forms.dosync P own inside m body env run (apply (call true) m.span) s
         (λ s1 g1. closed_meant S (Holds P) true None (eval fx call n true body env s1) (eval_meant P w body true d None h env l s1 g1))
         (λ s1 g1. closed_meant S (Holds own) true None (eval fx call n true body env s1) (eval_meant own (λ c k q. q) body true d None h env l s1 g1))
-        (λ c ws q. callees true m.span c ws q) g)
+        (λ c ws q. callees true m.span c ws q) (valid true m.span) g)
     eval_meant P w (Look form cell m) inside d tail h env l s g =
         bind_meant S (Holds P) inside tail Any Any (eval fx call n inside cell env s) _ (eval_meant P w cell inside d None h.1 env l s g)
         (λ c s1 p g1. loose S (Holds P) inside tail (fx.look form inside m c s1) (forms.look P form inside m c s1 h.0 g1))
     eval_meant P w (Put form cell value m) inside d tail h env l s g =
         bind_meant S (Holds P) inside tail Any Any (eval fx call n inside cell env s) _ (eval_meant P w cell inside d None h.1 env l s g)
         (λ c s1 p g1. bind_meant S (Holds P) inside tail Any Any (eval fx call n inside value env s1) _ (eval_meant P w value inside d None h.2 env l s1 g1)
-        (λ v s2 q g2. loose S (Holds P) inside tail (fx.put form inside m c v (apply (call inside) m.span) s2) (forms.put P (λ d k. SoundCallee ks d k) form inside m c v (apply (call inside) m.span) s2 h.0 (λ d ws q2. callees inside m.span d ws q2) g2)))
+        (λ v s2 q g2. loose S (Holds P) inside tail (fx.put form inside m c v (apply (call inside) m.span) s2) (forms.put P form inside m c v (apply (call inside) m.span) s2 h.0 (valid inside m.span) g2)))
     eval_meant P w (Update form cell callee args m) inside d tail h env l s g =
         bind_meant S (Holds P) inside tail Any Any (eval fx call n inside cell env s) _ (eval_meant P w cell inside d None h.1 env l s g)
         (λ c s1 p g1. bind_meant S (Holds P) inside tail (Many (count args)) Any (eval_all fx call n inside args env s1) _ (all_meant P w args inside d h.3 env l s1 g1)
         (λ vs s2 q g2. let sound : SoundCallee ks callee (suc (length vs)) = subst (λ k. SoundCallee ks callee (suc k)) (sym q) h.2 in
         loose S (Holds P) inside tail (fx.update form inside m c callee vs (apply (call inside) m.span) s2)
-        (forms.update P form inside m c callee vs (apply (call inside) m.span) s2 h.0 (w callee (suc (length vs)) sound) (λ v. callees inside m.span callee (v ∷ vs) sound) g2)))
+        (forms.update P form inside m c callee vs (apply (call inside) m.span) s2 h.0 (w callee (suc (length vs)) sound) (λ v. callees inside m.span callee (v ∷ vs) sound) (valid inside m.span) g2)))
     eval_meant P w (Send cell callee args m) inside d tail h env l s g =
         bind_meant S (Holds P) inside tail Any Any (eval fx call n inside cell env s) _ (eval_meant P w cell inside d None h.0 env l s g)
         (λ c s1 p g1. bind_meant S (Holds P) inside tail (Many (count args)) Any (eval_all fx call n inside args env s1) _ (all_meant P w args inside d h.2 env l s1 g1)
@@ -284,7 +291,7 @@ free_at true k h = h.1
 free_at false k h = h.0
 
 -- functions are sound, and states are such ones that this holds of some state, inside a transaction or outside, whatever suits
-module _ (S : Type 0) (fx : Effects S) (Holds : Suits → Bool → S → Type 0) (forms : SoundForms S fx Holds) (at : Bool) (start : S) (starts : (P : Suits) → Holds P at start) (functions : List PlainFunction) (sound : SoundFunctions [] functions) (n : ℕ) where
+module _ (S : Type 0) (fx : Effects S) (Holds : Suits → Bool → S → Type 0) (V : Callee → Type 0) (forms : SoundForms S fx Holds V) (at : Bool) (start : S) (starts : (P : Suits) → Holds P at start) (functions : List PlainFunction) (sound : SoundFunctions [] functions) (n : ℕ) where
   abbrev ks : List Known
   ks = known functions
 
@@ -337,21 +344,23 @@ module _ (S : Type 0) (fx : Effects S) (Holds : Suits → Bool → S → Type 0)
   callees_from : (b p : ℕ) → CallsBefore b p → CalleesProper S (take p ks) (at_depth b)
   callees_from b p calls inside span c vs h = callees_proper b p calls inside span c vs (below_of p c (length vs) h) (callee_known ks p c (length vs) h)
 
-  -- a function calls those before it alone, so calls are no deeper than there are functions
-  calls_below : (b : ℕ) → CallsBefore b b
-  calls_below zero P inside f k l e w z vs a s g = absurd (omega (arith, l))
-  calls_below (suc b) P inside f k l e w z vs a s g =
+  -- at this depth validators have proper answers
+  abbrev ValidAt : ℕ → Type 0
+  ValidAt b = (inside : Bool) (span : Span) → Valid S V (apply (at_depth b inside) span)
+
+  -- a call one deeper, where validators have proper answers, and so much is known of calls of the functions before it
+  call_meant : (b : ℕ) → ValidAt b → (f : ℕ) → CallsBefore b f → (P : Suits) (inside : Bool) (k : Known) → nth ks f ≡ Some k → Wide (take f ks) P → MayCall (zone_of inside) k → (vs : List Value) → k.parameters ≡ length vs → (s : S) → Holds P inside s → MeantAs (Holds P) inside None Any (at_depth (suc b) inside f vs s)
+  call_meant b valid f earlier P inside k e w z vs a s g =
       let found = there functions f k e in
       let fun = found.0 in
       let here = function_at functions f fun sound found.1 in
       let before = take f ks in
       let body : List Value → S → Completion S Value = λ ws s2. eval fx (at_depth b) n inside fun.body ws s2 in
       let same : known_of before fun ≡ k = some_known (known_of before fun) k (sym here.0 ∙ e) in
-      let earlier : CallsBefore b f = λ Q i h j lt q v y us r t u. calls_below b Q i h j (omega (arith, l, lt)) q v y us r t u in
       let stands = body_sound inside before fun here.1.1 (subst (λ x. MayCall (zone_of inside) x) (sym same) z) in
       subst (λ o. MeantAs (Holds P) inside None Any (bind (give o s) (λ x s1. turns (suc n) x.parameters (λ ws s2. eval fx (at_depth b) n inside x.body ws s2) vs s1))) (sym found.1)
       (turns_meant S (Holds P) inside None (suc n) fun.parameters body
-      (λ ws s2 q g2. eval_meant S fx Holds forms before (at_depth b) (calls_from b f earlier) (callees_from b f earlier) n P w fun.body inside fun.parameters (Some fun.parameters) stands ws q s2 g2)
+      (λ ws s2 q g2. eval_meant S fx Holds V forms before (at_depth b) (calls_from b f earlier) (callees_from b f earlier) valid n P w fun.body inside fun.parameters (Some fun.parameters) stands ws q s2 g2)
       vs s (sym a ∙ ap (λ (x : Known). x.parameters) (sym same)) g)
 
   known_below : (c : Callee) (m : ℕ) → SoundCallee ks c m → IsBelow (length functions) c
@@ -360,17 +369,167 @@ module _ (S : Type 0) (fx : Effects S) (Holds : Suits → Bool → S → Type 0)
       let found = there functions i h.function h.found in
       nth_below functions i found.0 found.1
 
-  known_calls : CallsMeant S Holds ks (at_depth (length functions))
+  -- ---- where validators have proper answers at any depth
+
+  -- a function calls those before it alone, so calls are no deeper than there are functions
+  calls_below : ((b : ℕ) → ValidAt b) → (b : ℕ) → CallsBefore b b
+  calls_below valid zero P inside f k l e w z vs a s g = absurd (omega (arith, l))
+  calls_below valid (suc b) P inside f k l e w z vs a s g =
+      call_meant b (valid b) f (λ Q i h j lt q v y us r t u. calls_below valid b Q i h j (omega (arith, l, lt)) q v y us r t u) P inside k e w z vs a s g
+
+  pub known_callees : ((b : ℕ) → ValidAt b) → CalleesProper S ks (at_depth (length functions))
+  known_callees valid inside span c vs h = callees_proper (length functions) (length functions) (calls_below valid (length functions)) inside span c vs (known_below c (length vs) h) h
+
+-- ---- pure callees have an answer
+
+-- forms that do nothing
+abbrev idle : Effects (Unit {0})
+idle = record {
+  print = λ inside vs s. Completes Nil s;
+  look = λ form inside m c s. Completes Nil s;
+  put = λ form inside m c v f s. Completes Nil s;
+  update = λ form inside m c callee vs f s. Completes Nil s;
+  send = λ inside m c callee vs s. Completes Nil s;
+  dosync = λ inside m node env body f s. Completes Nil s;
+}
+
+-- no validators
+abbrev NoCallee : Callee → Type 0
+NoCallee c = ⊥
+
+idle_sound : SoundForms (Unit {0}) idle (λ P inside s. Unit {0}) NoCallee
+idle_sound = record {
+  print = λ P inside vs s m h. (tt, tt);
+  look = λ P form inside m c s k h. (tt, tt);
+  put = λ P form inside m c v f s k p h. (tt, tt);
+  update = λ P form inside m c callee vs f s k p q v h. (tt, tt);
+  send = λ P inside m c callee vs s h. (tt, tt);
+  dosync = λ P O inside m e env body f s j k p v h. (tt, tt);
+}
+
+carried_by : (y : Completion (Unit {0}) Value) → IsProper y → IsProper (carried tt y)
+carried_by (Completes v u) h = tt
+carried_by (Recurs vs u) h = absurd h
+carried_by (Faults f u) h = tt
+carried_by (Retries u) h = absurd h
+carried_by (Waits u) h = absurd h
+carried_by (OutOfTurns u) h = tt
+carried_by Invalid h = absurd h
+
+proper_by : (y : Completion (Unit {0}) Value) → IsProper (carried tt y) → IsProper y
+proper_by (Completes v u) h = tt
+proper_by (Recurs vs u) h = absurd h
+proper_by (Faults f u) h = tt
+proper_by (Retries u) h = absurd h
+proper_by (Waits u) h = absurd h
+proper_by (OutOfTurns u) h = tt
+proper_by Invalid h = absurd h
+
+-- a sound callee gives a value or a fault, or needs turns
+pub callee_proper : (functions : List PlainFunction) → SoundFunctions [] functions → (n : ℕ) (span : Span) (c : Callee) (vs : List Value) → SoundCallee (known functions) c (length vs) → IsProper (quietly n functions (length functions) span c vs tt)
+callee_proper functions sound n span c vs h =
+    let p = known_callees (Unit {0}) idle (λ P inside s. Unit {0}) NoCallee idle_sound false tt (λ P. tt) functions sound n (λ b inside1 span1 d w v. absurd v) false span c vs h in
+    let law = callee_carried (λ d. idle) n false functions sound (length functions) span c vs tt (sound_pure (known functions) c (length vs) h) in
+    proper_by (quietly n functions (length functions) span c vs tt) (subst IsProper (sym (p.same tt) ∙ law.0) (carried_by p.answer p.proper))
+
+-- so it does where there are as many calls left as pure functions
+module _ (functions : List PlainFunction) (sound : SoundFunctions [] functions) (n : ℕ) where
+  abbrev pure_ones : ℕ
+  pure_ones = pures (known functions) (length functions)
+
+  operation_gives : (r : Result Value FaultKind) (span : Span) → IsProper (result_of r span tt)
+  operation_gives (Ok v) span = tt
+  operation_gives (Err k) span = tt
+
+  -- a pure function that is there is pure, and below all
+  pub shallow_proper : (b : ℕ) → pure_ones ≤ b → b ≤ length functions → (span : Span) (c : Callee) (vs : List Value) → SoundCallee (known functions) c (length vs) → IsProper (quietly n functions b span c vs tt)
+  shallow_proper b enough le span (CoreOp op) vs h = operation_gives (core op vs) span
+  shallow_proper b enough le span (Function f) vs h =
+      let found = there functions f h.function h.found in
+      let pure : is_pure (nth (known functions) f) ≡ true = ap is_pure h.found ∙ h.pure in
+      let before = pure_before (known functions) f (length functions) (nth_below functions f found.0 found.1) pure in
+      agrees_proper (quietly n functions b span (Function f) vs tt) (quietly n functions (length functions) span (Function f) vs tt)
+      (shallow n functions sound b (length functions) f vs (omega (arith, before, enough)) le pure) (callee_proper functions sound n span (Function f) vs h)
+
+-- ---- where validators are sound callees of one value
+
+module _ (S : Type 0) (fx : Effects S) (Holds : Suits → Bool → S → Type 0) (V : Callee → Type 0) (forms : SoundForms S fx Holds V) (at : Bool) (start : S) (starts : (P : Suits) → Holds P at start) (functions : List PlainFunction) (sound : SoundFunctions [] functions) (n : ℕ)
+    (validators : (c : Callee) → V c → SoundCallee (known functions) c 1) where
+  abbrev all_known : List Known
+  all_known = known functions
+
+  abbrev deep : ℕ → Bool → ℕ → List Value → S → Completion S Value
+  deep = call_at (λ d. fx) n functions
+
+  abbrev pures_in_all : ℕ
+  pures_in_all = pures all_known (length functions)
+
+  proper_at : (b : ℕ) → pures_in_all ≤ b → b ≤ length functions → (inside : Bool) (span : Span) (c : Callee) (vs : List Value) → SoundCallee all_known c (length vs) → Proper S (apply (deep b inside) span) c vs
+  proper_at b enough le inside span c vs h = record {
+    answer = quietly n functions b span c vs tt;
+    proper = shallow_proper functions sound n b enough le span c vs h;
+    same = λ s. (callee_carried (λ d. fx) n inside functions sound b span c vs s (sound_pure all_known c (length vs) h)).0;
+  }
+
+  valid_at : (b : ℕ) → pures_in_all ≤ b → b ≤ length functions → (inside : Bool) (span : Span) → Valid S V (apply (deep b inside) span)
+  valid_at b enough le inside span c w v = proper_at b enough le inside span c (w ∷ []) (validators c v)
+
+  -- a pure call, whatever state it starts from
+  answer_meant : (P : Suits) (inside : Bool) (q : Completion (Unit {0}) Value) → IsProper q → (s : S) → Holds P inside s → MeantAs (Holds P) inside None Any (carried s q)
+  answer_meant P inside (Completes a u) z s g = (tt, g)
+  answer_meant P inside (Recurs vs u) z s g = absurd z
+  answer_meant P inside (Faults f u) z s g = where_inside inside (Holds P inside s) g
+  answer_meant P inside (Retries u) z s g = absurd z
+  answer_meant P inside (Waits u) z s g = absurd z
+  answer_meant P inside (OutOfTurns u) z s g = tt
+  answer_meant P inside Invalid z s g = absurd z
+
+  -- calls of the functions before one
+  abbrev Calls : ℕ → ℕ → Type 1
+  Calls b p = CallsBefore S fx Holds V forms at start starts functions sound n b p
+
+  -- a pure call where there are as many calls left as pure functions
+  pure_meant : (b : ℕ) → pures_in_all ≤ b → b ≤ length functions → (P : Suits) (inside : Bool) (f : ℕ) (k : Known) → nth all_known f ≡ Some k → k.pure ≡ true → (vs : List Value) → k.parameters ≡ length vs → (s : S) → Holds P inside s → MeantAs (Holds P) inside None Any (deep b inside f vs s)
+  pure_meant b enough le P inside f k e pure vs a s g =
+      let q = proper_at b enough le inside nowhere (Function f) vs (record { function = k; found = e; arity = a; pure = pure }) in
+      subst (λ y. MeantAs (Holds P) inside None Any y) (sym (q.same s)) (answer_meant P inside q.answer q.proper s g)
+
+  -- another function before one counts there
+  one_less : (p f : ℕ) (k : Known) → f < p → nth all_known f ≡ Some k → k.pure ≡ false → others all_known f < others all_known p
+  one_less p f k l e pure = other_before all_known f p l (known_there all_known f k e) (ap is_pure e ∙ pure)
+
+  -- of the functions before one, those that aren't pure call one another, and then pure ones
+  counted_below : (b p : ℕ) → pures_in_all + others all_known p ≤ b → b ≤ length functions → Calls b p
+  counted_below zero p enough le P inside f k l e w z vs a s g = by k.pure refl
+    where
+      by : (x : Bool) → k.pure ≡ x → MeantAs (Holds P) inside None Any (deep zero inside f vs s)
+      by true pure = pure_meant zero (omega (arith, enough)) le P inside f k e pure vs a s g
+      by false pure = let less = one_less p f k l e pure in absurd (omega (arith, enough, less))
+  counted_below (suc b) p enough le P inside f k l e w z vs a s g = by k.pure refl (λ m. counted_below b f m (omega (arith, le)))
+    where
+      by : (x : Bool) → k.pure ≡ x → (pures_in_all + others all_known f ≤ b → Calls b f) → MeantAs (Holds P) inside None Any (deep (suc b) inside f vs s)
+      by true pure below = pure_meant (suc b) (omega (arith, enough)) le P inside f k e pure vs a s g
+      by false pure below =
+          let less = one_less p f k l e pure in
+          call_meant S fx Holds V forms at start starts functions sound n b (valid_at b (omega (arith, enough, less)) (omega (arith, le))) f (below (omega (arith, enough, less))) P inside k e w z vs a s g
+
+  all_below : Calls (length functions) (length functions)
+  all_below = let both = both_kinds all_known (length functions) in counted_below (length functions) (length functions) (omega (arith, both)) (omega arith)
+
+  pures_fit : pures_in_all ≤ length functions
+  pures_fit = let both = both_kinds all_known (length functions) in omega (arith, both)
+
+  known_calls : CallsMeant S Holds all_known (deep (length functions))
   known_calls P w inside f k e z vs a s g =
       let found = there functions f k e in
-      calls_below (length functions) P inside f k (nth_below functions f found.0 found.1) e (λ c m h. w c m (callee_known ks f c m h)) z vs a s g
+      all_below P inside f k (nth_below functions f found.0 found.1) e (λ c m h. w c m (callee_known all_known f c m h)) z vs a s g
 
-  pub known_callees : CalleesProper S ks (at_depth (length functions))
-  known_callees inside span c vs h = callees_proper (length functions) (length functions) (calls_below (length functions)) inside span c vs (known_below c (length vs) h) h
+  sound_callees : CalleesProper S all_known (deep (length functions))
+  sound_callees inside span c vs h = proper_at (length functions) pures_fit (omega arith) inside span c vs h
 
   -- a sound thread's tree, or a sound transaction's body with its locals
   pub main_meant : (main : Tree) (env : List Value) → SoundTree (known functions) (zone_of at) (length env) None main → MeantAs (Holds (λ c k. SoundCallee (known functions) c k)) at None Any (closed (eval fx (call_at (λ d. fx) n functions (length functions)) n at main env start))
   main_meant main env h =
       let own : Suits = λ c k. SoundCallee (known functions) c k in
-      closed_meant S (Holds own) at None (eval fx (at_depth (length functions)) n at main env start)
-      (eval_meant S fx Holds forms ks (at_depth (length functions)) known_calls known_callees n own (λ c k q. q) main at (length env) None h env refl start (starts own))
+      closed_meant S (Holds own) at None (eval fx (deep (length functions)) n at main env start)
+      (eval_meant S fx Holds V forms all_known (deep (length functions)) known_calls sound_callees (valid_at (length functions) pures_fit (omega arith)) n own (λ c k q. q) main at (length env) None h env refl start (starts own))

@@ -1,28 +1,32 @@
 -- More turns change nothing of a tree's answer on replies that needs none.
 use Rattle.std.proofs.Common.{ℕ, zero, suc, Bool, true, false, List, [], ◌∷◌, None, refl, subst, length, inr, ◌≡◌, ◌≤◌, not}
+use Rattle.txs_theorem_threads.proofs.Accepted.{validated_related, accepted_related}
 use Rattle.std.proofs.lemmas.Bool.{false≢true}
 use Rattle.txs_world_protocol.specs.Ask.{Writes, Exchange}
-use Rattle.txs_frame.specs.Frame.{commuted, phase_work}
-use Rattle.txs_value_cell.specs.Cells.{Validators, validators_of}
+use Rattle.txs_frame.specs.Frame.{commuted, phase_work, set_writes}
+use Rattle.txs_value_cell.specs.Cells.{Validators, validators_of, validator_at}
 use Rattle.txs_value_data.specs.Limits.{reruns}
 use Rattle.txs_value_base.specs.declared.fault.Span.{Span}
+use Rattle.txs_value_cell.specs.declared.form.CellForm.TheVariants as form_of
+use Rattle.txs_value_cell.specs.declared.form.PutForm.{PutForm}
+use Rattle.txs_value_cell.specs.declared.form.PutForm.TheVariants.{RefSet, Reset}
 use Rattle.txs_value_cell.specs.declared.form.UpdateForm.{UpdateForm}
 use Rattle.txs_value_cell.specs.declared.form.UpdateForm.TheVariants.{Alter, Commute, Swap}
 use Rattle.txs_value_base.specs.declared.op.Callee.{Callee}
 use Rattle.txs_value_data.specs.declared.value.CellId.{CellId}
 use Rattle.txs_value_data.specs.declared.value.Value.{Value}
 use Rattle.txs_tree_meaning.specs.Known.{known}
-use Rattle.txs_tree_meaning.specs.Meaning.{Completion, Completes, Recurs, Faults, Retries, Waits, OutOfTurns, Invalid, bind, allowed, Applies, eval, call_at, apply}
+use Rattle.txs_tree_meaning.specs.Meaning.{Completion, Completes, Recurs, Faults, Retries, Waits, OutOfTurns, Invalid, bind, allowed, Applies, eval, call_at}
 use Rattle.txs_tree_meaning.specs.Sound.{SoundSource, in_thread}
-use Rattle.txs_tree_meaning.specs.Transaction.{redone}
+use Rattle.txs_tree_meaning.specs.Transaction.{redone, merged, accepted}
 use Rattle.txs_tree_meaning.specs.Tree.{PlainFunction, ThreadSource}
-use Rattle.txs_code_meaning.specs.ActorState.{ActorState, StepResult, begin, fail, view, Verdict, Landed, Outdated, Undone, Denied, commit, open_swap, close_swap, break_swap, RefUpdate, Alters, Commutes, open_update, close_update}
+use Rattle.txs_code_meaning.specs.ActorState.{ActorState, StepResult, begin, fail, view, Verdict, Landed, Outdated, Undone, Denied, commit, open_swap, close_swap, break_swap, RefUpdate, Alters, Commutes, open_update, close_update, cell_at, assign_cell}
 use Rattle.txs_code_meaning.specs.Opening.{fresh}
 use Rattle.txs_theorem_threads.proofs.Callees.{pure_callees, callees_in, function_callees}
 use Rattle.txs_theorem_threads.proofs.Related.{Related, Turns, bind_related, closed_related, Applied, Alike, eval_related, calls_related}
 use Rattle.txs_theorem_threads.proofs.Same.{same_link, itself, from_same, from_alike, bind_same, redone_alike, IsLong, same_long}
 use Rattle.txs_theorem_threads.specs.Behaves.{source, HasEnded}
-use Rattle.txs_theorem_threads.specs.OnReplies.{res, telling, Start, Anew, Behind, concludes, lands_on, closing, attempt, retrying, tries, joined, swap_concludes, swaps_on, updates_ref, updates, on_replies}
+use Rattle.txs_theorem_threads.specs.OnReplies.{res, telling, Start, Anew, Behind, concludes, lands_on, closing, attempt, retrying, tries, joined, swap_concludes, swaps_on, updates_ref, updates, on_replies, if_all_accepted, accepts, puts}
 
 -- two parts that are alike from each state
 abbrev BothAlike : (ActorState → Completion ActorState Value) → (ActorState → Completion ActorState Value) → Type 0
@@ -74,12 +78,23 @@ concludes_alike Denied span v go go1 h s = (refl, refl)
 lands_alike : (span : Span) (v : Value) (go go1 : Start → ActorState → Completion ActorState Value) → GoesAlike go go1 → (ws : Writes) → BothAlike (lands_on span v go ws) (lands_on span v go1 ws)
 lands_alike span v go go1 h ws s = bind_same ActorState (res (commit ws s)) (λ d s1. concludes d span v go s1) (λ d s1. concludes d span v go1 s1) (λ d s1. concludes_alike d span v go go1 h s1)
 
+all_accepted_alike : (validators : Validators) (span : Span) (f g : Applies ActorState) → Applied ActorState ActorState (same_link ActorState) f g → (xs : Writes) (s : ActorState) → Related (same_link ActorState) (if_all_accepted validators span f xs s) (if_all_accepted validators span g xs s)
+all_accepted_alike validators span f g a xs s =
+    bind_related ActorState ActorState (same_link ActorState) (accepted f validators span (merged (set_writes s.done) xs) s) (accepted g validators span (merged (set_writes s.done) xs) s) (λ u s1. Completes xs s1) (λ u s1. Completes xs s1)
+    (accepted_related ActorState ActorState (same_link ActorState) f g a validators span (merged (set_writes s.done) xs) s s refl) (λ u s1 t1 r1. (refl, r1))
+
+accepts_alike : (validators : Validators) (x : CellId) (span : Span) (f g : Applies ActorState) → Applied ActorState ActorState (same_link ActorState) f g → (v : Value) (s t : ActorState) → s ≡ t → Related (same_link ActorState) (accepts validators f x span v s) (accepts validators g x span v t)
+accepts_alike validators x span f g a v s t r = validated_related ActorState ActorState (same_link ActorState) f g a (validator_at validators x.number) span v s t r
+
 closing_alike : (validators : Validators) (cs : List CellId) (span : Span) (f g : Applies ActorState) → Applied ActorState ActorState (same_link ActorState) f g → (v : Value) (go go1 : Start → ActorState → Completion ActorState Value) → GoesAlike go go1 → BothAlike (closing validators cs span f v go) (closing validators cs span g v go1)
-closing_alike validators [] span f g a v go go1 h s = lands_alike span v go go1 h [] s
+closing_alike validators [] span f g a v go go1 h s =
+    telling_alike fail (if_all_accepted validators span f [] s) (if_all_accepted validators span g [] s) (λ xs s1. lands_on span v go xs s1) (λ xs s1. lands_on span v go1 xs s1) (all_accepted_alike validators span f g a [] s) (λ xs s1. lands_alike span v go go1 h xs s1)
 closing_alike validators (c ∷ cs) span f g a v go go1 h s =
-    bind_same ActorState (res (view s)) (λ ws s1. telling fail (redone f (phase_work s1.done) ws s1) (λ xs s2. lands_on span v go xs s2)) (λ ws s1. telling fail (redone g (phase_work s1.done) ws s1) (λ xs s2. lands_on span v go1 xs s2))
-    (λ ws s1. telling_alike fail (redone f (phase_work s1.done) ws s1) (redone g (phase_work s1.done) ws s1) (λ xs s2. lands_on span v go xs s2) (λ xs s2. lands_on span v go1 xs s2)
-    (redone_alike ActorState f g a (phase_work s1.done) ws s1) (λ xs s2. lands_alike span v go go1 h xs s2))
+    bind_same ActorState (res (view s)) (λ ws s1. telling fail (bind (redone f (phase_work s1.done) ws s1) (λ xs s2. if_all_accepted validators span f xs s2)) (λ xs s2. lands_on span v go xs s2))
+    (λ ws s1. telling fail (bind (redone g (phase_work s1.done) ws s1) (λ xs s2. if_all_accepted validators span g xs s2)) (λ xs s2. lands_on span v go1 xs s2))
+    (λ ws s1. telling_alike fail (bind (redone f (phase_work s1.done) ws s1) (λ xs s2. if_all_accepted validators span f xs s2)) (bind (redone g (phase_work s1.done) ws s1) (λ xs s2. if_all_accepted validators span g xs s2)) (λ xs s2. lands_on span v go xs s2) (λ xs s2. lands_on span v go1 xs s2)
+    (bind_related ActorState ActorState (same_link ActorState) (redone f (phase_work s1.done) ws s1) (redone g (phase_work s1.done) ws s1) (λ xs s2. if_all_accepted validators span f xs s2) (λ xs s2. if_all_accepted validators span g xs s2) (redone_alike ActorState f g a (phase_work s1.done) ws s1)
+    (λ xs s2 t2 r2. from_alike ActorState (λ u. if_all_accepted validators span f xs u) (λ u. if_all_accepted validators span g xs u) (all_accepted_alike validators span f g a xs) s2 t2 r2)) (λ xs s2. lands_alike span v go go1 h xs s2))
 
 attempt_alike : (validators : Validators) (from : Start) (span : Span) (x y : ActorState → Completion ActorState Value) → BothAlike x y → (f g : Applies ActorState) → Applied ActorState ActorState (same_link ActorState) f g → (go go1 : Start → ActorState → Completion ActorState Value) → GoesAlike go go1 → BothAlike (attempt validators from span x f go) (attempt validators from span y g go1)
 attempt_alike validators Anew span x y b f g a go go1 h s =
@@ -133,8 +148,16 @@ updates_alike : (validators : Validators) (form : UpdateForm) (inside : Bool) (s
 updates_alike validators Alter inside span c callee vs f g a s = updates_ref_alike Alters inside span c callee vs f g a s
 updates_alike validators Commute inside span c callee vs f g a s = updates_ref_alike (Commutes callee) inside span c callee vs f g a s
 updates_alike validators Swap inside span c callee vs f g a s =
-    allowed_alike (not inside) (swaps_on (suc (length s.todo)) span c (λ x v s1. f callee (v ∷ vs) s1) s) (swaps_on (suc (length s.todo)) span c (λ x v s1. g callee (v ∷ vs) s1) s)
-    (swaps_alike (suc (length s.todo)) span c (λ x v s1. f callee (v ∷ vs) s1) (λ x v s1. g callee (v ∷ vs) s1) (λ x v s1. a callee (v ∷ vs) s1 s1 refl) s)
+    allowed_alike (not inside) (swaps_on (suc (length s.todo)) span c (λ x v s1. bind (f callee (v ∷ vs) s1) (accepts validators f x span)) s) (swaps_on (suc (length s.todo)) span c (λ x v s1. bind (g callee (v ∷ vs) s1) (accepts validators g x span)) s)
+    (swaps_alike (suc (length s.todo)) span c (λ x v s1. bind (f callee (v ∷ vs) s1) (accepts validators f x span)) (λ x v s1. bind (g callee (v ∷ vs) s1) (accepts validators g x span))
+    (λ x v s1. bind_related ActorState ActorState (same_link ActorState) (f callee (v ∷ vs) s1) (g callee (v ∷ vs) s1) (accepts validators f x span) (accepts validators g x span) (a callee (v ∷ vs) s1 s1 refl) (λ w s2 t2 r2. accepts_alike validators x span f g a w s2 t2 r2)) s)
+
+puts_alike : (validators : Validators) (form : PutForm) (inside : Bool) (span : Span) (c w : Value) (f g : Applies ActorState) → Applied ActorState ActorState (same_link ActorState) f g → BothAlike (puts validators form inside span c w f) (puts validators form inside span c w g)
+puts_alike validators RefSet inside span c w f g a s = itself ActorState (puts validators RefSet inside span c w f s)
+puts_alike validators Reset inside span c w f g a s =
+    bind_same ActorState (res (cell_at (form_of.Put Reset) inside span c s)) (λ x s1. bind (accepts validators f x span w s1) (λ v s2. res (assign_cell Reset inside span v x s2))) (λ x s1. bind (accepts validators g x span w s1) (λ v s2. res (assign_cell Reset inside span v x s2)))
+    (λ x s1. bind_related ActorState ActorState (same_link ActorState) (accepts validators f x span w s1) (accepts validators g x span w s1) (λ v s2. res (assign_cell Reset inside span v x s2)) (λ v s2. res (assign_cell Reset inside span v x s2)) (accepts_alike validators x span f g a w s1 s1 refl)
+    (λ v s2 t2 r2. from_same ActorState (λ u. res (assign_cell Reset inside span v x u)) s2 t2 r2))
 
 -- ---- threads
 
@@ -144,7 +167,7 @@ module _ (validators : Validators) (nl nr : ℕ) (functions : List PlainFunction
   replies_alike d = record {
     print = λ inside vs s t m r. from_same ActorState (λ u. (on_replies validators).print inside vs u) s t r;
     look = λ form inside m c s t may i r. from_same ActorState (λ u. (on_replies validators).look form inside m c u) s t r;
-    put = λ form inside m c w s t may i a r. from_same ActorState (λ u. (on_replies validators).put form inside m c w (apply (call_at (λ e. on_replies validators) nr functions d inside) m.span) u) s t r;
+    put = λ form inside m c w s t may i a r. from_alike ActorState _ _ (puts_alike validators form inside m.span c w _ _ (a (λ f. tt))) s t r;
     update = λ form inside m c callee vs s t may i p a r. from_alike ActorState _ _ (updates_alike validators form inside m.span c callee vs _ _ (a (λ f. tt))) s t r;
     send = λ inside m c callee vs s t i p r. from_same ActorState (λ u. (on_replies validators).send inside m c callee vs u) s t r;
     dosync = λ inside m e env s t i p b a r. from_alike ActorState _ _ (joined_alike validators inside (suc reruns) m.span _ _ (λ s1. b tt s1 s1 refl) _ _ (a (λ f. tt) tt)) s t r;

@@ -1,12 +1,13 @@
 -- More turns change nothing of what a thread means on events, but where it needs turns.
 use Rattle.std.proofs.Common.{ℕ, zero, suc, Bool, true, false, List, [], ◌∷◌, None, refl, subst, length, inr, ◌≡◌, ◌≤◌, ◌==◌, ◌&&◌, ◌||◌, if◌then◌else◌}
+use Rattle.txs_theorem_threads.proofs.Accepted.{validated_related, if_accepted_related}
 use Rattle.std.proofs.lemmas.Bool.{false≢true}
-use Rattle.txs_world_protocol.specs.Ask.{Writes, same_writes, same_value, same_actions}
+use Rattle.txs_world_protocol.specs.Ask.{same_writes, same_value, same_actions}
 use Rattle.txs_world_protocol.specs.SeenEvent.{SeenEvent, home}
 use Rattle.txs_world_protocol.specs.declared.event.EventKind.{EventKind}
 use Rattle.txs_world_protocol.specs.declared.event.EventKind.TheVariants as event
 use Rattle.txs_frame.specs.Frame.{PlainTxFrame, set_ref, commuted, commute_ref, set_writes, phase_work}
-use Rattle.txs_value_cell.specs.Cells.{World, Validators, validators_of}
+use Rattle.txs_value_cell.specs.Cells.{World, Validators, validators_of, validator_at}
 use Rattle.txs_value_cell.specs.Forms.{rule, cell_of}
 use Rattle.txs_value_data.specs.Limits.{reruns}
 use Rattle.txs_value_base.specs.declared.fault.Fault.{Fault}
@@ -24,8 +25,8 @@ use Rattle.txs_value_data.specs.declared.value.Value.{Value}
 use Rattle.txs_tree_meaning.specs.Known.{known}
 use Rattle.txs_tree_meaning.specs.Meaning.{Completion, Completes, Recurs, Faults, Retries, Waits, OutOfTurns, Invalid, bind, result_of, Applies, eval, call_at, apply}
 use Rattle.txs_tree_meaning.specs.Sound.{SoundSource, SoundFunctions, in_thread}
-use Rattle.txs_tree_meaning.specs.Thread.{ThreadState, with_tx, eats, meant, faulted, faultless, swaps, over, Transacting, run_of, ends_tx, is_retry, eats_tx, on_events, around, thread_meaning, uneaten}
-use Rattle.txs_tree_meaning.specs.Transaction.{TxState, current, taken, done_as, tx_update, in_transaction, tx_start, tx_meaning, valued, merged, commute_writes, final_writes}
+use Rattle.txs_tree_meaning.specs.Thread.{ThreadState, with_tx, eats, meant, faulted, faultless, swaps, over, Transacting, run_of, ends_tx, is_retry, eats_tx, on_events, around, thread_meaning, uneaten, accepts, resets}
+use Rattle.txs_tree_meaning.specs.Transaction.{TxState, current, taken, done_as, tx_update, in_transaction, tx_start, tx_meaning, valued, merged, commute_writes, final_writes, if_accepted}
 use Rattle.txs_tree_meaning.specs.Tree.{Mark, Tree, PlainFunction, ThreadSource}
 use Rattle.txs_theorem_threads.proofs.Callees.{Keeps, pure_callees, callees_in, function_callees}
 use Rattle.txs_theorem_threads.proofs.Related.{Related, Turns, bind_related, closed_related, Applied, Alike, eval_related, calls_related}
@@ -119,8 +120,8 @@ over_alike t Invalid _ f g broke h k = absurd (false≢true h)
 
 final_alike : (validators : Validators) (span : Span) (f g : Applies ThreadState) → Applied ThreadState ThreadState (same_link ThreadState) f g → (w : PlainTxFrame) (C : World) (t : ThreadState) → Related (same_link ThreadState) (final_writes f validators span w C t) (final_writes g validators span w C t)
 final_alike validators span f g a w C t =
-    let now : Writes → ThreadState → Completion ThreadState Writes = λ ws t1. Completes (merged (set_writes w) ws) t1 in
-    bind_related ThreadState ThreadState (same_link ThreadState) (commute_writes f w C t) (commute_writes g w C t) now now (redone_alike ThreadState f g a (phase_work w) (valued (commuted w) C) t) (λ ws s1 t1 r1. from_same ThreadState (now ws) s1 t1 r1)
+    bind_related ThreadState ThreadState (same_link ThreadState) (commute_writes f w C t) (commute_writes g w C t) (λ ws t1. if_accepted f validators span (merged (set_writes w) ws) t1) (λ ws t1. if_accepted g validators span (merged (set_writes w) ws) t1)
+    (redone_alike ThreadState f g a (phase_work w) (valued (commuted w) C) t) (λ ws s1 t1 r1. if_accepted_related ThreadState ThreadState (same_link ThreadState) f g a validators span (merged (set_writes w) ws) s1 t1 r1)
 
 -- what stays to come where turns don't suffice
 uneaten_alike : (l : List SeenEvent) (x y : Completion ThreadState Value) → Related (same_link ThreadState) x y → Related (same_link ThreadState) (uneaten l x) (uneaten l y)
@@ -191,9 +192,15 @@ module _ (p : ThreadSource) (sound : SoundSource p) (nl nr : ℕ) (le : nl ≤ n
   look_alike Deref d inside m c t = itself ThreadState ((on_events (around p nl) d).look Deref inside m c t)
   look_alike Ensure d inside m c t = refl
 
-  put_alike : (form : PutForm) (d : ℕ) (inside : Bool) (m : Mark) (c w : Value) (f g : Applies ThreadState) (t : ThreadState) → Related (same_link ThreadState) ((on_events (around p nl) d).put form inside m c w f t) ((on_events (around p nr) d).put form inside m c w g t)
-  put_alike RefSet d inside m c w f g t = refl
-  put_alike Reset d inside m c w f g t = itself ThreadState ((on_events (around p nl) d).put Reset inside m c w f t)
+  accepts_alike : (x : CellId) (span : Span) (f g : Applies ThreadState) → Applied ThreadState ThreadState (same_link ThreadState) f g → (v : Value) (s t : ThreadState) → s ≡ t → Related (same_link ThreadState) (accepts (around p nl) f x span v s) (accepts (around p nr) g x span v t)
+  accepts_alike x span f g a v s t r = validated_related ThreadState ThreadState (same_link ThreadState) f g a (validator_at (validators_of p.cells) x.number) span v s t r
+
+  put_alike : (form : PutForm) (d : ℕ) (inside : Bool) (m : Mark) (c w : Value) (f g : Applies ThreadState) → Applied ThreadState ThreadState (same_link ThreadState) f g → (t : ThreadState) → Related (same_link ThreadState) ((on_events (around p nl) d).put form inside m c w f t) ((on_events (around p nr) d).put form inside m c w g t)
+  put_alike RefSet d inside m c w f g a t = refl
+  put_alike Reset d inside m c w f g a t =
+      bind_same ThreadState (result_of (cell_of (rule (form_of.Put Reset)) false c) m.span t) _ _
+      (λ x t1. bind_related ThreadState ThreadState (same_link ThreadState) (accepts (around p nl) f x m.span w t1) (accepts (around p nr) g x m.span w t1) (λ v t2. eats (home p.cells x) (λ e t3. resets v e.kind t3) t2.todo t2) (λ v t2. eats (home p.cells x) (λ e t3. resets v e.kind t3) t2.todo t2)
+      (accepts_alike x m.span f g a w t1 t1 refl) (λ v s2 t2 r2. from_same ThreadState (λ u. eats (home p.cells x) (λ e t3. resets v e.kind t3) u.todo u) s2 t2 r2))
 
   updates_alike : (form : UpdateForm) (d : ℕ) (inside : Bool) (m : Mark) (c : Value) (callee : Callee) (vs : List Value) (f g : Applies ThreadState) → Applied ThreadState ThreadState (same_link ThreadState) f g → (t : ThreadState)
       → Related (same_link ThreadState) ((on_events (around p nl) d).update form inside m c callee vs f t) ((on_events (around p nr) d).update form inside m c callee vs g t)
@@ -201,7 +208,9 @@ module _ (p : ThreadSource) (sound : SoundSource p) (nl nr : ℕ) (le : nl ≤ n
   updates_alike Commute d inside m c callee vs f g a t = refl
   updates_alike Swap d inside m c callee vs f g a t =
       bind_same ThreadState (result_of (cell_of (rule (form_of.Update Swap)) false c) m.span t) _ _
-      (λ x t1. eats_alike (home p.cells x) _ _ (λ e t2. swaps_alike x (λ v t3. f callee (v ∷ vs) t3) (λ v t3. g callee (v ∷ vs) t3) (λ v t3. a callee (v ∷ vs) t3 t3 refl) e.kind e.R e.C t2) t1.todo t1)
+      (λ x t1. eats_alike (home p.cells x) _ _
+      (λ e t2. swaps_alike x (λ v t3. bind (f callee (v ∷ vs) t3) (accepts (around p nl) f x m.span)) (λ v t3. bind (g callee (v ∷ vs) t3) (accepts (around p nr) g x m.span))
+      (λ v t3. bind_related ThreadState ThreadState (same_link ThreadState) (f callee (v ∷ vs) t3) (g callee (v ∷ vs) t3) (accepts (around p nl) f x m.span) (accepts (around p nr) g x m.span) (a callee (v ∷ vs) t3 t3 refl) (λ w s4 t4 r4. accepts_alike x m.span f g a w s4 t4 r4)) e.kind e.R e.C t2) t1.todo t1)
 
   dosync_alike : (d : ℕ) (m : Mark) (e : Tree) (env : List Value) → Keeps (pure_callees (known p.functions)) true e → (f g : Applies ThreadState) → Applied ThreadState ThreadState (same_link ThreadState) f g → (t : ThreadState)
       → Related (same_link ThreadState) (eats_tx (suc reruns) (record { mark = m; body = e; locals = env; on = tx_meaning nl p.functions d e env; validators = validators_of p.cells }) f t.todo t)
@@ -213,7 +222,7 @@ module _ (p : ThreadSource) (sound : SoundSource p) (nl nr : ℕ) (le : nl ≤ n
   events_alike d = record {
     print = λ inside vs s t m r. from_same ThreadState (λ u. (on_events (around p nl) d).print inside vs u) s t r;
     look = λ form inside m c s t may i r. from_alike ThreadState _ _ (look_alike form d inside m c) s t r;
-    put = λ form inside m c w s t may i a r. from_alike ThreadState _ _ (put_alike form d inside m c w (apply (call_at (on_events (around p nl)) nl p.functions d inside) m.span) (apply (call_at (on_events (around p nr)) nr p.functions d inside) m.span)) s t r;
+    put = λ form inside m c w s t may i a r. from_alike ThreadState _ _ (put_alike form d inside m c w _ _ (a (λ f. tt))) s t r;
     update = λ form inside m c callee vs s t may i pure a r. from_alike ThreadState _ _ (updates_alike form d inside m c callee vs _ _ (a (λ f. tt))) s t r;
     send = λ inside m c callee vs s t i pure r. from_same ThreadState (λ u. (on_events (around p nl) d).send inside m c callee vs u) s t r;
     dosync = λ inside m e env s t i pure b a r. from_alike ThreadState _ _ (dosync_alike d m e env pure _ _ (a (λ f. tt) tt)) s t r;

@@ -64,7 +64,7 @@ callee_carried fx n inside functions sound d span (CoreOp op) vs s pure = result
 callee_carried fx n inside functions sound d span (Function f) vs s pure =
     agrees_carried s (call_at (λ b. no_effects) n functions d false f vs tt) (call_at fx n functions d inside f vs s) (call_agrees s fx n inside functions sound d f vs pure)
 
-bind_carried : {S A B : Type 0} (s : S) (p : Completion (Unit {0}) A) (go : A → S → Completion S B) (on : A → Unit {0} → Completion (Unit {0}) B) → ((a : A) → go a s ≡ carried s (on a tt)) → bind (carried s p) go ≡ carried s (bind p on)
+pub bind_carried : {S A B : Type 0} (s : S) (p : Completion (Unit {0}) A) (go : A → S → Completion S B) (on : A → Unit {0} → Completion (Unit {0}) B) → ((a : A) → go a s ≡ carried s (on a tt)) → bind (carried s p) go ≡ carried s (bind p on)
 bind_carried s (Completes a tt) go on h = h a
 bind_carried s (Recurs vs u) go on h = refl
 bind_carried s (Faults f u) go on h = refl
@@ -73,7 +73,7 @@ bind_carried s (Waits u) go on h = refl
 bind_carried s (OutOfTurns u) go on h = refl
 bind_carried s Invalid go on h = refl
 
-bind_quiet : {A B : Type 0} (p : Completion (Unit {0}) A) (on : A → Unit {0} → Completion (Unit {0}) B) → IsQuiet p → ((a : A) → IsQuiet (on a tt)) → IsQuiet (bind p on)
+pub bind_quiet : {A B : Type 0} (p : Completion (Unit {0}) A) (on : A → Unit {0} → Completion (Unit {0}) B) → IsQuiet p → ((a : A) → IsQuiet (on a tt)) → IsQuiet (bind p on)
 bind_quiet (Completes a tt) on q h = h a
 bind_quiet (Recurs vs u) on q h = tt
 bind_quiet (Faults f u) on q h = tt

@@ -112,7 +112,7 @@ module _ (S T : Type 0) (k : Link S T) where
   pub closed_related : {A : Type 0} (x : Completion S A) (y : Completion T A) → Related k x y → Related k (closed x) (closed y)
   closed_related x y h = again_related x y (λ vs s. Invalid) (λ vs t. Invalid) h (λ vs s t r. k.invalid_both)
 
-  choose_related : {A : Type 0} (v : Value) (x1 x2 : Completion S A) (y1 y2 : Completion T A) → Related k x1 y1 → Related k x2 y2 → Related k (choose v x1 x2) (choose v y1 y2)
+  pub choose_related : {A : Type 0} (v : Value) (x1 x2 : Completion S A) (y1 y2 : Completion T A) → Related k x1 y1 → Related k x2 y2 → Related k (choose v x1 x2) (choose v y1 y2)
   choose_related Nil x1 x2 y1 y2 h1 h2 = h2
   choose_related (Truth false) x1 x2 y1 y2 h1 h2 = h2
   choose_related (Truth true) x1 x2 y1 y2 h1 h2 = h1

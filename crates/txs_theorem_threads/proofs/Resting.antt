@@ -6,7 +6,7 @@ use Rattle.txs_world_protocol.specs.declared.ask.Ask.TheVariants as ask
 use Rattle.txs_world_protocol.specs.declared.ask.Reply.{Reply}
 use Rattle.txs_frame.specs.Frame.{commuted, set_writes, set_ref}
 use Rattle.txs_frame.specs.declared.frame.Commute.{Commute}
-use Rattle.txs_value_cell.specs.Cells.{Validators, validators_of}
+use Rattle.txs_value_cell.specs.Cells.{Validators, validators_of, validator_at}
 use Rattle.txs_value_cell.specs.Forms.{rule, cell_of}
 use Rattle.txs_value_data.specs.Limits.{reruns}
 use Rattle.txs_value_cell.specs.declared.action.Action.{Action}
@@ -31,13 +31,14 @@ use Rattle.txs_value_data.specs.declared.value.Value.TheVariants.{Nil}
 use Rattle.txs_tree_meaning.specs.Known.{known}
 use Rattle.txs_tree_meaning.specs.Meaning.{Completion, Completes, Recurs, Faults, Retries, Waits, OutOfTurns, Invalid, bind, closed, allowed, Applies, apply, eval, call_at}
 use Rattle.txs_tree_meaning.specs.Sound.{SoundSource, in_thread}
-use Rattle.txs_tree_meaning.specs.Transaction.{value_or, redone}
+use Rattle.txs_tree_meaning.specs.Transaction.{value_or, redone, merged, validated, accepted}
 use Rattle.txs_tree_meaning.specs.Tree.{PlainFunction, ThreadSource}
 use Rattle.txs_code_meaning.specs.Opening.{fresh}
 use Rattle.txs_theorem_threads.proofs.Callees.{pure_callees, callees_in, function_callees}
 use Rattle.txs_theorem_threads.proofs.Related.{Link, Related, closed_related, Applied, Alike, eval_related, calls_related}
+use Rattle.txs_theorem_threads.proofs.Accepted.{validated_related, accepted_related}
 use Rattle.txs_theorem_threads.specs.Behaves.{source}
-use Rattle.txs_theorem_threads.specs.OnReplies.{res, telling, Start, Anew, Behind, concludes, lands_on, closing, attempt, retrying, tries, joined, swap_concludes, swaps_on, updates_ref, updates, on_replies}
+use Rattle.txs_theorem_threads.specs.OnReplies.{res, telling, Start, Anew, Behind, concludes, lands_on, closing, attempt, retrying, tries, joined, swap_concludes, swaps_on, updates_ref, updates, on_replies, if_all_accepted, accepts, puts}
 
 -- no action is in hand where none was before
 abbrev pub Rests : ActorState → ActorState → Type 0
@@ -278,6 +279,64 @@ redone_rests f h (c ∷ cs) ws s e =
     bind_rests (f c.callee (value_or (buffered ws c.cell.number) Nil ∷ c.args) s) (λ v s1. redone f cs (with_write ws c.cell v) s1) (h c.callee (value_or (buffered ws c.cell.number) Nil ∷ c.args) s e)
     (λ v. redone_rests f h cs (with_write ws c.cell v))
 
+-- ---- two meanings that are one
+
+-- a state with itself, where no action is in hand
+abbrev rested_link : Link ActorState ActorState
+rested_link = record {
+  rel = λ s t. (s ≡ t) × (s.acting ≡ None);
+  faults = λ s t. s.acting ≡ None;
+  waits = λ s o. Unit {0};
+  out_of_turns = λ s o. Unit {0};
+  retries = λ s o. s.acting ≡ None;
+  invalid = λ b. Unit {0};
+  waits_loose = λ s h o. tt;
+  out_of_turns_loose = λ s h o. tt;
+  retries_loose = λ s h o. h;
+  faults_of = λ s t r. r.1;
+  out_of_turns_of = λ s t r. tt;
+  invalid_both = tt;
+  invalid_loose = λ h b. tt;
+}
+
+with_itself : {A : Type 0} (x : Completion ActorState A) → EndsRested x → Related rested_link x x
+with_itself (Completes a s) h = (refl, (refl, h))
+with_itself (Recurs vs s) h = (refl, (refl, h))
+with_itself (Faults f s) h = (refl, h)
+with_itself (Retries s) h = h
+with_itself (Waits s) h = tt
+with_itself (OutOfTurns s) h = tt
+with_itself Invalid h = tt
+
+ends_rested : {A : Type 0} (x y : Completion ActorState A) → Related rested_link x y → EndsRested x
+ends_rested (Completes a s) (Completes b t) h = h.1.1
+ends_rested (Completes a s) _ h = absurd h
+ends_rested (Recurs vs s) (Recurs us t) h = h.1.1
+ends_rested (Recurs vs s) _ h = absurd h
+ends_rested (Faults f s) (Faults g t) h = h.1
+ends_rested (Faults f s) _ h = absurd h
+ends_rested (Retries s) y h = h
+ends_rested (Waits s) y h = tt
+ends_rested (OutOfTurns s) y h = tt
+ends_rested Invalid y h = tt
+
+along : (go : ActorState → Completion ActorState Value) (s t : ActorState) → rested_link.rel s t → GoesRested go → Related rested_link (go s) (go t)
+along go s t r h = subst (λ u. Related rested_link (go s) (go u)) r.0 (with_itself (go s) (h s r.1))
+
+-- what validators come to
+to_itself : (f : Applies ActorState) → CalleesRest f → Applied ActorState ActorState rested_link f f
+to_itself f h c vs s t r = along (f c vs) s t r (h c vs)
+
+validated_rests : (f : Applies ActorState) → CalleesRest f → (o : Option Callee) (span : Span) (v : Value) → GoesRested (validated f o span v)
+validated_rests f h o span v s e = ends_rested (validated f o span v s) (validated f o span v s) (validated_related ActorState ActorState rested_link f f (to_itself f h) o span v s s (refl, e))
+
+accepted_rests : (f : Applies ActorState) → CalleesRest f → (vs : Validators) (span : Span) (ws : Writes) → GoesRested (accepted f vs span ws)
+accepted_rests f h vs span ws s e = ends_rested (accepted f vs span ws s) (accepted f vs span ws s) (accepted_related ActorState ActorState rested_link f f (to_itself f h) vs span ws s s (refl, e))
+
+all_accepted_rests : (f : Applies ActorState) → CalleesRest f → (vs : Validators) (span : Span) (xs : Writes) → GoesRested (if_all_accepted vs span f xs)
+all_accepted_rests f h vs span xs s e =
+    bind_rests (accepted f vs span (merged (set_writes s.done) xs) s) (λ u s1. Completes xs s1) (accepted_rests f h vs span (merged (set_writes s.done) xs) s e) (λ u s1 e1. e1)
+
 -- ---- tries
 
 module _ (validators : Validators) (span : Span) (body : ActorState → Completion ActorState Value) (f : Applies ActorState) (bodies : GoesRested body) (callees : CalleesRest f) where
@@ -292,10 +351,11 @@ module _ (validators : Validators) (span : Span) (body : ActorState → Completi
     lands_rest v ws s e = bind_rests (res (commit ws s)) (λ d s1. concludes d span v go s1) (res_rests s (commit ws s) e (commit_rests ws s)) (λ d. concludes_rests d v)
 
     closing_rests : (cs : List CellId) (v : Value) → GoesRested (closing validators cs span f v go)
-    closing_rests [] v s e = lands_rest v [] s e
+    closing_rests [] v s e = telling_rests fail (if_all_accepted validators span f [] s) (λ xs s1. lands_on span v go xs s1) fail_rests (all_accepted_rests f callees validators span [] s e) (λ xs. lands_rest v xs)
     closing_rests (c ∷ cs) v s e =
-        bind_rests (res (view s)) (λ ws s1. telling fail (redone f (phase_work s1.done) ws s1) (λ xs s2. lands_on span v go xs s2)) (res_rests s (view s) e (view_rests s))
-        (λ ws s1 e1. telling_rests fail (redone f (phase_work s1.done) ws s1) (λ xs s2. lands_on span v go xs s2) fail_rests (redone_rests f callees (phase_work s1.done) ws s1 e1) (λ xs. lands_rest v xs))
+        bind_rests (res (view s)) (λ ws s1. telling fail (bind (redone f (phase_work s1.done) ws s1) (λ xs s2. if_all_accepted validators span f xs s2)) (λ xs s2. lands_on span v go xs s2)) (res_rests s (view s) e (view_rests s))
+        (λ ws s1 e1. telling_rests fail (bind (redone f (phase_work s1.done) ws s1) (λ xs s2. if_all_accepted validators span f xs s2)) (λ xs s2. lands_on span v go xs s2) fail_rests
+        (bind_rests (redone f (phase_work s1.done) ws s1) (λ xs s2. if_all_accepted validators span f xs s2) (redone_rests f callees (phase_work s1.done) ws s1 e1) (λ xs. all_accepted_rests f callees validators span xs)) (λ xs. lands_rest v xs))
 
     attempt_rests : (from : Start) → GoesRested (attempt validators from span body f go)
     attempt_rests Anew s e =
@@ -351,51 +411,18 @@ updates_rest : (validators : Validators) (form : UpdateForm) (inside : Bool) (sp
 updates_rest validators update_of.Alter inside span c callee vs f h s e = updates_ref_rests Alters inside span c callee vs f h s e
 updates_rest validators update_of.Commute inside span c callee vs f h s e = updates_ref_rests (Commutes callee) inside span c callee vs f h s e
 updates_rest validators update_of.Swap inside span c callee vs f h s e =
-    allowed_rests (not inside) (swaps_on (suc (length s.todo)) span c (λ x v s1. f callee (v ∷ vs) s1) s) (swaps_rest (suc (length s.todo)) span c (λ x v s1. f callee (v ∷ vs) s1) (λ x v. h callee (v ∷ vs)) s e)
+    allowed_rests (not inside) (swaps_on (suc (length s.todo)) span c (λ x v s1. bind (f callee (v ∷ vs) s1) (accepts validators f x span)) s)
+    (swaps_rest (suc (length s.todo)) span c (λ x v s1. bind (f callee (v ∷ vs) s1) (accepts validators f x span))
+    (λ x v s1 e1. bind_rests (f callee (v ∷ vs) s1) (accepts validators f x span) (h callee (v ∷ vs) s1 e1) (λ w. validated_rests f h (validator_at validators x.number) span w)) s e)
+
+puts_rest : (validators : Validators) (form : PutForm) (inside : Bool) (span : Span) (c w : Value) (f : Applies ActorState) → CalleesRest f → GoesRested (puts validators form inside span c w f)
+puts_rest validators RefSet inside span c w f h s e = res_rests s (assign RefSet inside span c w s) e (assign_rests RefSet inside span c w s)
+puts_rest validators Reset inside span c w f h s e =
+    bind_rests (res (cell_at (form.Put Reset) inside span c s)) (λ a s1. bind (accepts validators f a span w s1) (λ v s2. res (assign_cell Reset inside span v a s2))) (res_rests s (cell_at (form.Put Reset) inside span c s) e (cell_rests (form.Put Reset) inside span c s))
+    (λ a s1 e1. bind_rests (accepts validators f a span w s1) (λ v s2. res (assign_cell Reset inside span v a s2)) (validated_rests f h (validator_at validators a.number) span w s1 e1)
+    (λ v s2 e2. res_rests s2 (assign_cell Reset inside span v a s2) e2 (assign_cell_rests Reset inside span v a s2)))
 
 -- ---- threads
-
--- a state with itself, where no action is in hand
-abbrev rested_link : Link ActorState ActorState
-rested_link = record {
-  rel = λ s t. (s ≡ t) × (s.acting ≡ None);
-  faults = λ s t. s.acting ≡ None;
-  waits = λ s o. Unit {0};
-  out_of_turns = λ s o. Unit {0};
-  retries = λ s o. s.acting ≡ None;
-  invalid = λ b. Unit {0};
-  waits_loose = λ s h o. tt;
-  out_of_turns_loose = λ s h o. tt;
-  retries_loose = λ s h o. h;
-  faults_of = λ s t r. r.1;
-  out_of_turns_of = λ s t r. tt;
-  invalid_both = tt;
-  invalid_loose = λ h b. tt;
-}
-
-with_itself : {A : Type 0} (x : Completion ActorState A) → EndsRested x → Related rested_link x x
-with_itself (Completes a s) h = (refl, (refl, h))
-with_itself (Recurs vs s) h = (refl, (refl, h))
-with_itself (Faults f s) h = (refl, h)
-with_itself (Retries s) h = h
-with_itself (Waits s) h = tt
-with_itself (OutOfTurns s) h = tt
-with_itself Invalid h = tt
-
-ends_rested : {A : Type 0} (x y : Completion ActorState A) → Related rested_link x y → EndsRested x
-ends_rested (Completes a s) (Completes b t) h = h.1.1
-ends_rested (Completes a s) _ h = absurd h
-ends_rested (Recurs vs s) (Recurs us t) h = h.1.1
-ends_rested (Recurs vs s) _ h = absurd h
-ends_rested (Faults f s) (Faults g t) h = h.1
-ends_rested (Faults f s) _ h = absurd h
-ends_rested (Retries s) y h = h
-ends_rested (Waits s) y h = tt
-ends_rested (OutOfTurns s) y h = tt
-ends_rested Invalid y h = tt
-
-along : (go : ActorState → Completion ActorState Value) (s t : ActorState) → rested_link.rel s t → GoesRested go → Related rested_link (go s) (go t)
-along go s t r h = subst (λ u. Related rested_link (go s) (go u)) r.0 (with_itself (go s) (h s r.1))
 
 module _ (validators : Validators) (n : ℕ) (functions : List PlainFunction) where
   abbrev calls : ℕ → Bool → ℕ → List Value → ActorState → Completion ActorState Value
@@ -408,7 +435,7 @@ module _ (validators : Validators) (n : ℕ) (functions : List PlainFunction) wh
   replies_rest d = record {
     print = λ inside vs s t m r. along (λ u. (on_replies validators).print inside vs u) s t r (λ u e. res_rests u (print inside vs u) e (print_rests inside vs u));
     look = λ form inside m c s t may i r. along (λ u. (on_replies validators).look form inside m c u) s t r (λ u e. res_rests u (read form inside m.span c u) e (read_rests form inside m.span c u));
-    put = λ form inside m c w s t may i a r. along (λ u. (on_replies validators).put form inside m c w (apply (calls d inside) m.span) u) s t r (λ u e. res_rests u (assign form inside m.span c w u) e (assign_rests form inside m.span c w u));
+    put = λ form inside m c w s t may i a r. along (λ u. (on_replies validators).put form inside m c w (apply (calls d inside) m.span) u) s t r (puts_rest validators form inside m.span c w (apply (calls d inside) m.span) (callees_rest (apply (calls d inside) m.span) (a (λ f. tt))));
     update = λ form inside m c callee vs s t may i p a r. along (λ u. (on_replies validators).update form inside m c callee vs (apply (calls d inside) m.span) u) s t r (updates_rest validators form inside m.span c callee vs (apply (calls d inside) m.span) (callees_rest (apply (calls d inside) m.span) (a (λ f. tt))));
     send = λ inside m c callee vs s t i p r. along (λ u. (on_replies validators).send inside m c callee vs u) s t r (λ u e. res_rests u (send_to inside m.span c callee vs u) e (send_rests inside m.span c callee vs u));
     dosync = λ inside m e env s t i p b a r.

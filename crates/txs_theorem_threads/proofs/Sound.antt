@@ -8,7 +8,7 @@ use Rattle.txs_world_protocol.specs.declared.ask.Reply.{Reply}
 use Rattle.txs_world_protocol.specs.declared.ask.Reply.TheVariants as reply
 use Rattle.txs_frame.specs.Frame.{with_cell, is_commuted, commuted, phase_work, set_writes}
 use Rattle.txs_frame.specs.declared.frame.Commute.{Commute}
-use Rattle.txs_value_cell.specs.Cells.{World, Validators, validators_of}
+use Rattle.txs_value_cell.specs.Cells.{World, Validators, validators_of, validator_at}
 use Rattle.txs_value_cell.specs.Forms.{rule, cell_of}
 use Rattle.txs_value_data.specs.Limits.{reruns}
 use Rattle.txs_value_cell.specs.declared.action.Action.{Action}
@@ -27,21 +27,22 @@ use Rattle.txs_value_cell.specs.declared.form.UpdateForm.TheVariants as update_o
 use Rattle.txs_value_base.specs.declared.op.Callee.{Callee}
 use Rattle.txs_value_data.specs.declared.value.CellId.{CellId}
 use Rattle.txs_value_data.specs.declared.value.Value.{Value}
-use Rattle.txs_value_data.specs.declared.value.Value.TheVariants.{Nil}
+use Rattle.txs_value_data.specs.declared.value.Value.TheVariants.{Nil, Truth, Int, Key, Text, Vector, Cell}
 use Rattle.txs_tree_meaning.specs.Known.{known}
 use Rattle.txs_tree_meaning.specs.Meaning.{Completion, Completes, Recurs, Faults, Retries, Waits, OutOfTurns, Invalid, bind, Applies}
 use Rattle.txs_tree_meaning.specs.Sound.{MayStand, SoundCallee, SoundSource}
-use Rattle.txs_tree_meaning.specs.Transaction.{value_or, valued, redone}
+use Rattle.txs_tree_meaning.specs.Transaction.{value_or, valued, merged, redone, judged, validated, accepted}
 use Rattle.txs_tree_meaning.specs.Tree.{Mark, Tree, ThreadSource}
 use Rattle.txs_code_meaning.specs.ActorState.{ActorState, Replied, asks, StepResult, Continue, on_step, step_of, heard, value_there, newest_value, just_done, read_point, views, opened, commit_verdict, swap_verdict, send_verdict, begun, begin, fail, buffered_or, look, paired, viewed, view, commit, peek, SwapInHand, open_atom, close_swap, break_swap, reset_atom, sent, send_now, InHand, send_or_hold, set_own, close_own, read_cell, assign_cell, send_action, print}
 use Rattle.txs_code_meaning.specs.Opening.{fresh}
-use Rattle.txs_theorem_threads.proofs.Meant.{Suits, MeantAs, where_inside, Any, Proper, none_some, zone_of, bind_meant, SoundForms, main_meant}
+use Rattle.txs_theorem_threads.proofs.Accepted.{OfValidator, AllValidators, validator_such, cells_such, judged_carried}
+use Rattle.txs_theorem_threads.proofs.Meant.{Suits, Valid, MeantAs, where_inside, Any, Proper, none_some, zone_of, bind_meant, SoundForms, main_meant}
 use Rattle.txs_theorem_threads.proofs.Quiet.{carried, Each, each_both, each_phase}
 use Rattle.txs_theorem_threads.proofs.Tries.{paired_valued}
 use Rattle.txs_theorem_threads.proofs.Worlds.{answered, answered_less, fit_splits, res_step, step_then}
 use Rattle.txs_theorem_threads.specs.Behaves.{source, IsMeant, IsProper}
 use Rattle.txs_theorem_threads.specs.Follows.{IsEverMeant}
-use Rattle.txs_theorem_threads.specs.OnReplies.{res, telling, Start, Anew, Behind, concludes, lands_on, closing, attempt, retrying, tries, swap_concludes, swaps_on, on_replies}
+use Rattle.txs_theorem_threads.specs.OnReplies.{res, telling, Start, Anew, Behind, concludes, lands_on, if_all_accepted, accepts, closing, attempt, retrying, tries, swap_concludes, swaps_on, on_replies}
 use Rattle.txs_theorem_threads.specs.RepliesFit.{Out, In, Viewed, WithSwap, ReplyFits, RepliesFit}
 
 -- ---- commutes
@@ -70,7 +71,54 @@ redone_proper P f h (c ∷ cs) all ws =
     go (OutOfTurns u) p same rest = (OutOfTurns tt, tt, λ s. ap (λ x. bind x (λ w s1. redone f cs (with_write ws c.cell w) s1)) (same s))
     go Invalid p same rest = absurd p
 
-module _ (cells : List CellDefinition) where
+-- ---- validators
+
+judged_proper : (answer : Value) (span : Span) (v : Value) → IsProper (judged answer span v tt)
+judged_proper Nil span v = tt
+judged_proper (Truth false) span v = tt
+judged_proper (Truth true) span v = tt
+judged_proper (Int z) span v = tt
+judged_proper (Key bs) span v = tt
+judged_proper (Text bs) span v = tt
+judged_proper (Vector vs) span v = tt
+judged_proper (Cell c) span v = tt
+
+-- what is proper goes on with what is proper
+bind_proper : {A B : Type 0} (q : Completion (Unit {0}) A) → IsProper q → (x : ActorState → Completion ActorState A) → ((s : ActorState) → x s ≡ carried s q) → (go : A → ActorState → Completion ActorState B)
+    → ((a : A) → (r : Completion (Unit {0}) B) × IsProper r × ((s : ActorState) → go a s ≡ carried s r)) → (r : Completion (Unit {0}) B) × IsProper r × ((s : ActorState) → bind (x s) go ≡ carried s r)
+bind_proper (Completes a u) p x same go rest = ((rest a).0, (rest a).1, λ s. ap (λ y. bind y go) (same s) ∙ (rest a).2 s)
+bind_proper (Recurs vs u) p x same go rest = absurd p
+bind_proper (Faults e u) p x same go rest = (Faults e tt, tt, λ s. ap (λ y. bind y go) (same s))
+bind_proper (Retries u) p x same go rest = absurd p
+bind_proper (Waits u) p x same go rest = absurd p
+bind_proper (OutOfTurns u) p x same go rest = (OutOfTurns tt, tt, λ s. ap (λ y. bind y go) (same s))
+bind_proper Invalid p x same go rest = absurd p
+
+-- what gives a proper answer from any state, and leaves the state as it was
+abbrev IsMadeSo : (A : Type 0) → (ActorState → Completion ActorState A) → Type 0
+IsMadeSo A x = (q : Completion (Unit {0}) A) × IsProper q × ((s : ActorState) → x s ≡ carried s q)
+
+module _ (V : Callee → Type 0) (f : Applies ActorState) (valid : Valid ActorState V f) where
+  -- a value that a validator looks at has a proper answer
+  validated_proper : (o : Option Callee) → OfValidator V o → (span : Span) (v : Value) → IsMadeSo Value (validated f o span v)
+  validated_proper None p span v = (Completes v tt, tt, λ s. refl)
+  validated_proper (Some c) p span v =
+      let one = valid c v p in
+      bind_proper one.answer one.proper (λ s. f c (v ∷ []) s) one.same (λ answer s1. judged answer span v s1) (λ answer. (judged answer span v tt, judged_proper answer span v, λ s. (judged_carried s answer span v).0))
+
+  -- so have all
+  accepted_proper : (vs : Validators) → AllValidators V vs → (span : Span) (ws : Writes) → IsMadeSo (Unit {0}) (accepted f vs span ws)
+  accepted_proper vs all span [] = (Completes tt tt, tt, λ s. refl)
+  accepted_proper vs all span (w ∷ ws) =
+      let o = validator_at vs w.0.number in
+      let one = validated_proper o (validator_such V vs w.0.number all) span w.1 in
+      bind_proper one.0 one.1 (λ s. validated f o span w.1 s) one.2 (λ v s1. accepted f vs span ws s1) (λ v. accepted_proper vs all span ws)
+
+  -- what a callee gives, where the validator accepts it
+  made_proper : (o : Option Callee) → OfValidator V o → (span : Span) (c : Callee) (args : List Value) → Proper ActorState f c args → IsMadeSo Value (λ s. bind (f c args s) (λ v s1. validated f o span v s1))
+  made_proper o p span c args one = bind_proper one.answer one.proper (λ s. f c args s) one.same (λ v s1. validated f o span v s1) (λ v. validated_proper o p span v)
+
+module _ (cells : List CellDefinition) (V : Callee → Type 0) (checks : AllValidators V (validators_of cells)) where
   abbrev validators : Validators
   validators = validators_of cells
 
@@ -88,18 +136,19 @@ module _ (cells : List CellDefinition) where
     on_cell_meant inside (Ok c) span go s h k = k c
     on_cell_meant inside (Err e) span go s h k = where_inside inside (H inside s) h
 
+    -- a proper answer, and what follows it
+    answer_then : (inside : Bool) (q : Completion (Unit {0}) Value) → IsProper q → (go : Value → ActorState → Completion ActorState Value) (s : ActorState) → H inside s → ((w : Value) → MeantAs H inside None Any (go w s)) → MeantAs H inside None Any (bind (carried s q) go)
+    answer_then inside (Completes w u) z go s h k = k w
+    answer_then inside (Recurs us u) z go s h k = absurd z
+    answer_then inside (Faults e u) z go s h k = where_inside inside (H inside s) h
+    answer_then inside (Retries u) z go s h k = absurd z
+    answer_then inside (Waits u) z go s h k = absurd z
+    answer_then inside (OutOfTurns u) z go s h k = tt
+    answer_then inside Invalid z go s h k = absurd z
+
     -- a pure callee, and what follows it
     proper_meant : (inside : Bool) (f : Applies ActorState) (c : Callee) (vs : List Value) → Proper ActorState f c vs → (go : Value → ActorState → Completion ActorState Value) (s : ActorState) → H inside s → ((w : Value) → MeantAs H inside None Any (go w s)) → MeantAs H inside None Any (bind (f c vs s) go)
-    proper_meant inside f c vs p go s h k = subst (λ x. MeantAs H inside None Any (bind x go)) (sym (p.same s)) (after p.answer p.proper)
-      where
-        after : (q : Completion (Unit {0}) Value) → IsProper q → MeantAs H inside None Any (bind (carried s q) go)
-        after (Completes w u) z = k w
-        after (Recurs us u) z = absurd z
-        after (Faults e u) z = where_inside inside (H inside s) h
-        after (Retries u) z = absurd z
-        after (Waits u) z = absurd z
-        after (OutOfTurns u) z = tt
-        after Invalid z = absurd z
+    proper_meant inside f c vs p go s h k = subst (λ x. MeantAs H inside None Any (bind x go)) (sym (p.same s)) (answer_then inside p.answer p.proper go s h k)
 
     -- ---- in a transaction
 
@@ -167,6 +216,14 @@ module _ (cells : List CellDefinition) where
     reset_meant c v s h =
         answered cells (RepliesFit cells) (fit_splits cells) Out h.0 (ask.CloseAt c None v) s (λ x. MeantAs H false None Any (res (on_step (heard just_done x) (λ u s1. Continue v s1)))) h.1 tt (λ r xs m. was_reset h.0 c v s r xs m)
 
+    -- `reset!`, where the atom's validator looks at the value first
+    valid_reset : (f : Applies ActorState) → Valid ActorState V f → (rc : Result CellId FaultKind) (span : Span) (v : Value) (s : ActorState) → H false s → MeantAs H false None Any (bind (res (step_of rc span s)) (λ a s1. bind (accepts validators f a span v s1) (λ w s2. res (assign_cell Reset false span w a s2))))
+    valid_reset f valid (Err e) span v s h = tt
+    valid_reset f valid (Ok a) span v s h =
+        let go : Value → ActorState → Completion ActorState Value = λ w s2. res (assign_cell Reset false span w a s2) in
+        let one = validated_proper V f valid (validator_at validators a.number) (validator_such V validators a.number checks) span v in
+        subst (λ x. MeantAs H false None Any (bind x go)) (sym (one.2 s)) (answer_then false one.0 one.1 go s h (λ w. reset_meant a w s h))
+
     was_sent : (es : List SeenEvent) (a : Action) (s : ActorState) (r : Reply) (xs : List Exchange) → ReplyFits cells Out (ask.Send a) r (λ ph1 es1. RepliesFit cells ph1 xs es1) es
         → MeantAs H false None Any (res (on_step (heard send_verdict (Replied r (record s { todo = xs }))) (sent a)))
     was_sent [] a s reply.Done xs m = absurd m
@@ -181,24 +238,24 @@ module _ (cells : List CellDefinition) where
 
     -- ---- swaps
 
-    module _ (span : Span) (v : Value) (callee : Callee) (vs : List Value) (f : Applies ActorState) (p : (x : Value) → Proper ActorState f callee (x ∷ vs)) where
+    module _ (span : Span) (v : Value) (made : CellId → Value → ActorState → Completion ActorState Value) (p : (a : CellId) (x : Value) → IsMadeSo Value (made a x)) where
       -- again from the open, with fewer exchanges than times left
       abbrev Swaps : ℕ → Type 0
-      Swaps k = (s : ActorState) → length s.todo < k → H false s → MeantAs H false None Any (swaps_on k span v (λ a x s1. f callee (x ∷ vs) s1) s)
+      Swaps k = (s : ActorState) → length s.todo < k → H false s → MeantAs H false None Any (swaps_on k span v made s)
 
       closed_swap : (k : ℕ) → Swaps k → (c : CellId) (W : World) (es : List SeenEvent) (w : SwapInHand) (x : Value) (s : ActorState) → length s.todo < k → (r : Reply) (xs : List Exchange) → length xs < length s.todo →
           ReplyFits cells (WithSwap c W) (ask.CloseAt w.cell (Some w.at) x) r (λ ph1 es1. RepliesFit cells ph1 xs es1) es →
-          MeantAs H false None Any (bind (res (heard swap_verdict (Replied r (record s { todo = xs })))) (λ d s3. swap_concludes d x (swaps_on k span v (λ a y s1. f callee (y ∷ vs) s1)) s3))
+          MeantAs H false None Any (bind (res (heard swap_verdict (Replied r (record s { todo = xs })))) (λ d s3. swap_concludes d x (swaps_on k span v made) s3))
       closed_swap k next c W [] w x s l reply.Done xs m g = absurd g
       closed_swap k next c W (e ∷ es) w x s l reply.Done xs m g = (tt, (es, g.2))
       closed_swap k next c W es w x s l (reply.Changed d) xs m g = next (record s { todo = xs }) (omega (arith, l, m)) (es, g)
       closed_swap k next c W es w x s l _ xs m g = absurd g
 
       closes_swap : (k : ℕ) → Swaps k → (c : CellId) (W : World) (es : List SeenEvent) (w : SwapInHand) (x : Value) (s : ActorState) → length s.todo < k → RepliesFit cells (WithSwap c W) s.todo es →
-          MeantAs H false None Any (bind (res (close_swap w x s)) (λ d s3. swap_concludes d x (swaps_on k span v (λ a y s1. f callee (y ∷ vs) s1)) s3))
+          MeantAs H false None Any (bind (res (close_swap w x s)) (λ d s3. swap_concludes d x (swaps_on k span v made) s3))
       unfolding close_swap
       closes_swap k next c W es w x s l h =
-          answered_less cells (RepliesFit cells) (fit_splits cells) (WithSwap c W) es (ask.CloseAt w.cell (Some w.at) x) s (λ y. MeantAs H false None Any (bind (res (heard swap_verdict y)) (λ d s3. swap_concludes d x (swaps_on k span v (λ a y1 s1. f callee (y1 ∷ vs) s1)) s3))) h tt
+          answered_less cells (RepliesFit cells) (fit_splits cells) (WithSwap c W) es (ask.CloseAt w.cell (Some w.at) x) s (λ y. MeantAs H false None Any (bind (res (heard swap_verdict y)) (λ d s3. swap_concludes d x (swaps_on k span v made) s3))) h tt
           (λ r xs m g. closed_swap k next c W es w x s l r xs m g)
 
       broken_swap : (c : CellId) (W : World) (es : List SeenEvent) (w : SwapInHand) (s : ActorState) → RepliesFit cells (WithSwap c W) s.todo es → (go : Unit {0} → ActorState → Completion ActorState Value) → ((s1 : ActorState) → MeantAs H false None Any (go tt s1)) → MeantAs H false None Any (bind (res (break_swap w s)) go)
@@ -212,11 +269,11 @@ module _ (cells : List CellDefinition) where
 
       -- the callee with the swap in hand
       in_swap : (k : ℕ) → Swaps k → (c : CellId) (W : World) (es : List SeenEvent) (w : SwapInHand) (x : Value) (s : ActorState) → length s.todo < k → RepliesFit cells (WithSwap c W) s.todo es →
-          MeantAs H false None Any (telling (break_swap w) (f callee (x ∷ vs) s) (λ y s2. bind (res (close_swap w y s2)) (λ d s3. swap_concludes d y (swaps_on k span v (λ a y1 s1. f callee (y1 ∷ vs) s1)) s3)))
-      in_swap k next c W es w x s l h = subst (λ z. MeantAs H false None Any (telling (break_swap w) z after)) (sym ((p x).same s)) (applied (p x).answer (p x).proper)
+          MeantAs H false None Any (telling (break_swap w) (made w.cell x s) (λ y s2. bind (res (close_swap w y s2)) (λ d s3. swap_concludes d y (swaps_on k span v made) s3)))
+      in_swap k next c W es w x s l h = subst (λ z. MeantAs H false None Any (telling (break_swap w) z after)) (sym ((p w.cell x).2 s)) (applied (p w.cell x).0 (p w.cell x).1)
         where
           after : Value → ActorState → Completion ActorState Value
-          after y s2 = bind (res (close_swap w y s2)) (λ d s3. swap_concludes d y (swaps_on k span v (λ a y1 s1. f callee (y1 ∷ vs) s1)) s3)
+          after y s2 = bind (res (close_swap w y s2)) (λ d s3. swap_concludes d y (swaps_on k span v made) s3)
 
           applied : (q : Completion (Unit {0}) Value) → IsProper q → MeantAs H false None Any (telling (break_swap w) (carried s q) after)
           applied (Completes y u) z = closes_swap k next c W es w y s l h
@@ -228,7 +285,7 @@ module _ (cells : List CellDefinition) where
           applied Invalid z = absurd z
 
       abbrev opens_then : ℕ → (SwapInHand × Value) → ActorState → Completion ActorState Value
-      opens_then k o s1 = telling (break_swap o.0) (f callee (o.1 ∷ vs) s1) (λ w s2. bind (res (close_swap o.0 w s2)) (λ d s3. swap_concludes d w (swaps_on k span v (λ a x s4. f callee (x ∷ vs) s4)) s3))
+      opens_then k o s1 = telling (break_swap o.0) (made o.0.cell o.1 s1) (λ w s2. bind (res (close_swap o.0 w s2)) (λ d s3. swap_concludes d w (swaps_on k span v made) s3))
 
       opened_swap : (k : ℕ) → Swaps k → (c : CellId) (es : List SeenEvent) (s : ActorState) → length s.todo < suc k → (r : Reply) (xs : List Exchange) → length xs < length s.todo → ReplyFits cells Out (ask.OpenAt c) r (λ ph1 es1. RepliesFit cells ph1 xs es1) es →
           MeantAs H false None Any (bind (res (on_step (heard opened (Replied r (record s { todo = xs }))) (λ x s1. Continue (record { cell = c; at = x.0 }, x.1) s1))) (opens_then k))
@@ -248,7 +305,7 @@ module _ (cells : List CellDefinition) where
 
   -- ---- transactions
 
-  module _ (P O : Suits) (span : Span) (body : ActorState → Completion ActorState Value) (f : Applies ActorState) (bodies : (s : ActorState) → Holds O true s → MeantAs (Holds O) true None Any (body s)) (callees : (c : Callee) (ws : List Value) → O c (length ws) → Proper ActorState f c ws) where
+  module _ (P O : Suits) (span : Span) (body : ActorState → Completion ActorState Value) (f : Applies ActorState) (bodies : (s : ActorState) → Holds O true s → MeantAs (Holds O) true None Any (body s)) (callees : (c : Callee) (ws : List Value) → O c (length ws) → Proper ActorState f c ws) (valid : Valid ActorState V f) where
     -- what one try gives: as outside, but that it may have to run again
     abbrev TryMeant : Completion ActorState Value → Type 0
     TryMeant (Completes a s) = Holds P false s
@@ -327,11 +384,30 @@ module _ (cells : List CellDefinition) where
           told reply.Done xs m = z (record s { todo = xs })
           told _ xs m = absurd m
 
-      -- the commutes of the phase, and the commit
-      applies_viewed : (R Q : World) (es : List SeenEvent) (v : Value) (ws : Writes) (s : ActorState) → Each (Suited O) s.done.commutes → RepliesFit cells (Viewed R Q) s.todo es → TryMeant (telling fail (redone f (phase_work s.done) ws s) (λ xs s2. lands_on span v go xs s2))
+      -- what validators make of the writes
+      all_accepted_made : (s : ActorState) (xs : Writes) → (q : Completion (Unit {0}) Writes) × IsProper q × (if_all_accepted validators span f xs s ≡ carried s q)
+      all_accepted_made s xs =
+          let one = accepted_proper V f valid validators checks span (merged (set_writes s.done) xs) in
+          let both = bind_proper one.0 one.1 (accepted f validators span (merged (set_writes s.done) xs)) one.2 (λ u s1. Completes xs s1) (λ u. (Completes xs tt, tt, λ s1. refl)) in
+          (both.0, both.1, both.2 s)
+
+      -- and of what commutes made
+      phase_made : (s : ActorState) (q : Completion (Unit {0}) Writes) → IsProper q → (r : Completion (Unit {0}) Writes) × IsProper r × (bind (carried s q) (λ xs s1. if_all_accepted validators span f xs s1) ≡ carried s r)
+      phase_made s (Completes xs u) z = all_accepted_made s xs
+      phase_made s (Recurs us u) z = absurd z
+      phase_made s (Faults e u) z = (Faults e tt, tt, refl)
+      phase_made s (Retries u) z = absurd z
+      phase_made s (Waits u) z = absurd z
+      phase_made s (OutOfTurns u) z = (OutOfTurns tt, tt, refl)
+      phase_made s Invalid z = absurd z
+
+      -- the commutes of the phase, the validators, and the commit
+      applies_viewed : (R Q : World) (es : List SeenEvent) (v : Value) (ws : Writes) (s : ActorState) → Each (Suited O) s.done.commutes → RepliesFit cells (Viewed R Q) s.todo es → TryMeant (telling fail (bind (redone f (phase_work s.done) ws s) (λ xs s1. if_all_accepted validators span f xs s1)) (λ xs s2. lands_on span v go xs s2))
       applies_viewed R Q es v ws s all h =
           let work = redone_proper O f callees (phase_work s.done) (each_phase (Suited O) s.done all) ws in
-          subst (λ x. TryMeant (telling fail x (λ xs s2. lands_on span v go xs s2))) (sym (work.2 s)) (applied work.0 work.1)
+          let all_made = phase_made s work.0 work.1 in
+          subst (λ x. TryMeant (telling fail (bind x (λ xs s1. if_all_accepted validators span f xs s1)) (λ xs s2. lands_on span v go xs s2))) (sym (work.2 s))
+          (subst (λ x. TryMeant (telling fail x (λ xs s2. lands_on span v go xs s2))) (sym all_made.2) (applied all_made.0 all_made.1))
         where
           applied : (q : Completion (Unit {0}) Writes) → IsProper q → TryMeant (telling fail (carried s q) (λ xs s2. lands_on span v go xs s2))
           applied (Completes xs u) z = lands_viewed R Q es v s all xs h
@@ -343,7 +419,7 @@ module _ (cells : List CellDefinition) where
           applied Invalid z = absurd z
 
       abbrev phase_then : Value → Writes → ActorState → Completion ActorState Value
-      phase_then v ws s1 = telling fail (redone f (phase_work s1.done) ws s1) (λ xs s2. lands_on span v go xs s2)
+      phase_then v ws s1 = telling fail (bind (redone f (phase_work s1.done) ws s1) (λ xs s2. if_all_accepted validators span f xs s2)) (λ xs s2. lands_on span v go xs s2)
 
       viewed_meant : (R : World) (es : List SeenEvent) (v : Value) (cs : List CellId) (s : ActorState) → Each (Suited O) s.done.commutes → (r : Reply) (xs : List Exchange) → ReplyFits cells (In R) (ask.View cs) r (λ ph1 es1. RepliesFit cells ph1 xs es1) es
           → TryMeant (bind (res (on_step (heard views (Replied r (record s { todo = xs }))) (λ x s1. viewed x.0 (paired cs x.1) s1))) (phase_then v))
@@ -358,9 +434,22 @@ module _ (cells : List CellDefinition) where
           answered cells (RepliesFit cells) (fit_splits cells) (In h.0) h.1 (ask.View (commuted s.done)) s (λ x. TryMeant (bind (res (on_step (heard views x) (λ y s1. viewed y.0 (paired (commuted s.done) y.1) s1))) (phase_then v))) h.2 tt
           (λ r xs m. viewed_meant h.0 h.1 v (commuted s.done) s h.3 r xs m)
 
+      -- the validators and the commit, where nothing was commuted
+      plain_meant : (R : World) (es : List SeenEvent) (v : Value) (s : ActorState) → RepliesFit cells (In R) s.todo es → TryMeant (telling fail (if_all_accepted validators span f [] s) (λ xs s1. lands_on span v go xs s1))
+      plain_meant R es v s h = let all_made = all_accepted_made s [] in subst (λ x. TryMeant (telling fail x (λ xs s1. lands_on span v go xs s1))) (sym all_made.2) (applied all_made.0 all_made.1)
+        where
+          applied : (q : Completion (Unit {0}) Writes) → IsProper q → TryMeant (telling fail (carried s q) (λ xs s2. lands_on span v go xs s2))
+          applied (Completes xs u) z = lands_in R es v s xs h
+          applied (Recurs us u) z = absurd z
+          applied (Faults e u) z = fails_in R es s h (λ u1 s1. Faults e s1) (λ s1. tt)
+          applied (Retries u) z = absurd z
+          applied (Waits u) z = absurd z
+          applied (OutOfTurns u) z = tt
+          applied Invalid z = absurd z
+
       -- a body's end
       closing_meant : (cs : List CellId) (v : Value) (s : ActorState) → Holds O true s → TryMeant (closing validators cs span f v go s)
-      closing_meant [] v s h = lands_in h.0 h.1 v s [] h.2
+      closing_meant [] v s h = plain_meant h.0 h.1 v s h.2
       closing_meant (c ∷ cs) v s h = view_meant v s h
 
       body_meant : (x : Completion ActorState Value) → MeantAs (Holds O) true None Any x → TryMeant (telling fail x (λ v s2. closing validators (commuted s2.done) span f v go s2))
@@ -377,7 +466,7 @@ module _ (cells : List CellDefinition) where
 
       begun_meant : (es : List SeenEvent) (s : ActorState) (r : Reply) (xs : List Exchange) → ReplyFits cells Out ask.Begin r (λ ph1 es1. RepliesFit cells ph1 xs es1) es → TryMeant (bind (res (on_step (heard read_point (Replied r (record s { todo = xs }))) begun)) try_then)
       begun_meant es s (reply.At p) xs m =
-          let s1 : ActorState = record { todo = xs; printed = s.printed; at = p; view = p; done = record { values = []; sets = []; ensures = []; commutes = []; sends = [] }; commuting = None; acting = s.acting; wants = s.wants } in
+          let s1 : ActorState = record { todo = xs; printed = s.printed; at = p; view = p; done = record { values = []; sets = []; ensures = []; commutes = []; sends = [] }; commuting = None; acting = s.acting; accepted = s.accepted; wants = s.wants } in
           body_meant (body s1) (bodies s1 (m.0, es, m.1, tt))
       begun_meant es s _ xs m = absurd m
 
@@ -412,12 +501,12 @@ module _ (cells : List CellDefinition) where
   sound_look P Ensure true m c s e h = on_cell_meant P true (cell_of (rule (form_of.Look Ensure)) true c) m.span (read_cell Ensure true) s h (λ x. ensure_meant P x s h)
   sound_look P Ensure false m c s e h = absurd e
 
-  sound_put : (P O : Suits) (form : PutForm) (inside : Bool) (m : Mark) (c v : Value) (f : Applies ActorState) (s : ActorState) → MayStand (zone_of inside) (rule (form_of.Put form)).stands → ((d : Callee) (ws : List Value) → O d (length ws) → Proper ActorState f d ws) →
+  sound_put : (P : Suits) (form : PutForm) (inside : Bool) (m : Mark) (c v : Value) (f : Applies ActorState) (s : ActorState) → MayStand (zone_of inside) (rule (form_of.Put form)).stands → Valid ActorState V f →
       Holds P inside s → MeantAs (Holds P) inside None Any ((on_replies validators).put form inside m c v f s)
-  sound_put P O RefSet true m c v f s e p h = on_cell_meant P true (cell_of (rule (form_of.Put RefSet)) true c) m.span (assign_cell RefSet true m.span v) s h (λ x. set_meant P m.span v x s h)
-  sound_put P O RefSet false m c v f s e p h = absurd e
-  sound_put P O Reset true m c v f s e p h = absurd e
-  sound_put P O Reset false m c v f s e p h = on_cell_meant P false (cell_of (rule (form_of.Put Reset)) false c) m.span (assign_cell Reset false m.span v) s h (λ x. reset_meant P x v s h)
+  sound_put P RefSet true m c v f s e p h = on_cell_meant P true (cell_of (rule (form_of.Put RefSet)) true c) m.span (assign_cell RefSet true m.span v) s h (λ x. set_meant P m.span v x s h)
+  sound_put P RefSet false m c v f s e p h = absurd e
+  sound_put P Reset true m c v f s e p h = absurd e
+  sound_put P Reset false m c v f s e p h = valid_reset P f p (cell_of (rule (form_of.Put Reset)) false c) m.span v s h
 
   some_commute : (a b : Commute) → Some a ≡ Some b → a ≡ b
   some_commute a b e = cc
@@ -427,16 +516,17 @@ module _ (cells : List CellDefinition) where
   IsThere (Some k) = Unit {0}
 
   sound_update : (P : Suits) (form : UpdateForm) (inside : Bool) (m : Mark) (c : Value) (callee : Callee) (vs : List Value) (f : Applies ActorState) (s : ActorState) → MayStand (zone_of inside) (rule (form_of.Update form)).stands → P callee (suc (length vs)) → ((v : Value) → Proper ActorState f callee (v ∷ vs)) →
-      Holds P inside s → MeantAs (Holds P) inside None Any ((on_replies validators).update form inside m c callee vs f s)
-  sound_update P update_of.Alter true m c callee vs f s e suits p h =
+      Valid ActorState V f → Holds P inside s → MeantAs (Holds P) inside None Any ((on_replies validators).update form inside m c callee vs f s)
+  sound_update P update_of.Alter true m c callee vs f s e suits p valid h =
       ref_meant P (cell_of (rule (form_of.Update update_of.Alter)) true c) m.span (λ x. None) (λ x k q. absurd (subst IsThere (sym q) tt)) callee vs f p s h
-  sound_update P update_of.Commute true m c callee vs f s e suits p h =
+  sound_update P update_of.Commute true m c callee vs f s e suits p valid h =
       ref_meant P (cell_of (rule (form_of.Update update_of.Commute)) true c) m.span (λ x. Some (record { cell = x; callee = callee; args = vs }))
       (λ x k q. subst (Suited P) (some_commute (record { cell = x; callee = callee; args = vs }) k q) suits) callee vs f p s h
-  sound_update P update_of.Swap false m c callee vs f s e suits p h = swaps_meant P m.span c callee vs f p (suc (length s.todo)) s (omega arith) h
-  sound_update P update_of.Swap true m c callee vs f s e suits p h = absurd e
-  sound_update P update_of.Alter false m c callee vs f s e suits p h = absurd e
-  sound_update P update_of.Commute false m c callee vs f s e suits p h = absurd e
+  sound_update P update_of.Swap false m c callee vs f s e suits p valid h = swaps_meant P m.span c (λ a x s1. bind (f callee (x ∷ vs) s1) (accepts validators f a m.span))
+      (λ a x. made_proper V f valid (validator_at validators a.number) (validator_such V validators a.number checks) m.span callee (x ∷ vs) (p x)) (suc (length s.todo)) s (omega arith) h
+  sound_update P update_of.Swap true m c callee vs f s e suits p valid h = absurd e
+  sound_update P update_of.Alter false m c callee vs f s e suits p valid h = absurd e
+  sound_update P update_of.Commute false m c callee vs f s e suits p valid h = absurd e
 
   sound_send : (P : Suits) (inside : Bool) (m : Mark) (c : Value) (callee : Callee) (vs : List Value) (s : ActorState) → Holds P inside s → MeantAs (Holds P) inside None Any ((on_replies validators).send inside m c callee vs s)
   sound_send P true m c callee vs s h =
@@ -449,12 +539,12 @@ module _ (cells : List CellDefinition) where
       or_hold a (Some x) = (tt, h)
 
   sound_dosync : (P O : Suits) (inside : Bool) (m : Mark) (e : Tree) (env : List Value) (body : ActorState → Completion ActorState Value) (f : Applies ActorState) (s : ActorState) → ((s1 : ActorState) → Holds P true s1 → MeantAs (Holds P) true None Any (body s1)) → ((s1 : ActorState) → Holds O true s1 → MeantAs (Holds O) true None Any (body s1)) →
-      ((c : Callee) (ws : List Value) → O c (length ws) → Proper ActorState f c ws) → Holds P inside s → MeantAs (Holds P) inside None Any ((on_replies validators).dosync inside m e env body f s)
-  sound_dosync P O true m e env body f s joins own callees h = joins s h
-  sound_dosync P O false m e env body f s joins own callees h = tries_meant P O m.span body f own callees (suc reruns) Anew s h
+      ((c : Callee) (ws : List Value) → O c (length ws) → Proper ActorState f c ws) → Valid ActorState V f → Holds P inside s → MeantAs (Holds P) inside None Any ((on_replies validators).dosync inside m e env body f s)
+  sound_dosync P O true m e env body f s joins own callees valid h = joins s h
+  sound_dosync P O false m e env body f s joins own callees valid h = tries_meant P O m.span body f own callees valid (suc reruns) Anew s h
 
   -- the forms on replies that fit
-  sound_forms : SoundForms ActorState (on_replies validators) Holds
+  sound_forms : SoundForms ActorState (on_replies validators) Holds V
   sound_forms = record {
     print = sound_print;
     look = sound_look;
@@ -477,4 +567,7 @@ module _ (cells : List CellDefinition) where
 pub ever_meant : (p : ThreadSource) → SoundSource p → IsEverMeant p
 ever_meant p sound n todo es f =
     let suits : Suits = λ c k. SoundCallee (known p.functions) c k in
-    outside_meant p.cells suits (source p n todo) (main_meant ActorState (on_replies (validators_of p.cells)) (Holds p.cells) (sound_forms p.cells) false (fresh todo) (λ P. (es, f)) p.functions sound.functions n p.main [] sound.main)
+    let one : Callee → Type 0 = λ c. SoundCallee (known p.functions) c 1 in
+    let checks = cells_such (known p.functions) p.cells sound.cells in
+    outside_meant p.cells one checks suits (source p n todo)
+    (main_meant ActorState (on_replies (validators_of p.cells)) (Holds p.cells one checks) one (sound_forms p.cells one checks) false (fresh todo) (λ P. (es, f)) p.functions sound.functions n (λ c h. h) p.main [] sound.main)

@@ -11,7 +11,7 @@ use Rattle.txs_world_protocol.specs.declared.ask.Reply.{Reply}
 use Rattle.txs_world_protocol.specs.declared.event.EventKind.TheVariants as event
 use Rattle.txs_world_protocol.specs.declared.event.EventKind.{EventKind}
 use Rattle.txs_value_data.proofs.SameLemmas.{number-itself, same_cell-itself}
-use Rattle.txs_value_cell.specs.Cells.{World, Validators, validators_of}
+use Rattle.txs_value_cell.specs.Cells.{World, Validators, validators_of, validator_at}
 use Rattle.txs_value_cell.specs.Forms.{rule, cell_of, may_stand}
 use Rattle.txs_value_data.specs.Limits.{reruns}
 use Rattle.txs_value_base.specs.Places.{fault_at}
@@ -36,21 +36,22 @@ use Rattle.txs_value_data.specs.declared.value.Value.TheVariants.{Nil, Cell}
 use Rattle.txs_tree_meaning.specs.Known.{Known, known}
 use Rattle.txs_tree_meaning.specs.Meaning.{Completion, Completes, Recurs, Faults, Retries, Waits, OutOfTurns, Invalid, bind, closed, result_of, Effects, apply, eval, call_at}
 use Rattle.txs_tree_meaning.specs.Sound.{SoundSource}
-use Rattle.txs_tree_meaning.specs.Thread.{ThreadState, eats, meant, reads, resets, faulted, faultless, swaps, with_sends, sends, sends_or_holds, Transacting, eats_tx, thread_look, thread_put, around, on_events, thread_meaning, uneaten}
-use Rattle.txs_tree_meaning.specs.Transaction.{tx_meaning}
+use Rattle.txs_tree_meaning.specs.Thread.{ThreadState, eats, meant, reads, resets, faulted, faultless, swaps, with_sends, sends, sends_or_holds, Transacting, eats_tx, thread_look, accepts as accepts_there, around, on_events, thread_meaning, uneaten}
+use Rattle.txs_tree_meaning.specs.Transaction.{validated, tx_meaning}
 use Rattle.txs_tree_meaning.specs.Tree.{Mark, Tree, ThreadSource}
 use Rattle.txs_code_meaning.specs.ActorState.{InHand, now_holding, ActorState, Reception, Replied, Unreplied, asks, Continue, heard, on_step, step_of, newest_value, peek, just_done, reset_atom, opened, SwapInHand, open_atom, swap_verdict, close_swap, break_swap, send_verdict, sent, send_now, send_or_hold, send_action, Verdict, read_cell, assign_cell, print}
 use Rattle.txs_code_meaning.specs.Opening.{fresh}
+use Rattle.txs_theorem_threads.proofs.Accepted.{OfValidator, AllValidators, validator_such, validators_pure, validated_carried, made_carried}
 use Rattle.txs_theorem_threads.proofs.Account.{Account, IsBeside, account_link, after_reply, answered_in}
 use Rattle.txs_theorem_threads.proofs.Callees.{Keeps, IsPure}
 use Rattle.txs_theorem_threads.proofs.Placed.{MayCallAt, placed, thread_placed, function_placed}
 use Rattle.txs_theorem_threads.proofs.Quiet.{carried, IsQuiet, quietly, callee_carried}
 use Rattle.txs_theorem_threads.proofs.Related.{Link, Related, Applied, closed_related, Alike, eval_related, calls_related}
 use Rattle.txs_theorem_threads.proofs.Tries.{tries_related}
-use Rattle.txs_theorem_threads.proofs.Worlds.{IsShort, held_in, on_cell_related, tx_related}
+use Rattle.txs_theorem_threads.proofs.Worlds.{IsShort, held_in, carried_related, on_cell_related, tx_related}
 use Rattle.txs_theorem_threads.specs.EndsSo.{in_hand}
 use Rattle.txs_theorem_threads.specs.Behaves.{source}
-use Rattle.txs_theorem_threads.specs.OnReplies.{res, telling, tries, swap_concludes, swaps_on, on_replies, Anew}
+use Rattle.txs_theorem_threads.specs.OnReplies.{res, telling, tries, swap_concludes, swaps_on, accepts, on_replies, Anew}
 use Rattle.txs_theorem_threads.specs.RepliesFit.{Out, In, WithSwap, OnEvent, SaysRead, SaysSwap, SaysBroke, SaysSent, SaysSendRefused, ReplyFits, halted}
 
 -- ---- what forms are at their events
@@ -172,6 +173,19 @@ module _ (cells : List CellDefinition) (a : Account cells) where
   print_related : (vs : List Value) (s : ActorState) (t : ThreadState) → k.rel s t → Related k (res (print false vs s)) (Completes Nil (record t { printed = t.printed ++ printed_line vs }))
   unfolding print
   print_related vs s t r = (refl, ((ap (λ l. l ++ printed_line vs) r.0.0, r.0.1), r.1, r.2, r.3))
+
+  -- a `reset!` on a value that may be no atom, where the atom's validator looks at what it is to get
+  reset_of : (span : Span) (w : Value) (f : CellId → ActorState → Completion ActorState Value) (g : CellId → ThreadState → Completion ThreadState Value) (q : CellId → Completion (Unit {0}) Value)
+      (left : (c : CellId) (s : ActorState) → (f c s ≡ carried s (q c)) × IsQuiet (q c)) (right : (c : CellId) (t : ThreadState) → (g c t ≡ carried t (q c)) × IsQuiet (q c)) (rc : Result CellId FaultKind) (s : ActorState) (t : ThreadState) → k.rel s t
+      → Related k (bind (res (step_of rc span s)) (λ c s1. bind (f c s1) (λ v s2. res (assign_cell Reset false span v c s2)))) (bind (result_of rc span t) (λ c t1. bind (g c t1) (λ v t2. eats (home cells c) (λ e t3. resets v e.kind t3) t2.todo t2)))
+  reset_of span w f g q left right (Ok c) s t r =
+      let go1 : Value → ActorState → Completion ActorState Value = λ v s2. res (assign_cell Reset false span v c s2) in
+      let go2 : Value → ThreadState → Completion ThreadState Value = λ v t2. eats (home cells c) (λ e t3. resets v e.kind t3) t2.todo t2 in
+      let l = left c s in
+      subst (λ y. Related k (bind (f c s) go1) (bind y go2)) (sym (right c t).0)
+      (subst (λ x. Related k (bind x go1) (bind (carried t (q c)) go2)) (sym l.0)
+      (carried_related ActorState ThreadState k (q c) go1 go2 s t l.1 r (λ v. reset_related c v s t r)))
+  reset_of span w f g q left right (Err y) s t r = (refl, k.faults_of s t r)
 
   -- ---- swaps
 
@@ -302,6 +316,13 @@ module _ (p : ThreadSource) (sound : SoundSource p) (a : Account p.cells) (n : �
   abbrev right_callee : (d : ℕ) (inside : Bool) (span : Span) (c : Callee) (vs : List Value) (t : ThreadState) → IsPure ks c → (apply (right_calls d inside) span c vs t ≡ carried t (quietly n p.functions d span c vs tt)) × IsQuiet (quietly n p.functions d span c vs tt)
   right_callee d inside span c vs t pure = callee_carried (on_events (around p n)) n inside p.functions sound.functions d span c vs t pure
 
+  -- validators are pure
+  all_checked : AllValidators (IsPure ks) validators
+  all_checked = validators_pure ks p.cells sound.cells
+
+  checked : (x : ℕ) → OfValidator (IsPure ks) (validator_at validators x)
+  checked x = validator_such (IsPure ks) validators x all_checked
+
   true_false : true ≡ false → ⊥
   true_false e = false≢true (sym e)
 
@@ -330,7 +351,11 @@ module _ (p : ThreadSource) (sound : SoundSource p) (a : Account p.cells) (n : �
       th_put form true m c w s t q i h r = absurd (true_false i)
       th_put RefSet false m c w s t q i h r = absurd (false≢true q)
       th_put Reset false m c w s t q i h r =
-          on_cell_related ThreadState link (cell_of (rule (form_of.Put Reset)) false c) m.span (assign_cell Reset false m.span w) (λ x t1. thread_put (around p n) Reset m.span x w (apply (right_calls d false) m.span) t1) s t r (λ x e. reset_related p.cells a x w s t r)
+          reset_of p.cells a m.span w (λ x s1. accepts validators (apply (left_calls d false) m.span) x m.span w s1) (λ x t1. accepts_there (around p n) (apply (right_calls d false) m.span) x m.span w t1)
+          (λ x. validated (quietly n p.functions d m.span) (validator_at validators x.number) m.span w tt)
+          (λ x s1. validated_carried (IsPure ks) s1 (apply (left_calls d false) m.span) (quietly n p.functions d m.span) (λ y vs pure. left_callee d false m.span y vs s1 pure) (validator_at validators x.number) (checked x.number) m.span w)
+          (λ x t1. validated_carried (IsPure ks) t1 (apply (right_calls d false) m.span) (quietly n p.functions d m.span) (λ y vs pure. right_callee d false m.span y vs t1 pure) (validator_at validators x.number) (checked x.number) m.span w)
+          (cell_of (rule (form_of.Put Reset)) false c) s t r
 
       th_update : (form : UpdateForm) (inside : Bool) (m : Mark) (c : Value) (callee : Callee) (vs : List Value) (s : ActorState) (t : ThreadState) → may_stand (rule (form_of.Update form)).stands inside ≡ true → inside ≡ false → IsPure ks callee
           → (((x : ℕ) → MayCallAt ks inside x) → Applied ActorState ThreadState link (apply (left_calls d inside) m.span) (apply (right_calls d inside) m.span)) → link.rel s t
@@ -339,8 +364,13 @@ module _ (p : ThreadSource) (sound : SoundSource p) (a : Account p.cells) (n : �
       th_update update_of.Alter false m c callee vs s t q i pure h r = tt
       th_update update_of.Commute false m c callee vs s t q i pure h r = tt
       th_update update_of.Swap false m c callee vs s t q i pure h r =
-          swap_of p.cells a m.span c (λ x v s1. apply (left_calls d false) m.span callee (v ∷ vs) s1) (λ x v t1. apply (right_calls d false) m.span callee (v ∷ vs) t1) (λ x v. quietly n p.functions d m.span callee (v ∷ vs) tt)
-          (λ x v s1. left_callee d false m.span callee (v ∷ vs) s1 pure) (λ x v t1. right_callee d false m.span callee (v ∷ vs) t1 pure) (length s.todo) (cell_of (rule (form_of.Update update_of.Swap)) false c) refl s t r
+          let o : CellId → Option Callee = λ x. validator_at validators x.number in
+          swap_of p.cells a m.span c (λ x v s1. bind (apply (left_calls d false) m.span callee (v ∷ vs) s1) (accepts validators (apply (left_calls d false) m.span) x m.span))
+          (λ x v t1. bind (apply (right_calls d false) m.span callee (v ∷ vs) t1) (accepts_there (around p n) (apply (right_calls d false) m.span) x m.span))
+          (λ x v. bind (quietly n p.functions d m.span callee (v ∷ vs) tt) (λ w u. validated (quietly n p.functions d m.span) (o x) m.span w u))
+          (λ x v s1. made_carried (IsPure ks) s1 (apply (left_calls d false) m.span) (quietly n p.functions d m.span) (λ y ws pure1. left_callee d false m.span y ws s1 pure1) (o x) (checked x.number) m.span callee (v ∷ vs) pure)
+          (λ x v t1. made_carried (IsPure ks) t1 (apply (right_calls d false) m.span) (quietly n p.functions d m.span) (λ y ws pure1. right_callee d false m.span y ws t1 pure1) (o x) (checked x.number) m.span callee (v ∷ vs) pure)
+          (length s.todo) (cell_of (rule (form_of.Update update_of.Swap)) false c) refl s t r
 
       th_send : (inside : Bool) (m : Mark) (c : Value) (callee : Callee) (vs : List Value) (s : ActorState) (t : ThreadState) → inside ≡ false → IsPure ks callee → link.rel s t → Related link ((on_replies validators).send inside m c callee vs s) ((thread_forms d).send inside m c callee vs t)
       th_send true m c callee vs s t i pure r = absurd (true_false i)
@@ -357,7 +387,7 @@ module _ (p : ThreadSource) (sound : SoundSource p) (a : Account p.cells) (n : �
       th_dosync false m e env s t i keeps h h1 r =
           let tx : Transacting = record { mark = m; body = e; locals = env; on = tx_meaning n p.functions d e env; validators = validators } in
           subst (λ l. Related link (tries validators (suc reruns) m.span (λ s1. closed (eval (on_replies validators) (left_calls d) n true e env s1)) (apply (left_calls d true) m.span) Anew s) (eats_tx (suc reruns) tx (apply (right_calls d true) m.span) l t)) (sym r.2)
-          (tries_related p.cells a (IsPure ks) tx (λ s1. closed (eval (on_replies validators) (left_calls d) n true e env s1)) (apply (left_calls d true) m.span) (apply (right_calls d true) m.span) (quietly n p.functions d m.span)
+          (tries_related p.cells a (IsPure ks) tx (λ s1. closed (eval (on_replies validators) (left_calls d) n true e env s1)) (apply (left_calls d true) m.span) (apply (right_calls d true) m.span) (quietly n p.functions d m.span) all_checked
           (left_callee d true m.span) (right_callee d true m.span)
           (λ txs R s1 es own fits. tx_related p.cells (a.fits txs) (λ W c at r1 xs es1 f. a.splits txs (In W) (ask.Look c at) r1 xs es1 f) R s1.printed (held_in s1.acting) es n p.functions sound.functions d e env s1 keeps own fits (refl, refl)) (suc reruns) Anew s r.1 t r.0 r.3)
 

@@ -21,7 +21,7 @@ use Rattle.txs_tree_meaning.specs.Meaning.{Completion, Completes, Recurs, Faults
 use Rattle.txs_tree_meaning.specs.Sound.{MayStand, in_dosync}
 use Rattle.txs_tree_meaning.specs.Transaction.{TxState, own, current, noted, done_as, tx_look, tx_put, tx_update, in_transaction, tx_start, tx_meaning}
 use Rattle.txs_tree_meaning.specs.Tree.{Mark, Tree}
-use Rattle.txs_theorem_threads.proofs.Meant.{Suits, MeantAs, Any, Proper, none_some, zone_of, SoundForms, main_meant}
+use Rattle.txs_theorem_threads.proofs.Meant.{Suits, Valid, MeantAs, Any, Proper, none_some, zone_of, SoundForms, main_meant}
 use Rattle.txs_theorem_threads.proofs.Quiet.{carried}
 use Rattle.txs_theorem_threads.specs.Behaves.{IsMeant, IsProper}
 use Rattle.txs_theorem_threads.specs.Follows.{TransactionIsMeant}
@@ -57,7 +57,7 @@ callee_meant f c vs p t go h = subst (λ x. FormMeant (bind x go)) (sym (p.same 
     after (OutOfTurns u) k = tt
     after Invalid k = absurd k
 
-module _ (R : World) where
+module _ (R : World) (V : Callee → Type 0) where
   look_meant : (form : LookForm) (c : CellId) (t : TxState) → FormMeant (tx_look R form c t)
   look_meant Deref c t = (tt, refl)
   look_meant Ensure c t = (tt, refl)
@@ -81,15 +81,15 @@ module _ (R : World) where
   tx_looks P form true m c t k h = on_cell_meant (cell_of (rule (form_of.Look form)) true c) m.span (tx_look R form) t (λ d. look_meant form d t)
   tx_looks P form false m c t k h = absurd (false≢true h)
 
-  tx_puts : (P O : Suits) (form : PutForm) (inside : Bool) (m : Mark) (c v : Value) (f : Applies TxState) (t : TxState) → MayStand (zone_of inside) (rule (form_of.Put form)).stands → ((d : Callee) (ws : List Value) → O d (length ws) → Proper TxState f d ws) →
+  tx_puts : (P : Suits) (form : PutForm) (inside : Bool) (m : Mark) (c v : Value) (f : Applies TxState) (t : TxState) → MayStand (zone_of inside) (rule (form_of.Put form)).stands → Valid TxState V f →
       Within P inside t → MeantAs (Within P) inside None Any ((in_transaction R).put form inside m c v f t)
-  tx_puts P O form true m c v f t k p h = on_cell_meant (cell_of (rule (form_of.Put form)) true c) m.span (λ d t1. tx_put form m.span d v t1) t (λ d. put_meant form m.span d v t k)
-  tx_puts P O form false m c v f t k p h = absurd (false≢true h)
+  tx_puts P form true m c v f t k p h = on_cell_meant (cell_of (rule (form_of.Put form)) true c) m.span (λ d t1. tx_put form m.span d v t1) t (λ d. put_meant form m.span d v t k)
+  tx_puts P form false m c v f t k p h = absurd (false≢true h)
 
   tx_updates : (P : Suits) (form : UpdateForm) (inside : Bool) (m : Mark) (c : Value) (callee : Callee) (vs : List Value) (f : Applies TxState) (t : TxState) → MayStand (zone_of inside) (rule (form_of.Update form)).stands → P callee (suc (length vs)) → ((v : Value) → Proper TxState f callee (v ∷ vs)) →
-      Within P inside t → MeantAs (Within P) inside None Any ((in_transaction R).update form inside m c callee vs f t)
-  tx_updates P form true m c callee vs f t k suits p h = on_cell_meant (cell_of (rule (form_of.Update form)) true c) m.span (λ d t1. tx_update R form m d callee vs f t1) t (λ d. update_meant form m d callee vs f t k p)
-  tx_updates P form false m c callee vs f t k suits p h = absurd (false≢true h)
+      Valid TxState V f → Within P inside t → MeantAs (Within P) inside None Any ((in_transaction R).update form inside m c callee vs f t)
+  tx_updates P form true m c callee vs f t k suits p valid h = on_cell_meant (cell_of (rule (form_of.Update form)) true c) m.span (λ d t1. tx_update R form m d callee vs f t1) t (λ d. update_meant form m d callee vs f t k p)
+  tx_updates P form false m c callee vs f t k suits p valid h = absurd (false≢true h)
 
   tx_sends : (P : Suits) (inside : Bool) (m : Mark) (c : Value) (callee : Callee) (vs : List Value) (t : TxState) → Within P inside t → MeantAs (Within P) inside None Any ((in_transaction R).send inside m c callee vs t)
   tx_sends P true m c callee vs t h =
@@ -97,12 +97,12 @@ module _ (R : World) where
   tx_sends P false m c callee vs t h = absurd (false≢true h)
 
   tx_dosync : (P O : Suits) (inside : Bool) (m : Mark) (e : Tree) (env : List Value) (body : TxState → Completion TxState Value) (f : Applies TxState) (t : TxState) → ((t1 : TxState) → Within P true t1 → MeantAs (Within P) true None Any (body t1)) → ((t1 : TxState) → Within O true t1 → MeantAs (Within O) true None Any (body t1)) →
-      ((c : Callee) (ws : List Value) → O c (length ws) → Proper TxState f c ws) → Within P inside t → MeantAs (Within P) inside None Any ((in_transaction R).dosync inside m e env body f t)
-  tx_dosync P O true m e env body f t joins alone callees h = joins t h
-  tx_dosync P O false m e env body f t joins alone callees h = absurd (false≢true h)
+      ((c : Callee) (ws : List Value) → O c (length ws) → Proper TxState f c ws) → Valid TxState V f → Within P inside t → MeantAs (Within P) inside None Any ((in_transaction R).dosync inside m e env body f t)
+  tx_dosync P O true m e env body f t joins alone callees valid h = joins t h
+  tx_dosync P O false m e env body f t joins alone callees valid h = absurd (false≢true h)
 
   -- the forms in a transaction
-  tx_forms : SoundForms TxState (in_transaction R) Within
+  tx_forms : SoundForms TxState (in_transaction R) Within V
   tx_forms = record {
     print = tx_print;
     look = tx_looks;
@@ -125,4 +125,4 @@ answer_meant Invalid h = absurd h
 pub transaction_meant : TransactionIsMeant
 transaction_meant functions n body locals R sound h =
     answer_meant (tx_meaning n functions (length functions) body locals R)
-    (main_meant TxState (in_transaction R) Within (tx_forms R) true tx_start (λ P. refl) functions sound n body locals h)
+    (main_meant TxState (in_transaction R) Within (λ c. ⊥) (tx_forms R (λ c. ⊥)) true tx_start (λ P. refl) functions sound n (λ c v. absurd v) body locals h)

@@ -25,16 +25,17 @@ use Rattle.txs_value_data.specs.declared.value.Value.{Value}
 use Rattle.txs_value_data.specs.declared.value.Value.TheVariants.{Nil}
 use Rattle.txs_tree_meaning.specs.Meaning.{Completion, Completes, Recurs, Faults, Retries, Waits, OutOfTurns, Invalid, bind, Applies}
 use Rattle.txs_tree_meaning.specs.Thread.{TxRun, ThreadState, with_tx, meant, faulted, faultless, over, Transacting, run_of, ends_tx, is_retry, uneaten, eats_tx}
-use Rattle.txs_tree_meaning.specs.Transaction.{TxState, value_or, valued, merged, redone, final_writes}
+use Rattle.txs_tree_meaning.specs.Transaction.{TxState, value_or, valued, merged, redone, accepted, if_accepted, final_writes}
 use Rattle.txs_code_meaning.specs.ActorState.{ActorState, Replied, heard, on_step, begin, begun, read_point, fail, just_done, views, with_first, paired, viewed, view, commit, commit_verdict}
+use Rattle.txs_theorem_threads.proofs.Accepted.{AllValidators, accepted_carried, if_accepted_carried, final_carried}
 use Rattle.txs_theorem_threads.proofs.Account.{Account, IsBeside, account_link, after_reply, answered_in, not_retrying, on_then}
-use Rattle.txs_theorem_threads.proofs.Quiet.{carried, IsQuiet, AllCommutes, phase_some, redone_carried}
+use Rattle.txs_theorem_threads.proofs.Quiet.{carried, IsQuiet, bind_carried, bind_quiet, AllCommutes, phase_some, redone_carried}
 use Rattle.txs_theorem_threads.proofs.Related.{Related, CompletesAs, FaultsAs}
 use Rattle.txs_theorem_threads.proofs.Worlds.{IsShort, Kept, held_in, tx_link, says_retry}
 use Rattle.txs_theorem_threads.proofs.Owned.{are_written}
 use Rattle.txs_theorem_threads.specs.EndsSo.{in_hand}
 use Rattle.txs_theorem_threads.specs.Noted.{AreWritten, Commits}
-use Rattle.txs_theorem_threads.specs.OnReplies.{res, telling, Start, Anew, Behind, concludes, lands_on, closing, attempt, retrying, tries}
+use Rattle.txs_theorem_threads.specs.OnReplies.{res, telling, Start, Anew, Behind, concludes, lands_on, if_all_accepted, closing, attempt, retrying, tries}
 use Rattle.txs_theorem_threads.specs.RepliesFit.{Phase, Out, In, Viewed, OnEvent, SaysRetry, SaysCommit, SaysFail, SaysRefused, Gives, AgreeOn, ReplyFits, halted}
 
 -- ---- views
@@ -154,8 +155,18 @@ over_short (Waits x) t go broke h = absurd h
 over_short Invalid t go broke h = absurd h
 
 -- the final writes of a transaction that commuted nothing
-final_none : (f : Applies ThreadState) (validators : Validators) (span : Span) (w : PlainTxFrame) (C : World) (t : ThreadState) → commuted w ≡ [] → final_writes f validators span w C t ≡ Completes (set_writes w) t
-final_none f validators span w C t e = ap (λ cs. bind (redone f (by_ref cs w.commutes) (valued cs C) t) (λ ws t1. Completes (merged (set_writes w) ws) t1)) e
+final_none : (f : Applies ThreadState) (validators : Validators) (span : Span) (w : PlainTxFrame) (C : World) (t : ThreadState) → commuted w ≡ [] → final_writes f validators span w C t ≡ if_accepted f validators span (set_writes w) t
+final_none f validators span w C t e = ap (λ cs. bind (redone f (by_ref cs w.commutes) (valued cs C) t) (λ ws t1. if_accepted f validators span (merged (set_writes w) ws) t1)) e
+
+-- what follows a part that goes on with its value alone
+bind_map : {S A B C : Type 0} (x : Completion S A) (b : B) (h : B → C) → bind x (λ a s. Completes (h b) s) ≡ bind (bind x (λ a s. Completes b s)) (λ y s. Completes (h y) s)
+bind_map (Completes a s) b h = refl
+bind_map (Recurs vs s) b h = refl
+bind_map (Faults f s) b h = refl
+bind_map (Retries s) b h = refl
+bind_map (Waits s) b h = refl
+bind_map (OutOfTurns s) b h = refl
+bind_map Invalid b h = refl
 
 -- ---- tries
 
@@ -164,27 +175,93 @@ abbrev pub StartFits : (cells : List CellDefinition) → Account cells → (Call
 StartFits cells a P d txs Anew s es = a.fits txs Out s.todo es
 StartFits cells a P d txs (Behind v) s es = (R : World) × (x : TxState) × (d.on R ≡ Completes v x) × (s.done ≡ x.done) × Kept P s.done × a.fits txs (In R) s.todo es
 
-module _ (cells : List CellDefinition) (a : Account cells) (P : Callee → Type 0) (d : Transacting) (body : ActorState → Completion ActorState Value) (f : Applies ActorState) (g : Applies ThreadState) (q : Applies (Unit {0}))
+module _ (cells : List CellDefinition) (a : Account cells) (P : Callee → Type 0) (d : Transacting) (body : ActorState → Completion ActorState Value) (f : Applies ActorState) (g : Applies ThreadState) (q : Applies (Unit {0})) (checks : AllValidators P d.validators)
     (left : (c : Callee) (vs : List Value) (s : ActorState) → P c → (f c vs s ≡ carried s (q c vs tt)) × IsQuiet (q c vs tt))
     (right : (c : Callee) (vs : List Value) (t : ThreadState) → P c → (g c vs t ≡ carried t (q c vs tt)) × IsQuiet (q c vs tt)) where
   -- the tries that are left follow the events that are left
   abbrev Follow : ℕ → Type 0
   Follow k = (from : Start) (s : ActorState) (es : List SeenEvent) (t : ThreadState) → IsBeside s t → StartFits cells a P d t.txs from s es → Related (account_link cells a) (tries d.validators k d.mark.span body f from s) (eats_tx k d g (es ++ a.tail) t)
 
-  -- the final writes, where the commutes on a world made these
-  final_made : (w : PlainTxFrame) (C : World) (t : ThreadState) (xs : Writes) (u : Unit {0}) → AllCommutes P w.commutes → redone q (phase_work w) (valued (commuted w) C) tt ≡ Completes xs u → final_writes g d.validators d.mark.span w C t ≡ Completes (merged (set_writes w) xs) t
-  final_made w C t xs u all e =
-      ap (λ y. bind y (λ ws t1. Completes (merged (set_writes w) ws) t1)) ((redone_carried P t g q (λ c vs p. right c vs t p) (phase_work w) (phase_some P w all) (valued (commuted w) C)).0 ∙ ap (carried t) e)
+  -- what the commutes made, where each of the writes is accepted
+  abbrev checked : PlainTxFrame → Writes → Unit {0} → Completion (Unit {0}) Writes
+  checked w xs u = bind (accepted q d.validators d.mark.span (merged (set_writes w) xs) u) (λ v u1. Completes xs u1)
+
+  -- what the commutes make of the refs' values, where each of the writes is accepted
+  abbrev phase_on : PlainTxFrame → Writes → Completion (Unit {0}) Writes
+  phase_on w ws = bind (redone q (phase_work w) ws tt) (checked w)
+
+  abbrev phase : PlainTxFrame → World → Completion (Unit {0}) Writes
+  phase w W = phase_on w (valued (commuted w) W)
+
+  checked_final : (w : PlainTxFrame) (y : Completion (Unit {0}) Writes) → bind y (λ ws u. if_accepted q d.validators d.mark.span (merged (set_writes w) ws) u) ≡ bind (bind y (checked w)) (λ ws u. Completes (merged (set_writes w) ws) u)
+  checked_final w (Completes xs u) = bind_map (accepted q d.validators d.mark.span (merged (set_writes w) xs) u) xs (λ ws. merged (set_writes w) ws)
+  checked_final w (Recurs vs u) = refl
+  checked_final w (Faults e u) = refl
+  checked_final w (Retries u) = refl
+  checked_final w (Waits u) = refl
+  checked_final w (OutOfTurns u) = refl
+  checked_final w Invalid = refl
+
+  -- the final writes of a thread are what the phase makes of a world
+  final_is : (w : PlainTxFrame) (C : World) (t : ThreadState) → AllCommutes P w.commutes → final_writes g d.validators d.mark.span w C t ≡ carried t (bind (phase w C) (λ ws u. Completes (merged (set_writes w) ws) u))
+  final_is w C t all = (final_carried P t g q (λ c vs p. right c vs t p) d.validators checks d.mark.span w all C).0 ∙ ap (carried t) (checked_final w (redone q (phase_work w) (valued (commuted w) C) tt))
+
+  -- the final writes, where the phase on a world made these
+  final_made : (w : PlainTxFrame) (C : World) (t : ThreadState) (xs : Writes) (u : Unit {0}) → AllCommutes P w.commutes → phase w C ≡ Completes xs u → final_writes g d.validators d.mark.span w C t ≡ Completes (merged (set_writes w) xs) t
+  final_made w C t xs u all e = final_is w C t all ∙ ap (λ y. carried t (bind y (λ ws u1. Completes (merged (set_writes w) ws) u1))) e
 
   -- or faulted
-  final_broke : (w : PlainTxFrame) (C : World) (t : ThreadState) (e : Fault) (u : Unit {0}) → AllCommutes P w.commutes → redone q (phase_work w) (valued (commuted w) C) tt ≡ Faults e u → final_writes g d.validators d.mark.span w C t ≡ Faults e t
-  final_broke w C t e u all eq =
-      ap (λ y. bind y (λ ws t1. Completes (merged (set_writes w) ws) t1)) ((redone_carried P t g q (λ c vs p. right c vs t p) (phase_work w) (phase_some P w all) (valued (commuted w) C)).0 ∙ ap (carried t) eq)
+  final_broke : (w : PlainTxFrame) (C : World) (t : ThreadState) (e : Fault) (u : Unit {0}) → AllCommutes P w.commutes → phase w C ≡ Faults e u → final_writes g d.validators d.mark.span w C t ≡ Faults e t
+  final_broke w C t e u all eq = final_is w C t all ∙ ap (λ y. carried t (bind y (λ ws u1. Completes (merged (set_writes w) ws) u1))) eq
 
   -- or needed turns
-  final_short : (w : PlainTxFrame) (C : World) (t : ThreadState) (u : Unit {0}) → AllCommutes P w.commutes → redone q (phase_work w) (valued (commuted w) C) tt ≡ OutOfTurns u → final_writes g d.validators d.mark.span w C t ≡ OutOfTurns t
-  final_short w C t u all eq =
-      ap (λ y. bind y (λ ws t1. Completes (merged (set_writes w) ws) t1)) ((redone_carried P t g q (λ c vs p. right c vs t p) (phase_work w) (phase_some P w all) (valued (commuted w) C)).0 ∙ ap (carried t) eq)
+  final_short : (w : PlainTxFrame) (C : World) (t : ThreadState) (u : Unit {0}) → AllCommutes P w.commutes → phase w C ≡ OutOfTurns u → final_writes g d.validators d.mark.span w C t ≡ OutOfTurns t
+  final_short w C t u all eq = final_is w C t all ∙ ap (λ y. carried t (bind y (λ ws u1. Completes (merged (set_writes w) ws) u1))) eq
+
+  -- what validators make of the refs that were set, where none was commuted
+  abbrev plainly : PlainTxFrame → Completion (Unit {0}) (Unit {0})
+  plainly w = accepted q d.validators d.mark.span (set_writes w) tt
+
+  final_plain : (w : PlainTxFrame) (C : World) (t : ThreadState) (y : Completion (Unit {0}) (Unit {0})) → commuted w ≡ [] → plainly w ≡ y → final_writes g d.validators d.mark.span w C t ≡ carried t (bind y (λ a u. Completes (set_writes w) u))
+  final_plain w C t y none e =
+      final_none g d.validators d.mark.span w C t none ∙ (if_accepted_carried P t g q (λ c vs p. right c vs t p) d.validators checks d.mark.span (set_writes w)).0
+      ∙ ap (λ z. carried t (bind z (λ a u. Completes (set_writes w) u))) e
+
+  -- the part of the phase in which commutes are redone
+  made_so : (w : PlainTxFrame) (xs ws : Writes) (u : Unit {0}) (z : Completion (Unit {0}) (Unit {0})) → bind z (λ v u1. Completes xs u1) ≡ Completes ws u → xs ≡ ws
+  made_so w xs ws u (Completes v u1) e = ap (written ws) e
+  made_so w xs ws u (Recurs vs u1) e = absurd (subst Written (sym e) tt)
+  made_so w xs ws u (Faults f u1) e = absurd (subst Written (sym e) tt)
+  made_so w xs ws u (Retries u1) e = absurd (subst Written (sym e) tt)
+  made_so w xs ws u (Waits u1) e = absurd (subst Written (sym e) tt)
+  made_so w xs ws u (OutOfTurns u1) e = absurd (subst Written (sym e) tt)
+  made_so w xs ws u Invalid e = absurd (subst Written (sym e) tt)
+
+  phase_redone : (w : PlainTxFrame) (ws : Writes) (u : Unit {0}) (y : Completion (Unit {0}) Writes) → bind y (checked w) ≡ Completes ws u → (u1 : Unit {0}) × (y ≡ Completes ws u1)
+  phase_redone w ws u (Completes xs u1) e = (u1, ap (λ l. Completes l u1) (made_so w xs ws u (accepted q d.validators d.mark.span (merged (set_writes w) xs) u1) e))
+  phase_redone w ws u (Recurs vs u1) e = absurd (subst Written (sym e) tt)
+  phase_redone w ws u (Faults f u1) e = absurd (subst Written (sym e) tt)
+  phase_redone w ws u (Retries u1) e = absurd (subst Written (sym e) tt)
+  phase_redone w ws u (Waits u1) e = absurd (subst Written (sym e) tt)
+  phase_redone w ws u (OutOfTurns u1) e = absurd (subst Written (sym e) tt)
+  phase_redone w ws u Invalid e = absurd (subst Written (sym e) tt)
+
+  -- on replies, with a state that it leaves as it was
+  checked_left : (s : ActorState) (xs : Writes) → (if_all_accepted d.validators d.mark.span f xs s ≡ carried s (checked s.done xs tt)) × IsQuiet (checked s.done xs tt)
+  checked_left s xs =
+      let one = accepted_carried P s f q (λ c vs p. left c vs s p) d.validators checks d.mark.span (merged (set_writes s.done) xs) in
+      let all : Completion (Unit {0}) (Unit {0}) = accepted q d.validators d.mark.span (merged (set_writes s.done) xs) tt in (
+        ap (λ x. bind x (λ u s1. Completes xs s1)) one.0 ∙ bind_carried s all (λ u s1. Completes xs s1) (λ u t. Completes xs t) (λ u. refl),
+        bind_quiet all (λ u t. Completes xs t) one.1 (λ u. tt),
+      )
+
+  phase_left : (s : ActorState) → AllCommutes P s.done.commutes → (ws : Writes) → (bind (redone f (phase_work s.done) ws s) (λ xs s1. if_all_accepted d.validators d.mark.span f xs s1) ≡ carried s (phase_on s.done ws)) × IsQuiet (phase_on s.done ws)
+  phase_left s all ws =
+      let one = redone_carried P s f q (λ c vs p. left c vs s p) (phase_work s.done) (phase_some P s.done all) ws in (
+        ap (λ x. bind x (λ xs s1. if_all_accepted d.validators d.mark.span f xs s1)) one.0
+            ∙ bind_carried s (redone q (phase_work s.done) ws tt) (λ xs s1. if_all_accepted d.validators d.mark.span f xs s1) (checked s.done) (λ xs. (checked_left s xs).0),
+        bind_quiet (redone q (phase_work s.done) ws tt) (checked s.done) one.1 (λ xs. (checked_left s xs).1),
+      )
 
   module _ (k : ℕ) (next : Follow k) where
     -- what a try comes to, before those that are left
@@ -254,46 +331,87 @@ module _ (cells : List CellDefinition) (a : Account cells) (P : Callee → Type 
       on_there : (W : World) → R ≡ W → d.on W ≡ Completes v x
       on_there W e = subst (λ Z. d.on Z ≡ Completes v x) e on
 
-      -- without a commute phase
-      plain_done : (ws : Writes) (s : ActorState) (es : List SeenEvent) (t : ThreadState) → Made s → commuted s.done ≡ [] → IsBeside s t
+      -- without a commute phase, where validators accept what was set
+      final_fine : (s : ActorState) (W : World) (t : ThreadState) (u : Unit {0}) → Made s → commuted s.done ≡ [] → plainly s.done ≡ Completes tt u → final_writes g d.validators d.mark.span x.done W t ≡ Completes (set_writes s.done) t
+      final_fine s W t u made none fine = subst (λ w. final_writes g d.validators d.mark.span w W t ≡ Completes (set_writes s.done) t) made.0 (final_plain s.done W t (Completes tt u) none fine)
+
+      plain_done : (ws : Writes) (u : Unit {0}) (s : ActorState) (es : List SeenEvent) (t : ThreadState) → Made s → commuted s.done ≡ [] → plainly s.done ≡ Completes tt u → IsBeside s t
           → OnEvent 0 (λ e. (R ≡ e.R) × (ws ≡ []) × SaysCommit (set_writes s.done) s.done.sends e.kind) (BehindEnd s ws t) es → Comes (Completes v s) es t
-      plain_done ws s [] t made none pr m = absurd m
-      plain_done ws s (e ∷ es) t made none pr m =
+      plain_done ws u s [] t made none fine pr m = absurd m
+      plain_done ws u s (e ∷ es) t made none fine pr m =
           let t1 : ThreadState = record t { todo = es ++ a.tail } in
-          let final : final_writes g d.validators d.mark.span x.done e.C t1 ≡ Completes (set_writes s.done) t1 = subst (λ w. final_writes g d.validators d.mark.span w e.C t1 ≡ Completes (set_writes s.done) t1) made.0 (final_none g d.validators d.mark.span s.done e.C t1 none) in
-          lands_at v s e es t x pr m.0 (m.2 (run_of d v x) (own_commit s ws made)) (commits_as d g e.R e.Q e.C t1 e.kind v x (set_writes s.done) s.done.sends (on_there e.R m.1.0) final (ap (λ w. w.sends) (sym made.0)) m.1.2)
+          lands_at v s e es t x pr m.0 (m.2 (run_of d v x) (own_commit s ws made)) (commits_as d g e.R e.Q e.C t1 e.kind v x (set_writes s.done) s.done.sends (on_there e.R m.1.0) (final_fine s e.C t1 u made none fine) (ap (λ w. w.sends) (sym made.0)) m.1.2)
 
-      plain_refused : (ws : Writes) (s : ActorState) (es : List SeenEvent) (t : ThreadState) → Made s → commuted s.done ≡ [] → IsBeside s t
+      plain_refused : (ws : Writes) (u : Unit {0}) (s : ActorState) (es : List SeenEvent) (t : ThreadState) → Made s → commuted s.done ≡ [] → plainly s.done ≡ Completes tt u → IsBeside s t
           → OnEvent 0 (λ e. (R ≡ e.R) × (ws ≡ []) × SaysRefused e.kind) (BehindEnd s ws t) es → Comes (Faults (fault_at AgentFailed d.mark.span) s) es t
-      plain_refused ws s [] t made none pr m = absurd m
-      plain_refused ws s (e ∷ es) t made none pr m =
+      plain_refused ws u s [] t made none fine pr m = absurd m
+      plain_refused ws u s (e ∷ es) t made none fine pr m =
           let t1 : ThreadState = record t { todo = es ++ a.tail } in
-          let final : final_writes g d.validators d.mark.span x.done e.Q t1 ≡ Completes (set_writes s.done) t1 = subst (λ w. final_writes g d.validators d.mark.span w e.Q t1 ≡ Completes (set_writes s.done) t1) made.0 (final_none g d.validators d.mark.span s.done e.Q t1 none) in
-          breaks_at (fault_at AgentFailed d.mark.span) s e es t (with_tx (run_of d v x) t1) refl pr m.0 (m.2 (run_of d v x) (own_commit s ws made)) (refuses_as d g e.R e.Q e.C t1 e.kind v x (set_writes s.done) (on_there e.R m.1.0) final m.1.2)
+          breaks_at (fault_at AgentFailed d.mark.span) s e es t (with_tx (run_of d v x) t1) refl pr m.0 (m.2 (run_of d v x) (own_commit s ws made)) (refuses_as d g e.R e.Q e.C t1 e.kind v x (set_writes s.done) (on_there e.R m.1.0) (final_fine s e.Q t1 u made none fine) m.1.2)
 
-      plain_answered : (s : ActorState) (es : List SeenEvent) (t : ThreadState) (r : Reply) (xs : List Exchange) → Made s → commuted s.done ≡ [] → IsBeside s t
+      -- where one refuses it, or faults
+      plain_broken : (y : Fault) (u : Unit {0}) (s : ActorState) (es : List SeenEvent) (t : ThreadState) → Made s → commuted s.done ≡ [] → plainly s.done ≡ Faults y u → IsBeside s t
+          → OnEvent 0 (λ e. (R ≡ e.R) × SaysFail e.kind) (a.fits t.txs Out s.todo) es → Comes (Faults y s) es t
+      plain_broken y u s [] t made none z pr m = absurd m
+      plain_broken y u s (e ∷ es) t made none z pr m =
+          let t1 : ThreadState = record t { todo = es ++ a.tail } in
+          let final : final_writes g d.validators d.mark.span x.done e.Q t1 ≡ Faults y t1 = subst (λ w. final_writes g d.validators d.mark.span w e.Q t1 ≡ Faults y t1) made.0 (final_plain s.done e.Q t1 (Faults y u) none z) in
+          breaks_at y s e es t t1 refl pr m.0 m.2 (fails_commutes d g e.R e.Q e.C t1 e.kind v x y (on_there e.R m.1.0) final m.1.1)
+
+      plain_answered : (u : Unit {0}) (s : ActorState) (es : List SeenEvent) (t : ThreadState) (r : Reply) (xs : List Exchange) → Made s → commuted s.done ≡ [] → plainly s.done ≡ Completes tt u → IsBeside s t
           → ReplyFits cells (In R) (committing s []) r (after_reply a.fits t.txs (committing s []) r xs) es
           → Comes (bind (res (heard commit_verdict (Replied r (record s { todo = xs })))) (λ verdict s1. concludes verdict d.mark.span v (tries d.validators k d.mark.span body f) s1)) es t
-      plain_answered s es t reply.Done xs made none pr m = plain_done [] (record s { todo = xs }) es t made none pr m
-      plain_answered s es t (reply.Retry c) xs made none pr m = retry_comes false Anew (record s { todo = xs }) es t pr m
-      plain_answered s es t (reply.AgentIsFailed a) xs made none pr m = plain_refused [] (record s { todo = xs }) es t made none pr m
-      plain_answered s es t (reply.Changed c) xs made none pr m = absurd m
-      plain_answered s es t _ xs made none pr m = tt
+      plain_answered u s es t reply.Done xs made none fine pr m = plain_done [] u (record s { todo = xs }) es t made none fine pr m
+      plain_answered u s es t (reply.Retry c) xs made none fine pr m = retry_comes false Anew (record s { todo = xs }) es t pr m
+      plain_answered u s es t (reply.AgentIsFailed a) xs made none fine pr m = plain_refused [] u (record s { todo = xs }) es t made none fine pr m
+      plain_answered u s es t (reply.Changed c) xs made none fine pr m = absurd m
+      plain_answered u s es t _ xs made none fine pr m = tt
 
-      lands_plainly : (s : ActorState) (es : List SeenEvent) (t : ThreadState) → Made s → commuted s.done ≡ [] → IsBeside s t → a.fits t.txs (In R) s.todo es → Comes (lands_on d.mark.span v (tries d.validators k d.mark.span body f) [] s) es t
+      lands_plainly : (u : Unit {0}) (s : ActorState) (es : List SeenEvent) (t : ThreadState) → Made s → commuted s.done ≡ [] → plainly s.done ≡ Completes tt u → IsBeside s t → a.fits t.txs (In R) s.todo es → Comes (lands_on d.mark.span v (tries d.validators k d.mark.span body f) [] s) es t
       unfolding commit
-      lands_plainly s es t made none pr fits =
+      lands_plainly u s es t made none fine pr fits =
           answered_in cells a t.txs (In R) es (committing s []) s
           (λ h. Comes (bind (res (heard commit_verdict h)) (λ verdict s1. concludes verdict d.mark.span v (tries d.validators k d.mark.span body f) s1)) es t) fits
-          (waiting (In R) (record s { wants = _ }) es t pr fits) (λ r xs m. plain_answered s es t r xs made none pr m)
+          (waiting (In R) (record s { wants = _ }) es t pr fits) (λ r xs m. plain_answered u s es t r xs made none fine pr m)
+
+      plain_fail_answered : (y : Fault) (u : Unit {0}) (s : ActorState) (es : List SeenEvent) (t : ThreadState) (r : Reply) (xs : List Exchange) → Made s → commuted s.done ≡ [] → plainly s.done ≡ Faults y u → IsBeside s t
+          → ReplyFits cells (In R) (ask.Fail s.at s.view) r (λ ph1 es1. a.fits t.txs ph1 xs es1) es → Comes (bind (res (heard just_done (Replied r (record s { todo = xs })))) (λ w s1. Faults y s1)) es t
+      plain_fail_answered y u s es t reply.Done xs made none z pr m = plain_broken y u (record s { todo = xs }) es t made none z pr m
+      plain_fail_answered y u s es t _ xs made none z pr m = tt
+
+      fails_plainly : (y : Fault) (u : Unit {0}) (s : ActorState) (es : List SeenEvent) (t : ThreadState) → Made s → commuted s.done ≡ [] → plainly s.done ≡ Faults y u → IsBeside s t → a.fits t.txs (In R) s.todo es
+          → Comes (bind (res (fail s)) (λ w s1. Faults y s1)) es t
+      unfolding fail
+      fails_plainly y u s es t made none z pr fits =
+          answered_in cells a t.txs (In R) es (ask.Fail s.at s.view) s (λ h. Comes (bind (res (heard just_done h)) (λ w s1. Faults y s1)) es t) fits
+          (waiting (In R) (record s { wants = _ }) es t pr fits) (λ r xs m. plain_fail_answered y u s es t r xs made none z pr m)
+
+      -- a transaction whose validators need turns needs them at its failure
+      plain_short : (s : ActorState) (t : ThreadState) (u : Unit {0}) → Made s → commuted s.done ≡ [] → plainly s.done ≡ OutOfTurns u → (Q : World) (l : List SeenEvent) → IsShort (halted (uneaten l (ends_tx d g (event.Fail 0 0) R Q Q t)))
+      plain_short s t u made none e Q l =
+          let final : final_writes g d.validators d.mark.span x.done Q t ≡ OutOfTurns t = subst (λ w. final_writes g d.validators d.mark.span w Q t ≡ OutOfTurns t) made.0 (final_plain s.done Q t (OutOfTurns u) none e) in
+          subst (λ y. IsShort (halted (uneaten l y))) (sym (ap (λ r. over t r (λ w y. faulted (final_writes g d.validators d.mark.span y.done Q t) (λ z t1. Faults z t1)) (λ z. Faults z t)) on ∙ ap (λ y. faulted y (λ z t1. Faults z t1)) final)) tt
+
+      -- what was set is committed, or a fault told
+      plain_comes : (s : ActorState) (es : List SeenEvent) (t : ThreadState) (z : Completion (Unit {0}) (Unit {0})) → Made s → commuted s.done ≡ [] → plainly s.done ≡ z → IsQuiet z → IsBeside s t → a.fits t.txs (In R) s.todo es
+          → Comes (telling fail (bind (carried s z) (λ u s1. Completes [] s1)) (λ xs s1. lands_on d.mark.span v (tries d.validators k d.mark.span body f) xs s1)) es t
+      plain_comes s es t (Completes tt u) made none e quiet pr fits = lands_plainly u s es t made none e pr fits
+      plain_comes s es t (Recurs vs u) made none e quiet pr fits = tt
+      plain_comes s es t (Faults y u) made none e quiet pr fits = fails_plainly y u s es t made none e pr fits
+      plain_comes s es t (Retries u) made none e quiet pr fits = absurd quiet
+      plain_comes s es t (Waits u) made none e quiet pr fits = absurd quiet
+      plain_comes s es t (OutOfTurns u) made none e quiet pr fits = shortage (In R) s es t pr fits (λ W. plain_short s (record t { todo = [] }) u made none e W _)
+      plain_comes s es t Invalid made none e quiet pr fits = tt
+
+      ends_plainly : (s : ActorState) (es : List SeenEvent) (t : ThreadState) → Made s → commuted s.done ≡ [] → IsBeside s t → a.fits t.txs (In R) s.todo es
+          → Comes (telling fail (if_all_accepted d.validators d.mark.span f [] s) (λ xs s1. lands_on d.mark.span v (tries d.validators k d.mark.span body f) xs s1)) es t
+      ends_plainly s es t made none pr fits =
+          let r = accepted_carried P s f q (λ c vs p. left c vs s p) d.validators checks d.mark.span (set_writes s.done) in
+          subst (λ y. Comes (telling fail (bind y (λ u s1. Completes [] s1)) (λ xs s1. lands_on d.mark.span v (tries d.validators k d.mark.span body f) xs s1)) es t) (sym r.0) (plain_comes s es t (plainly s.done) made none refl r.1 pr fits)
 
       -- ---- the commute phase
 
       module _ (Q : World) where
-        -- what the commutes make of the refs' values
-        abbrev phase : PlainTxFrame → World → Completion (Unit {0}) Writes
-        phase w W = redone q (phase_work w) (valued (commuted w) W) tt
-
         final_there : (s : ActorState) (W : World) (t : ThreadState) (ws : Writes) (u : Unit {0}) → Made s → phase s.done W ≡ Completes ws u → final_writes g d.validators d.mark.span x.done W t ≡ Completes (merged (set_writes s.done) ws) t
         final_there s W t ws u made e = subst (λ w. final_writes g d.validators d.mark.span w W t ≡ Completes (merged (set_writes s.done) ws) t) made.0 (final_made s.done W t ws u made.1.0 e)
 
@@ -302,8 +420,9 @@ module _ (cells : List CellDefinition) (a : Account cells) (P : Callee → Type 
         phase_done s [] t ws u made z pr m = absurd m
         phase_done s (e ∷ es) t ws u made z pr m =
             let t1 : ThreadState = record t { todo = es ++ a.tail } in
-            let same : valued (commuted s.done) Q ≡ valued (commuted s.done) e.C = agree_valued Q e.C (commuted s.done) (agree_before Q e.C q (phase_work s.done) (valued (commuted s.done) Q) ws u z m.1.1) in
-            let there : phase s.done e.C ≡ Completes ws u = subst (λ l. redone q (phase_work s.done) l tt ≡ Completes ws u) same z in
+            let again = phase_redone s.done ws u (redone q (phase_work s.done) (valued (commuted s.done) Q) tt) z in
+            let same : valued (commuted s.done) Q ≡ valued (commuted s.done) e.C = agree_valued Q e.C (commuted s.done) (agree_before Q e.C q (phase_work s.done) (valued (commuted s.done) Q) ws again.0 again.1 m.1.1) in
+            let there : phase s.done e.C ≡ Completes ws u = subst (λ l. phase_on s.done l ≡ Completes ws u) same z in
             lands_at v s e es t x pr m.0 (m.2 (run_of d v x) (own_commit s ws made))
             (commits_as d g e.R e.Q e.C t1 e.kind v x (merged (set_writes s.done) ws) s.done.sends (on_there e.R m.1.0) (final_there s e.C t1 ws u made there) (ap (λ w. w.sends) (sym made.0)) m.1.2)
 
@@ -376,14 +495,14 @@ module _ (cells : List CellDefinition) (a : Account cells) (P : Callee → Type 
         phase_comes s es t Invalid made e quiet pr fits = tt
 
         viewed_comes : (s : ActorState) (es : List SeenEvent) (t : ThreadState) → Made s → IsBeside s t → a.fits t.txs (Viewed R Q) s.todo es
-            → Comes (telling fail (redone f (phase_work s.done) (valued (commuted s.done) Q) s) (λ xs s1. lands_on d.mark.span v (tries d.validators k d.mark.span body f) xs s1)) es t
+            → Comes (telling fail (bind (redone f (phase_work s.done) (valued (commuted s.done) Q) s) (λ xs s1. if_all_accepted d.validators d.mark.span f xs s1)) (λ xs s1. lands_on d.mark.span v (tries d.validators k d.mark.span body f) xs s1)) es t
         viewed_comes s es t made pr fits =
-            let r = redone_carried P s f q (λ c vs p. left c vs s p) (phase_work s.done) (phase_some P s.done made.1.0) (valued (commuted s.done) Q) in
+            let r = phase_left s made.1.0 (valued (commuted s.done) Q) in
             subst (λ y. Comes (telling fail y (λ xs s1. lands_on d.mark.span v (tries d.validators k d.mark.span body f) xs s1)) es t) (sym r.0) (phase_comes s es t (phase s.done Q) made refl r.1 pr fits)
 
       -- what comes after the view
       abbrev after_view : Writes → ActorState → Completion ActorState Value
-      after_view ws s1 = telling fail (redone f (phase_work s1.done) ws s1) (λ xs s2. lands_on d.mark.span v (tries d.validators k d.mark.span body f) xs s2)
+      after_view ws s1 = telling fail (bind (redone f (phase_work s1.done) ws s1) (λ xs s2. if_all_accepted d.validators d.mark.span f xs s2)) (λ xs s2. lands_on d.mark.span v (tries d.validators k d.mark.span body f) xs s2)
 
       view_answered : (s : ActorState) (es : List SeenEvent) (t : ThreadState) (r : Reply) (xs : List Exchange) → Made s → IsBeside s t
           → ReplyFits cells (In R) (ask.View (commuted s.done)) r (λ ph1 es1. a.fits t.txs ph1 xs es1) es
@@ -395,7 +514,7 @@ module _ (cells : List CellDefinition) (a : Account cells) (P : Callee → Type 
 
       closing_comes : (cs : List CellId) (s : ActorState) (es : List SeenEvent) (t : ThreadState) → commuted s.done ≡ cs → Made s → IsBeside s t → a.fits t.txs (In R) s.todo es → Comes (closing d.validators cs d.mark.span f v (tries d.validators k d.mark.span body f) s) es t
       unfolding view
-      closing_comes [] s es t none made pr fits = lands_plainly s es t made none pr fits
+      closing_comes [] s es t none made pr fits = ends_plainly s es t made none pr fits
       closing_comes (c ∷ cs) s es t some made pr fits =
           answered_in cells a t.txs (In R) es (ask.View (commuted s.done)) s
           (λ h. Comes (bind (res (on_step (heard views h) (λ y s1. viewed y.0 (paired (commuted s.done) y.1) s1))) after_view) es t) fits

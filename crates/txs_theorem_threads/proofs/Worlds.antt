@@ -284,9 +284,8 @@ module _ (cells : List CellDefinition) (F : Fitting) (looks : LooksFit cells F) 
         (λ w. commute_related c callee vs m.span w (record s1 { commuting = Some o }) t1 (t1.used || m.wanted) p r1)))
 
   -- a put in a transaction
-  put_related : (form : PutForm) (m : Mark) (rc : Result CellId FaultKind) (v : Value) (s : ActorState) (t : TxState) → k.rel s t → Related k (res (on_step (step_of rc m.span s) (assign_cell form true m.span v))) (bind (result_of rc m.span t) (λ c t1. tx_put form m.span c v t1))
-  put_related RefSet m rc v s t r = on_cell_related TxState k rc m.span (assign_cell RefSet true m.span v) (λ c t1. tx_put RefSet m.span c v t1) s t r (λ c e. set_related c m.span v s t r)
-  put_related Reset m rc v s t r = on_cell_related TxState k rc m.span (assign_cell Reset true m.span v) (λ c t1. tx_put Reset m.span c v t1) s t r (λ c e. tt)
+  put_related : (m : Mark) (rc : Result CellId FaultKind) (v : Value) (s : ActorState) (t : TxState) → k.rel s t → Related k (res (on_step (step_of rc m.span s) (assign_cell RefSet true m.span v))) (bind (result_of rc m.span t) (λ c t1. tx_put RefSet m.span c v t1))
+  put_related m rc v s t r = on_cell_related TxState k rc m.span (assign_cell RefSet true m.span v) (λ c t1. tx_put RefSet m.span c v t1) s t r (λ c e. set_related c m.span v s t r)
 
   -- a look in a transaction
   ensure_related : (c : CellId) (s : ActorState) (t : TxState) → k.rel s t → Related k (res (read_cell Ensure true c s)) (tx_look R Ensure c t)
@@ -350,7 +349,8 @@ module _ (cells : List CellDefinition) (F : Fitting) (looks : LooksFit cells F) 
 
       tx_puts : (form : PutForm) (inside : Bool) (m : Mark) (c w : Value) (s : ActorState) (t : TxState) → may_stand (rule (form_of.Put form)).stands inside ≡ true → inside ≡ true → (((x : ℕ) → MayCallAt (known functions) inside x) → Applied ActorState TxState tries_link (apply (call_at (λ e. on_replies validators) n functions d inside) m.span) (apply (call_at (λ e. in_transaction R) n functions d inside) m.span)) → tries_link.rel s t
           → Related tries_link ((on_replies validators).put form inside m c w (apply (call_at (λ e. on_replies validators) n functions d inside) m.span) s) ((in_transaction R).put form inside m c w (apply (call_at (λ e. in_transaction R) n functions d inside) m.span) t)
-      tx_puts form true m c w s t q i h r = put_related cells F looks (IsPure (known functions)) R out sends es form m (cell_of (rule (form_of.Put form)) true c) w s t r
+      tx_puts RefSet true m c w s t q i h r = put_related cells F looks (IsPure (known functions)) R out sends es m (cell_of (rule (form_of.Put RefSet)) true c) w s t r
+      tx_puts Reset true m c w s t q i h r = absurd (false≢true q)
       tx_puts form false m c w s t q i h r = absurd (false≢true i)
 
       tx_updates : (form : UpdateForm) (inside : Bool) (m : Mark) (c : Value) (callee : Callee) (vs : List Value) (s : ActorState) (t : TxState) → may_stand (rule (form_of.Update form)).stands inside ≡ true → inside ≡ true → IsPure (known functions) callee → (((x : ℕ) → MayCallAt (known functions) inside x) → Applied ActorState TxState tries_link (apply (call_at (λ e. on_replies validators) n functions d inside) m.span) (apply (call_at (λ e. in_transaction R) n functions d inside) m.span)) → tries_link.rel s t

@@ -10,12 +10,14 @@ use Rattle.txs_value_base.specs.declared.fault.Fault.{Fault}
 use Rattle.txs_value_data.specs.declared.value.CellId.{CellId}
 use Rattle.txs_value_data.specs.declared.value.Value.{Value}
 use Rattle.txs_tree_meaning.specs.Known.{known}
-use Rattle.txs_tree_meaning.specs.Meaning.{Completion, Completes, Recurs, Faults, Retries, Waits, OutOfTurns, Invalid, apply}
+use Rattle.txs_tree_meaning.specs.Meaning.{Completion, Completes, Recurs, Faults, Retries, Waits, OutOfTurns, Invalid, apply, bind, Applies}
 use Rattle.txs_tree_meaning.specs.Pure.{pure_calls}
 use Rattle.txs_tree_meaning.specs.Sound.{SoundCallee}
 use Rattle.txs_tree_meaning.specs.Tree.{PlainFunction}
 use Rattle.txs_code_meaning.specs.Machine.{Outcome, Ended, Failed, Asking, Unfinished, Stuck, Library}
 use Rattle.txs_code_meaning.specs.Opening.{agent_target}
+use Rattle.txs_tree_meaning.specs.Transaction.{validated}
+use Rattle.txs_value_cell.specs.Cells.{Validators, validator_at}
 
 -- what pure code came to, as an action's result; there is none yet where turns don't suffice
 abbrev pub new_of : Completion (Unit {0}) Value → Option (Result Value Fault)
@@ -27,10 +29,19 @@ new_of (Waits s) = None
 new_of (OutOfTurns s) = None
 new_of Invalid = None
 
--- The action's meaning on the agent's state: its callee on the state and the arguments (Clojure's docstring of `send`), where each
--- loop makes at most n turns. An operation faults where the send is.
-abbrev pub action_meaning : ℕ → List PlainFunction → Action → Value → Option (Result Value Fault)
-action_meaning n functions a v = new_of (apply (pure_calls n functions (length functions) false) a.span a.callee (v ∷ a.args) tt)
+-- a callee applied, where an operation faults at the send of this action
+abbrev pub applies_at : ℕ → List PlainFunction → Action → Applies (Unit {0})
+applies_at n functions a = apply (pure_calls n functions (length functions) false) a.span
+
+-- The agent's new state by an action: its callee on the state and the arguments (Clojure's docstring of `send`), where the agent's
+-- validator accepts what that gives, and each loop makes at most n turns. What is refused, and an operation that faults, do so where the
+-- send stands.
+abbrev pub new_state : ℕ → List PlainFunction → Validators → Action → Value → Completion (Unit {0}) Value
+new_state n functions vs a v = bind (applies_at n functions a a.callee (v ∷ a.args) tt) (λ w s. validated (applies_at n functions a) (validator_at vs a.agent.number) a.span w s)
+
+-- the action's meaning: that state, or a fault
+abbrev pub action_meaning : ℕ → List PlainFunction → Validators → Action → Value → Option (Result Value Fault)
+action_meaning n functions vs a v = new_of (new_state n functions vs a v)
 
 -- an action that a program may send: its callee is pure, and takes the agent's state and the arguments
 abbrev pub SoundAction : List PlainFunction → Action → Type 0
@@ -87,9 +98,9 @@ GoesOn Stuck = ⊥
 -- where that meaning is there for some bound on loops; where the bound doesn't suffice, it is still running the action after as many turns
 -- or more; and it never ends and prints nothing, since actions are pure.
 pub record FollowsAgent (code : Library) (functions : List PlainFunction) (g : CellId) : Type 0 where
-  pub only : (done : List Exchange) (number m : ℕ) (a : Action) (v : Value) (new : Result Value Fault) → AgentFits functions g done → SoundAction functions a → AsksNext (Finish g new []) (agent_target code g m (done ++ taking g number a v ∷ [])) → (n : ℕ) × (action_meaning n functions a v ≡ Some new)
-  pub ends_so : (done : List Exchange) (number m n : ℕ) (a : Action) (v : Value) (new : Result Value Fault) → AgentFits functions g done → SoundAction functions a → AsksNext (Take g) (agent_target code g m done) → action_meaning n functions a v ≡ Some new → (j : ℕ) × AsksNext (Finish g new []) (agent_target code g j (done ++ taking g number a v ∷ []))
-  pub runs_on : (done : List Exchange) (number m n : ℕ) (a : Action) (v : Value) → AgentFits functions g done → SoundAction functions a → AsksNext (Take g) (agent_target code g m done) → action_meaning n functions a v ≡ None → (j : ℕ) × (n ≤ j) × IsRunning (agent_target code g j (done ++ taking g number a v ∷ []))
+  pub only : (done : List Exchange) (number m : ℕ) (a : Action) (v : Value) (new : Result Value Fault) → AgentFits functions g done → SoundAction functions a → AsksNext (Finish g new []) (agent_target code g m (done ++ taking g number a v ∷ [])) → (n : ℕ) × (action_meaning n functions code.validators a v ≡ Some new)
+  pub ends_so : (done : List Exchange) (number m n : ℕ) (a : Action) (v : Value) (new : Result Value Fault) → AgentFits functions g done → SoundAction functions a → AsksNext (Take g) (agent_target code g m done) → action_meaning n functions code.validators a v ≡ Some new → (j : ℕ) × AsksNext (Finish g new []) (agent_target code g j (done ++ taking g number a v ∷ []))
+  pub runs_on : (done : List Exchange) (number m n : ℕ) (a : Action) (v : Value) → AgentFits functions g done → SoundAction functions a → AsksNext (Take g) (agent_target code g m done) → action_meaning n functions code.validators a v ≡ None → (j : ℕ) × (n ≤ j) × IsRunning (agent_target code g j (done ++ taking g number a v ∷ []))
   pub goes_on : (told : List Exchange) (m : ℕ) → AgentTold functions g told → GoesOn (agent_target code g m told)
 
 -- the code of these functions follows the actions of each agent

@@ -1,21 +1,23 @@
 -- The trees' meaning on replies: what a tree does on the replies that come, one after the other.
 use Rattle.std.specs.Prelude.{ℕ, zero, suc, Bool, true, false, List, [], ◌∷◌, length, not}
 use Rattle.txs_world_protocol.specs.Ask.{Writes}
-use Rattle.txs_frame.specs.Frame.{commuted, phase_work}
+use Rattle.txs_frame.specs.Frame.{commuted, phase_work, set_writes}
 use Rattle.txs_value_data.specs.Limits.{reruns}
 use Rattle.txs_value_base.specs.Places.{fault_at}
 use Rattle.txs_value_base.specs.declared.fault.FaultKind.TheVariants.{RetryLimit, AgentFailed}
 use Rattle.txs_value_base.specs.declared.fault.Span.{Span}
-use Rattle.txs_value_cell.specs.Cells.{Validators}
+use Rattle.txs_value_cell.specs.Cells.{Validators, validator_at}
+use Rattle.txs_value_cell.specs.declared.form.CellForm.TheVariants as form_of
 use Rattle.txs_value_cell.specs.declared.form.PutForm.{PutForm}
+use Rattle.txs_value_cell.specs.declared.form.PutForm.TheVariants.{RefSet, Reset}
 use Rattle.txs_value_cell.specs.declared.form.UpdateForm.{UpdateForm}
 use Rattle.txs_value_cell.specs.declared.form.UpdateForm.TheVariants.{Alter, Commute, Swap}
 use Rattle.txs_value_base.specs.declared.op.Callee.{Callee}
 use Rattle.txs_value_data.specs.declared.value.CellId.{CellId}
 use Rattle.txs_value_data.specs.declared.value.Value.{Value}
 use Rattle.txs_tree_meaning.specs.Meaning.{Completion, Completes, Recurs, Faults, Retries, Waits, OutOfTurns, Invalid, bind, allowed, Applies, Effects}
-use Rattle.txs_tree_meaning.specs.Transaction.{redone}
-use Rattle.txs_code_meaning.specs.ActorState.{ActorState, StepResult, Continue, Break, Redo, Await, Malformed, begin, fail, view, Verdict, Landed, Outdated, Undone, Denied, commit, open_swap, close_swap, break_swap, read, assign, RefUpdate, Alters, Commutes, open_update, close_update, send_to, print}
+use Rattle.txs_tree_meaning.specs.Transaction.{redone, merged, validated, accepted}
+use Rattle.txs_code_meaning.specs.ActorState.{ActorState, StepResult, Continue, Break, Redo, Await, Malformed, begin, fail, view, Verdict, Landed, Outdated, Undone, Denied, commit, open_swap, close_swap, break_swap, read, assign, RefUpdate, Alters, Commutes, open_update, close_update, send_to, print, cell_at, assign_cell}
 
 -- a step of a form as the end of a part of a tree
 abbrev pub res : {A : Type 0} → StepResult A → Completion ActorState A
@@ -53,11 +55,17 @@ concludes Denied span v go s = Faults (fault_at AgentFailed span) s
 abbrev pub lands_on : Span → Value → (Start → ActorState → Completion ActorState Value) → Writes → ActorState → Completion ActorState Value
 lands_on span v go ws s = bind (res (commit ws s)) (λ d s1. concludes d span v go s1)
 
--- a body's end: the commit where no ref was commuted and not set, else the view, the commutes one after the other, and then the commit
+-- what the commutes made of the viewed values, where each of the writes is accepted by its ref's validator
+abbrev pub if_all_accepted : Validators → Span → Applies ActorState → Writes → ActorState → Completion ActorState Writes
+if_all_accepted vs span f xs s = bind (accepted f vs span (merged (set_writes s.done) xs) s) (λ u s1. Completes xs s1)
+
+-- A body's end: where no ref was commuted and not set, the validators and then the commit; else the view, the commutes one after the
+-- other, the validators, and then the commit.
 abbrev pub closing : Validators → List CellId → Span → Applies ActorState → Value → (Start → ActorState → Completion ActorState Value) → ActorState → Completion ActorState Value
-closing vs [] span f v go s = lands_on span v go [] s
+closing vs [] span f v go s = telling fail (if_all_accepted vs span f [] s) (λ xs s1. lands_on span v go xs s1)
 closing vs (c ∷ cs) span f v go s =
-    bind (res (view s)) (λ ws s1. telling fail (redone f (phase_work s1.done) ws s1) (λ xs s2. lands_on span v go xs s2))
+    bind (res (view s)) (λ ws s1.
+    telling fail (bind (redone f (phase_work s1.done) ws s1) (λ xs s2. if_all_accepted vs span f xs s2)) (λ xs s2. lands_on span v go xs s2))
 
 -- one try
 abbrev pub attempt : Validators → Start → Span → (ActorState → Completion ActorState Value) → Applies ActorState → (Start → ActorState → Completion ActorState Value) → ActorState → Completion ActorState Value
@@ -94,6 +102,10 @@ swap_concludes Outdated w go s = go s
 swap_concludes Undone w go s = Invalid
 swap_concludes Denied w go s = Invalid
 
+-- a value that a cell is to get, where its validator accepts it
+abbrev pub accepts : Validators → Applies ActorState → CellId → Span → Value → ActorState → Completion ActorState Value
+accepts vs f c span v s = validated f (validator_at vs c.number) span v s
+
 -- A swap, again from its open where the atom changed, less than k times: each time takes exchanges, so that their number bounds
 -- the times. What gives the new value sees the atom and its value.
 abbrev pub swaps_on : ℕ → Span → Value → (CellId → Value → ActorState → Completion ActorState Value) → ActorState → Completion ActorState Value
@@ -113,11 +125,15 @@ updates_ref u inside span c callee vs f s =
 abbrev pub updates : Validators → UpdateForm → Bool → Span → Value → Callee → List Value → Applies ActorState → ActorState → Completion ActorState Value
 updates vs Alter inside span c callee args f s = updates_ref Alters inside span c callee args f s
 updates vs Commute inside span c callee args f s = updates_ref (Commutes callee) inside span c callee args f s
-updates vs Swap inside span c callee args f s = allowed (not inside) (swaps_on (suc (length s.todo)) span c (λ a v s1. f callee (v ∷ args) s1) s)
+-- what the callee gives is what the atom's validator has to accept
+updates vs Swap inside span c callee args f s =
+    allowed (not inside) (swaps_on (suc (length s.todo)) span c (λ a v s1. bind (f callee (v ∷ args) s1) (accepts vs f a span)) s)
 
--- the forms that put
+-- the forms that put, of which `reset!` has the atom's validator look at the value first
 abbrev pub puts : Validators → PutForm → Bool → Span → Value → Value → Applies ActorState → ActorState → Completion ActorState Value
-puts vs form inside span c v f s = res (assign form inside span c v s)
+puts vs RefSet inside span c v f s = res (assign RefSet inside span c v s)
+puts vs Reset inside span c v f s =
+    bind (res (cell_at (form_of.Put Reset) inside span c s)) (λ a s1. bind (accepts vs f a span v s1) (λ w s2. res (assign_cell Reset inside span w a s2)))
 
 -- the forms on cells, as asks, where the cells have these validators, and a transaction has so many tries
 abbrev pub on_replies_with : Validators → ℕ → Effects ActorState

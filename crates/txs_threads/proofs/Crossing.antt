@@ -59,6 +59,7 @@ use Rattle.txs_frame.specs.contracts.frame.TxFrame as tx_frame_is
 use Rattle.txs_frame.specs.contracts.frame.TxFrame.TheInside as tx_frame_in
 use Rattle.txs_frame.specs.contracts.phase.Phase as phase_is
 use Rattle.txs_frame.specs.contracts.phase.Phase.TheInside as phase_in
+use Rattle.txs_frame.specs.contracts.phase.Task as task_is
 use Rattle.txs_machine_stack.specs.contracts.stack.Stack as stack_is
 use Rattle.txs_machine_stack.specs.contracts.stack.Stack.TheInside as stack_in
 use Rattle.txs_machine_transaction.specs.contracts.state.Savepoint as savepoint_is
@@ -154,8 +155,14 @@ commute_send = recorded_send (commute_is.the_field).row _ _ (commute_is.the_type
 pub tx_frame_send : IsSend tx_frame_is.the_row
 tx_frame_send = view_send tx_frame_in.the_row _ _ _ _ (recorded_send (tx_frame_in.the_field).row _ _ (tx_frame_in.the_type).to_one (struct_send (S.shape tx_frame_in.the_type) ((search (global.the_field_send, crosses, sendable) depth 60 fits 20000), ((search (value_field_send, plain_send, vec.the_send, crosses, sendable) depth 60 fits 20000), ((search (vec.the_send, cell_id_sent.the_send, crosses, sendable) depth 60 fits 20000), ((search (commute_send, vec.the_send, crosses, sendable) depth 60 fits 20000), ((search (action_send, vec.the_send, crosses, sendable) depth 60 fits 20000), tt)))))))
 
+pub task_field_send : IsSend (task_is.the_field).row
+task_field_send = enum_send (E.shape task_is.the_type) (((search (commute_field_send, crosses, sendable) depth 60 fits 20000), tt), ((cell_id_sent.the_field_send, ((search (callee_sent.the_field_send, crosses, sendable) depth 60 fits 20000), tt)), tt))
+
+pub task_send : IsSend task_is.the_row
+task_send = recorded_send (task_is.the_field).row _ _ (task_is.the_type).to_one task_field_send
+
 pub phase_send : IsSend phase_is.the_row
-phase_send = view_send phase_in.the_row _ _ _ _ (recorded_send (phase_in.the_field).row _ _ (phase_in.the_type).to_one (struct_send (S.shape phase_in.the_type) ((search (global.the_field_send, crosses, sendable) depth 60 fits 20000), ((search (value_send, vec.the_send, cell_id_sent.the_send, crosses, sendable) depth 60 fits 20000), ((search (commute_send, vec.the_send, crosses, sendable) depth 60 fits 20000), (plain_send _ _ _ _ _, tt))))))
+phase_send = view_send phase_in.the_row _ _ _ _ (recorded_send (phase_in.the_field).row _ _ (phase_in.the_type).to_one (struct_send (S.shape phase_in.the_type) ((search (global.the_field_send, crosses, sendable) depth 60 fits 20000), ((search (value_send, vec.the_send, cell_id_sent.the_send, crosses, sendable) depth 60 fits 20000), ((search (task_send, vec.the_send, crosses, sendable) depth 60 fits 20000), (plain_send _ _ _ _ _, tt))))))
 
 pub stack_send : IsSend stack_is.the_row
 stack_send = view_send stack_in.the_row _ _ _ _ (recorded_send (stack_in.the_field).row _ _ (stack_in.the_type).to_one (struct_send (S.shape stack_in.the_type) ((search (plain_send, crosses, sendable) depth 60 fits 20000), ((search (plain_send, vec.the_send, crosses, sendable) depth 60 fits 20000), ((search (value_send, vec.the_send, crosses, sendable) depth 60 fits 20000), tt)))))
@@ -167,7 +174,7 @@ pub origin_send : IsSend savepoint_is.the_row
 origin_send = recorded_send (savepoint_is.the_field).row _ _ (savepoint_is.the_type).to_one origin_field_send
 
 pub transaction_field_send : IsSend (transaction_is.the_field).row
-transaction_field_send = enum_send (E.shape transaction_is.the_type) (tt, (((search (plain_send, crosses, sendable) depth 60 fits 20000), tt), (((search (plain_send, crosses, sendable) depth 60 fits 20000), ((search (plain_send, crosses, sendable) depth 60 fits 20000), ((search (origin_field_send, crosses, sendable) depth 60 fits 20000), tt))), (((search (plain_send, crosses, sendable) depth 60 fits 20000), ((search (origin_field_send, crosses, sendable) depth 60 fits 20000), ((search (phase_send, crosses, sendable) depth 60 fits 20000), tt))), (((search (plain_send, crosses, sendable) depth 60 fits 20000), ((search (origin_field_send, crosses, sendable) depth 60 fits 20000), ((search (phase_send, crosses, sendable) depth 60 fits 20000), ((search (stack_send, crosses, sendable) depth 60 fits 20000), tt)))), ((cell_id_sent.the_field_send, ((search (plain_send, crosses, sendable) depth 60 fits 20000), ((search (origin_field_send, crosses, sendable) depth 60 fits 20000), tt))), tt))))))
+transaction_field_send = enum_send (E.shape transaction_is.the_type) (tt, (((search (plain_send, crosses, sendable) depth 60 fits 20000), tt), (((search (plain_send, crosses, sendable) depth 60 fits 20000), ((search (plain_send, crosses, sendable) depth 60 fits 20000), ((search (origin_field_send, crosses, sendable) depth 60 fits 20000), tt))), (((search (plain_send, crosses, sendable) depth 60 fits 20000), ((search (origin_field_send, crosses, sendable) depth 60 fits 20000), ((search (phase_send, crosses, sendable) depth 60 fits 20000), tt))), (((search (plain_send, crosses, sendable) depth 60 fits 20000), ((search (origin_field_send, crosses, sendable) depth 60 fits 20000), ((search (phase_send, crosses, sendable) depth 60 fits 20000), ((search (stack_send, crosses, sendable) depth 60 fits 20000), tt)))), ((cell_id_sent.the_field_send, ((search (plain_send, crosses, sendable) depth 60 fits 20000), ((search (origin_field_send, crosses, sendable) depth 60 fits 20000), tt))), (((search (stack_send, crosses, sendable) depth 60 fits 20000), tt), ((cell_id_sent.the_field_send, ((search (plain_send, crosses, sendable) depth 60 fits 20000), ((search (origin_field_send, crosses, sendable) depth 60 fits 20000), ((search (stack_send, crosses, sendable) depth 60 fits 20000), tt)))), tt))))))))
 
 pub transaction_send : IsSend transaction_is.the_row
 transaction_send = recorded_send (transaction_is.the_field).row _ _ (transaction_is.the_type).to_one transaction_field_send
@@ -188,13 +195,13 @@ pub in_hand_send : IsSend in_hand_is.the_row
 in_hand_send = view_send in_hand_in.the_row _ _ _ _ (recorded_send (in_hand_in.the_field).row _ _ (in_hand_in.the_type).to_one (struct_send (S.shape in_hand_in.the_type) (cell_id_sent.the_field_send, (action_field_send, ((search (action_send, vec.the_send, crosses, sendable) depth 60 fits 20000), tt)))))
 
 pub role_field_send : IsSend (role_is.the_field).row
-role_field_send = enum_send (E.shape role_is.the_type) (tt, ((cell_id_sent.the_field_send, ((search (in_hand_send, option.the_field_send, crosses, sendable) depth 60 fits 20000), tt)), (((search (in_hand_send, crosses, sendable) depth 60 fits 20000), ((search (stack_send, crosses, sendable) depth 60 fits 20000), tt)), tt)))
+role_field_send = enum_send (E.shape role_is.the_type) (tt, ((cell_id_sent.the_field_send, ((search (in_hand_send, option.the_field_send, crosses, sendable) depth 60 fits 20000), tt)), (((search (in_hand_send, crosses, sendable) depth 60 fits 20000), ((search (plain_send, crosses, sendable) depth 60 fits 20000), ((search (stack_send, crosses, sendable) depth 60 fits 20000), tt))), tt)))
 
 pub role_send : IsSend role_is.the_row
 role_send = recorded_send (role_is.the_field).row _ _ (role_is.the_type).to_one role_field_send
 
 pub actor_send : IsSend actor_is.the_row
-actor_send = view_send actor_in.the_row _ _ _ _ (recorded_send (actor_in.the_field).row _ _ (actor_in.the_type).to_one (struct_send (S.shape actor_in.the_type) ((search (global.the_field_send, crosses, sendable) depth 60 fits 20000), ((search (plain_send, crosses, sendable) depth 60 fits 20000), ((search (role_field_send, crosses, sendable) depth 60 fits 20000), ((search (stack_send, crosses, sendable) depth 60 fits 20000), ((search (plain_send, vec.the_send, crosses, sendable) depth 60 fits 20000), ((search (plain_send, crosses, sendable) depth 60 fits 20000), ((search (plain_send, crosses, sendable) depth 60 fits 20000), ((search (tx_frame_send, crosses, sendable) depth 60 fits 20000), ((search (commute_send, option.the_field_send, crosses, sendable) depth 60 fits 20000), ((search (kept_transaction_send, crosses, sendable) depth 60 fits 20000), ((search (kept_pending_send, crosses, sendable) depth 60 fits 20000), ((search (outcome.the_send, option.the_field_send, crosses, sendable) depth 60 fits 20000), ((search (plain_send, crosses, sendable) depth 60 fits 20000), ((search (plain_send, crosses, sendable) depth 60 fits 20000), tt))))))))))))))))
+actor_send = view_send actor_in.the_row _ _ _ _ (recorded_send (actor_in.the_field).row _ _ (actor_in.the_type).to_one (struct_send (S.shape actor_in.the_type) ((search (global.the_field_send, crosses, sendable) depth 60 fits 20000), ((search (plain_send, crosses, sendable) depth 60 fits 20000), ((search (role_field_send, crosses, sendable) depth 60 fits 20000), ((search (stack_send, crosses, sendable) depth 60 fits 20000), ((search (plain_send, vec.the_send, crosses, sendable) depth 60 fits 20000), ((search (plain_send, crosses, sendable) depth 60 fits 20000), ((search (plain_send, crosses, sendable) depth 60 fits 20000), ((search (tx_frame_send, crosses, sendable) depth 60 fits 20000), ((search (commute_send, option.the_field_send, crosses, sendable) depth 60 fits 20000), ((search (plain_send, option.the_field_send, crosses, sendable) depth 60 fits 20000), ((search (kept_transaction_send, crosses, sendable) depth 60 fits 20000), ((search (kept_pending_send, crosses, sendable) depth 60 fits 20000), ((search (outcome.the_send, option.the_field_send, crosses, sendable) depth 60 fits 20000), ((search (plain_send, crosses, sendable) depth 60 fits 20000), ((search (plain_send, crosses, sendable) depth 60 fits 20000), tt)))))))))))))))))
 
 pub cell_definition_field_send : IsSend (cell_definition_is.the_field).row
 cell_definition_field_send = struct_send (S.shape cell_definition_is.the_type)
@@ -249,7 +256,7 @@ pub code_sync : IsSync code_is.the_row
 code_sync = view_sync code_in.the_row _ _ _ _ (recorded_sync (code_in.the_field).row _ _ (code_in.the_type).to_one (struct_sync (S.shape code_in.the_type) (search (vec.the_sync, cell_definition_sync, crosses, sendable) depth 60 fits 20000, (search (value_sync, vec.the_sync, crosses, sendable) depth 60 fits 20000, (search (vec.the_sync, body_sent.the_sync, crosses, sendable) depth 60 fits 20000, (search (vec.the_sync, body_sent.the_sync, crosses, sendable) depth 60 fits 20000, tt))))))
 
 pub verified_sync : IsSync verified_is.the_row
-verified_sync = view_sync verified_in.the_row _ _ _ _ (recorded_sync (verified_in.the_field).row _ _ (verified_in.the_type).to_one (struct_sync (S.shape verified_in.the_type) (code_sync, (search (plain_sync, vec.the_sync, crosses, sendable) depth 60 fits 20000, (search (plain_sync, vec.the_sync, crosses, sendable) depth 60 fits 20000, (search (vec.the_sync, listed.the_sync, fused_sent.the_sync, crosses, sendable) depth 60 fits 20000, (search (vec.the_sync, listed.the_sync, fused_sent.the_sync, crosses, sendable) depth 60 fits 20000, tt)))))))
+verified_sync = view_sync verified_in.the_row _ _ _ _ (recorded_sync (verified_in.the_field).row _ _ (verified_in.the_type).to_one (struct_sync (S.shape verified_in.the_type) (code_sync, (search (plain_sync, vec.the_sync, crosses, sendable) depth 60 fits 20000, (search (plain_sync, vec.the_sync, crosses, sendable) depth 60 fits 20000, (search (vec.the_sync, listed.the_sync, fused_sent.the_sync, crosses, sendable) depth 60 fits 20000, (search (vec.the_sync, listed.the_sync, fused_sent.the_sync, crosses, sendable) depth 60 fits 20000, (plain_sync _ _ _ _ _, tt))))))))
 
 -- ---- actors, and what lies under the lock
 

@@ -460,6 +460,7 @@ module _ (code : PlainCode) (limit : ℕ) (s : PlainShared) (same : s.cells ≡ 
           agents_run = λ a has. (
               let x = agent_acts code a (subst (λ cs. has_agent (cells_of cs) a ≡ true) is has) in
               ap (code_of code) (ap (λ n. world.actor_of n (cells_of p.cells) a) (sym threads) ∙ ap (λ cs. world.actor_of (length code.threads) (cells_of cs) a) is ∙ x.2) ∙ (agent_at code x.0 a x.1).acts);
+          validators = ap validators_of (sym is);
         }
 
         whole : ReportExplained p (library_of code) st

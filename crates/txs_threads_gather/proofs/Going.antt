@@ -8,7 +8,7 @@ use Rattle.txs_world_protocol.specs.declared.event.Outcome.TheVariants as outcom
 use Rattle.txs_code_meaning.specs.Machine.{ThreadCode, Configuration, Turned, Unfinished, turn}
 use Rattle.txs_code_meaning.specs.Opening.{given, opening}
 use Rattle.txs_code_meaning.specs.PlainCode.{PlainCode}
-use Rattle.txs_machine_actor.specs.PlainActor.{PlainActor, MayAnswer, Stops, answered, answered_for, answered_if, unanswered, configuration_of, state_of, code_of, standing}
+use Rattle.txs_machine_actor.specs.PlainActor.{PlainActor, MayAnswer, Stops, answered, answered_for, answered_if, unanswered, configuration_of, state_of, code_of, standing, SameBut}
 use Rattle.txs_machine_actor.specs.Turns.{IsNew, Answers, Moves, TurnsFrom, Turns}
 use Rattle.txs_machine_actor.specs.declared.outcome.Turn.{Turn}
 use Rattle.txs_machine_actor.specs.declared.outcome.Turn.TheVariants as turned
@@ -84,14 +84,14 @@ module _ (code : ThreadCode) where
     full_gone = record {
       at = h.at;
       goes = h.goes;
-      here = as_there (answered a reply.Full) (Some outcome.JournalFull) (unanswered (answered a reply.Full)) h.at (full_stops a q asks) refl (here.0, here.1, here.2.here ∙ sym (full_state a q asks));
+      here = as_there (answered a reply.Full) (Some outcome.JournalFull) (unanswered (answered a reply.Full)) h.at (full_stops a q asks) refl (here.0, here.1, subst (SameBut here.0.state) (sym (full_state a q asks)) here.2.here);
     }
 
     pub memory_gone : HasGone code es (answered a reply.Memory)
     memory_gone = record {
       at = h.at;
       goes = h.goes;
-      here = as_there (answered a reply.Memory) (Some outcome.Memory) (unanswered (answered a reply.Memory)) h.at (memory_stops a q asks) refl (here.0, here.1, here.2.here ∙ sym (memory_state a q asks));
+      here = as_there (answered a reply.Memory) (Some outcome.Memory) (unanswered (answered a reply.Memory)) h.at (memory_stops a q asks) refl (here.0, here.1, subst (SameBut here.0.state) (sym (memory_state a q asks)) here.2.here);
     }
 
 -- ---- actors
@@ -136,7 +136,7 @@ module _ (code : PlainCode) (es : List Entry) (a b : PlainActor) (free : unanswe
   step_gone (turned.Ended outcome.Memory) at u = record {
     at = h.at;
     goes = h.goes;
-    here = as_there cd b (Some outcome.Memory) None h.at u.1.outcome u.1.unanswered (configuration_of a, at, sym u.0);
+    here = as_there cd b (Some outcome.Memory) None h.at u.1.outcome u.1.unanswered (configuration_of a, at, u.0);
   }
 
   move_gone : (r : Turn) (may : Bool) → a.outcome ≡ None → h.at ≡ Unfinished (configuration_of a) → Moves code a may r b → HasGone cd es b

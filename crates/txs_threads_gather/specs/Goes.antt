@@ -5,7 +5,7 @@ use Rattle.txs_world_protocol.specs.declared.event.Outcome.{Outcome}
 use Rattle.txs_world_protocol.specs.declared.event.Outcome.TheVariants as outcome
 use Rattle.txs_code_meaning.specs.Machine.{ThreadCode, Configuration, Turned, Ended, Failed, Unfinished}
 use Rattle.txs_code_meaning.specs.Opening.{opening}
-use Rattle.txs_machine_actor.specs.PlainActor.{PlainActor, Awaits, configuration_of, state_of, unanswered}
+use Rattle.txs_machine_actor.specs.PlainActor.{PlainActor, Awaits, SameBut, configuration_of, state_of, unanswered}
 use Rattle.txs_theorem_runs.specs.Told.{Entry}
 use Rattle.txs_theorem_runs.specs.Goes.{GoesTo}
 
@@ -17,8 +17,8 @@ IsThere code a None (Some q) at = (c : Configuration) × (at ≡ Unfinished c) �
 IsThere code a (Some outcome.Done) q at = at ≡ Ended (state_of a)
 IsThere code a (Some (outcome.Failed f)) q at = at ≡ Failed f (state_of a)
 IsThere code a (Some outcome.StepsSpent) q at = at ≡ Unfinished (configuration_of a)
-IsThere code a (Some outcome.JournalFull) q at = (c : Configuration) × (at ≡ Unfinished c) × (c.state ≡ state_of a)
-IsThere code a (Some outcome.Memory) q at = (c : Configuration) × (at ≡ Unfinished c) × (c.state ≡ state_of a)
+IsThere code a (Some outcome.JournalFull) q at = (c : Configuration) × (at ≡ Unfinished c) × SameBut c.state (state_of a)
+IsThere code a (Some outcome.Memory) q at = (c : Configuration) × (at ≡ Unfinished c) × SameBut c.state (state_of a)
 
 -- The code, from its opening, asks for just these entries, one after another, and comes to where the actor is.
 pub record HasGone (code : ThreadCode) (es : List Entry) (a : PlainActor) : Type 0 where

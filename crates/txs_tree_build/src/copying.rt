@@ -7,6 +7,7 @@ ghost use Rattle.txs_tree_meaning.specs.View.{function_of, functions_of, program
 use crate::shifting::{Shift, shift_node};
 use std::alloc::{AllocError, Global};
 use txs_tree_meaning::{Function, Node, Program, Raw, Thread};
+use txs_value_base::Span;
 use txs_value_cell::CellDefinition;
 use txs_value_data::copy_value;
 
@@ -102,16 +103,17 @@ fn copy_threads(alloc: Global, program: &Program) -> Result<Vec<Thread>, AllocEr
 /// The program of these parts, which are those of another one.
 fn program_of_copies(
     cells: Vec<CellDefinition>,
+    validator_spans: Vec<Span>,
     functions: Vec<Function>,
     threads: Vec<Thread>,
     program: &Program,
 ) -> Program
-    requires { program_of (record { cells = cells.items; functions = functions.items; threads = threads.items }) ≡ program_of program.now }
+    requires { program_of (record { cells = cells.items; validator_spans = validator_spans.items; functions = functions.items; threads = threads.items }) ≡ program_of program.now }
     ensures { program_of result ≡ program_of program.now }
 {
     program.is_sound();
     program.is_marked();
-    Program::new(Raw::new(cells, functions, threads))
+    Program::new(Raw::new(cells, validator_spans, functions, threads))
 }
 
 /// The same program, in memory of its own: equal cells, and the same trees, with their spans and marks.
@@ -122,7 +124,8 @@ pub fn copy_program(alloc: Global, program: &Program) -> Result<Program, AllocEr
     ensures { IfOk result (λ p. program_of p ≡ program_of program.now) }
 {
     let cells = copy_cells(alloc, program.cells())?;
+    let validator_spans = Vec::from_slice(alloc, program.validator_spans())?;
     let functions = copy_functions(alloc, program)?;
     let threads = copy_threads(alloc, program)?;
-    Ok(program_of_copies(cells, functions, threads, program))
+    Ok(program_of_copies(cells, validator_spans, functions, threads, program))
 }

@@ -9,7 +9,7 @@ use Rattle.txs_tree_meaning.specs.Meaning.{Completion, Completes, Recurs, Faults
 use Rattle.txs_tree_meaning.specs.Right.{is_wrong, eats_right, right_meaning}
 use Rattle.txs_tree_meaning.specs.Thread.{ThreadState, thread_meaning}
 use Rattle.txs_tree_meaning.specs.Tree.{ThreadSource}
-use Rattle.txs_tree_eval_node.proofs.Right.{Steady, longer, Later, Three}
+use Rattle.txs_tree_eval.proofs.Right.{Steady, longer, Later, Three}
 
 -- ---- answers that wait
 

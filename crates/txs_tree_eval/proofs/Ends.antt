@@ -9,7 +9,7 @@ use Rattle.txs_world_protocol.specs.SeenEvent.{SeenEvent}
 use Rattle.txs_world_protocol.specs.declared.event.EventKind.TheVariants.{Broke}
 use Rattle.txs_world_protocol.specs.declared.event.Outcome.{Outcome}
 use Rattle.txs_tree_eval.specs.Told.{Account, Accounts, Concluded, Tells, TellsOf, TellsWrong, lacking, told_tx, TellsTx, Waitless, thread_source, source_in}
-use Rattle.txs_tree_eval_node.specs.Evaluated.{Yields, means, around_it, forms_on, thread_state, idle}
+use Rattle.txs_tree_eval_node.specs.Evaluated.{Yields, means, around_it, deeply, forms_on, thread_state, idle}
 use Rattle.txs_tree_eval_transaction.specs.Worked.{Gives, Stops, tx_state}
 use Rattle.txs_tree_meaning.specs.Known.{known}
 use Rattle.txs_tree_meaning.specs.Meaning.{Completion, Completes, Recurs, Faults, Retries, Waits, OutOfTurns, Invalid, closed, eval, call_at}
@@ -37,8 +37,9 @@ use Rattle.txs_tree_eval_node.proofs.Called.{sound_everywhere}
 use Rattle.txs_tree_meaning.proofs.Callable.{length-functions_of}
 use Rattle.txs_tree_eval_node.proofs.Ending.{closed_gives}
 use Rattle.txs_tree_eval_node.proofs.Evaluation.{stops_again}
-use Rattle.txs_tree_eval_node.proofs.Right.{Steady, Three, at, thread_goes}
 use Rattle.txs_tree_eval.proofs.Beginning.{Left, Before, same_wait, either_way, waits_behind, goes_right}
+use Rattle.txs_tree_eval.proofs.Deeply.{thread_same}
+use Rattle.txs_tree_eval.proofs.Right.{Steady, Three, at, thread_goes}
 use Rattle.txs_tree_meaning.proofs.Soundness.{SoundThread-at}
 
 thread-at : (ts : List Thread) (k : ℕ) (t : Thread) → k < length ts → t ≡ get_or ts k t → nth (threads_of ts) k ≡ Some (thread_of t)
@@ -138,7 +139,7 @@ module _ (us : List Thread) (parts : Parts) (k : ℕ) (r : Thread) (same : us �
 
   -- the body on these events, where calls go so deep and the thread waits before what it doesn't allow
   abbrev body_on : List SeenEvent → ℕ → Completion ThreadState Value
-  body_on es d = eval (on_right x d) (call_at (on_right x) n (functions_of parts.functions) d) n false body [] (idle es)
+  body_on es d = eval (deeply x (on_right x d)) (call_at (λ b. deeply x (on_right x b)) n (functions_of parts.functions) d) n false body [] (idle es)
 
   -- the source of the thread
   abbrev source : ThreadSource
@@ -149,17 +150,21 @@ module _ (us : List Thread) (parts : Parts) (k : ℕ) (r : Thread) (same : us �
   deep = length (functions_of parts.functions)
 
   module _ (sound : Sound (program_of parts)) where
-    sound_main : SoundTree (callable (at any_event [] parts.cells parts.functions n sound.functions deep)) in_thread 0 None body
+    main_known : SoundTree (known (functions_of parts.functions)) in_thread 0 None body
+    main_known = (SoundThread-at (known (functions_of parts.functions)) parts.threads k (get_or us k r) sound.threads lt at_place).0
+
+    sound_main : SoundTree (callable (at any_event [] parts.cells parts.functions n sound.functions sound.cells deep)) in_thread 0 None body
     sound_main =
-        let main : SoundTree (known (functions_of parts.functions)) in_thread 0 None body = (SoundThread-at (known (functions_of parts.functions)) parts.threads k (get_or us k r) sound.threads lt at_place).0 in
-        let everywhere = sound_everywhere parts.cells parts.functions n None body in_thread 0 None main in
-        subst (λ d. SoundTree (callable (at any_event [] parts.cells parts.functions n sound.functions d)) in_thread 0 None body) (sym (length-functions_of parts.functions)) everywhere
+        let everywhere = sound_everywhere parts.cells parts.functions n None body in_thread 0 None main_known in
+        subst (λ d. SoundTree (callable (at any_event [] parts.cells parts.functions n sound.functions sound.cells d)) in_thread 0 None body) (sym (length-functions_of parts.functions)) everywhere
 
     three : (f : SeenEvent) (gs es : List SeenEvent) → Three f gs (thread_meaning source n es) (closed (body_on es deep)) (closed (body_on (es ++ f ∷ gs) deep))
-    three f gs es = (thread_goes f gs parts.cells parts.functions n sound.functions deep body sound_main).0 (idle es)
+    three f gs es =
+        subst (λ c. Three f gs c (closed (body_on es deep)) (closed (body_on (es ++ f ∷ gs) deep))) (sym (thread_same parts.cells parts.functions n sound.functions sound.cells body main_known (idle es)))
+        ((thread_goes f gs parts.cells parts.functions n sound.functions sound.cells deep body sound_main).0 (idle es))
 
     steady : (es : List SeenEvent) → Steady (length es) (closed (body_on es deep))
-    steady es = (thread_goes any_event [] parts.cells parts.functions n sound.functions deep body sound_main).1 (idle es)
+    steady es = (thread_goes any_event [] parts.cells parts.functions n sound.functions sound.cells deep body sound_main).1 (idle es)
 
     pub told_thread : (m : ThreadMeaning) (j : ℕ) (es : List SeenEvent) (env : List Value) (st st1 : State) (end : Result Value ThreadStop) (needs : Needs) (outcome : Option Outcome) → j ≡ length es → env ≡ [] → thread_state st.thread ≡ idle es
         → Yields setting end st1 (means setting body env st) → Concluded end (length (thread_state st1.thread).todo) needs outcome → Account m (j - length (thread_state st1.thread).todo) (thread_state st1.thread) needs outcome
@@ -167,7 +172,7 @@ module _ (us : List Thread) (parts : Parts) (k : ℕ) (r : Thread) (same : us �
     told_thread m j es env st st1 end needs outcome many no_locals fresh h e a =
         let s = thread_state st1.thread in
         let here : Yields (whole parts.cells parts.functions n None) end st1 (means (whole parts.cells parts.functions n None) body env st) = subst (λ y. Yields y end st1 (means y body env st)) same_setting h in
-        let from : List Value → ThreadState → Completion ThreadState Value = λ l t. eval (on_right x (length parts.functions)) (call_at (on_right x) n (functions_of parts.functions) (length parts.functions)) n false body l t in
+        let from : List Value → ThreadState → Completion ThreadState Value = λ l t. eval (deeply x (on_right x (length parts.functions))) (call_at (λ b. deeply x (on_right x b)) n (functions_of parts.functions) (length parts.functions)) n false body l t in
         let begun : Gives false end s (body_on es (length parts.functions)) = subst₂ (λ l t. Gives false end s (from l t)) no_locals fresh here in
         let whole_of_it : Gives false end s (closed (body_on es deep)) = subst (λ d. Gives false end s (closed (body_on es d))) (sym (length-functions_of parts.functions)) (closed_given end s (body_on es (length parts.functions)) begun) in
         let account : Account m (length es - length s.todo) s needs outcome = subst (λ i. Account m (i - length s.todo) s needs outcome) many a in

@@ -4,27 +4,33 @@ use Rattle.std.proofs.lemmas.List.{drop_more}
 use Rattle.txs_world_protocol.specs.Ask.{Writes, buffered, with_write}
 use Rattle.txs_frame.specs.Frame.{PlainTxFrame, commuted, set_writes, commutes_of, by_ref, phase_work}
 use Rattle.txs_frame.specs.declared.frame.Commute.{Commute}
-use Rattle.txs_tree_eval_node.specs.Evaluated.{part, is_on, Yields, SoundCommutes, acts, applied, act_means, inside_means, outside_means, quiet, redone_means, final_means, thread_state}
+use Rattle.txs_tree_eval_node.specs.Evaluated.{part, is_on, Yields, SoundCommutes, acts, applied, act_means, inside_means, outside_means, quiet, at_end, accept_means, accepted_means, made_means, redone_means, final_means, thread_state}
 use Rattle.txs_tree_eval_transaction.specs.Worked.{Stops, Gives, Told, ToldOf, tx_state}
 use Rattle.txs_tree_meaning.specs.Known.{Known}
-use Rattle.txs_tree_meaning.specs.Meaning.{Completion, Completes, bind, Applies, Effects, apply, call_at}
-use Rattle.txs_tree_eval_node.specs.Setting.{Setting, callable}
-use Rattle.txs_tree_meaning.specs.Sound.{SoundCallee, SoundFunctions}
-use Rattle.txs_tree_meaning.specs.Transaction.{value_or, valued, merged, redone, commute_writes, final_writes}
+use Rattle.txs_tree_meaning.specs.Meaning.{Completion, Completes, Faults, bind, Applies}
+use Rattle.txs_tree_eval_node.specs.Setting.{Setting, callable, deepest}
+use Rattle.txs_tree_meaning.specs.Sound.{SoundCallee, SoundCells, SoundFunctions}
+use Rattle.txs_tree_meaning.specs.Thread.{ThreadState}
+use Rattle.txs_tree_meaning.specs.Transaction.{value_or, valued, merged, redone, commute_writes, judged, validated, accepted, if_accepted, final_writes}
 use Rattle.txs_tree_meaning.specs.Tree.{Mark}
-use Rattle.txs_value_cell.specs.Cells.{World, validators_of}
+use Rattle.txs_value_cell.specs.Cells.{World, validators_of, validator_at}
 use Rattle.txs_tree_meaning.specs.View.{functions_of}
 use Rattle.txs_tree_eval_transaction.specs.Views.{PlainView, or_nil, world_of}
 use Rattle.txs_tree_eval_node.specs.declared.shape.Act.{Act}
 use Rattle.txs_tree_eval_node.specs.declared.state.State.{State}
 use Rattle.txs_tree_eval_transaction.specs.declared.stop.ThreadStop.{ThreadStop}
 use Rattle.txs_tree_eval_transaction.specs.declared.stop.ThreadStop.TheVariants.{Memory}
+use Rattle.txs_value_base.specs.Places.{fault_at}
 use Rattle.txs_value_base.specs.declared.fault.Fault as fault
+use Rattle.txs_value_base.specs.declared.fault.FaultKind.TheVariants.{InvalidState}
 use Rattle.txs_value_base.specs.declared.fault.Span.{Span}
+use Rattle.txs_value_base.specs.declared.op.Callee.{Callee}
 use Rattle.txs_value_data.specs.declared.value.CellId.{CellId}
 use Rattle.txs_value_data.specs.declared.value.Value.{Value}
-use Rattle.txs_value_data.specs.declared.value.Value.TheVariants.{Nil}
-use Rattle.txs_tree_eval_node.proofs.Applying.{callee_agrees}
+use Rattle.txs_value_apply.specs.Core.{is_false}
+use Rattle.txs_value_data.specs.declared.value.Value.TheVariants.{Nil, Truth, Int, Key, Text, Vector, Cell}
+use Rattle.txs_tree_eval_node.proofs.Applying.{whole_agrees, accepted_agrees}
+use Rattle.txs_tree_eval_node.proofs.Called.{callee_deepest}
 use Rattle.txs_tree_eval_node.proofs.Evaluation.{bind-bind, stops_bind}
 use Rattle.txs_tree_meaning.proofs.PureLaw.{Agrees, bind_agrees}
 
@@ -68,24 +74,37 @@ module _ (ks : List Known) where
   sound_at (d ∷ ds) zero c h lt is = subst (λ e. SoundCallee ks e.callee (suc (length e.args))) (sym is) h.0
   sound_at (d ∷ ds) (suc i) c h lt is = sound_at ds i c h.1 (omega (arith, lt)) is
 
--- the final writes are the same wherever they are made
-module _ {S : Type 0} (s : S) (x : Setting) (sound : SoundFunctions [] (functions_of x.functions)) (fx : ℕ → Effects S) (inside : Bool) (span : Span) where
-  abbrev real : Applies S
-  real = apply (call_at fx x.turns (functions_of x.functions) x.depth inside) span
+-- commutes and validators may be applied where calls may go as deep as there are functions
+pub commutes_deepest : (x : Setting) (cs : List Commute) → SoundCommutes (callable x) cs → SoundCommutes (callable (deepest x)) cs
+commutes_deepest x [] h = tt
+commutes_deepest x (c ∷ cs) h = (callee_deepest x c.callee (suc (length c.args)) h.0, commutes_deepest x cs h.1)
 
-  redone_agrees : (cs : List Commute) (ws : Writes) → SoundCommutes (callable x) cs → Agrees s (redone (quiet x span) cs ws tt) (redone real cs ws s)
+-- the final writes, as the thread makes them
+module _ (t : ThreadState) (x : Setting) (sound : SoundFunctions [] (functions_of x.functions)) (cells : SoundCells (callable (deepest x)) x.cells) (span : Span) where
+  abbrev pub real : Applies ThreadState
+  real = at_end x span
+
+  abbrev pub still : Applies (Unit {0})
+  still = quiet (deepest x) span
+
+  redone_agrees : (cs : List Commute) (ws : Writes) → SoundCommutes (callable (deepest x)) cs → Agrees t (redone still cs ws tt) (redone real cs ws t)
   redone_agrees [] ws h = refl
   redone_agrees (c ∷ cs) ws h =
       let vs = value_or (buffered ws c.cell.number) Nil ∷ c.args in
-      bind_agrees s (quiet x span c.callee vs tt) (real c.callee vs s) (λ v t. redone (quiet x span) cs (with_write ws c.cell v) t) (λ v t. redone real cs (with_write ws c.cell v) t)
-      (callee_agrees true s x sound fx inside span c.callee vs h.0) (λ v. redone_agrees cs (with_write ws c.cell v) h.1)
+      bind_agrees t (still c.callee vs tt) (real c.callee vs t) (λ v u. redone still cs (with_write ws c.cell v) u) (λ v u. redone real cs (with_write ws c.cell v) u)
+      (whole_agrees x sound span c.callee (suc (length c.args)) vs t h.0) (λ v. redone_agrees cs (with_write ws c.cell v) h.1)
 
-  pub finals_agree_on : (w : PlainTxFrame) (C : World) → SoundCommutes (callable x) w.commutes → Agrees s (final_writes (quiet x span) (validators_of x.cells) span w C tt) (final_writes real (validators_of x.cells) span w C s)
+  each_accepted : (ws : Writes) → Agrees t (if_accepted still (validators_of x.cells) span ws tt) (if_accepted real (validators_of x.cells) span ws t)
+  each_accepted ws =
+      bind_agrees t (accepted still (validators_of x.cells) span ws tt) (accepted real (validators_of x.cells) span ws t) (λ o u. Completes ws u) (λ o u. Completes ws u)
+      (accepted_agrees (callable (deepest x)) still real (λ c k vs s h. whole_agrees x sound span c k vs s h) x.cells cells span ws t) (λ o. refl)
+
+  pub finals_agree_on : (w : PlainTxFrame) (C : World) → SoundCommutes (callable (deepest x)) w.commutes → Agrees t (final_writes still (validators_of x.cells) span w C tt) (final_writes real (validators_of x.cells) span w C t)
   finals_agree_on w C h =
-      bind_agrees s (commute_writes (quiet x span) w C tt) (commute_writes real w C s) (λ ws t. Completes (merged (set_writes w) ws) t) (λ ws t. Completes (merged (set_writes w) ws) t)
-      (redone_agrees (phase_work w) (valued (commuted w) C) (sound_by (callable x) (commuted w) w.commutes h)) (λ ws. refl)
+      bind_agrees t (commute_writes still w C tt) (commute_writes real w C t) (λ ws u. if_accepted still (validators_of x.cells) span (merged (set_writes w) ws) u) (λ ws u. if_accepted real (validators_of x.cells) span (merged (set_writes w) ws) u)
+      (redone_agrees (phase_work w) (valued (commuted w) C) (sound_by (callable (deepest x)) (commuted w) w.commutes h)) (λ ws. each_accepted (merged (set_writes w) ws))
 
-  pub finals_agree : (w : PlainTxFrame) (r : PlainView) → SoundCommutes (callable x) w.commutes → Agrees s (final_means x w r span) (final_writes real (validators_of x.cells) span w (world_of r) s)
+  pub finals_agree : (w : PlainTxFrame) (r : PlainView) → SoundCommutes (callable (deepest x)) w.commutes → Agrees t (final_means (deepest x) w r span) (final_writes real (validators_of x.cells) span w (world_of r) t)
   finals_agree w r h = finals_agree_on w (world_of r) h
 
 -- one commute more
@@ -128,13 +147,91 @@ module _ (x : Setting) (span : Span) (w : PlainTxFrame) (r : PlainView) (first :
   abbrev phase : Completion (Unit {0}) Writes
   phase = redone_means x span (phase_work w) first
 
-  finals_are : final_means x w r span ≡ bind phase (λ ws t. Completes (merged (set_writes w) ws) t)
-  finals_are = ap (λ us. bind (redone_means x span (phase_work w) us) (λ ws t. Completes (merged (set_writes w) ws) t)) (sym begin)
+  -- all writes, where each is accepted
+  abbrev checked : Writes → Completion (Unit {0}) Writes
+  checked ws = if_accepted (quiet x span) (validators_of x.cells) span (merged (set_writes w) ws) tt
+
+  finals_are : final_means x w r span ≡ bind phase (λ ws t. if_accepted (quiet x span) (validators_of x.cells) span (merged (set_writes w) ws) t)
+  finals_are = ap (λ us. bind (redone_means x span (phase_work w) us) (λ ws t. if_accepted (quiet x span) (validators_of x.cells) span (merged (set_writes w) ws) t)) (sym begin)
 
   pub finals_stop : (y : ThreadStop) → Told {A = Writes} (Err y) phase → Told {A = Writes} (Err y) (final_means x w r span)
-  finals_stop y h = subst (λ c. Told {A = Writes} (Err y) c) (sym finals_are) (stops_bind true y tt phase (λ ws t. Completes (merged (set_writes w) ws) t) h)
+  finals_stop y h =
+      subst (λ c. Told {A = Writes} (Err y) c) (sym finals_are) (stops_bind true y tt phase (λ ws t. if_accepted (quiet x span) (validators_of x.cells) span (merged (set_writes w) ws) t) h)
 
-  -- the writes, where there was memory for them
-  pub finals_done : {V : Type 0} (f : V → Writes) (ws : Writes) (res : Result V ThreadStop) → phase ≡ Completes ws tt → MatchResult res (λ last. f last ≡ merged (set_writes w) ws) (λ y. y ≡ Memory) → ToldOf f res (final_means x w r span)
-  finals_done f ws (Ok last) h made = finals_are ∙ ap (λ c. bind c (λ us t. Completes (merged (set_writes w) us) t)) h ∙ ap (λ l. Completes l tt) (sym made)
-  finals_done f ws (Err y) h made = subst (λ z. Stops true z tt (final_means x w r span)) (sym made) tt
+  module _ (ws : Writes) (done : phase ≡ Completes ws tt) where
+    finals_from : final_means x w r span ≡ checked ws
+    finals_from = finals_are ∙ ap (λ c. bind c (λ us t. if_accepted (quiet x span) (validators_of x.cells) span (merged (set_writes w) us) t)) done
+
+    -- there was no memory for all writes
+    pub finals_full : (y : ThreadStop) → y ≡ Memory → Told {A = Writes} (Err y) (final_means x w r span)
+    finals_full y is = subst (λ z. Stops true z tt (final_means x w r span)) (sym is) tt
+
+    -- some write isn't accepted
+    pub finals_refused : (last : Writes) → last ≡ merged (set_writes w) ws → (y : ThreadStop) → Told {A = Unit {0}} (Err y) (accepted_means x span last) → Told {A = Writes} (Err y) (final_means x w r span)
+    finals_refused last is y h =
+        subst (λ c. Told {A = Writes} (Err y) c) (sym finals_from)
+        (stops_bind true y tt (accepted_means x span (merged (set_writes w) ws)) (λ o t. Completes (merged (set_writes w) ws) t) (subst (λ l. Told {A = Unit {0}} (Err y) (accepted_means x span l)) is h))
+
+    -- each is
+    pub finals_done : (last : Writes) → last ≡ merged (set_writes w) ws → accepted_means x span last ≡ Completes tt tt → final_means x w r span ≡ Completes last tt
+    finals_done last is h =
+        finals_from ∙ ap (λ c. bind c (λ o t. Completes (merged (set_writes w) ws) t)) (ap (λ l. accepted_means x span l) (sym is) ∙ h) ∙ ap (λ l. Completes l tt) (sym is)
+
+-- ---- validators
+
+-- a value that is refused, or not
+abbrev pub judged_if : Bool → Span → Value → Completion (Unit {0}) Value
+judged_if true span v = Faults (fault_at InvalidState span) tt
+judged_if false span v = Completes v tt
+
+-- what a validator's answer makes of a value
+pub judged_as : (answer : Value) (span : Span) (v : Value) → judged answer span v tt ≡ judged_if (is_false answer) span v
+judged_as Nil span v = refl
+judged_as (Truth true) span v = refl
+judged_as (Truth false) span v = refl
+judged_as (Int z) span v = refl
+judged_as (Key bs) span v = refl
+judged_as (Text bs) span v = refl
+judged_as (Vector vs) span v = refl
+judged_as (Cell c) span v = refl
+
+-- the validator's answer
+module _ (x : Setting) (c : CellId) (span : Span) (v : Value) where
+  abbrev asked : Option Callee → Completion (Unit {0}) Value
+  asked o = validated (quiet x span) o span v tt
+
+  -- there is none
+  pub accept_free : (o : Option Callee) → o ≡ validator_at (validators_of x.cells) c.number → o ≡ None → accept_means x c span v ≡ Completes v tt
+  accept_free o is none = ap asked (sym is ∙ none)
+
+  module _ (o : Option Callee) (is : o ≡ validator_at (validators_of x.cells) c.number) (f : Callee) (some : o ≡ Some f) where
+    accept_by : accept_means x c span v ≡ bind (applied x f (v ∷ []) span) (λ answer u. judged answer span v u)
+    accept_by = ap asked (sym is ∙ some)
+
+    -- it gives no answer
+    pub accept_stop : (y : ThreadStop) → Told {A = Value} (Err y) (applied x f (v ∷ []) span) → Told {A = Value} (Err y) (accept_means x c span v)
+    accept_stop y h = subst (λ d. Told {A = Value} (Err y) d) (sym accept_by) (stops_bind true y tt (applied x f (v ∷ []) span) (λ answer u. judged answer span v u) h)
+
+    -- it gives this one
+    pub accept_answer : (answer : Value) → applied x f (v ∷ []) span ≡ Completes answer tt → {V : Type 0} (g : V → Value) (r : Result V ThreadStop) → ToldOf g r (judged answer span v tt) → ToldOf g r (accept_means x c span v)
+    accept_answer answer h g r told = subst (λ d. ToldOf g r d) (sym (accept_by ∙ ap (λ d. bind d (λ a u. judged a span v u)) h)) told
+
+-- one write more
+module _ (x : Setting) (span : Span) (ws : Writes) (i : ℕ) (w : CellId × Value) (lt : i < length ws) (is : w ≡ get_or ws i w) where
+  accepted_next : accepted_means x span (drop i ws) ≡ bind (accept_means x w.0 span w.1) (λ v u. accepted (quiet x span) (validators_of x.cells) span (drop (i + 1) ws) u)
+  accepted_next = ap (λ l. accepted_means x span l) (drop_more ws i w lt ∙ ap (λ d. d ∷ drop (i + 1) ws) (sym is))
+
+  pub accepted_stop : (y : ThreadStop) → Told {A = Value} (Err y) (accept_means x w.0 span w.1) → Told {A = Unit {0}} (Err y) (accepted_means x span (drop i ws))
+  accepted_stop y h =
+      subst (λ d. Told {A = Unit {0}} (Err y) d) (sym accepted_next) (stops_bind true y tt (accept_means x w.0 span w.1) (λ v u. accepted (quiet x span) (validators_of x.cells) span (drop (i + 1) ws) u) h)
+
+  pub accepted_more : (v : Value) → accept_means x w.0 span w.1 ≡ Completes v tt → accepted_means x span (drop i ws) ≡ accepted_means x span (drop (i + 1) ws)
+  accepted_more v h = accepted_next ∙ ap (λ d. bind d (λ a u. accepted (quiet x span) (validators_of x.cells) span (drop (i + 1) ws) u)) h
+
+-- what a callee makes, where the cell's validator accepts it
+module _ (x : Setting) (callee : Callee) (c : CellId) (vs : List Value) (span : Span) where
+  pub made_stop : (y : ThreadStop) → Told {A = Value} (Err y) (applied x callee vs span) → Told {A = Value} (Err y) (made_means x callee c vs span)
+  made_stop y h = stops_bind true y tt (applied x callee vs span) (λ v u. accept_means x c span v) h
+
+  pub made_then : (v : Value) → applied x callee vs span ≡ Completes v tt → {V : Type 0} (g : V → Value) (r : Result V ThreadStop) → ToldOf g r (accept_means x c span v) → ToldOf g r (made_means x callee c vs span)
+  made_then v h g r told = subst (λ d. ToldOf g r d) (sym (ap (λ d. bind d (λ w u. accept_means x c span w)) h)) told

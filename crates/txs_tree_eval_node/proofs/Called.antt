@@ -1,14 +1,17 @@
 -- What is sound of a function's body where the function is called, and how far calls go.
 use Rattle.std.proofs.Common.{◌≡◌, ℕ, zero, suc, ◌+◌, ◌-◌, ◌*◌, ◌<◌, ◌≤◌, true, List, [], ◌∷◌, Option, Some, None, length, take, sym, ap, ◌∙◌, subst, arith}
 use Rattle.txs_value_base.specs.Places.{nth}
+use Rattle.txs_value_base.specs.declared.op.Callee.{Callee}
+use Rattle.txs_value_base.specs.declared.op.Callee.TheVariants.{Core as CoreOp, Function}
+use Rattle.txs_value_cell.specs.Cells.{validators_of, validator_at}
 use Rattle.txs_value_cell.specs.declared.cell.CellDefinition.{CellDefinition}
 use Rattle.txs_tree_meaning.specs.Known.{Known, is_inside, is_outside, is_pure, known_of, known}
-use Rattle.txs_tree_meaning.specs.Sound.{Zone, in_function, MayCall, SoundCall, PureCall, SoundTree, SoundFunctions, nodes, nodes_of_functions}
+use Rattle.txs_tree_meaning.specs.Sound.{Zone, in_function, MayCall, SoundCall, SoundCallee, SoundCells, SoundValidator, PureCall, SoundTree, SoundFunctions, nodes, nodes_of_functions}
 use Rattle.txs_tree_meaning.specs.Tree.{Tree, PlainFunction}
 use Rattle.txs_tree_meaning.specs.View.{functions_of}
 use Rattle.txs_tree_meaning.specs.declared.node.Function as function
 use Rattle.txs_tree_meaning.proofs.Callable.{FunctionAt, missing, same_some, nth-length, nth-take, nth-before, length-known, length-functions_of, function_at, tree-widened, tree-outside, tree-inside, pure_outside, pure_inside}
-use Rattle.txs_tree_eval_node.specs.Setting.{Setting, deeper, on_view, callable, zone_on, zone_in}
+use Rattle.txs_tree_eval_node.specs.Setting.{Setting, no_view, deeper, deepest, on_view, callable, zone_on, zone_in}
 use Rattle.txs_tree_eval_transaction.specs.Views.{PlainView}
 
 -- what is sound where all functions are defined is sound where as many may be called as there are
@@ -92,9 +95,14 @@ nodes-function [] f fun h = absurd (missing fun h)
 nodes-function (g ∷ fs) zero fun h = omega (arith, ap (λ x. nodes x.body) (same_some g fun h))
 nodes-function (g ∷ fs) (suc f) fun h = omega (arith, nodes-function fs f fun h)
 
+-- what the pure callees may take that are applied outside transactions
+abbrev outer : Option PlainView → ℕ → ℕ
+outer None n = n
+outer (Some r) n = 0
+
 -- all that calls below may take
 pub room : Setting → ℕ
-room s = s.depth * (16 * nodes_of_functions (functions_of s.functions) + 2)
+room s = s.depth * (16 * nodes_of_functions (functions_of s.functions) + 2) + outer s.world (length (functions_of s.functions) * (16 * nodes_of_functions (functions_of s.functions) + 2))
 
 one_less : (d m : ℕ) → 0 < d → (d - 1) * m + m ≡ d * m
 one_less zero m lt = absurd (omega (arith, lt))
@@ -108,6 +116,50 @@ room-deeper s f fun lt h =
 pub in_room : (s : Setting) (a b : ℕ) → a < b → room s + a < room s + b
 in_room s a b lt = omega (arith, lt)
 
-pub room_on : (s inner : Setting) (r : PlainView) → inner ≡ on_view s r → room inner ≡ room s
+pub room_on : (s inner : Setting) (r : PlainView) → inner ≡ on_view s r → room inner ≤ room s
 unfolding room
-room_on s inner r is = ap room is
+room_on s inner r is = subst (λ y. room y ≤ room s) (sym is) (omega arith)
+
+pub room_deepest : (s inner : Setting) → inner ≡ deepest s → s.world ≡ None → room inner ≤ room s
+unfolding room
+room_deepest s inner is out =
+    let m = 16 * nodes_of_functions (functions_of s.functions) + 2 in
+    let n = length (functions_of s.functions) in
+    subst (λ y. room y ≤ room s) (sym is) (subst (λ o. n * m + 0 ≤ s.depth * m + outer o (n * m)) (sym out) (omega arith))
+
+-- ---- where calls may go as deep as there are functions
+
+all_known : (x : Setting) (f : ℕ) (k : Known) → nth (known (functions_of x.functions)) f ≡ Some k → nth (callable (deepest x)) f ≡ Some k
+all_known x f k h =
+    let fs = functions_of x.functions in
+    nth-before (length fs) (known fs) f k (omega (arith, length-known fs, nth-length (known fs) f k h)) h
+
+-- the same setting, where calls go so deep in a transaction on no cells
+abbrev pub so_deep : Setting → ℕ → Setting
+so_deep s d = record { cells = s.cells; functions = s.functions; depth = d; turns = s.turns; world = Some no_view }
+
+pub whole_depth : (s : Setting) → so_deep s (length s.functions) ≡ deepest s
+whole_depth s = ap (so_deep s) (sym (length-functions_of s.functions))
+
+-- a callee that may be applied may be applied there
+pub callee_deepest : (x : Setting) (c : Callee) (n : ℕ) → SoundCallee (callable x) c n → SoundCallee (callable (deepest x)) c n
+callee_deepest x (CoreOp op) n h = h
+callee_deepest x (Function f) n h =
+    let there = nth-take x.depth (known (functions_of x.functions)) f h.function h.found in
+    record { function = h.function; found = all_known x f h.function there.1; arity = h.arity; pure = h.pure }
+
+-- so may validators
+pub cells_deepest : (x : Setting) (ds : List CellDefinition) → SoundCells (known (functions_of x.functions)) ds → SoundCells (callable (deepest x)) ds
+cells_deepest x [] h = tt
+cells_deepest x (d ∷ ds) h = (one d.validator h.0, cells_deepest x ds h.1)
+  where
+    one : (o : Option Callee) → SoundValidator (known (functions_of x.functions)) o → SoundValidator (callable (deepest x)) o
+    one None g = tt
+    one (Some (CoreOp op)) g = g
+    one (Some (Function f)) g = record { function = g.function; found = all_known x f g.function g.found; arity = g.arity; pure = g.pure }
+
+-- the validator of a cell
+pub validator_sound : (ks : List Known) (ds : List CellDefinition) (k : ℕ) → SoundCells ks ds → SoundValidator ks (validator_at (validators_of ds) k)
+validator_sound ks [] k h = tt
+validator_sound ks (d ∷ ds) zero h = h.0
+validator_sound ks (d ∷ ds) (suc k) h = validator_sound ks ds k h.1

@@ -10,8 +10,8 @@ use Rattle.txs_tree_eval_node.specs.Evaluated.{HaltsAt, AnswersAt, Yields, Comes
 use Rattle.txs_tree_eval_transaction.specs.Worked.{Stops, Gives, Told, ToldOf, tx_state}
 use Rattle.txs_tree_eval_node.specs.Events.{seen_event}
 use Rattle.txs_tree_meaning.specs.Meaning.{Completion, Completes, Recurs, Faults, Retries, Waits, OutOfTurns, Invalid, bind, closed, Applies, apply, eval}
-use Rattle.txs_tree_eval_node.specs.Setting.{Setting, callable, on_view, zone_on}
-use Rattle.txs_tree_meaning.specs.Sound.{SoundFunctions, SoundTree, in_dosync}
+use Rattle.txs_tree_eval_node.specs.Setting.{Setting, callable, deepest, on_view, zone_on}
+use Rattle.txs_tree_meaning.specs.Sound.{SoundCells, SoundFunctions, SoundTree, in_dosync}
 use Rattle.txs_tree_meaning.specs.Right.{up_to, behind_retries}
 use Rattle.txs_tree_meaning.specs.Thread.{TxRun, ThreadState, Transacting, over, faultless, faulted, meant, with_tx, run_of, ends_tx, is_retry, uneaten, eats_tx}
 use Rattle.txs_tree_meaning.specs.Transaction.{TxState, tx_start, final_writes}
@@ -108,18 +108,18 @@ module _ (x : Setting) (m : Mark) (body : Tree) (env : List Value) (r w : PlainV
   ended_unrun y h = carried_stop t outcome with_finals y h
 
   -- where it gives one
-  module _ (sound : SoundFunctions [] (functions_of x.functions)) (q : Transacted) (run : Runs (Ok q) m body env outcome) (calm : SoundCommutes (callable x) q.work.done.commutes) where
-    finals : (res : Result Writes ThreadStop) → Told res (final_means x q.work.done w m.span) → AnswersAt res t (finals_of (tx_state q.work))
-    finals res h = answers_from t res (final_means x q.work.done w m.span) (finals_of (tx_state q.work)) (finals_agree t x sound (forms_on None (around_it x)) true m.span q.work.done w calm) h
+  module _ (sound : SoundFunctions [] (functions_of x.functions)) (cells : SoundCells (callable (deepest x)) x.cells) (q : Transacted) (run : Runs (Ok q) m body env outcome) (calm : SoundCommutes (callable (deepest x)) q.work.done.commutes) where
+    finals : (res : Result Writes ThreadStop) → Told res (final_means (deepest x) q.work.done w m.span) → AnswersAt res t (finals_of (tx_state q.work))
+    finals res h = answers_from t res (final_means (deepest x) q.work.done w m.span) (finals_of (tx_state q.work)) (finals_agree t x sound cells m.span q.work.done w calm) h
 
     ended_run : ended x m body env r w t ≡ with_finals q.result (tx_state q.work)
     ended_run = ap (λ c. carried_on t c with_finals) run.0
 
-    pub ended_stop : (y : ThreadStop) → Told {A = Writes} (Err y) (final_means x q.work.done w m.span) → HaltsAt y t (ended x m body env r w t)
+    pub ended_stop : (y : ThreadStop) → Told {A = Writes} (Err y) (final_means (deepest x) q.work.done w m.span) → HaltsAt y t (ended x m body env r w t)
     ended_stop y h =
         subst (λ c. HaltsAt y t c) (sym ended_run) (halts_bind y t (finals_of (tx_state q.work)) (λ ws t1. Completes (run_of (transacting x m body env) q.result (tx_state q.work), ws) t1) (finals (Err y) h))
 
-    pub ended_done : (last : Writes) → Told (Ok last) (final_means x q.work.done w m.span) → ended x m body env r w t ≡ Completes (tx_run q, last) t
+    pub ended_done : (last : Writes) → Told (Ok last) (final_means (deepest x) q.work.done w m.span) → ended x m body env r w t ≡ Completes (tx_run q, last) t
     ended_done last h =
         ended_run ∙ ap (λ c. bind c (λ ws t1. Completes (run_of (transacting x m body env) q.result (tx_state q.work), ws) t1)) (finals (Ok last) h) ∙ ap (λ k. Completes (k, last) t) (sym run.1)
 
@@ -250,14 +250,14 @@ module _ (span : Span) (r : TxRun) (ws : Writes) (t : ThreadState) (res : Result
   ended_as (Broke at) h = no_end h
 
 -- what is given of a run that came to these final writes
-module _ (x : Setting) (m : Mark) (body : Tree) (env : List Value) (r w : PlainView) (t : ThreadState) (sound : SoundFunctions [] (functions_of x.functions)) (q : Transacted) (run : Runs (Ok q) m body env (body_means x body env r))
-    (calm : SoundCommutes (callable x) q.work.done.commutes) where
-  pub ended_closed : {V : Type 0} (f : V → Writes) (last : Result V ThreadStop) (k : EventKind) (res : Result Value ThreadStop) (u : ThreadState) → ToldOf f last (final_means x q.work.done w m.span)
+module _ (x : Setting) (m : Mark) (body : Tree) (env : List Value) (r w : PlainView) (t : ThreadState) (sound : SoundFunctions [] (functions_of x.functions)) (cells : SoundCells (callable (deepest x)) x.cells) (q : Transacted) (run : Runs (Ok q) m body env (body_means x body env r))
+    (calm : SoundCommutes (callable (deepest x)) q.work.done.commutes) where
+  pub ended_closed : {V : Type 0} (f : V → Writes) (last : Result V ThreadStop) (k : EventKind) (res : Result Value ThreadStop) (u : ThreadState) → ToldOf f last (final_means (deepest x) q.work.done w m.span)
       → Closes (closing f k last q.work.done.sends) m.span (tx_run q) res t u → AnswersAt res u (closes k m.span (ended x m body env r w t))
   ended_closed f (Ok v) k res u told h =
-      subst (λ c. AnswersAt res u (closes k m.span c)) (sym (ended_done x m body env r w t sound q run calm (f v) told)) (ended_as m.span (tx_run q) (f v) t res u k h)
+      subst (λ c. AnswersAt res u (closes k m.span c)) (sym (ended_done x m body env r w t sound cells q run calm (f v) told)) (ended_as m.span (tx_run q) (f v) t res u k h)
   ended_closed f (Err y) k res u told h =
-      let stops = end_stops k m.span y t (ended x m body env r w t) (ended_stop x m body env r w t sound q run calm y told) in
+      let stops = end_stops k m.span y t (ended x m body env r w t) (ended_stop x m body env r w t sound cells q run calm y told) in
       subst (λ p. AnswersAt p u (closes k m.span (ended x m body env r w t))) (sym h.0) (subst (λ s. HaltsAt (end_stop k y) s (closes k m.span (ended x m body env r w t))) (sym h.1) stops)
 
 abbrev IsFault : Completion ThreadState Value → Type 0
@@ -377,6 +377,11 @@ zone_running (Some r) on = refl
 pub running : (o : Option RefView) (q : Option PlainView) → plain_world o ≡ q → is_on q ≡ is_some o
 running None q is = ap is_on (sym is)
 running (Some r) q is = ap is_on (sym is)
+
+-- where none runs
+pub nowhere_running : (o : Option RefView) (q : Option PlainView) → plain_world o ≡ q → is_some o ≡ false → q ≡ None
+nowhere_running None q is off = sym is
+nowhere_running (Some r) q is off = absurd (false≢true (sym off))
 
 module _ (x : Setting) (m : Mark) (body : Tree) (env : List Value) (st st1 : State) where
   join_on : (o : Option PlainView) → is_on o ≡ true → (r : Result Value ThreadStop) → Gives (is_on o) r (part o st1) (eval (forms_on o (around_it x) x.depth) (calls_on o x) x.turns (is_on o) body env (part o st))

@@ -7,16 +7,16 @@ use Rattle.txs_world_protocol.specs.SeenEvent.{SeenEvent, atoms_below, home}
 use Rattle.txs_world_protocol.specs.declared.event.EventKind.{EventKind}
 use Rattle.txs_world_protocol.specs.declared.event.EventKind.TheVariants.{Read, Commit, Retry, Fail, Refused, Send as Sent, SendRefused, Act as Acted, Swap as Swapped, Broke}
 use Rattle.txs_frame.specs.Frame.{set_ref, hold_send}
-use Rattle.txs_tree_eval_node.specs.Evaluated.{HaltsAt, AnswersAt, Comes, ComesNone, with_todo, after, ReadyIn, forms_on, calls_on, around_it, inside_means, outside_means, update_means, swap_means, applied, IsSwap, IsNoSwap, swap_ends, swap_gives, swap_of, is_broke, is_read_of, is_swap_to, sending, sent_as, part, is_on, Yields, Finishes, Steps, step_of, call_means, finish_means, thread_state}
+use Rattle.txs_tree_eval_node.specs.Evaluated.{HaltsAt, AnswersAt, Comes, ComesNone, with_todo, after, ReadyIn, forms_on, calls_on, around_it, inside_means, outside_means, update_means, swap_means, applied, quiet, wholly, makes, made_means, accept_means, FirstAccepted, FirstStops, PutAccepted, PutStops, IsSwap, IsNoSwap, swap_ends, swap_gives, swap_of, is_broke, is_read_of, is_swap_to, sending, sent_as, part, is_on, Yields, Finishes, Steps, step_of, call_means, finish_means, thread_state}
 use Rattle.txs_tree_eval_transaction.specs.Worked.{Stops, Gives, Told, RefCell, UpdatesRef, update_begins, update_ends, of_one, stop_without_fault, with_work, tx_state}
 use Rattle.txs_tree_eval_node.specs.Events.{seen_event}
 use Rattle.txs_tree_eval_node.specs.Shapes.{form_of_act}
 use Rattle.txs_value_apply.specs.Core.{core, vector_of}
 use Rattle.txs_tree_meaning.specs.Meaning.{Completion, Completes, Recurs, Faults, Retries, Waits, OutOfTurns, Invalid, bind, result_of, allowed, Applies, apply}
-use Rattle.txs_tree_eval_node.specs.Setting.{Setting, callable, on_view, zone_on}
-use Rattle.txs_tree_meaning.specs.Sound.{SoundCallee, PureCall, SoundFunctions, MayStand, in_thread, in_dosync}
+use Rattle.txs_tree_eval_node.specs.Setting.{Setting, callable, deepest, on_view, zone_on}
+use Rattle.txs_tree_meaning.specs.Sound.{SoundCallee, SoundCells, PureCall, SoundFunctions, MayStand, in_thread, in_dosync}
 use Rattle.txs_tree_meaning.specs.Right.{up_to}
-use Rattle.txs_tree_meaning.specs.Thread.{ThreadState, Surroundings, uneaten, eats, reads, resets, sends, sends_or_holds, swaps, meant, faultless, faulted, thread_look, thread_put, thread_update, outside_form}
+use Rattle.txs_tree_meaning.specs.Thread.{ThreadState, Surroundings, uneaten, eats, reads, resets, sends, sends_or_holds, swaps, meant, faultless, faulted, accepts, thread_look, thread_put, thread_update, outside_form}
 use Rattle.txs_tree_meaning.specs.Transaction.{TxState, on_cell, done_as, tx_look, tx_put, tx_update}
 use Rattle.txs_tree_meaning.specs.Tree.{Mark}
 use Rattle.txs_tree_meaning.specs.View.{functions_of}
@@ -34,7 +34,7 @@ use Rattle.txs_value_base.specs.Places.{fault_at}
 use Rattle.txs_value_cell.specs.declared.action.Action.{Action}
 use Rattle.txs_tree_eval_transaction.specs.declared.stop.ThreadStop.{ThreadStop}
 use Rattle.txs_tree_eval_transaction.specs.declared.stop.ThreadStop.TheVariants.{Fault, Event, Wrong, Turns, Memory}
-use Rattle.txs_value_cell.specs.Cells.{World}
+use Rattle.txs_value_cell.specs.Cells.{World, validators_of, validator_at}
 use Rattle.txs_value_cell.specs.Forms.{rule, cell_of, cell_if, same_kind, may_stand}
 use Rattle.txs_value_data.specs.Printed.{printed_line}
 use Rattle.txs_value_base.specs.declared.fault.FaultKind.{FaultKind}
@@ -61,7 +61,8 @@ use Rattle.txs_value_data.specs.declared.value.CellKind.{CellKind}
 use Rattle.txs_value_data.specs.declared.value.CellKind.TheVariants.{Ref, Atom, Agent}
 use Rattle.txs_value_data.specs.declared.value.Value.{Value}
 use Rattle.txs_value_data.specs.declared.value.Value.TheVariants.{Nil, Truth, Int, Key, Text, Vector, Cell}
-use Rattle.txs_tree_eval_node.proofs.Applying.{callee_agrees, told_applies, answers_applies, told_from}
+use Rattle.txs_tree_eval_node.proofs.Applying.{callee_agrees, told_applies, told_from, answers_from, carried, whole_agrees, validated_agrees, made_agrees}
+use Rattle.txs_tree_eval_node.proofs.Called.{validator_sound}
 use Rattle.txs_tree_eval_node.proofs.Evaluation.{stops_bind}
 use Rattle.txs_tree_eval_node.proofs.Shaping.{stepped}
 use Rattle.txs_tree_meaning.proofs.PureLaw.{Agrees}
@@ -199,20 +200,13 @@ module _ (x : Setting) (m : Mark) (v : Value) (t : ThreadState) where
   pub untaken_outside : (act : Act) (vs : List Value) (y : ThreadStop) → ReadyIn (callable x) in_thread act (length vs) → Told {A = CellId} (Err y) (result_of (cell_of (rule (form_of_act act)) false v) m.span tt) → Stops false y t (outside_means x act m v vs t)
   untaken_outside (a_look form) vs y ready h = untaken_out (form_of.Look form) (thread_look (around_it x) form) y ready h
   untaken_outside (a_put form) [] y ready h = absurd (omega (arith, ready.1))
-  untaken_outside (a_put form) (w ∷ ws) y ready h = untaken_out (form_of.Put form) (λ c t1. thread_put (around_it x) form m.span c w (apply (calls_on None x false) m.span) t1) y ready.0 h
-  untaken_outside (an_update form callee) vs y ready h = untaken_out (form_of.Update form) (λ c t1. thread_update (around_it x) form m.span c callee vs (apply (calls_on None x false) m.span) t1) y ready.0 h
+  untaken_outside (a_put form) (w ∷ ws) y ready h = untaken_out (form_of.Put form) (λ c t1. thread_put (around_it x) form m.span c w (wholly (around_it x) m.span) t1) y ready.0 h
+  untaken_outside (an_update form callee) vs y ready h = untaken_out (form_of.Update form) (λ c t1. thread_update (around_it x) form m.span c callee vs (wholly (around_it x) m.span) t1) y ready.0 h
   untaken_outside (a_send callee) vs y ready h =
       let go : CellId → ThreadState → Completion ThreadState Value = λ c t1. sends_or_holds t1.held (record { agent = c; callee = callee; args = vs; span = m.span }) m.span t1 in
       up_to_stop y t t (on_cell form_of.Send false m.span v go t) (untaken false t form_of.Send false m.span v go y h)
 
 module _ (x : Setting) (m : Mark) (v : Value) (t : ThreadState) (cell : CellId) (res : Result Value ThreadStop) (t1 : ThreadState) where
-  -- an atom is reset to the one argument
-  pub put_outside : (form : PutForm) (vs : List Value) → ReadyIn (callable x) in_thread (a_put form) (length vs) → Told (Ok cell) (result_of (cell_of (rule (form_of.Put form)) false v) m.span tt)
-      → Gives false res t1 (of_one (λ w. up_to t (eats (home x.cells cell) (λ e s. resets w e.kind s) t.todo t)) vs) → Gives false res t1 (outside_means x (a_put form) m v vs t)
-  put_outside form [] ready told h = absurd (omega (arith, ready.1))
-  put_outside Reset (w ∷ ws) ready told h = subst (λ c. Gives false res t1 (up_to t c)) (sym (took_outside x m v t (form_of.Put Reset) (λ c s. thread_put (around_it x) Reset m.span c w (apply (calls_on None x false) m.span) s) cell ready.0 told)) h
-  put_outside RefSet (w ∷ ws) ready told h = absurd ready.0
-
   -- a cell is read
   pub look_outside : (form : LookForm) (vs : List Value) → ReadyIn (callable x) in_thread (a_look form) (length vs) → Told (Ok cell) (result_of (cell_of (rule (form_of.Look form)) false v) m.span tt)
       → Gives false res t1 (up_to t (eats (home x.cells cell) (λ e s. reads cell e.kind e.C s) t.todo t)) → Gives false res t1 (outside_means x (a_look form) m v vs t)
@@ -231,9 +225,51 @@ module _ (x : Setting) (m : Mark) (v : Value) (t : ThreadState) (cell : CellId) 
   pub update_outside : (form : UpdateForm) (callee : Callee) (vs : List Value) → ReadyIn (callable x) in_thread (an_update form callee) (length vs) → Told (Ok cell) (result_of (cell_of (rule (form_of.Update form)) false v) m.span tt)
       → Gives false res t1 (up_to t (eats (home x.cells cell) (λ e s. swap_means x callee cell vs m.span e s) t.todo t)) → Gives false res t1 (outside_means x (an_update form callee) m v vs t)
   update_outside Swap callee vs ready told h =
-      subst (λ c. Gives false res t1 (up_to t c)) (sym (took_outside x m v t (form_of.Update Swap) (λ c s. thread_update (around_it x) Swap m.span c callee vs (apply (calls_on None x false) m.span) s) cell ready.0 told)) h
+      subst (λ c. Gives false res t1 (up_to t c)) (sym (took_outside x m v t (form_of.Update Swap) (λ c s. thread_update (around_it x) Swap m.span c callee vs (wholly (around_it x) m.span) s) cell ready.0 told)) h
   update_outside Alter callee vs ready told h = absurd ready.0
   update_outside Commute callee vs ready told h = absurd ready.0
+
+-- a form that puts
+module _ (x : Setting) (sound : SoundFunctions [] (functions_of x.functions)) (cells : SoundCells (callable (deepest x)) x.cells) (m : Mark) (v : Value) (t : ThreadState) (cell : CellId) where
+  -- what the validator makes of a value there
+  abbrev checked : Value → Completion ThreadState Value
+  checked w = accepts (around_it x) (wholly (around_it x) m.span) cell m.span w t
+
+  checked_agrees : (w : Value) → Agrees t (accept_means (deepest x) cell m.span w) (checked w)
+  checked_agrees w =
+      validated_agrees (callable (deepest x)) (quiet (deepest x) m.span) (wholly (around_it x) m.span) (λ c k vs s h. whole_agrees x sound m.span c k vs s h) (validator_at (validators_of x.cells) cell.number)
+      (validator_sound (callable (deepest x)) x.cells cell.number cells) m.span w t
+
+  abbrev then_eats : Value → ThreadState → Completion ThreadState Value
+  then_eats w t1 = eats (home x.cells cell) (λ e s. resets w e.kind s) t1.todo t1
+
+  put_there : (w : Value) → MayStand in_thread (rule (form_of.Put Reset)).stands → Told (Ok cell) (result_of (cell_of (rule (form_of.Put Reset)) false v) m.span tt) → outside_means x (a_put Reset) m v (w ∷ []) t ≡ up_to t (bind (checked w) then_eats)
+  put_there w stands told = ap (λ c. up_to t c) (took_outside x m v t (form_of.Put Reset) (λ c s. thread_put (around_it x) Reset m.span c w (wholly (around_it x) m.span) s) cell stands told)
+
+  -- an atom is reset to the one argument, which its validator accepts
+  pub put_outside : (res : Result Value ThreadStop) (t1 : ThreadState) (form : PutForm) (vs : List Value) → ReadyIn (callable x) in_thread (a_put form) (length vs) → Told (Ok cell) (result_of (cell_of (rule (form_of.Put form)) false v) m.span tt) → FirstAccepted (deepest x) cell m.span vs
+      → Gives false res t1 (of_one (λ w. up_to t (eats (home x.cells cell) (λ e s. resets w e.kind s) t.todo t)) vs) → Gives false res t1 (outside_means x (a_put form) m v vs t)
+  put_outside res t1 form [] ready told ok h = absurd (omega (arith, ready.1))
+  put_outside res t1 Reset (w ∷ ws) ready told ok h =
+      let accepted : checked w ≡ Completes w t = subst (λ p. Agrees t p (checked w)) ok (checked_agrees w) in
+      subst (λ c. Gives false res t1 c) (sym (put_there w ready.0 told ∙ ap (λ c. up_to t (bind c then_eats)) accepted)) h
+  put_outside res t1 RefSet (w ∷ ws) ready told ok h = absurd ready.0
+
+  put_refused : (y : ThreadStop) (form : PutForm) (vs : List Value) → ReadyIn (callable x) in_thread (a_put form) (length vs) → Told (Ok cell) (result_of (cell_of (rule (form_of.Put form)) false v) m.span tt) → FirstStops (deepest x) cell m.span vs y
+      → Stops false y t (outside_means x (a_put form) m v vs t)
+  put_refused y form [] ready told stops = absurd stops
+  put_refused y Reset (w ∷ ws) ready told stops =
+      let here : Stops false y t (checked w) = carried false t (Err y) (accept_means (deepest x) cell m.span w) (checked w) (checked_agrees w) stops in
+      subst (λ c. Stops false y t c) (sym (put_there w ready.0 told)) (up_to_stop y t t (bind (checked w) then_eats) (stops_bind false y t (checked w) then_eats here))
+  put_refused y RefSet (w ∷ ws) ready told stops = absurd ready.0
+
+  -- one that isn't accepted
+  pub refused_outside : (y : ThreadStop) (act : Act) (vs : List Value) → ReadyIn (callable x) in_thread act (length vs) → Told (Ok cell) (result_of (cell_of (rule (form_of_act act)) false v) m.span tt) → PutStops (deepest x) act cell m.span vs y
+      → Stops false y t (outside_means x act m v vs t)
+  refused_outside y (a_look form) vs ready told stops = absurd stops
+  refused_outside y (a_put form) vs ready told stops = put_refused y form vs ready told stops
+  refused_outside y (an_update form callee) vs ready told stops = absurd stops
+  refused_outside y (a_send callee) vs ready told stops = absurd stops
 
 -- ---- forms that update refs
 
@@ -482,17 +518,19 @@ pub send_home : (x : Setting) (v : Value) (span : Span) (d : CellId) → Told (O
 send_home x v span d told = ap (λ k. if same_kind k Atom then suc (atoms_below x.cells d.number) else 0) (agent_of v span d told)
 
 -- where there was no such event
-pub none_outside : (x : Setting) (m : Mark) (v : Value) (t : ThreadState) (cell : CellId) (act : Act) (vs : List Value) (y : ThreadStop) (book : ℕ) → t.held ≡ None → book ≡ home x.cells cell → ReadyIn (callable x) in_thread act (length vs)
-    → Told (Ok cell) (result_of (cell_of (rule (form_of_act act)) false v) m.span tt) → ComesNone book y t → Stops false y t (outside_means x act m v vs t)
-none_outside x m v t cell (a_look form) vs y book held is ready told none = look_outside x m v t cell (Err y) t form vs ready told (subst (λ b. Stops false y t (up_to t (eats b (λ e s. reads cell e.kind e.C s) t.todo t))) is (comes_none book (λ e s. reads cell e.kind e.C s) y t none))
-none_outside x m v t cell (a_put form) [] y book held is ready told none = absurd (omega (arith, ready.1))
-none_outside x m v t cell (a_put form) (w ∷ ws) y book held is ready told none = put_outside x m v t cell (Err y) t form (w ∷ ws) ready told (subst (λ b. Stops false y t (up_to t (eats b (λ e s. resets w e.kind s) t.todo t))) is (comes_none book (λ e s. resets w e.kind s) y t none))
-none_outside x m v t cell (an_update form callee) vs y book held is ready told none =
-    let go : SeenEvent → ThreadState → Completion ThreadState Value = λ e s. swap_means x callee cell vs m.span e s in
-    update_outside x m v t cell (Err y) t form callee vs ready told (subst (λ b. Stops false y t (up_to t (eats b go t.todo t))) is (comes_none book go y t none))
-none_outside x m v t cell (a_send callee) vs y book held is ready told none =
-    let go : SeenEvent → ThreadState → Completion ThreadState Value = λ e s. sends (record { agent = cell; callee = callee; args = vs; span = m.span }) m.span e.kind s in
-    send_outside x m v t cell (Err y) t held callee vs told (subst (λ b. Stops false y t (up_to t (eats b go t.todo t))) (is ∙ send_home x v m.span cell told) (comes_none book go y t none))
+module _ (x : Setting) (sound : SoundFunctions [] (functions_of x.functions)) (cells : SoundCells (callable (deepest x)) x.cells) (m : Mark) (v : Value) (t : ThreadState) (cell : CellId) where
+  pub none_outside : (act : Act) (vs : List Value) (y : ThreadStop) (book : ℕ) → t.held ≡ None → book ≡ home x.cells cell → ReadyIn (callable x) in_thread act (length vs) → Told (Ok cell) (result_of (cell_of (rule (form_of_act act)) false v) m.span tt) → PutAccepted (deepest x) act cell m.span vs
+      → ComesNone book y t → Stops false y t (outside_means x act m v vs t)
+  none_outside (a_look form) vs y book held is ready told ok none = look_outside x m v t cell (Err y) t form vs ready told (subst (λ b. Stops false y t (up_to t (eats b (λ e s. reads cell e.kind e.C s) t.todo t))) is (comes_none book (λ e s. reads cell e.kind e.C s) y t none))
+  none_outside (a_put form) [] y book held is ready told ok none = absurd (omega (arith, ready.1))
+  none_outside (a_put form) (w ∷ ws) y book held is ready told ok none =
+      put_outside x sound cells m v t cell (Err y) t form (w ∷ ws) ready told ok (subst (λ b. Stops false y t (up_to t (eats b (λ e s. resets w e.kind s) t.todo t))) is (comes_none book (λ e s. resets w e.kind s) y t none))
+  none_outside (an_update form callee) vs y book held is ready told ok none =
+      let go : SeenEvent → ThreadState → Completion ThreadState Value = λ e s. swap_means x callee cell vs m.span e s in
+      update_outside x m v t cell (Err y) t form callee vs ready told (subst (λ b. Stops false y t (up_to t (eats b go t.todo t))) is (comes_none book go y t none))
+  none_outside (a_send callee) vs y book held is ready told ok none =
+      let go : SeenEvent → ThreadState → Completion ThreadState Value = λ e s. sends (record { agent = cell; callee = callee; args = vs; span = m.span }) m.span e.kind s in
+      send_outside x m v t cell (Err y) t held callee vs told (subst (λ b. Stops false y t (up_to t (eats b go t.todo t))) (is ∙ send_home x v m.span cell told) (comes_none book go y t none))
 
 -- what a swap makes of what the callee gave
 swap_named : (w : Value) (u : ThreadState) (b : Bool) → AnswersAt (if b then Ok w else Err Wrong) u (meant b w u)
@@ -505,19 +543,18 @@ swap_given (Some new) (Err y) u c h = faultless_stop y u c (λ z s. meant (same_
 swap_given None (Ok w) u c h = ap (λ d. faulted d (λ f s. Faults f s)) h
 swap_given None (Err y) u c h = faulted_stop y u c h
 
-module _ (x : Setting) (sound : SoundFunctions [] (functions_of x.functions)) (callee : Callee) (cell : CellId) (vs : List Value) (span : Span) (e : SeenEvent) (t : ThreadState) where
-  abbrev on_value : Value → ThreadState → Completion ThreadState Value
-  on_value v s = apply (calls_on None x false) span callee (v ∷ vs) s
-
+module _ (x : Setting) (callee : Callee) (cell : CellId) (vs : List Value) (span : Span) (e : SeenEvent) (t : ThreadState) where
   pub swap_stop : (y : ThreadStop) → IsNoSwap e y → HaltsAt y t (swap_means x callee cell vs span e t)
-  swap_stop y h = h cell on_value t
+  swap_stop y h = h cell (makes x callee cell vs span) t
 
-  pub swap_done : (w : PlainView) (o : Option Value) (v : Value) (r res : Result Value ThreadStop) → IsSwap e w o → v ≡ world_of w cell.number
-      → SoundCallee (callable x) callee (suc (length vs)) → Told r (applied x callee (v ∷ vs) span) → res ≡ swap_gives r o → AnswersAt res t (swap_means x callee cell vs span e t)
-  swap_done w o v r res swap value fits told ends =
-      let here = swap cell on_value t in
-      let given = swap_given o r t (on_value v t) (answers_applies t x sound (forms_on None (around_it x)) false span callee (v ∷ vs) r fits told) in
-      subst (λ q. AnswersAt q t (swap_means x callee cell vs span e t)) (sym ends) (subst (λ c. AnswersAt (swap_gives r o) t c) (sym (here ∙ ap (λ a. swap_ends o (on_value a t)) (sym value))) given)
+  pub swap_done : (sound : SoundFunctions [] (functions_of x.functions)) → SoundCells (callable (deepest x)) x.cells → (w : PlainView) (o : Option Value) (v : Value) (r res : Result Value ThreadStop) → IsSwap e w o → v ≡ world_of w cell.number
+      → SoundCallee (callable (deepest x)) callee (suc (length vs)) → Told r (made_means (deepest x) callee cell (v ∷ vs) span) → res ≡ swap_gives r o → AnswersAt res t (swap_means x callee cell vs span e t)
+  swap_done sound cells w o v r res swap value fits told ends =
+      let here = swap cell (makes x callee cell vs span) t in
+      let agrees : Agrees t (made_means (deepest x) callee cell (v ∷ vs) span) (makes x callee cell vs span v t) =
+      made_agrees (callable (deepest x)) (quiet (deepest x) span) (wholly (around_it x) span) (λ c k us s h. whole_agrees x sound span c k us s h) x.cells cells callee (suc (length vs)) cell.number (v ∷ vs) span t fits in
+      let given = swap_given o r t (makes x callee cell vs span v t) (answers_from t r (made_means (deepest x) callee cell (v ∷ vs) span) (makes x callee cell vs span v t) agrees told) in
+      subst (λ q. AnswersAt q t (swap_means x callee cell vs span e t)) (sym ends) (subst (λ c. AnswersAt (swap_gives r o) t c) (sym (here ∙ ap (λ a. swap_ends o (makes x callee cell vs span a t)) (sym value))) given)
 
 -- ---- a pure function in a transaction of its own, on no world
 

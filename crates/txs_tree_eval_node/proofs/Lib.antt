@@ -7,5 +7,4 @@ pub mod Evaluation
 pub mod Forms
 pub mod Leaf
 pub mod Recurs
-pub mod Right
 pub mod Shaping

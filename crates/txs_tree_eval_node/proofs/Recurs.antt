@@ -32,13 +32,13 @@ use Rattle.txs_value_base.specs.declared.op.Callee.TheVariants.{Core as CoreOp, 
 use Rattle.txs_value_data.specs.declared.value.CellId.{CellId}
 use Rattle.txs_value_data.specs.declared.value.Value.{Value}
 use Rattle.txs_value_data.specs.declared.value.Value.TheVariants.{Nil, Truth, Int, Key, Text, Vector, Cell}
-use Rattle.txs_tree_eval_node.specs.Evaluated.{Part, part, is_on, forms_on, calls_on, around_it, means, SoundCommutes}
+use Rattle.txs_tree_eval_node.specs.Evaluated.{Part, part, is_on, deeply, wholly, forms_on, calls_on, around_it, means, SoundCommutes}
 use Rattle.txs_tree_meaning.specs.Known.{Known, known}
 use Rattle.txs_tree_meaning.specs.Meaning.{Completion, Completes, Recurs, Faults, Retries, Waits, OutOfTurns, Invalid, bind, again, closed, allowed, give, result_of, Applies, apply, turns, Effects, eval, eval_all, eval_let, eval_do, call_at}
 use Rattle.txs_tree_eval_node.specs.Setting.{Setting, callable, zone_on, on_view}
 use Rattle.txs_tree_meaning.specs.Sound.{SoundCall, SoundCallee, SoundTree, SoundAll, SoundLet, SoundDo, SoundFunctions, in_dosync}
 use Rattle.txs_tree_meaning.specs.Right.{up_to, behind_retries, on_right}
-use Rattle.txs_tree_meaning.specs.Thread.{ThreadState, Surroundings, Transacting, on_events, with_tx, uneaten, eats, meant, reads, resets, swaps, faulted, faultless, sends, sends_or_holds, over, run_of, ends_tx, is_retry, eats_tx, thread_look, thread_put, thread_update, outside_form}
+use Rattle.txs_tree_meaning.specs.Thread.{ThreadState, Surroundings, Transacting, on_events, with_tx, uneaten, eats, meant, reads, resets, swaps, faulted, faultless, sends, sends_or_holds, over, run_of, ends_tx, is_retry, eats_tx, accepts, thread_look, thread_put, thread_update, outside_form}
 use Rattle.txs_tree_meaning.specs.Transaction.{TxState, in_transaction, on_cell, own, current, noted, tx_look, tx_put, tx_update, done_as, final_writes}
 use Rattle.txs_tree_meaning.specs.Tree.{Mark, Tree, Const, Local, If, Do, Let, Loop, Recur, Core, Call, VectorOf, Println, Dosync, Look, Put, Update, Send, Trees, none, more, count, PlainFunction}
 use Rattle.txs_tree_meaning.specs.View.{functions_of}
@@ -247,13 +247,15 @@ module _ (tail : Option ℕ) where
 
   thread_put_as : (x : Surroundings) (form : PutForm) (span : Span) (c : CellId) (v : Value) (f : Applies ThreadState) (t : ThreadState) → RecursAs tail (thread_put x form span c v f t)
   thread_put_as x RefSet span c v f t = tt
-  thread_put_as x Reset span c v f t = eats_as (home x.cells c) (λ e t1. resets v e.kind t1) t.todo t (λ e t1. resets_as v e.kind t1)
+  thread_put_as x Reset span c v f t =
+      bind_as tail (accepts x f c span v t) (λ w t1. eats (home x.cells c) (λ e t2. resets w e.kind t2) t1.todo t1) (λ w t1. eats_as (home x.cells c) (λ e t2. resets w e.kind t2) t1.todo t1 (λ e t2. resets_as w e.kind t2))
 
   thread_update_as : (x : Surroundings) (form : UpdateForm) (span : Span) (c : CellId) (callee : Callee) (vs : List Value) (f : Applies ThreadState) (t : ThreadState) → RecursAs tail (thread_update x form span c callee vs f t)
   thread_update_as x Alter span c callee vs f t = tt
   thread_update_as x Commute span c callee vs f t = tt
   thread_update_as x Swap span c callee vs f t =
-      eats_as (home x.cells c) (λ e t1. swaps c (λ v t2. f callee (v ∷ vs) t2) e.kind e.R e.C t1) t.todo t (λ e t1. swaps_as c (λ v t2. f callee (v ∷ vs) t2) e.kind e.R e.C t1)
+      let made : Value → ThreadState → Completion ThreadState Value = λ v t2. bind (f callee (v ∷ vs) t2) (accepts x f c span) in
+      eats_as (home x.cells c) (λ e t1. swaps c made e.kind e.R e.C t1) t.todo t (λ e t1. swaps_as c made e.kind e.R e.C t1)
 
   -- the forms on cells of a thread, one family after the other
   module _ (x : Surroundings) (d : ℕ) (m : Mark) (v : Value) (t : ThreadState) where
@@ -446,7 +448,7 @@ shape (Some R) = Some (record { cells = []; swaps = None; place = 0 })
 
 -- the forms on cells there
 abbrev forms_at : (o : Option World) → Surroundings → ℕ → Effects (Part (shape o))
-forms_at None x d = on_right x d
+forms_at None x d = deeply x (on_right x d)
 forms_at (Some R) x d = in_transaction R
 
 -- what functions mean there
@@ -477,12 +479,12 @@ module _ (top : Option (List Known)) (x : Surroundings) (d : ℕ) (tail : Option
   look_fine (Some R) form m v s h = on_cell_fine (Keeps top) tail (form_of.Look form) true m.span v (tx_look R form) s h (λ c t p. tx_look_fine top R tail form c t p)
 
   put_fine : (o : Option World) (form : PutForm) (m : Mark) (v w : Value) (f : Applies (Part (shape o))) (s : Part (shape o)) → KeepsOn o top s → Fine (KeepsOn o top) tail ((forms_at o x d).put form (is_on (shape o)) m v w f s)
-  put_fine None form m v w f s h = right tail s ((on_events x d).put form false m v w f s) (put_as tail x d m v s form w f)
+  put_fine None form m v w f s h = right tail s ((on_events x d).put form false m v w (wholly x m.span) s) (put_as tail x d m v s form w (wholly x m.span))
   put_fine (Some R) form m v w f s h = on_cell_fine (Keeps top) tail (form_of.Put form) true m.span v (λ c t. tx_put form m.span c w t) s h (λ c t p. tx_put_fine top R tail form m.span c w t p)
 
   update_fine : (o : Option World) (form : UpdateForm) (m : Mark) (v : Value) (callee : Callee) (vs : List Value) (f : Applies (Part (shape o))) (s : Part (shape o)) → CalleeBy top callee (suc (length vs))
       → ((us : List Value) (t : Part (shape o)) → length us ≡ suc (length vs) → KeepsOn o top t → Fine (KeepsOn o top) None (f callee us t)) → KeepsOn o top s → Fine (KeepsOn o top) tail ((forms_at o x d).update form (is_on (shape o)) m v callee vs f s)
-  update_fine None form m v callee vs f s sound each h = right tail s ((on_events x d).update form false m v callee vs f s) (update_as tail x d m v s form callee vs f)
+  update_fine None form m v callee vs f s sound each h = right tail s ((on_events x d).update form false m v callee vs (wholly x m.span) s) (update_as tail x d m v s form callee vs (wholly x m.span))
   update_fine (Some R) form m v callee vs f s sound each h =
       on_cell_fine (Keeps top) tail (form_of.Update form) true m.span v (λ c t. tx_update R form m c callee vs f t) s h (λ c t p. tx_update_fine top R tail form m c callee vs f t sound each p)
 
@@ -492,7 +494,7 @@ module _ (top : Option (List Known)) (x : Surroundings) (d : ℕ) (tail : Option
 
   dosync_fine : (o : Option World) (m : Mark) (body : Tree) (env : List Value) (run : Part (shape o) → Completion (Part (shape o)) Value) (f : Applies (Part (shape o))) (s : Part (shape o))
       → (is_on (shape o) ≡ true → Fine (KeepsOn o top) tail (run s)) → Fine (KeepsOn o top) tail ((forms_at o x d).dosync (is_on (shape o)) m body env run f s)
-  dosync_fine None m body env run f s each = right tail (record s { todo = behind_retries x.tries s.todo }) ((on_events x d).dosync false m body env run f s) (eats_tx_as tail x.tries _ f s.todo s)
+  dosync_fine None m body env run f s each = right tail (record s { todo = behind_retries x.tries s.todo }) ((on_events x d).dosync false m body env run (wholly x m.span) s) (eats_tx_as tail x.tries _ (wholly x m.span) s.todo s)
   dosync_fine (Some R) m body env run f s each = each refl
 
 -- in a transaction

@@ -15,11 +15,11 @@ use Rattle.txs_tree_meaning.specs.Pure.{pure_calls}
 use Rattle.txs_tree_eval_node.specs.Setting.{Setting, callable, zone_in}
 use Rattle.txs_tree_meaning.specs.Sound.{Zone, MayStand, SoundCall, SoundCallee}
 use Rattle.txs_tree_meaning.specs.Right.{up_to, behind_retries, on_right}
-use Rattle.txs_tree_meaning.specs.Thread.{TxRun, ThreadState, Surroundings, Transacting, swaps, faultless, faulted, meant, with_tx, run_of, ends_tx, uneaten, eats_tx}
-use Rattle.txs_tree_meaning.specs.Transaction.{TxState, in_transaction, tx_update, tx_meaning, redone, final_writes}
+use Rattle.txs_tree_meaning.specs.Thread.{TxRun, ThreadState, Surroundings, Transacting, swaps, faultless, faulted, meant, with_tx, run_of, ends_tx, uneaten, eats_tx, accepts}
+use Rattle.txs_tree_meaning.specs.Transaction.{TxState, in_transaction, tx_update, tx_meaning, redone, validated, accepted, final_writes}
 use Rattle.txs_tree_meaning.specs.Tree.{Mark, Tree, Trees, count}
 use Rattle.txs_tree_meaning.specs.View.{tree_of, functions_of}
-use Rattle.txs_tree_eval_transaction.specs.Worked.{Gives, GivesOf, Stops, stop_without_fault, tx_state}
+use Rattle.txs_tree_eval_transaction.specs.Worked.{Gives, GivesOf, Stops, Told, stop_without_fault, tx_state}
 use Rattle.txs_tree_eval_transaction.specs.Views.{PlainView, plain_view, world_of}
 use Rattle.txs_tree_eval_node.specs.declared.closing.Closing.{Closing}
 use Rattle.txs_tree_eval_node.specs.declared.closing.Closing.TheVariants.{Refused as ARefused, Committed as ACommitted, Stopped as AStopped}
@@ -37,7 +37,7 @@ use Rattle.txs_tree_eval_node.specs.declared.state.Transacted.{Transacted}
 use Rattle.txs_tree_eval_transaction.specs.declared.stop.ThreadStop.{ThreadStop}
 use Rattle.txs_tree_eval_transaction.specs.declared.stop.ThreadStop.TheVariants.{Fault, Event as NoEvent, Wrong as OtherEvent, Turns as NoTurns, Memory}
 use Rattle.txs_tree_eval_node.specs.declared.seen.Seen.{Seen}
-use Rattle.txs_value_cell.specs.Cells.{validators_of}
+use Rattle.txs_value_cell.specs.Cells.{validators_of, validator_at}
 use Rattle.txs_value_cell.specs.Forms.{rule}
 use Rattle.txs_value_data.specs.Limits.{reruns}
 use Rattle.txs_value_base.specs.Places.{fault_at}
@@ -83,9 +83,34 @@ abbrev pub part : (o : Option PlainView) → State → Part o
 part None s = thread_state s.thread
 part (Some r) s = tx_state s.tx
 
+-- a pure answer, in this state
+abbrev pub in_state : {S A : Type 0} → S → Completion (Unit {0}) A → Completion S A
+in_state s (Completes a u) = Completes a s
+in_state s (Recurs vs u) = Recurs vs s
+in_state s (Faults f u) = Faults f s
+in_state s (Retries u) = Retries s
+in_state s (Waits u) = Waits s
+in_state s (OutOfTurns u) = OutOfTurns s
+in_state s Invalid = Invalid
+
+-- what applies pure callees where calls may go as deep as there are functions
+abbrev pub wholly : Surroundings → Span → Applies ThreadState
+wholly x span callee vs t = in_state t (apply (pure_calls x.turns x.functions (length x.functions) false) span callee vs tt)
+
+-- these forms, which apply pure callees so: those of swaps, commutes and validators
+abbrev pub deeply : Surroundings → Effects ThreadState → Effects ThreadState
+deeply x fx = record {
+  print = λ inside vs t. fx.print inside vs t;
+  look = λ form inside m v t. fx.look form inside m v t;
+  put = λ form inside m v w f t. fx.put form inside m v w (wholly x m.span) t;
+  update = λ form inside m v callee vs f t. fx.update form inside m v callee vs (wholly x m.span) t;
+  send = λ inside m v callee vs t. fx.send inside m v callee vs t;
+  dosync = λ inside m node env body f t. fx.dosync inside m node env body (wholly x m.span) t;
+}
+
 -- the forms on cells there; a thread waits before an event that it doesn't allow
 abbrev pub forms_on : (o : Option PlainView) → Surroundings → ℕ → Effects (Part o)
-forms_on None x d = on_right x d
+forms_on None x d = deeply x (on_right x d)
 forms_on (Some r) x d = in_transaction (world_of r)
 
 -- what surrounds an evaluation
@@ -330,9 +355,13 @@ outside_means x act m c vs t = acts None x act m c vs t
 abbrev pub update_means : Setting → PlainView → UpdateForm → Callee → CellId → List Value → Mark → TxState → Completion TxState Value
 update_means x r form callee c vs m t = tx_update (world_of r) form m c callee vs (apply (calls_on (Some r) x true) m.span) t
 
+-- what a swap's callee makes of a value outside, where the cell's validator accepts it
+abbrev pub makes : Setting → Callee → CellId → List Value → Span → Value → ThreadState → Completion ThreadState Value
+makes x callee c vs span v t = bind (wholly (around_it x) span callee (v ∷ vs) t) (accepts (around_it x) (wholly (around_it x) span) c span)
+
 -- `swap!` outside, at its event
 abbrev pub swap_means : Setting → Callee → CellId → List Value → Span → SeenEvent → ThreadState → Completion ThreadState Value
-swap_means x callee c vs span e t = swap_on e c (λ v t1. apply (calls_on None x false) span callee (v ∷ vs) t1) t
+swap_means x callee c vs span e t = swap_on e c (makes x callee c vs span) t
 
 -- ---- what events are
 
@@ -378,6 +407,42 @@ quiet x span = apply (pure_calls x.turns (functions_of x.functions) x.depth fals
 abbrev pub applied : Setting → Callee → List Value → Span → Completion (Unit {0}) Value
 applied x callee vs span = quiet x span callee vs tt
 
+-- a value that a cell is to get, where its validator accepts it
+abbrev pub accept_means : Setting → CellId → Span → Value → Completion (Unit {0}) Value
+accept_means x c span v = validated (quiet x span) (validator_at (validators_of x.cells) c.number) span v tt
+
+-- what a pure callee makes, where the cell's validator accepts it
+abbrev pub made_means : Setting → Callee → CellId → List Value → Span → Completion (Unit {0}) Value
+made_means x callee c vs span = bind (applied x callee vs span) (λ v u. accept_means x c span v)
+
+-- the first of these values is accepted by the cell's validator
+abbrev pub FirstAccepted : Setting → CellId → Span → List Value → Type 0
+FirstAccepted x c span [] = Unit {0}
+FirstAccepted x c span (v ∷ vs) = accept_means x c span v ≡ Completes v tt
+
+-- it isn't, or the validator gives no answer
+abbrev pub FirstStops : Setting → CellId → Span → List Value → ThreadStop → Type 0
+FirstStops x c span [] y = ⊥
+FirstStops x c span (v ∷ vs) y = Told {A = Value} (Err y) (accept_means x c span v)
+
+-- the value that a form puts outside is accepted
+abbrev pub PutAccepted : Setting → Act → CellId → Span → List Value → Type 0
+PutAccepted x (a_look form) c span vs = Unit {0}
+PutAccepted x (a_put form) c span vs = FirstAccepted x c span vs
+PutAccepted x (an_update form callee) c span vs = Unit {0}
+PutAccepted x (a_send callee) c span vs = Unit {0}
+
+-- it isn't
+abbrev pub PutStops : Setting → Act → CellId → Span → List Value → ThreadStop → Type 0
+PutStops x (a_look form) c span vs y = ⊥
+PutStops x (a_put form) c span vs y = FirstStops x c span vs y
+PutStops x (an_update form callee) c span vs y = ⊥
+PutStops x (a_send callee) c span vs y = ⊥
+
+-- each of these writes is accepted
+abbrev pub accepted_means : Setting → Span → Writes → Completion (Unit {0}) (Unit {0})
+accepted_means x span ws = accepted (quiet x span) (validators_of x.cells) span ws tt
+
 -- each of these commutes has a pure callee of as many values
 abbrev pub SoundCommutes : List Known → List Commute → Type 0
 SoundCommutes ks [] = Unit {0}
@@ -397,9 +462,9 @@ final_means x w r span = final_writes (quiet x span) (validators_of x.cells) spa
 abbrev pub transacting : Setting → Mark → Tree → List Value → Transacting
 transacting x m body env = record { mark = m; body = body; locals = env; on = tx_meaning x.turns (functions_of x.functions) x.depth body env; validators = validators_of x.cells }
 
--- what applies its commutes at its end
+-- what applies its commutes and validators at its end
 abbrev pub at_end : Setting → Span → Applies ThreadState
-at_end x span = apply (calls_on None x true) span
+at_end x span = wholly (around_it x) span
 
 -- a dosync here
 abbrev pub dosync_means : (x : Setting) → Mark → Tree → List Value → State → Completion (Part x.world) Value

@@ -1,5 +1,5 @@
 -- What an evaluation runs in.
-use Rattle.std.specs.Prelude.{ℕ, ◌-◌, Option, Some, None, List, take}
+use Rattle.std.specs.Prelude.{ℕ, ◌-◌, Option, Some, None, List, [], length, take}
 use Rattle.txs_tree_meaning.specs.Known.{Known, known}
 use Rattle.txs_tree_meaning.specs.Sound.{Zone, in_thread, in_dosync}
 use Rattle.txs_value_cell.specs.declared.cell.CellDefinition.{CellDefinition}
@@ -23,6 +23,14 @@ deeper s = record { cells = s.cells; functions = s.functions; depth = s.depth - 
 -- the same in a transaction on this world
 abbrev pub on_view : Setting → PlainView → Setting
 on_view s r = record { cells = s.cells; functions = s.functions; depth = s.depth; turns = s.turns; world = Some r }
+
+-- no cells
+abbrev pub no_view : PlainView
+no_view = record { cells = []; swaps = None; place = 0 }
+
+-- the same where calls may go as deep as there are functions, in a transaction on no cells: what applies pure callees outside
+abbrev pub deepest : Setting → Setting
+deepest s = record { cells = s.cells; functions = s.functions; depth = length (functions_of s.functions); turns = s.turns; world = Some no_view }
 
 -- what is known of the functions that may be called: as many as calls may go deep
 abbrev pub callable : Setting → List Known

@@ -3,8 +3,9 @@
 ghost use Rattle.std.specs.Prelude.{◌≡◌, ◌<◌, ◌≤◌, ◌-◌, [], Some, length};
 ghost use Rattle.txs_world_protocol.specs.SeenEvent.{atoms_below, home};
 ghost use Rattle.txs_value_base.specs.Places.{nth};
-ghost use Rattle.txs_tree_eval_node.specs.Setting.{Setting, deeper, on_view};
-ghost use Rattle.txs_tree_meaning.specs.Sound.{SoundFunctions};
+ghost use Rattle.txs_tree_eval_node.specs.Setting.{Setting, callable, deeper, deepest, on_view};
+ghost use Rattle.txs_tree_meaning.specs.Known.{known};
+ghost use Rattle.txs_tree_meaning.specs.Sound.{SoundCells, SoundFunctions};
 ghost use Rattle.txs_tree_meaning.specs.View.{function_of, functions_of};
 ghost use Rattle.txs_tree_eval_transaction.specs.Views.{plain_view, plain_world};
 
@@ -29,7 +30,8 @@ impl<'a> Model for Context<'a> {
     ghost use Rattle.std.specs.Coded.{codes};
     ghost use Rattle.std.specs.Prelude.{[]};
     ghost use Rattle.txs_tree_eval_node.specs.Setting.{Setting};
-    ghost use Rattle.txs_tree_meaning.specs.Sound.{SoundFunctions};
+    ghost use Rattle.txs_tree_meaning.specs.Known.{known};
+    ghost use Rattle.txs_tree_meaning.specs.Sound.{SoundCells, SoundFunctions};
     ghost use Rattle.txs_tree_meaning.specs.View.{functions_of};
     ghost use Rattle.txs_tree_eval_transaction.specs.Views.{plain_world};
     ghost use Rattle.txs_tree_meaning.specs.contracts.node.Node as node;
@@ -41,7 +43,7 @@ impl<'a> Model for Context<'a> {
 
     ghost view = { λ c. record { cells = c.cells.now; functions = c.functions.now; depth = c.depth; turns = c.turns; world = plain_world c.world } };
 
-    ghost invariant = { λ c. SoundFunctions [] (functions_of c.functions.now) };
+    ghost invariant = { λ c. SoundFunctions [] (functions_of c.functions.now) × SoundCells (known (functions_of c.functions.now)) c.cells.now };
 }
 
 impl<'a> Context<'a> {
@@ -52,7 +54,8 @@ impl<'a> Context<'a> {
         turns: u32,
         world: Option<RefView<'a>>,
     ) -> Context<'a>
-        requires { SoundFunctions [] (functions_of functions.now) }
+        requires functions { SoundFunctions [] (functions_of functions.now) }
+        requires cells { SoundCells (known (functions_of functions.now)) cells.now }
         ensures { result ≡ record { cells = cells.now; functions = functions.now; depth = length functions.now; turns = turns; world = plain_world world.entry } }
     {
         Context {
@@ -70,6 +73,13 @@ impl<'a> Context<'a> {
     {
         // A step of the proof, which does nothing when it runs.
         let _ = &self.functions;
+    }
+
+    /// The cells that are defined.
+    pub(crate) fn cells(&self) -> &'a [CellDefinition]
+        ensures { result.now ≡ self.now.cells }
+    {
+        self.cells
     }
 
     /// How many turns each loop may make.
@@ -117,6 +127,25 @@ impl<'a> Context<'a> {
             depth: self.depth - 1,
             turns: self.turns,
             world: self.world,
+        }
+    }
+
+    /// What pure callees run in that are applied outside transactions: calls may go as deep as there are functions, and there are
+    /// no cells to read. A validator may be defined behind the function whose form asks it.
+    pub(crate) fn deepest(&self) -> Context<'a>
+        ensures value { result ≡ deepest self.now }
+        ensures sound { SoundCells (callable (deepest self.now)) self.now.cells }
+    {
+        Context {
+            cells: self.cells,
+            functions: self.functions,
+            depth: self.functions.len(),
+            turns: self.turns,
+            world: Some(RefView {
+                cells: &[],
+                swaps: None,
+                place: 0,
+            }),
         }
     }
 

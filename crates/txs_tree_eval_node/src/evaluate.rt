@@ -3,18 +3,19 @@
 ghost use Rattle.std.specs.Prelude.{true, false, ◌≡◌, ◌≤◌, ◌-◌, ◌+◌, ◌++◌, ◌∷◌, [], suc, Bool, length, take, drop, None, Some, IsTrue, IfOk, OnOk, MatchResult};
 ghost use Rattle.txs_frame.specs.Frame.{commuted, phase_work, set_writes};
 ghost use Rattle.txs_tree_eval_node.specs.Events.{seen_event};
-ghost use Rattle.txs_tree_eval_node.specs.Evaluated.{AnswersAt, Steps, Yields, GivesAll, Ready, ReadyIn, Finishes, Runs, SoundCommutes, means, all_mean, do_means, if_means, let_means, locals_mean, loop_means, turns_mean, call_means, finish_means, strict_means, form_means, inside_means, outside_means, update_means, swap_means, applied, dosync_means, eat_means, body_means, final_means, redone_means, step_of, thread_state};
+ghost use Rattle.txs_tree_eval_node.specs.Evaluated.{AnswersAt, Steps, Yields, GivesAll, FirstAccepted, FirstStops, PutAccepted, PutStops, Ready, ReadyIn, Finishes, Runs, SoundCommutes, means, all_mean, do_means, if_means, let_means, locals_mean, loop_means, turns_mean, call_means, finish_means, strict_means, form_means, inside_means, outside_means, update_means, swap_means, applied, accept_means, accepted_means, made_means, dosync_means, eat_means, body_means, final_means, redone_means, step_of, thread_state};
 ghost use Rattle.txs_tree_eval_transaction.specs.Worked.{Told, ToldOf, Gives, RefCell, UpdatesRef, tx_state};
 ghost use Rattle.txs_tree_eval_node.specs.declared.evaluate.Step.TheVariants.{Value as AValue};
 ghost use Rattle.txs_tree_eval_transaction.specs.declared.stop.ThreadStop.TheVariants.{Memory};
 ghost use Rattle.txs_tree_eval_node.specs.Setting.{callable, zone_in};
-ghost use Rattle.txs_tree_meaning.specs.Sound.{InSomeTail, SoundCall, SoundCallee, SoundTree, SoundAll, SoundDo, SoundLet, in_thread, in_dosync};
+ghost use Rattle.txs_tree_meaning.specs.Sound.{InSomeTail, SoundCall, SoundCallee, SoundCells, SoundTree, SoundAll, SoundDo, SoundLet, in_thread, in_dosync};
 ghost use Rattle.txs_tree_meaning.specs.Thread.{ThreadState};
-ghost use Rattle.txs_tree_meaning.specs.Transaction.{valued as first_values, merged};
+ghost use Rattle.txs_tree_meaning.specs.Transaction.{judged, valued as first_values, merged};
 ghost use Rattle.txs_tree_meaning.specs.Tree.{count};
 ghost use Rattle.txs_tree_meaning.specs.View.{tree_of, trees_of, mark_of};
 ghost use Rattle.txs_tree_eval_transaction.specs.Views.{plain_view, world_of};
 ghost use Rattle.txs_value_data.specs.Limits.{reruns};
+ghost use Rattle.txs_value_data.specs.declared.value.Value.{Value as AnyValue};
 
 use crate::closing::{close, end_stop, end_view};
 use crate::context::Context;
@@ -23,14 +24,14 @@ use crate::shape::{Act, Shape, Strict, shape_of};
 use crate::state::{Progress, State, Transacted};
 use crate::thread::{end_swap, read_at, reset_at, send_at, swap_at};
 use std::alloc::{AllocError, Global};
-use txs_frame::{Commute, TxFrame};
+use txs_frame::{Commute, TxFrame, validator_of};
 use txs_tree_eval_transaction::{
     RefView, ThreadStop, TxWork, collect, merge, operate, print_line, put_write, take_cell,
     value_in, valued,
 };
 use txs_tree_meaning::Node;
 use txs_value_apply::is_false;
-use txs_value_base::{Callee, Span};
+use txs_value_base::{Callee, Fault, FaultKind, Span};
 use txs_value_cell::UpdateForm;
 use txs_value_data::{CellId, Listed, Value, copy_value};
 
@@ -123,6 +124,21 @@ fn with_sets(done: &TxFrame, writes: &[(CellId, Value)]) -> Result<Vec<(CellId, 
     let mut last = done.writes()?;
     merge(&mut last, writes)?;
     Ok(last)
+}
+
+/// What a validator's answer makes of the value that it looked at: nil and false refuse it.
+fn judge(answer: Value, span: Span) -> Result<(), ThreadStop>
+    ensures { (v : AnyValue) → ToldOf (λ _. v) result (judged answer span v tt) }
+{
+    let refused = is_false(&answer);
+    drop(answer);
+    if refused {
+        return Err(ThreadStop::Fault(Fault {
+            kind: FaultKind::InvalidState,
+            span,
+        }));
+    }
+    Ok(())
 }
 
 /// The node's value with these locals.
@@ -394,24 +410,107 @@ fn act_outside<'a>(
     span: Span,
     thread: &mut Progress<'a>,
 ) -> Result<Value, ThreadStop>
-    requires { ReadyIn (callable context.now) in_thread act (length args.items) }
+    requires world { context.now.world ≡ None }
+    requires ready { ReadyIn (callable context.now) in_thread act (length args.items) }
     ensures { (wanted : Bool) → Gives false result (thread_state thread.new)
         (outside_means context.now act (mark_of span wanted) value.now args.items (thread_state thread.old)) }
 {
+    context.is_sound();
     let cell = take_cell(act.form(), false, value, span)?;
+    let inner = context.deepest();
+    let values = accept_put(alloc, &inner, act, cell, args, span)?;
     let event = thread.next(context.home(cell))?;
     match act {
         Act::Look(_) => thread.eat(read_at(event, cell)),
-        Act::Put(_) => thread.eat(reset_at(event, args)),
+        Act::Put(_) => thread.eat(reset_at(event, values)),
         Act::Update(_, callee) => {
-            let args = args.as_slice();
+            let args = values.as_slice();
             thread.eat(swap(alloc, context, callee, cell, args, span, event))
         }
-        Act::Send(callee) => thread.eat(send_at(event, cell, callee, args, span)),
+        Act::Send(callee) => thread.eat(send_at(event, cell, callee, values, span)),
     }
 }
 
-/// `swap!` at its event, a swap to what the callee makes of the atom's value, or a broken one, where it faults as the callee does.
+/// The same arguments of a form outside, where the cell's validator accepts the value that the form puts.
+#[cycle(evaluate)]
+fn accept_put<'a>(
+    alloc: Global,
+    context: &Context<'a>,
+    act: Act,
+    cell: CellId,
+    args: Vec<Value>,
+    span: Span,
+) -> Result<Vec<Value>, ThreadStop>
+    requires { SoundCells (callable context.now) context.now.cells }
+    ensures { MatchResult result (λ vs. (vs.items ≡ args.items) × PutAccepted context.now act cell span args.items)
+        (λ y. PutStops context.now act cell span args.items y) }
+{
+    match act {
+        Act::Put(_) => accept_first(alloc, context, cell, args, span),
+        Act::Look(_) | Act::Update(_, _) | Act::Send(_) => Ok(args),
+    }
+}
+
+/// The same values, where the cell's validator accepts the first one.
+#[cycle(evaluate)]
+fn accept_first<'a>(
+    alloc: Global,
+    context: &Context<'a>,
+    cell: CellId,
+    values: Vec<Value>,
+    span: Span,
+) -> Result<Vec<Value>, ThreadStop>
+    requires { SoundCells (callable context.now) context.now.cells }
+    ensures { MatchResult result (λ vs. (vs.items ≡ values.items) × FirstAccepted context.now cell span values.items)
+        (λ y. FirstStops context.now cell span values.items y) }
+{
+    let Some(value) = values.first() else {
+        return Ok(values);
+    };
+    accept(alloc, context, cell, value, span)?;
+    Ok(values)
+}
+
+/// A value that a cell is to get: its validator accepts it, if the cell has one.
+#[cycle(evaluate)]
+fn accept<'a>(
+    alloc: Global,
+    context: &Context<'a>,
+    cell: CellId,
+    value: &Value,
+    span: Span,
+) -> Result<(), ThreadStop>
+    requires { SoundCells (callable context.now) context.now.cells }
+    ensures { ToldOf (λ _. value.now) result (accept_means context.now cell span value.now) }
+{
+    let Some(callee) = validator_of(context.cells(), cell.number) else {
+        return Ok(());
+    };
+    let copy = copy_value(value)?;
+    let values = with_first(alloc, copy, &[])?;
+    let answer = apply_callee(alloc, context, callee, values, span)?;
+    judge(answer, span)
+}
+
+/// Each of these writes is accepted, one after the other.
+#[cycle(evaluate)]
+fn accept_all<'a>(
+    alloc: Global,
+    context: &Context<'a>,
+    writes: &[(CellId, Value)],
+    span: Span,
+) -> Result<(), ThreadStop>
+    requires { SoundCells (callable context.now) context.now.cells }
+    ensures { ToldOf (λ _. tt) result (accepted_means context.now span writes.now) }
+{
+    for write in writes {
+        accept(alloc, context, write.0, &write.1, span)?;
+    }
+    Ok(())
+}
+
+/// `swap!` at its event, a swap to what the callee makes of the atom's value, or a broken one, where it faults as the callee or
+/// the atom's validator does.
 #[cycle(evaluate)]
 fn swap<'a>(
     alloc: Global,
@@ -422,13 +521,35 @@ fn swap<'a>(
     span: Span,
     event: &Seen<'a>,
 ) -> Result<Value, ThreadStop>
-    requires { SoundCallee (callable context.now) callee (suc (length args.now)) }
+    requires world { context.now.world ≡ None }
+    requires callee { SoundCallee (callable context.now) callee (suc (length args.now)) }
     ensures { (t : ThreadState) → AnswersAt result t (swap_means context.now callee cell args.now span (seen_event event.now) t) }
 {
     context.is_sound();
     let (world, new) = swap_at(event)?;
     let value = world.read(cell.number)?;
-    end_swap(apply_on(alloc, context, callee, value, args, span), new)
+    let inner = context.deepest();
+    end_swap(make(alloc, &inner, callee, cell, value, args, span), new)
+}
+
+/// What a pure callee makes of a cell's value and these arguments, where the cell's validator accepts it.
+#[cycle(evaluate)]
+fn make<'a>(
+    alloc: Global,
+    context: &Context<'a>,
+    callee: Callee,
+    cell: CellId,
+    first: Value,
+    args: &[Value],
+    span: Span,
+) -> Result<Value, ThreadStop>
+    requires cells { SoundCells (callable context.now) context.now.cells }
+    requires callee { SoundCallee (callable context.now) callee (suc (length args.now)) }
+    ensures { Told result (made_means context.now callee cell (first ∷ args.now) span) }
+{
+    let new = apply_on(alloc, context, callee, first, args, span)?;
+    accept(alloc, context, cell, &new, span)?;
+    Ok(new)
 }
 
 /// A pure callee on a first value and these arguments; an operation's fault has the span.
@@ -497,8 +618,8 @@ fn evaluate_dosync<'a>(
     as_step(eat_dosync(alloc, context, dosync, locals, &mut state.thread))
 }
 
-/// A transaction eats retries, and then the event of its end, on whose worlds its body and its commutes run. That event stays
-/// to come where their turns don't suffice.
+/// A transaction eats retries, and then the event of its end, on whose worlds its body, its commutes and the validators run. That
+/// event stays to come where their turns don't suffice.
 #[cycle(evaluate)]
 fn eat_dosync<'a>(
     alloc: Global,
@@ -507,7 +628,8 @@ fn eat_dosync<'a>(
     locals: &mut Vec<Value>,
     thread: &mut Progress<'a>,
 ) -> Result<Value, ThreadStop>
-    requires { SoundTree (callable context.now) in_dosync (length locals.old.items) None (tree_of dosync.body.now) }
+    requires world { context.now.world ≡ None }
+    requires body { SoundTree (callable context.now) in_dosync (length locals.old.items) None (tree_of dosync.body.now) }
     ensures value { Gives false result (thread_state thread.new)
         (eat_means context.now (suc reruns) (mark_of dosync.entry.span dosync.entry.wanted) (tree_of dosync.entry.body.now) locals.old.items (thread_state thread.old)) }
     ensures kept { OnOk result (locals.new.items ≡ locals.old.items) }
@@ -522,7 +644,8 @@ fn eat_dosync<'a>(
         Ok(run) => run,
         Err(stop) => return thread.eat(Err(end_stop(event.kind, stop))),
     };
-    let last = final_writes(alloc, context, &run.work.done, world, dosync.span);
+    let inner = context.deepest();
+    let last = final_writes(alloc, &inner, &run.work.done, world, dosync.span);
     let given = close(event.kind, run, last, dosync.span, thread);
     thread.eat(given)
 }
@@ -561,7 +684,8 @@ fn run_body<'a>(
     }
 }
 
-/// The final writes: each ref that was set has its value, each other commuted ref what its commutes make of the world.
+/// The final writes: each ref that was set has its value, each other commuted ref what its commutes make of the world; and then
+/// each is accepted by its ref's validator.
 #[cycle(evaluate)]
 fn final_writes<'a>(
     alloc: Global,
@@ -570,12 +694,15 @@ fn final_writes<'a>(
     world: RefView<'a>,
     span: Span,
 ) -> Result<Vec<(CellId, Value)>, ThreadStop>
-    requires { SoundCommutes (callable context.now) done.now.commutes }
+    requires cells { SoundCells (callable context.now) context.now.cells }
+    requires commutes { SoundCommutes (callable context.now) done.now.commutes }
     ensures { ToldOf (λ ws. ws.items) result (final_means context.now done.now (plain_view world.entry) span) }
 {
     let mut writes = first_writes(alloc, done, &world)?;
     redo(alloc, context, done, &mut writes, span)?;
-    with_sets(done, writes.as_slice())
+    let last = with_sets(done, writes.as_slice())?;
+    accept_all(alloc, context, last.as_slice(), span)?;
+    Ok(last)
 }
 
 /// The commutes of the refs that weren't set in turn, each of which makes its ref's value anew.

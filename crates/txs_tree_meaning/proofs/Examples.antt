@@ -1,7 +1,7 @@
 -- Worked examples of the meanings, each by computing.
-use Rattle.std.proofs.Common.{ℕ, zero, suc, Bool, true, false, List, [], ◌∷◌, None, ◌≡◌, refl}
+use Rattle.std.proofs.Common.{ℕ, suc, Bool, true, false, List, [], ◌∷◌, Some, None, ◌≡◌, refl}
 use Rattle.std.specs.Fmt.{digits}
-use Rattle.std.specs.Prelude.{pos}
+use Rattle.std.specs.Prelude.{pos, negsuc}
 use Rattle.txs_world_protocol.specs.SeenEvent.{SeenEvent}
 use Rattle.txs_world_protocol.specs.declared.event.EventKind.{EventKind}
 use Rattle.txs_world_protocol.specs.declared.event.EventKind.TheVariants.{Read, Commit, Retry, Fail, Refused, Send as Sent, SendRefused, Swap as Swapped, Broke}
@@ -18,15 +18,18 @@ use Rattle.txs_tree_meaning.specs.Tree.{Mark, Tree, Const, Local, Do, Loop, Recu
 use Rattle.txs_value_cell.specs.Cells.{World}
 use Rattle.txs_value_base.specs.Places.{fault_at}
 use Rattle.txs_value_cell.specs.declared.action.Action.{Action}
-use Rattle.txs_value_base.specs.declared.fault.FaultKind.TheVariants.{DivideByZero, NotANumber, NotARef, OutsideOnly, SetAfterCommute, RetryLimit, AgentFailed}
+use Rattle.txs_value_cell.specs.declared.cell.CellDefinition.{CellDefinition}
+use Rattle.txs_value_cell.specs.declared.cell.ErrorMode.TheVariants.{Fail as FailMode}
+use Rattle.txs_value_base.specs.declared.fault.FaultKind.TheVariants.{DivideByZero, InvalidState, NotANumber, NotARef, OutsideOnly, SetAfterCommute, RetryLimit, AgentFailed}
 use Rattle.txs_value_base.specs.declared.fault.Span.{Span}
 use Rattle.txs_value_cell.specs.declared.form.LookForm.TheVariants.{Deref, Ensure}
 use Rattle.txs_value_cell.specs.declared.form.PutForm.TheVariants.{RefSet, Reset}
 use Rattle.txs_value_cell.specs.declared.form.UpdateForm.TheVariants.{Alter, Commute, Swap}
 use Rattle.txs_value_base.specs.declared.op.Callee.{Callee}
 use Rattle.txs_value_base.specs.declared.op.Callee.TheVariants.{Core as CoreOp, Function}
-use Rattle.txs_value_base.specs.declared.op.Op.TheVariants.{Add, Multiply, Inc, Quot}
+use Rattle.txs_value_base.specs.declared.op.Op.TheVariants.{Add, Subtract, Multiply, Inc, Quot, IsZero, IsPositive, IsNegative}
 use Rattle.txs_value_data.specs.declared.value.CellId.{CellId}
+use Rattle.txs_value_data.specs.declared.value.CellKind.{CellKind}
 use Rattle.txs_value_data.specs.declared.value.CellKind.TheVariants.{Ref, Atom, Agent}
 use Rattle.txs_value_data.specs.declared.value.Value.{Value}
 use Rattle.txs_value_data.specs.declared.value.Value.TheVariants.{Nil, Truth, Int, Key, Text, Cell}
@@ -174,6 +177,78 @@ several = record {
 writes_of_several : final_writes (apply (pure_calls 3 [] 0 false) (at 0 30)) [] (at 0 30) several (all_are 10) tt ≡ Completes ((ref_of 0, int 11) ∷ (ref_of 1, int 100) ∷ (ref_of 2, int 30) ∷ []) tt
 unfolding core
 writes_of_several = refl
+
+-- validators look at all that is written: what commutes made, and what was set
+writes_accepted : final_writes (apply (pure_calls 3 [] 0 false) (at 0 30)) (Some (CoreOp IsPositive) ∷ None ∷ Some (CoreOp IsPositive) ∷ []) (at 0 30) several (all_are 10) tt ≡ Completes ((ref_of 0, int 11) ∷ (ref_of 1, int 100) ∷ (ref_of 2, int 30) ∷ []) tt
+unfolding core
+writes_accepted = refl
+
+set_refused : final_writes (apply (pure_calls 3 [] 0 false) (at 0 30)) (None ∷ Some (CoreOp IsNegative) ∷ []) (at 0 30) several (all_are 10) tt ≡ Faults (fault_at InvalidState (at 0 30)) tt
+unfolding core
+set_refused = refl
+
+commuted_refused : final_writes (apply (pure_calls 3 [] 0 false) (at 0 30)) (None ∷ None ∷ Some (CoreOp IsZero) ∷ []) (at 0 30) several (all_are 10) tt ≡ Faults (fault_at InvalidState (at 0 30)) tt
+unfolding core
+commuted_refused = refl
+
+-- ---- validators of threads' cells
+
+-- one cell of this kind, with this validator
+abbrev guarded : CellKind → Callee → CellDefinition
+guarded kind f = record { kind = kind; name = []; opening = int 1; error_mode = FailMode; validator = Some f }
+
+abbrev run_guarded : CellKind → Callee → Tree → List SeenEvent → Left
+run_guarded kind f main es = brief (thread_in (record { cells = guarded kind f ∷ []; tries = 3; turns = 3; functions = [] }) main es)
+
+-- (reset! a 0), (reset! a 7) where `pos?` looks at each value: the first eats nothing, the second its event
+abbrev resets_to : ℕ → Tree
+resets_to n = Put Reset (constant (Cell an_atom)) (constant (int n)) (wanted 3 9)
+
+refused_reset_eats_nothing : run_guarded Atom (CoreOp IsPositive) (resets_to 0) (seen_of_atom (Swapped (int 7)) (all_are 5) (all_are 5) ∷ []) ≡ Faults (fault_at InvalidState (at 3 9)) 1
+unfolding core
+refused_reset_eats_nothing = refl
+
+accepted_reset : run_guarded Atom (CoreOp IsPositive) (resets_to 7) (seen_of_atom (Swapped (int 7)) (all_are 5) (all_are 5) ∷ []) ≡ Completes (int 7) 0
+unfolding core
+accepted_reset = refl
+
+-- (swap! a - 9): what the callee gives is looked at, so that a refused one is broken
+abbrev swaps_down : Tree
+swaps_down = Update Swap (constant (Cell an_atom)) (CoreOp Subtract) (more (constant (int 9)) none) (wanted 3 8)
+
+refused_swap : run_guarded Atom (CoreOp IsPositive) swaps_down (seen_of_atom (Broke 0) (all_are 0) (all_are 4) ∷ []) ≡ Faults (fault_at InvalidState (at 3 8)) 0
+unfolding core
+refused_swap = refl
+
+refused_swap_is_no_swap : run_guarded Atom (CoreOp IsPositive) swaps_down (seen_of_atom (Swapped (Int (negsuc 4))) (all_are 0) (all_are 4) ∷ []) ≡ Invalid
+unfolding core
+refused_swap_is_no_swap = refl
+
+-- (dosync (ref-set r 0) (ref-set r 7)): only what is written at last is looked at
+abbrev sets_twice : ℕ → ℕ → Tree
+sets_twice a b = Dosync (in_turn (Put RefSet (constant (Cell (ref_of 0))) (constant (int a)) (unwanted 4 8)) (Put RefSet (constant (Cell (ref_of 0))) (constant (int b)) (wanted 9 12))) (unwanted 0 30)
+
+set_past_validator : run_guarded Ref (CoreOp IsPositive) (sets_twice 0 7) (seen (Commit 0 0 ((ref_of 0, int 7) ∷ []) []) (all_are 1) (all_are 1) (all_are 1) ∷ []) ≡ Completes (int 7) 0
+unfolding core
+set_past_validator = refl
+
+last_set_refused : run_guarded Ref (CoreOp IsPositive) (sets_twice 7 0) (seen (Fail 0 0) (all_are 1) (all_are 1) (all_are 1) ∷ []) ≡ Faults (fault_at InvalidState (at 0 30)) 0
+unfolding core
+last_set_refused = refl
+
+refused_set_commits_nothing : run_guarded Ref (CoreOp IsPositive) (sets_twice 7 0) (seen (Commit 0 0 ((ref_of 0, int 0) ∷ []) []) (all_are 1) (all_are 1) (all_are 1) ∷ []) ≡ Invalid
+unfolding core
+refused_set_commits_nothing = refl
+
+-- a validator that faults does so at the dosync, with its own fault
+validator_faults : run_guarded Ref (CoreOp IsPositive) (Dosync (Put RefSet (constant (Cell (ref_of 0))) (constant Nil) (unwanted 4 8)) (unwanted 0 30)) (seen (Fail 0 0) (all_are 1) (all_are 1) (all_are 1) ∷ []) ≡ Faults (fault_at NotANumber (at 0 30)) 0
+unfolding core
+validator_faults = refl
+
+-- what the commutes make of the viewed value is looked at, and not what the body saw
+commute_refused_at_view : run_guarded Ref (CoreOp IsPositive) one_commute (seen (Fail 0 1) (all_are 1) (λ k. Int (negsuc 4)) (all_are 1) ∷ []) ≡ Faults (fault_at InvalidState (at 0 30)) 0
+unfolding core
+commute_refused_at_view = refl
 
 -- ---- reads and uses
 

@@ -83,7 +83,7 @@ module _ {S : Type 0} (s : S) where
   either_agrees true p c h = h
   either_agrees false p c h = refl
 
-  turns_agrees : (k d : ℕ) (go : List Value → Unit {0} → Completion (Unit {0}) Value) (on : List Value → S → Completion S Value) → ((ws : List Value) → Agrees (go ws tt) (on ws s))
+  pub turns_agrees : (k d : ℕ) (go : List Value → Unit {0} → Completion (Unit {0}) Value) (on : List Value → S → Completion S Value) → ((ws : List Value) → Agrees (go ws tt) (on ws s))
       → (vs : List Value) → Agrees (turns k d go vs tt) (turns k d on vs s)
   turns_agrees zero d go on each vs = refl
   turns_agrees (suc k) d go on each vs =
@@ -111,7 +111,7 @@ module _ {S : Type 0} (s : S) where
   module _ (fx : Effects S) (n : ℕ) (inside : Bool) (ks : List Known) (quiet : Bool → ℕ → List Value → Unit {0} → Completion (Unit {0}) Value) (call : Bool → ℕ → List Value → S → Completion S Value)
       (calls : (f : ℕ) (vs : List Value) → is_pure (nth ks f) ≡ true → Agrees (quiet false f vs tt) (call inside f vs s)) where
     mutual
-      tree_agrees : (e : Tree) (env : List Value) → pure_in ks e ≡ true → Agrees (eval no_effects quiet n false e env tt) (eval fx call n inside e env s)
+      pub tree_agrees : (e : Tree) (env : List Value) → pure_in ks e ≡ true → Agrees (eval no_effects quiet n false e env tt) (eval fx call n inside e env s)
       tree_agrees (Const v m) env pure = refl
       tree_agrees (Local i m) env pure = give_agrees (nth env i)
       tree_agrees (If c a b m) env pure =

@@ -1,10 +1,11 @@
 -- Which programs the resolution of names gives: each local and function that is named is there, and the limits are kept.
-use Rattle.std.specs.Prelude.{◌<◌, ◌≤◌, ◌+◌, ℕ, List, [], ◌∷◌, ◌++◌, length}
+use Rattle.std.specs.Prelude.{◌≡◌, ◌<◌, ◌≤◌, ◌+◌, ℕ, List, [], ◌∷◌, ◌++◌, length, Option, Some, None}
 use Rattle.txs_value_data.specs.Limits.{most_items, most_locals, most_threads, most_parameters, most_levels, most_definitions}
 use Rattle.txs_value_base.specs.declared.op.Callee.{Callee}
 use Rattle.txs_value_base.specs.declared.op.Callee.TheVariants.{Core as CoreOp, Function}
 use Rattle.txs_tree_meaning.specs.Known.{Known, known_of, known, levels}
 use Rattle.txs_tree_meaning.specs.Tree.{Tree, Const, Local, If, Do, Let, Loop, Recur, Core, Call, VectorOf, Println, Dosync, Look, Put, Update, Send, Trees, none, more, count, PlainFunction, PlainThread, PlainProgram}
+use Rattle.txs_value_cell.specs.declared.cell.CellDefinition.{CellDefinition}
 
 -- an operation is always there, a function where it is defined before
 abbrev pub ScopedCallee : List Known → Callee → Type 0
@@ -62,10 +63,23 @@ abbrev pub ScopedThreads : List Known → List PlainThread → Type 0
 ScopedThreads ks [] = Unit {0}
 ScopedThreads ks (t ∷ ts) = ScopedThread ks t × ScopedThreads ks ts
 
+-- a validator is there
+abbrev pub ScopedValidator : List Known → Option Callee → Type 0
+ScopedValidator ks None = Unit {0}
+ScopedValidator ks (Some callee) = ScopedCallee ks callee
+
+-- so is that of each of these cells
+abbrev pub ScopedCells : List Known → List CellDefinition → Type 0
+ScopedCells ks [] = Unit {0}
+ScopedCells ks (d ∷ ds) = ScopedValidator ks d.validator × ScopedCells ks ds
+
 -- a program of which names are resolved
 pub record Scoped (p : PlainProgram) : Type 0 where
   pub functions : ScopedFunctions [] p.functions
   pub threads : ScopedThreads (known p.functions) p.threads
+  pub cells : ScopedCells (known p.functions) p.cells
+  -- of each cell it is said where its validator stands
+  pub placed : length p.validator_spans ≡ length p.cells
   pub few_cells : length p.cells ≤ most_definitions
   pub few_functions : length p.functions ≤ most_definitions
   pub few_threads : length p.threads ≤ most_threads

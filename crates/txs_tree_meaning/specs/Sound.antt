@@ -1,5 +1,5 @@
 -- Which programs are sound: those that the checks accept.
-use Rattle.std.specs.Prelude.{◌≡◌, ◌<◌, ◌≤◌, ◌+◌, ℕ, suc, true, false, List, [], ◌∷◌, ◌++◌, length, Option, Some, None}
+use Rattle.std.specs.Prelude.{◌≡◌, ◌<◌, ◌≤◌, ◌+◌, ℕ, suc, true, false, List, [], ◌∷◌, ◌++◌, Option, Some, None}
 use Rattle.txs_value_apply.specs.Core.{takes}
 use Rattle.txs_value_cell.specs.Forms.{rule}
 use Rattle.txs_value_data.specs.Limits.{most_items, most_locals, most_parameters, most_levels, most_nodes}
@@ -13,6 +13,7 @@ use Rattle.txs_value_base.specs.declared.op.Callee.TheVariants.{Core as CoreOp, 
 use Rattle.txs_tree_meaning.specs.Known.{Known, known_of, known, levels}
 use Rattle.txs_tree_meaning.specs.Scoped.{Scoped}
 use Rattle.txs_tree_meaning.specs.Tree.{Tree, Const, Local, If, Do, Let, Loop, Recur, Core, Call, VectorOf, Println, Dosync, Look, Put, Update, Send, Trees, none, more, count, PlainFunction, PlainThread, PlainProgram, ThreadSource}
+use Rattle.txs_value_cell.specs.declared.cell.CellDefinition.{CellDefinition}
 
 -- where a node is: in a function, which may be called inside transactions and outside; in a thread outside every
 -- transaction; or in a transaction
@@ -161,14 +162,26 @@ abbrev pub nodes_of_all : List PlainThread → ℕ
 nodes_of_all [] = 0
 nodes_of_all (t ∷ ts) = nodes t.body + nodes_of_all ts
 
+-- a validator is a callee of one value
+abbrev pub SoundValidator : List Known → Option Callee → Type 0
+SoundValidator ks None = Unit {0}
+SoundValidator ks (Some callee) = SoundCallee ks callee 1
+
+-- so is that of each of these cells
+abbrev pub SoundCells : List Known → List CellDefinition → Type 0
+SoundCells ks [] = Unit {0}
+SoundCells ks (d ∷ ds) = SoundValidator ks d.validator × SoundCells ks ds
+
 -- a program that the checks accept: one of which names are resolved, whose bodies are sound, and which has not too many nodes
 pub record Sound (p : PlainProgram) : Type 0 where
   pub scoped : Scoped p
   pub functions : SoundFunctions [] p.functions
+  pub cells : SoundCells (known p.functions) p.cells
   pub threads : SoundThreads (known p.functions) p.threads
   pub few_nodes : nodes_of_functions p.functions + nodes_of_all p.threads ≤ most_nodes
 
 -- one thread that the checks accept
 pub record SoundSource (p : ThreadSource) : Type 0 where
   pub functions : SoundFunctions [] p.functions
+  pub cells : SoundCells (known p.functions) p.cells
   pub main : SoundTree (known p.functions) in_thread 0 None p.main

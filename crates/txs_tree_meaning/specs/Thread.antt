@@ -3,11 +3,11 @@ use Rattle.std.specs.Prelude.{ℕ, zero, suc, Bool, true, false, List, [], ◌�
 use Rattle.txs_world_protocol.specs.Ask.{same_writes, same_cell, same_value, same_action, same_actions}
 use Rattle.txs_world_protocol.specs.SeenEvent.{SeenEvent, home}
 use Rattle.txs_world_protocol.specs.declared.event.EventKind.{EventKind}
-use Rattle.txs_world_protocol.specs.declared.event.EventKind.TheVariants.{Read, Commit, Retry, Fail, Refused, Send as Sent, SendRefused, Act, Swap as Swapped, Broke}
-use Rattle.txs_tree_meaning.specs.Meaning.{Completion, Completes, Recurs, Faults, Retries, Waits, OutOfTurns, Invalid, closed, allowed, Applies, Effects, eval, call_at}
-use Rattle.txs_tree_meaning.specs.Transaction.{TxState, on_cell, tx_meaning, final_writes}
+use Rattle.txs_world_protocol.specs.declared.event.EventKind.TheVariants.{Read, Commit, Retry, Fail, Refused, Send as Sent, SendRefused, Swap as Swapped, Broke}
+use Rattle.txs_tree_meaning.specs.Meaning.{Completion, Completes, Recurs, Faults, Retries, Waits, OutOfTurns, Invalid, closed, allowed, Applies, Effects, eval, call_at, bind}
+use Rattle.txs_tree_meaning.specs.Transaction.{TxState, on_cell, tx_meaning, final_writes, validated}
 use Rattle.txs_tree_meaning.specs.Tree.{Mark, Tree, PlainFunction, ThreadSource}
-use Rattle.txs_value_cell.specs.Cells.{World, Validators, validators_of}
+use Rattle.txs_value_cell.specs.Cells.{World, Validators, validators_of, validator_at}
 use Rattle.txs_value_cell.specs.Forms.{rule, may_stand}
 use Rattle.txs_value_data.specs.Limits.{reruns}
 use Rattle.txs_value_base.specs.Places.{fault_at}
@@ -109,7 +109,7 @@ faultless (Waits s) go = Waits s
 faultless (OutOfTurns s) go = OutOfTurns s
 faultless Invalid go = Invalid
 
--- `swap!` eats a swap to what the callee makes of the atom's value (Clojure's docstring of `swap!`), or faults as the callee does on the value that was opened
+-- `swap!` eats a swap to what the callee makes of the atom's value (Clojure's docstring of `swap!`), or faults as the callee or the validator does on the value that was opened
 abbrev pub swaps : CellId → (Value → ThreadState → Completion ThreadState Value) → EventKind → World → World → ThreadState → Completion ThreadState Value
 swaps c f (Swapped new) R C t = faultless (f (C c.number) t) (λ v t1. meant (same_value v new) v t1)
 swaps c f (Broke at) R C t = faulted (f (R c.number) t) (λ g t1. Faults g t1)
@@ -148,15 +148,15 @@ pub record Transacting : Type 0 where
 abbrev pub run_of : Transacting → Value → TxState → TxRun
 run_of d v x = record { body = d.body; locals = d.locals; wanted = d.mark.wanted; result = v; state = x }
 
--- A transaction at the event of its end: the body on the world at its read point, and its commutes.
+-- A transaction at the event of its end: the body on the world at its read point, its commutes, and the validators.
 abbrev pub ends_tx : Transacting → Applies ThreadState → EventKind → World → World → World → ThreadState → Completion ThreadState Value
--- a commit: neither the body nor a commute faults, and the writes and sends are those of the event
+-- a commit: neither the body nor a commute nor a validator faults, and the writes and sends are those of the event
 ends_tx d f (Commit at view writes sent) R Q C t =
     over t (d.on R) (λ v x. faultless (final_writes f d.validators d.mark.span x.done C t) (λ ws t1. meant (same_writes ws writes && same_actions x.done.sends sent) v (with_tx (run_of d v x) t1))) (λ g. Invalid)
--- a failure: the body's fault, else the first one of the commutes on the world that was viewed
+-- a failure: the body's fault, else the first one of the commutes and then the validators on the world that was viewed
 ends_tx d f (Fail at view) R Q C t =
     over t (d.on R) (λ v x. faulted (final_writes f d.validators d.mark.span x.done Q t) (λ g t1. Faults g t1)) (λ g. Faults g t)
--- a refusal: neither the body nor a commute faults; that the agent had failed is given by the journal, and not asked here
+-- a refusal: neither the body nor a commute nor a validator faults; that the agent had failed is told by the journal, and not asked here
 ends_tx d f (Refused at view agent) R Q C t =
     over t (d.on R) (λ v x. faultless (final_writes f d.validators d.mark.span x.done Q t) (λ ws t1. Faults (fault_at AgentFailed d.mark.span) (with_tx (run_of d v x) t1))) (λ g. Invalid)
 ends_tx d f _ R Q C t = Invalid
@@ -187,16 +187,24 @@ abbrev pub thread_look : Surroundings → LookForm → CellId → ThreadState �
 thread_look x Deref c t = eats (home x.cells c) (λ e t1. reads c e.kind e.C t1) t.todo t
 thread_look x Ensure c t = Invalid
 
+-- a value that a cell is to get, where its validator accepts it
+abbrev pub accepts : Surroundings → Applies ThreadState → CellId → Span → Value → ThreadState → Completion ThreadState Value
+accepts x f c span v t = validated f (validator_at (validators_of x.cells) c.number) span v t
+
 -- the forms that put, outside transactions
 abbrev pub thread_put : Surroundings → PutForm → Span → CellId → Value → Applies ThreadState → ThreadState → Completion ThreadState Value
 thread_put x RefSet span c v f t = Invalid
-thread_put x Reset span c v f t = eats (home x.cells c) (λ e t1. resets v e.kind t1) t.todo t
+-- a value that the atom's validator refuses eats nothing
+thread_put x Reset span c v f t =
+    bind (accepts x f c span v t) (λ w t1. eats (home x.cells c) (λ e t2. resets w e.kind t2) t1.todo t1)
 
 -- the forms that update, outside transactions
 abbrev pub thread_update : Surroundings → UpdateForm → Span → CellId → Callee → List Value → Applies ThreadState → ThreadState → Completion ThreadState Value
 thread_update x Alter span c callee vs f t = Invalid
 thread_update x Commute span c callee vs f t = Invalid
-thread_update x Swap span c callee vs f t = eats (home x.cells c) (λ e t1. swaps c (λ v t2. f callee (v ∷ vs) t2) e.kind e.R e.C t1) t.todo t
+-- what the callee gives is what the atom's validator has to accept
+thread_update x Swap span c callee vs f t =
+    eats (home x.cells c) (λ e t1. swaps c (λ v t2. bind (f callee (v ∷ vs) t2) (accepts x f c span)) e.kind e.R e.C t1) t.todo t
 
 -- a form that may be outside every transaction
 abbrev pub outside_form : CellForm → Completion ThreadState Value → Completion ThreadState Value

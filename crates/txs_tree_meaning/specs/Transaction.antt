@@ -3,9 +3,9 @@ use Rattle.std.specs.Prelude.{ℕ, Bool, true, false, List, [], ◌∷◌, ◌||
 use Rattle.txs_world_protocol.specs.Ask.{Writes, buffered, with_write}
 use Rattle.txs_frame.specs.Frame.{PlainTxFrame, empty_frame, with_cell, has_number, commuted, set_ref, ensure_ref, commute_ref, hold_send, set_writes, phase_work}
 use Rattle.txs_frame.specs.declared.frame.Commute.{Commute}
-use Rattle.txs_tree_meaning.specs.Meaning.{Completion, Completes, Invalid, bind, closed, result_of, Applies, Effects, eval, call_at}
+use Rattle.txs_tree_meaning.specs.Meaning.{Completion, Completes, Faults, Invalid, bind, closed, result_of, Applies, Effects, eval, call_at}
 use Rattle.txs_tree_meaning.specs.Tree.{Mark, Tree, PlainFunction}
-use Rattle.txs_value_cell.specs.Cells.{World, Validators}
+use Rattle.txs_value_cell.specs.Cells.{World, Validators, validator_at}
 use Rattle.txs_value_cell.specs.Forms.{rule, cell_of}
 use Rattle.txs_value_base.specs.declared.fault.FaultKind.{FaultKind}
 use Rattle.txs_value_base.specs.declared.fault.Span.{Span}
@@ -21,6 +21,9 @@ use Rattle.txs_value_base.specs.declared.op.Callee.{Callee}
 use Rattle.txs_value_data.specs.declared.value.CellId.{CellId}
 use Rattle.txs_value_data.specs.declared.value.Value.{Value}
 use Rattle.txs_value_data.specs.declared.value.Value.TheVariants.{Nil}
+use Rattle.txs_value_apply.specs.Truth.{choose}
+use Rattle.txs_value_base.specs.Places.{fault_at}
+use Rattle.txs_value_base.specs.declared.fault.FaultKind.TheVariants.{InvalidState}
 
 -- what a transaction has done so far, the refs that it read of the world, and whether the result of a commute was used
 pub record TxState : Type 0 where
@@ -123,7 +126,27 @@ redone f (c ∷ cs) ws s =
 abbrev pub commute_writes : {S : Type 0} → Applies S → PlainTxFrame → World → S → Completion S Writes
 commute_writes f w C s = redone f (phase_work w) (valued (commuted w) C) s
 
--- the final writes: each ref that was set has its value, each other commuted ref what its commutes make of the world; the cells'
--- validators, and the span of the dosync, change nothing
+-- ---- validators
+
+-- a value that a validator gave this answer for: nil or false refuses it (Clojure's docstring of `set-validator!`)
+abbrev pub judged : {S : Type 0} → Value → Span → Value → S → Completion S Value
+judged answer span v s = choose answer (Completes v s) (Faults (fault_at InvalidState span) s)
+
+-- a value that a cell is to get, where its validator accepts it; without a validator any is accepted
+abbrev pub validated : {S : Type 0} → Applies S → Option Callee → Span → Value → S → Completion S Value
+validated f None span v s = Completes v s
+validated f (Some callee) span v s = bind (f callee (v ∷ []) s) (λ answer s1. judged answer span v s1)
+
+-- each of these writes is accepted, one after the other
+abbrev pub accepted : {S : Type 0} → Applies S → Validators → Span → Writes → S → Completion S (Unit {0})
+accepted f vs span [] s = Completes tt s
+accepted f vs span (w ∷ ws) s = bind (validated f (validator_at vs w.0.number) span w.1 s) (λ v s1. accepted f vs span ws s1)
+
+-- these writes, where each is accepted
+abbrev pub if_accepted : {S : Type 0} → Applies S → Validators → Span → Writes → S → Completion S Writes
+if_accepted f vs span ws s = bind (accepted f vs span ws s) (λ u s1. Completes ws s1)
+
+-- The final writes: each ref that was set has its value, each other commuted ref what its commutes make of the world; and then each
+-- is accepted by its ref's validator, in ascending number.
 abbrev pub final_writes : {S : Type 0} → Applies S → Validators → Span → PlainTxFrame → World → S → Completion S Writes
-final_writes f vs span w C s = bind (commute_writes f w C s) (λ ws s1. Completes (merged (set_writes w) ws) s1)
+final_writes f vs span w C s = bind (commute_writes f w C s) (λ ws s1. if_accepted f vs span (merged (set_writes w) ws) s1)

@@ -63,10 +63,12 @@ pub record PlainThread : Type 0 where
   pub body : Tree
   pub span : Span
 
--- a program: functions, the definitions of cells in the order of their numbers, and threads
+-- A program: functions, the definitions of cells in the order of their numbers, and threads. Of each cell it says where the cell's
+-- validator stands, or its definition where it has none.
 pub record PlainProgram : Type 0 where
   pub functions : List PlainFunction
   pub cells : List CellDefinition
+  pub validator_spans : List Span
   pub threads : List PlainThread
 
 -- one thread with the functions that it may call, and the definitions of cells

@@ -66,12 +66,13 @@ abbrev pub threads_of : List Thread → List PlainThread
 threads_of [] = []
 threads_of (t ∷ ts) = thread_of t ∷ threads_of ts
 
--- what a program is made of: its cells, functions and threads, each in script order
+-- what a program is made of: its cells, where their validators stand, its functions and threads, each in script order
 pub record Parts : Type 0 where
   pub cells : List CellDefinition
+  pub validator_spans : List Span
   pub functions : List Function
   pub threads : List Thread
 
 -- the program of these parts
 abbrev pub program_of : Parts → PlainProgram
-program_of p = record { functions = functions_of p.functions; cells = p.cells; threads = threads_of p.threads }
+program_of p = record { functions = functions_of p.functions; cells = p.cells; validator_spans = p.validator_spans; threads = threads_of p.threads }

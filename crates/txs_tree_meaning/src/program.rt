@@ -8,6 +8,7 @@ ghost use Rattle.txs_tree_meaning.specs.View.{Parts, program_of};
 use crate::node::{Function, Thread};
 use crate::raw::Raw;
 use std::marker::Model;
+use txs_value_base::Span;
 use txs_value_cell::CellDefinition;
 
 /// A program that the checks accepted: the cells that it defines, in the order of their numbers, its functions
@@ -49,6 +50,13 @@ impl Program {
         ensures { result.now ≡ self.now.cells }
     {
         self.raw.cells()
+    }
+
+    /// Where the validator of each cell stands, or the cell's definition where it has none.
+    pub fn validator_spans(&self) -> &[Span]
+        ensures { result.now ≡ self.now.validator_spans }
+    {
+        self.raw.validator_spans()
     }
 
     /// The functions, in the order of their numbers.

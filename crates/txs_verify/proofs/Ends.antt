@@ -1,6 +1,8 @@
 -- All bodies together: refusals, and well-typed code.
-use Rattle.std.proofs.Common.{arith, ◌≡◌, ◌∙◌, ℕ, zero, suc, ◌+◌, ◌<◌, ◌≤◌, List, [], ◌∷◌, length, Bool, true, false, not, ◌&&◌, nat_eq, Option, Some, None, refl, sym, ap, subst}
+use Rattle.std.proofs.Common.{arith, ◌≡◌, ◌∙◌, ℕ, zero, suc, ◌+◌, ◌<◌, ◌≤◌, List, [], ◌∷◌, length, Bool, true, false, not, ◌&&◌, nat_eq, Option, Some, None, Result, Ok, Err, IfErr, OnOk, refl, sym, ap, subst}
 use Rattle.txs_value_base.specs.Places.{nth}
+use Rattle.txs_value_cell.specs.Cells.{Validators, validators_of}
+use Rattle.txs_value_cell.specs.declared.cell.CellDefinition.{CellDefinition}
 use Rattle.txs_value_cell.specs.declared.form.Standing.{Standing}
 use Rattle.txs_value_cell.specs.declared.form.Standing.TheVariants.{Anywhere, Inside, Outside}
 use Rattle.txs_value_data.specs.declared.value.Value.{Value}
@@ -18,9 +20,11 @@ use Rattle.txs_verify.specs.declared.error.VerifyErrorKind.TheVariants.{JumpOut,
 use Rattle.txs_verify.specs.declared.standing.Kind.{Kind}
 use Rattle.txs_verify.specs.declared.walk.Mark.{Mark}
 use Rattle.txs_verify.specs.Alone.{IsRightBody}
+use Rattle.txs_verify.specs.Validators.{EachValidator, IsPure, IsRefusedValidator, TakesOne}
 use Rattle.txs_verify.specs.Standing.{kind_from, kinds_from, pure_kind, impure_kind, or_pure, kind_of, for_inside, for_outside, not_pure, IsMarked}
-use Rattle.txs_verify.specs.Verdict.{IsInForm, AreRightBodies, IsWalked, IsWrongOnPaths, kinds_before, AreWalked, AreWalkedThreads, AreKinds, OrMemory, IsRefusedOnPaths, IsRefusedFunction, IsRefused, on_paths_of_a_function, on_paths_of_a_thread, stopped}
+use Rattle.txs_verify.specs.Verdict.{IsInForm, AreRightBodies, IsWalked, IsWrongOnPaths, kinds_before, AreWalked, AreWalkedThreads, AreKinds, OrMemory, IsRefusedOnPaths, IsRefusedBehind, of_all, up_to_a_refused, IsRefusedWalk, of_a_validator, of_a_function, AllAreRight, ValidatorsTakeOne, IsRefused, on_paths_of_functions, on_paths_of_a_thread, stopped}
 use Rattle.txs_verify.specs.Walk.{WhereRefused}
+use Rattle.txs_verify.proofs.Validated.{validators_typed}
 use Rattle.txs_verify.proofs.Roomy.{walked_typed, typed_more, from_both, kinds_behind, before_behind, before_long, nth_less, nth_there, are_kinds, stands_below}
 
 none_is : {A : Type 0} (x : A) → None ≡ Some x → ⊥
@@ -53,6 +57,29 @@ or_map TxNesting P Q f h = f h
 or_map FallsOff P Q f h = f h
 or_map Memory P Q f h = tt
 
+pub or_both : (k : VerifyErrorKind) (P Q R : Type 0) → (P → Q → R) → OrMemory k P → OrMemory k Q → OrMemory k R
+or_both JumpOut P Q R f h g = f h g
+or_both StackLow P Q R f h g = f h g
+or_both StackDiffers P Q R f h g = f h g
+or_both LocalOut P Q R f h g = f h g
+or_both ArityWrong P Q R f h g = f h g
+or_both CallOrder P Q R f h g = f h g
+or_both TxNesting P Q R f h g = f h g
+or_both FallsOff P Q R f h g = f h g
+or_both Memory P Q R f h g = tt
+
+-- what stays where a body is refused
+pub stays : {A : Type 0} (x : A) (s : Stop) → WhereRefused (λ r. x ≡ x) s
+stays x (stop.Refused r) = refl
+stays x stop.Memory = tt
+
+kept_by : (P : Type 0) (thread : Bool) (n : ℕ) (s : Stop) → WhereRefused (λ r. P) s → OrMemory (stopped thread n s).kind P
+kept_by P thread n (stop.Refused r) h = or_memory r.kind P h
+kept_by P thread n stop.Memory h = tt
+
+pub kept_so : (P : Type 0) (thread : Bool) (n : ℕ) (s : Stop) (e : VerifyError) → e ≡ stopped thread n s → WhereRefused (λ r. P) s → OrMemory e.kind P
+kept_so P thread n s e is h = subst (λ (y : VerifyError). OrMemory y.kind P) (sym is) (kept_by P thread n s h)
+
 module _ (ks : List Kind) (thread : Bool) (ps : List ℕ) (bs : List CodeBody) (n : ℕ) (place : n < length bs) where
   wrong_at : (s : Stop) → WhereRefused (λ r. (b : CodeBody) → nth bs n ≡ Some b → IsWrongOnPaths ks thread ps b.instrs r.kind r.at) s → OrMemory (stopped thread n s).kind ((x : IsRefusedOnPaths ks thread ps bs (stopped thread n s)) × (x.number ≡ n))
   wrong_at (stop.Refused r) h =
@@ -66,8 +93,50 @@ module _ (ks : List Kind) (thread : Bool) (ps : List ℕ) (bs : List CodeBody) (
   pub paths_wrong_alone : (s : Stop) (e : VerifyError) → e ≡ stopped thread n s → WhereRefused (λ r. (b : CodeBody) → nth bs n ≡ Some b → IsWrongOnPaths ks thread ps b.instrs r.kind r.at) s → OrMemory e.kind (IsRefusedOnPaths ks thread ps bs e)
   paths_wrong_alone s e is h = or_map e.kind ((x : IsRefusedOnPaths ks thread ps bs e) × (x.number ≡ n)) (IsRefusedOnPaths ks thread ps bs e) (λ x. x.0) (paths_wrong s e is h)
 
-pub function_wrong : (fs : List CodeBody) (ks : List Kind) (rooms : List ℕ) (n : ℕ) (e : VerifyError) → AreWalked (parameters_of fs) fs ks rooms → length ks ≡ n → OrMemory e.kind ((x : IsRefusedOnPaths ks false (parameters_of fs) fs e) × (x.number ≡ n)) → OrMemory e.kind (IsRefusedFunction fs e)
-function_wrong fs ks rooms n e walked many h = or_map e.kind ((x : IsRefusedOnPaths ks false (parameters_of fs) fs e) × (x.number ≡ n)) (IsRefusedFunction fs e) (λ x. record { kinds = ks; are = are_kinds (parameters_of fs) fs ks rooms walked; refused = x.0; before = many ∙ sym x.1 }) h
+pub function_wrong : (fs : List CodeBody) (ks new : List Kind) (rooms : List ℕ) (n : ℕ) (e : VerifyError) → AreWalked (parameters_of fs) fs ks rooms → length ks ≡ n → OrMemory e.kind ((x : IsRefusedOnPaths ks false (parameters_of fs) fs e) × (x.number ≡ n)) → OrMemory e.kind (new ≡ ks) → OrMemory e.kind (IsRefusedBehind fs new e)
+function_wrong fs ks new rooms n e walked many h kept =
+    or_both e.kind ((x : IsRefusedOnPaths ks false (parameters_of fs) fs e) × (x.number ≡ n)) (new ≡ ks) (IsRefusedBehind fs new e)
+    (λ x same. (record { kinds = ks; are = are_kinds (parameters_of fs) fs ks rooms walked; refused = x.0; before = many ∙ sym x.1 }, sym same)) h kept
+
+-- want of memory says nothing
+pub memory_walk : (fs : List CodeBody) (vs : Validators) (e : VerifyError) → e.kind ≡ Memory → OrMemory e.kind (IsRefusedWalk fs vs e)
+memory_walk fs vs e is = subst (λ k. OrMemory k (IsRefusedWalk fs vs e)) (sym is) tt
+
+-- no validator is impure by what is known when a function is refused
+pub walk_of_function : (fs : List CodeBody) (vs : Validators) (ks now : List Kind) (e : VerifyError) → now ≡ ks → EachValidator (IsPure now) vs → OrMemory e.kind (IsRefusedBehind fs ks e) → OrMemory e.kind (IsRefusedWalk fs vs e)
+walk_of_function fs vs ks now e same pure h =
+    or_map e.kind (IsRefusedBehind fs ks e) (IsRefusedWalk fs vs e) (λ x. of_a_function x.0 (subst (λ k. EachValidator (IsPure k) vs) (same ∙ sym x.1) pure)) h
+
+-- a validator is
+pub walk_of_validator : (fs : List CodeBody) (vs : Validators) (ks now : List Kind) (e other : VerifyError) → now ≡ ks → (e.kind ≡ Memory → ⊥) → OrMemory e.kind (IsRefusedBehind fs ks e) → IsRefusedValidator (IsPure now) TxNesting vs other → OrMemory other.kind (IsRefusedWalk fs vs other)
+walk_of_validator fs vs ks now e other same some h r =
+    let behind = no_memory e.kind (IsRefusedBehind fs ks e) some h in
+    or_memory other.kind (IsRefusedWalk fs vs other) (of_a_validator ks (up_to_a_refused e behind.0 behind.1) (subst (λ k. IsRefusedValidator (IsPure k) TxNesting vs other) same r))
+  where
+    no_memory : (k : VerifyErrorKind) (P : Type 0) → (k ≡ Memory → ⊥) → OrMemory k P → P
+    no_memory JumpOut P s x = x
+    no_memory StackLow P s x = x
+    no_memory StackDiffers P s x = x
+    no_memory LocalOut P s x = x
+    no_memory ArityWrong P s x = x
+    no_memory CallOrder P s x = x
+    no_memory TxNesting P s x = x
+    no_memory FallsOff P s x = x
+    no_memory Memory P s x = absurd (s refl)
+
+-- a validator is, where all functions were looked at
+pub walk_of_all : (fs : List CodeBody) (vs : Validators) (ks now : List Kind) (rooms : List ℕ) (e : VerifyError) → now ≡ ks → AreWalked (parameters_of fs) fs ks rooms → length ks ≡ length fs → IsRefusedValidator (IsPure now) TxNesting vs e → OrMemory e.kind (IsRefusedWalk fs vs e)
+walk_of_all fs vs ks now rooms e same walked many r =
+    or_memory e.kind (IsRefusedWalk fs vs e) (of_a_validator ks (of_all (are_kinds (parameters_of fs) fs ks rooms walked) many) (subst (λ k. IsRefusedValidator (IsPure k) TxNesting vs e) same r))
+
+-- the same of what looking at validators answered
+pub pure_of : (r : Result (Unit {0}) VerifyError) (vs : Validators) (ks now : List Kind) → now ≡ ks → OnOk r (EachValidator (IsPure now) vs) → OnOk r (EachValidator (IsPure ks) vs)
+pure_of (Ok u) vs ks now same h = subst (λ k. EachValidator (IsPure k) vs) same h
+pure_of (Err e) vs ks now same h = tt
+
+pub wrong_of_all : (r : Result (Unit {0}) VerifyError) (fs : List CodeBody) (vs : Validators) (ks now : List Kind) (rooms : List ℕ) → now ≡ ks → AreWalked (parameters_of fs) fs ks rooms → length ks ≡ length fs → IfErr r (λ e. IsRefusedValidator (IsPure now) TxNesting vs e) → IfErr r (λ e. OrMemory e.kind (IsRefusedWalk fs vs e))
+wrong_of_all (Ok u) fs vs ks now rooms same walked many h = tt
+wrong_of_all (Err e) fs vs ks now rooms same walked many h = walk_of_all fs vs ks now rooms e same walked many h
 
 -- ---- what is for inside or outside alone is impure
 
@@ -212,32 +281,44 @@ thread_right code ks rooms form right walked many i b r sb sr =
     (form.parameters i b sb, walked_typed ks true ps code.constants b w.0 r (length ps) (long_as code.functions ∙ sym many) (omega arith) (subst (λ n. IsRightBody n ps b) (sym (long_as code.functions)) here) (form.threads i b sb) w.1)
 
 -- the code is well typed
-pub code_typed : (code : PlainCode) (ks : List Kind) (function_rooms thread_rooms : List ℕ) → IsInForm code → AreRightBodies false code.functions code.functions (length code.functions) → AreRightBodies true code.functions code.threads (length code.threads) → AreWalked (parameters_of code.functions) code.functions ks function_rooms → length ks ≡ length code.functions → AreWalkedThreads ks (parameters_of code.functions) code.threads thread_rooms → length thread_rooms ≡ length code.threads → WellTyped code function_rooms thread_rooms
-code_typed code ks function_rooms thread_rooms form functions threads walked many walked_threads thread_many =
+pub code_typed : (code : PlainCode) (ks : List Kind) (function_rooms thread_rooms : List ℕ) → IsInForm code → ValidatorsTakeOne code → EachValidator (IsPure ks) (validators_of code.cells) → AreRightBodies false code.functions code.functions (length code.functions) → AreRightBodies true code.functions code.threads (length code.threads) → AreWalked (parameters_of code.functions) code.functions ks function_rooms → length ks ≡ length code.functions → AreWalkedThreads ks (parameters_of code.functions) code.threads thread_rooms → length thread_rooms ≡ length code.threads → WellTyped code function_rooms thread_rooms
+code_typed code ks function_rooms thread_rooms form take pure functions threads walked many walked_threads thread_many =
     record {
       kinds = kinds_from ks;
+      validators = validators_typed (parameters_of code.functions) ks (validators_of code.cells) (many ∙ sym (long_as code.functions)) take pure;
       functions = functions_from (record { parameters = parameters_of code.functions; kinds = kinds_from ks }) code.constants 0 code.functions (kinds_from ks) function_rooms (kinds_long ks ∙ many) (walked.many ∙ many) (function_right code ks function_rooms form functions walked many);
       threads = threads_from (record { parameters = parameters_of code.functions; kinds = kinds_from ks }) code.constants code.threads thread_rooms thread_many (thread_right code ks thread_rooms form threads walked_threads many);
     }
 
 -- ---- the verdict
 
--- functions and threads are those of the code
-module _ (code : PlainCode) (fs ts : List CodeBody) (f : fs ≡ code.functions) (t : ts ≡ code.threads) (functions : AreRightBodies false fs fs (length fs)) (threads : AreRightBodies true fs ts (length ts)) where
+-- functions, threads and cells are those of the code
+module _ (code : PlainCode) (ds : List CellDefinition) (fs ts : List CodeBody) (d : ds ≡ code.cells) (f : fs ≡ code.functions) (t : ts ≡ code.threads) (take : EachValidator (TakesOne (parameters_of fs)) (validators_of ds)) (functions : AreRightBodies false fs fs (length fs)) (threads : AreRightBodies true fs ts (length ts)) where
   right_functions : AreRightBodies false code.functions code.functions (length code.functions)
   right_functions = subst (λ x. AreRightBodies false x x (length x)) f functions
 
   right_threads : AreRightBodies true code.functions code.threads (length code.threads)
   right_threads = subst (λ x. AreRightBodies true code.functions x (length x)) t (subst (λ x. AreRightBodies true x ts (length ts)) f threads)
 
-  pub function_refused : (e : VerifyError) → OrMemory e.kind (IsRefusedFunction fs e) → OrMemory e.kind (IsRefused code e)
-  function_refused e h = or_map e.kind (IsRefusedFunction fs e) (IsRefused code e) (λ x. on_paths_of_a_function (right_functions, right_threads) (subst (λ y. IsRefusedFunction y e) f x)) h
+  take_one : ValidatorsTakeOne code
+  take_one = subst (λ x. EachValidator (TakesOne (parameters_of code.functions)) (validators_of x)) d (subst (λ x. EachValidator (TakesOne (parameters_of x)) (validators_of ds)) f take)
 
-  pub thread_refused : (ks ks' : List Kind) (rooms : List ℕ) (e : VerifyError) → ks' ≡ ks → AreWalked (parameters_of fs) fs ks rooms → length ks ≡ length fs → OrMemory e.kind (IsRefusedOnPaths ks' true (parameters_of fs) ts e) → OrMemory e.kind (IsRefused code e)
-  thread_refused ks ks' rooms e same walked many h =
+  all_right : AllAreRight code
+  all_right = (take_one, right_functions, right_threads)
+
+  pub walk_refused : (e : VerifyError) → OrMemory e.kind (IsRefusedWalk fs (validators_of ds) e) → OrMemory e.kind (IsRefused code e)
+  walk_refused e h =
+      or_map e.kind (IsRefusedWalk fs (validators_of ds) e) (IsRefused code e)
+      (λ x. on_paths_of_functions all_right (subst (λ y. IsRefusedWalk code.functions (validators_of y) e) d (subst (λ y. IsRefusedWalk y (validators_of ds) e) f x))) h
+
+  pure_by : (ks : List Kind) → EachValidator (IsPure ks) (validators_of ds) → EachValidator (IsPure ks) (validators_of code.cells)
+  pure_by ks pure = subst (λ x. EachValidator (IsPure ks) (validators_of x)) d pure
+
+  pub thread_refused : (ks ks' : List Kind) (rooms : List ℕ) (e : VerifyError) → ks' ≡ ks → AreWalked (parameters_of fs) fs ks rooms → length ks ≡ length fs → EachValidator (IsPure ks) (validators_of ds) → OrMemory e.kind (IsRefusedOnPaths ks' true (parameters_of fs) ts e) → OrMemory e.kind (IsRefused code e)
+  thread_refused ks ks' rooms e same walked many pure h =
       let kinds : AreKinds (parameters_of code.functions) code.functions ks = are_kinds (parameters_of code.functions) code.functions ks rooms (subst (λ x. AreWalked (parameters_of x) x ks rooms) f walked) in
-      or_map e.kind (IsRefusedOnPaths ks' true (parameters_of fs) ts e) (IsRefused code e) (λ x. on_paths_of_a_thread (right_functions, right_threads) ks kinds (many ∙ ap length f) (subst (λ y. IsRefusedOnPaths ks true (parameters_of code.functions) y e) t (subst (λ y. IsRefusedOnPaths ks true (parameters_of y) ts e) f (subst (λ y. IsRefusedOnPaths y true (parameters_of fs) ts e) same x)))) h
+      or_map e.kind (IsRefusedOnPaths ks' true (parameters_of fs) ts e) (IsRefused code e) (λ x. on_paths_of_a_thread all_right ks kinds (many ∙ ap length f) (pure_by ks pure) (subst (λ y. IsRefusedOnPaths ks true (parameters_of code.functions) y e) t (subst (λ y. IsRefusedOnPaths ks true (parameters_of y) ts e) f (subst (λ y. IsRefusedOnPaths y true (parameters_of fs) ts e) same x)))) h
 
-  pub all_typed : (ks ks' : List Kind) (function_rooms thread_rooms : List ℕ) → IsInForm code → ks' ≡ ks → AreWalked (parameters_of fs) fs ks function_rooms → length ks ≡ length fs → AreWalkedThreads ks' (parameters_of fs) ts thread_rooms → length thread_rooms ≡ length ts → WellTyped code function_rooms thread_rooms
-  all_typed ks ks' function_rooms thread_rooms form same walked many walked_threads thread_many =
-      code_typed code ks function_rooms thread_rooms form right_functions right_threads (subst (λ x. AreWalked (parameters_of x) x ks function_rooms) f walked) (many ∙ ap length f) (subst (λ x. AreWalkedThreads ks (parameters_of code.functions) x thread_rooms) t (subst (λ x. AreWalkedThreads ks (parameters_of x) ts thread_rooms) f (subst (λ x. AreWalkedThreads x (parameters_of fs) ts thread_rooms) same walked_threads))) (thread_many ∙ ap length t)
+  pub all_typed : (ks ks' : List Kind) (function_rooms thread_rooms : List ℕ) → IsInForm code → ks' ≡ ks → EachValidator (IsPure ks) (validators_of ds) → AreWalked (parameters_of fs) fs ks function_rooms → length ks ≡ length fs → AreWalkedThreads ks' (parameters_of fs) ts thread_rooms → length thread_rooms ≡ length ts → WellTyped code function_rooms thread_rooms
+  all_typed ks ks' function_rooms thread_rooms form same pure walked many walked_threads thread_many =
+      code_typed code ks function_rooms thread_rooms form take_one (pure_by ks pure) right_functions right_threads (subst (λ x. AreWalked (parameters_of x) x ks function_rooms) f walked) (many ∙ ap length f) (subst (λ x. AreWalkedThreads ks (parameters_of code.functions) x thread_rooms) t (subst (λ x. AreWalkedThreads ks (parameters_of x) ts thread_rooms) f (subst (λ x. AreWalkedThreads x (parameters_of fs) ts thread_rooms) same walked_threads))) (thread_many ∙ ap length t)

@@ -1,11 +1,13 @@
 -- No refusal is true of well-typed code.
-use Rattle.std.proofs.Common.{arith, inl, inr, ◌≡◌, ◌⊎◌, ◌∙◌, ℕ, zero, suc, ◌+◌, ◌<◌, ◌≤◌, List, [], ◌∷◌, length, Bool, true, false, Option, Some, None, refl, sym, ap, subst}
+use Rattle.std.proofs.Common.{arith, inl, inr, ◌≡◌, ◌⊎◌, ◌∙◌, ℕ, zero, suc, ◌+◌, ◌<◌, ◌≤◌, List, [], ◌∷◌, length, Bool, true, false, not, Option, Some, None, refl, sym, ap, subst}
 use Rattle.txs_value_base.specs.Places.{nth}
+use Rattle.txs_value_cell.specs.Cells.{validators_of}
+use Rattle.txs_value_cell.specs.declared.cell.CellDefinition.{CellDefinition}
 use Rattle.txs_value_base.specs.declared.op.Callee.{Callee}
 use Rattle.txs_value_base.specs.declared.op.Callee.TheVariants as callee
 use Rattle.txs_value_data.specs.declared.value.Value.{Value}
 use Rattle.txs_code_meaning.specs.PlainCode.{CodeBody, PlainCode, parameters_of}
-use Rattle.txs_code_meaning.specs.WellTyped.{FunctionKind, Functions, Owner, a_thread, a_function, CalleeTakes, NamedTakes, IsLawful, IsPureFunction, Stage, plain, opened, applied, Stages, FitsStage, WellTypedBody, WellTyped}
+use Rattle.txs_code_meaning.specs.WellTyped.{FunctionKind, Functions, Owner, a_thread, a_function, CalleeTakes, NamedTakes, IsLawful, IsPureCallee, IsPureFunction, Stage, plain, opened, applied, Stages, FitsStage, WellTypedBody, WellTyped}
 use Rattle.txs_code_meaning.specs.declared.instr.OpenForm.{OpenForm}
 use Rattle.txs_code_meaning.specs.declared.instr.OpenForm.TheVariants as open_form
 use Rattle.txs_code_meaning.specs.declared.instr.Instr.{Instr}
@@ -19,11 +21,13 @@ use Rattle.txs_verify.specs.Going.{JumpsWithin}
 use Rattle.txs_verify.specs.Paths.{EndsWell, opens, before, before_that, stage_behind, stage_for}
 use Rattle.txs_verify.specs.Refused.{BreaksOff, IsMet}
 use Rattle.txs_verify.specs.Standing.{IsEnd, EndsSo, IsImpureCallee, NestsWrongly, ends_within, outside_within, inside_without, sends_impure, opens_impure, StandsWrongly, or_pure, kind_of}
-use Rattle.txs_verify.specs.Verdict.{AreKinds, AreRightBodies, IsWrongOnPaths, IsRefusedAlone, IsRefusedOnPaths, IsRefusedFunction, IsRefused, in_a_function, in_a_thread, on_paths_of_a_function, on_paths_of_a_thread, IsIllTyped, OrMemory}
+use Rattle.txs_verify.specs.Validators.{EachValidator, IsPure, IsRefusedValidator, TakesOne}
+use Rattle.txs_verify.specs.Verdict.{AreKinds, AreRightBodies, IsWrongOnPaths, IsRefusedAlone, IsRefusedOnPaths, IsRefusedFunction, AreKnownKinds, of_all, up_to_a_refused, IsRefusedWalk, of_a_validator, of_a_function, IsRefused, in_a_cell, in_a_function, in_a_thread, on_paths_of_functions, on_paths_of_a_thread, IsIllTyped, OrMemory}
 use Rattle.txs_verify.proofs.Ends.{or_map, or_memory}
 use Rattle.txs_verify.proofs.Least.{AreBelow, AreAllKinds, MayBeKind, met_may, typed_function, all_are_kinds, all_below, typed_thread}
 use Rattle.txs_verify.proofs.Never.{right_at, staged_at, never_low, never_two_depths, never_two_nestings, never_ends_nothing, never_past}
 use Rattle.txs_verify.proofs.Roomy.{nth_less}
+use Rattle.txs_verify.proofs.Validated.{typed_each}
 
 some_is : {A : Type 0} (x y : A) → Some x ≡ Some y → x ≡ y
 some_is x y e = cc
@@ -139,6 +143,15 @@ not_impure ks kinds f (Some told) is_o below pure h =
     let same : b.0 ≡ pure.0 = some_is b.0 pure.0 (sym b.1 ∙ pure.1) in
     true_is (sym pure.2 ∙ ap (λ x. x.pure) (sym same) ∙ b.2.impure h)
 
+unless_so : (b : Bool) → (b ≡ true → ⊥) → not b ≡ true
+unless_so true h = absurd (h refl)
+unless_so false h = refl
+
+-- what is pure isn't told to be impure
+told_pure : (ks : List Kind) (kinds : List FunctionKind) (f : Callee) → AreBelow ks kinds → IsPureCallee kinds f → IsPure ks f
+told_pure ks kinds (callee.Core o) below pure = refl
+told_pure ks kinds (callee.Function g) below pure = unless_so (or_pure (nth ks g)).impure (not_impure ks kinds g (nth ks g) refl below pure)
+
 module _ (fs : Functions) (ks : List Kind) (below : AreBelow ks fs.kinds) where
   -- where a send fits a stage, its callee is pure
   send_pure : (owner : Owner) (ss : Stages) (p n : ℕ) (c : Callee) (s : Stage) → FitsStage fs owner ss p s (Send c n) → IsImpureCallee ks c → ⊥
@@ -243,11 +256,23 @@ module _ (code : PlainCode) (function_rooms thread_rooms : List ℕ) (typed : We
       let t = typed_thread fs code.constants code.threads thread_rooms typed.threads r.number r.body r.stands in
       never_on_paths fs ks (below_all ks are (omega (arith, many))) all_kinds true a_thread refl (length ps) code.constants r.body t.room t.typed e.kind e.at r.wrong
 
+  known_below : (ks : List Kind) → AreKnownKinds code.functions ks → AreBelow ks typed.kinds
+  known_below ks (of_all are many) = below_all ks are (omega (arith, many))
+  known_below ks (up_to_a_refused e w same) =
+      let r = w.refused in
+      let few : length w.kinds ≤ length code.functions = omega (arith, w.before, nth_less code.functions r.number r.body r.stands) in
+      subst (λ x. AreBelow x typed.kinds) same (below_all w.kinds w.are few)
+
+  on_walk : (e : VerifyError) → IsRefusedWalk code.functions (validators_of code.cells) e → ⊥
+  on_walk e (of_a_validator ks are r) = r.wrong (told_pure ks typed.kinds r.callee (known_below ks are) (typed_each fs (validators_of code.cells) typed.validators r.number r.callee r.stands).1)
+  on_walk e (of_a_function r pure) = paths_of_a_function e r
+
   never_refused : (e : VerifyError) → IsRefused code e → ⊥
-  never_refused e (in_a_function r) = alone_in_a_function e r
-  never_refused e (in_a_thread before r) = alone_in_a_thread e r
-  never_refused e (on_paths_of_a_function right r) = paths_of_a_function e r
-  never_refused e (on_paths_of_a_thread right ks are many r) = paths_of_a_thread e ks are many r
+  never_refused e (in_a_cell r) = r.wrong (typed_each fs (validators_of code.cells) typed.validators r.number r.callee r.stands).0
+  never_refused e (in_a_function take r) = alone_in_a_function e r
+  never_refused e (in_a_thread take before r) = alone_in_a_thread e r
+  never_refused e (on_paths_of_functions right r) = on_walk e r
+  never_refused e (on_paths_of_a_thread right ks are many pure r) = paths_of_a_thread e ks are many r
 
 -- refused code is ill typed
 pub ill_typed : (code : PlainCode) (e : VerifyError) → IsRefused code e → IsIllTyped code
@@ -257,15 +282,36 @@ ill_typed code e refused = λ function_rooms thread_rooms typed. never_refused c
 pub ill_typed_or : (code : PlainCode) (e : VerifyError) → OrMemory e.kind (IsRefused code e) → OrMemory e.kind (IsIllTyped code)
 ill_typed_or code e h = or_map e.kind (IsRefused code e) (IsIllTyped code) (ill_typed code e) h
 
--- where functions and threads are those of the code
-module _ (code : PlainCode) (fs ts : List CodeBody) (f : fs ≡ code.functions) (t : ts ≡ code.threads) (e : VerifyError) where
-  pub ill_alone : IsRefusedAlone false fs fs e → OrMemory e.kind (IsIllTyped code)
-  ill_alone r = or_memory e.kind (IsIllTyped code) (ill_typed code e (in_a_function (subst (λ x. IsRefusedAlone false x x e) f r)))
+-- where functions, threads and cells are those of the code
+module _ (code : PlainCode) (ds : List CellDefinition) (fs ts : List CodeBody) (d : ds ≡ code.cells) (f : fs ≡ code.functions) (t : ts ≡ code.threads) (e : VerifyError) where
+  of_cell : IsRefusedValidator (TakesOne (parameters_of fs)) ArityWrong (validators_of ds) e → IsRefused code e
+  of_cell r =
+      in_a_cell (subst (λ x. IsRefusedValidator (TakesOne (parameters_of code.functions)) ArityWrong (validators_of x) e) d (subst (λ x. IsRefusedValidator (TakesOne (parameters_of x)) ArityWrong (validators_of ds) e) f r))
 
-  pub thread_alone : AreRightBodies false fs fs (length fs) → IsRefusedAlone true fs ts e → OrMemory e.kind (IsRefused code e)
-  thread_alone right r =
-      or_memory e.kind (IsRefused code e) (in_a_thread (subst (λ x. AreRightBodies false x x (length x)) f right) (subst (λ x. IsRefusedAlone true code.functions x e) t (subst (λ x. IsRefusedAlone true x ts e) f r)))
+  pub cell_refused : IsRefusedValidator (TakesOne (parameters_of fs)) ArityWrong (validators_of ds) e → OrMemory e.kind (IsRefused code e)
+  cell_refused r = or_memory e.kind (IsRefused code e) (of_cell r)
 
-  pub ill_thread : AreRightBodies false fs fs (length fs) → IsRefusedAlone true fs ts e → OrMemory e.kind (IsIllTyped code)
-  ill_thread right r =
-      or_memory e.kind (IsIllTyped code) (ill_typed code e (in_a_thread (subst (λ x. AreRightBodies false x x (length x)) f right) (subst (λ x. IsRefusedAlone true code.functions x e) t (subst (λ x. IsRefusedAlone true x ts e) f r))))
+  pub ill_cell : IsRefusedValidator (TakesOne (parameters_of fs)) ArityWrong (validators_of ds) e → OrMemory e.kind (IsIllTyped code)
+  ill_cell r = or_memory e.kind (IsIllTyped code) (ill_typed code e (of_cell r))
+
+  take_one : EachValidator (TakesOne (parameters_of fs)) (validators_of ds) → EachValidator (TakesOne (parameters_of code.functions)) (validators_of code.cells)
+  take_one take = subst (λ x. EachValidator (TakesOne (parameters_of code.functions)) (validators_of x)) d (subst (λ x. EachValidator (TakesOne (parameters_of x)) (validators_of ds)) f take)
+
+  of_function : EachValidator (TakesOne (parameters_of fs)) (validators_of ds) → IsRefusedAlone false fs fs e → IsRefused code e
+  of_function take r = in_a_function (take_one take) (subst (λ x. IsRefusedAlone false x x e) f r)
+
+  pub function_alone : EachValidator (TakesOne (parameters_of fs)) (validators_of ds) → IsRefusedAlone false fs fs e → OrMemory e.kind (IsRefused code e)
+  function_alone take r = or_memory e.kind (IsRefused code e) (of_function take r)
+
+  pub ill_alone : EachValidator (TakesOne (parameters_of fs)) (validators_of ds) → IsRefusedAlone false fs fs e → OrMemory e.kind (IsIllTyped code)
+  ill_alone take r = or_memory e.kind (IsIllTyped code) (ill_typed code e (of_function take r))
+
+  of_thread : EachValidator (TakesOne (parameters_of fs)) (validators_of ds) → AreRightBodies false fs fs (length fs) → IsRefusedAlone true fs ts e → IsRefused code e
+  of_thread take right r =
+      in_a_thread (take_one take) (subst (λ x. AreRightBodies false x x (length x)) f right) (subst (λ x. IsRefusedAlone true code.functions x e) t (subst (λ x. IsRefusedAlone true x ts e) f r))
+
+  pub thread_alone : EachValidator (TakesOne (parameters_of fs)) (validators_of ds) → AreRightBodies false fs fs (length fs) → IsRefusedAlone true fs ts e → OrMemory e.kind (IsRefused code e)
+  thread_alone take right r = or_memory e.kind (IsRefused code e) (of_thread take right r)
+
+  pub ill_thread : EachValidator (TakesOne (parameters_of fs)) (validators_of ds) → AreRightBodies false fs fs (length fs) → IsRefusedAlone true fs ts e → OrMemory e.kind (IsIllTyped code)
+  ill_thread take right r = or_memory e.kind (IsIllTyped code) (ill_typed code e (of_thread take right r))

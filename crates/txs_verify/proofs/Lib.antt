@@ -8,6 +8,7 @@ pub mod Reached
 pub mod Going
 pub mod Seen
 pub mod Stands
+pub mod Validated
 pub mod Lawfulness
 pub mod Roomy
 pub mod Ends

@@ -5,5 +5,6 @@ pub mod Marks
 pub mod Paths
 pub mod Refused
 pub mod Standing
+pub mod Validators
 pub mod Verdict
 pub mod Walk

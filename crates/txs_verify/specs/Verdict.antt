@@ -1,6 +1,7 @@
 -- The verdict on code.
 use Rattle.std.specs.Prelude.{◌≡◌, ◌⊎◌, ℕ, zero, suc, ◌<◌, ◌≤◌, Bool, true, false, List, [], ◌∷◌, length, Some}
 use Rattle.txs_value_base.specs.Places.{nth}
+use Rattle.txs_value_cell.specs.Cells.{Validators, validators_of}
 use Rattle.txs_code_meaning.specs.PlainCode.{CodeBody, PlainCode, parameters_of}
 use Rattle.txs_code_meaning.specs.WellTyped.{WellTyped}
 use Rattle.txs_code_meaning.specs.declared.instr.Instr.{Instr}
@@ -9,6 +10,7 @@ use Rattle.txs_verify.specs.Going.{AreReached}
 use Rattle.txs_verify.specs.Marks.{Marks, mark_at, IsClosed}
 use Rattle.txs_verify.specs.Refused.{BreaksOff}
 use Rattle.txs_verify.specs.Standing.{IsKindOf, IsSeen, StandsWrongly}
+use Rattle.txs_verify.specs.Validators.{EachValidator, IsPure, IsRefusedValidator, TakesOne}
 use Rattle.txs_verify.specs.declared.error.BodyName.{BodyName}
 use Rattle.txs_verify.specs.declared.error.BodyName.TheVariants.{Function, Thread}
 use Rattle.txs_verify.specs.declared.error.Stop.{Stop}
@@ -134,17 +136,38 @@ pub record IsRefusedFunction (fs : List CodeBody) (e : VerifyError) : Type 0 whe
   pub refused : IsRefusedOnPaths kinds false (parameters_of fs) fs e
   pub before : length kinds ≡ refused.number
 
--- All instructions of all bodies are right alone.
-abbrev pub AllAreRight : PlainCode → Type 0
-AllAreRight code = AreRightBodies false code.functions code.functions (length code.functions) × AreRightBodies true code.functions code.threads (length code.threads)
+-- a function is so refused, where these are the kinds of the functions before it
+abbrev pub IsRefusedBehind : List CodeBody → List Kind → VerifyError → Type 0
+IsRefusedBehind fs ks e = (r : IsRefusedFunction fs e) × (r.kinds ≡ ks)
 
--- Why code is refused. The first instruction that is wrong alone is looked for in functions and then in threads; where there is none,
--- in a body something is wrong that a path comes to, by what the functions before it are for.
+-- what functions are for as far as it is known: all functions, or those before one that is refused for what its paths come to
+pub data AreKnownKinds (fs : List CodeBody) (ks : List Kind) : Type 0 where
+  of_all : AreKinds (parameters_of fs) fs ks → length ks ≡ length fs → AreKnownKinds fs ks
+  up_to_a_refused : (e : VerifyError) (r : IsRefusedFunction fs e) → r.kinds ≡ ks → AreKnownKinds fs ks
+
+-- A validator isn't pure by what functions are for as far as it is known; or a function is refused for what its paths come to, where no
+-- validator is so refused.
+pub data IsRefusedWalk (fs : List CodeBody) (vs : Validators) (e : VerifyError) : Type 0 where
+  of_a_validator : (ks : List Kind) → AreKnownKinds fs ks → IsRefusedValidator (IsPure ks) TxNesting vs e → IsRefusedWalk fs vs e
+  of_a_function : (r : IsRefusedFunction fs e) → EachValidator (IsPure r.kinds) vs → IsRefusedWalk fs vs e
+
+-- each validator takes one value
+abbrev pub ValidatorsTakeOne : PlainCode → Type 0
+ValidatorsTakeOne code = EachValidator (TakesOne (parameters_of code.functions)) (validators_of code.cells)
+
+-- Each validator takes one value, and all instructions of all bodies are right alone.
+abbrev pub AllAreRight : PlainCode → Type 0
+AllAreRight code = ValidatorsTakeOne code × AreRightBodies false code.functions code.functions (length code.functions) × AreRightBodies true code.functions code.threads (length code.threads)
+
+-- Why code is refused. The first validator that doesn't take one value comes before all else. The first instruction that is wrong alone is
+-- looked for in functions and then in threads. Where there is none, a validator isn't pure, or in a body something is wrong that a path comes
+-- to, by what the functions before it are for.
 pub data IsRefused (code : PlainCode) (e : VerifyError) : Type 0 where
-  in_a_function : IsRefusedAlone false code.functions code.functions e → IsRefused code e
-  in_a_thread : AreRightBodies false code.functions code.functions (length code.functions) → IsRefusedAlone true code.functions code.threads e → IsRefused code e
-  on_paths_of_a_function : AllAreRight code → IsRefusedFunction code.functions e → IsRefused code e
-  on_paths_of_a_thread : AllAreRight code → (ks : List Kind) → AreKinds (parameters_of code.functions) code.functions ks → length ks ≡ length code.functions → IsRefusedOnPaths ks true (parameters_of code.functions) code.threads e → IsRefused code e
+  in_a_cell : IsRefusedValidator (TakesOne (parameters_of code.functions)) ArityWrong (validators_of code.cells) e → IsRefused code e
+  in_a_function : ValidatorsTakeOne code → IsRefusedAlone false code.functions code.functions e → IsRefused code e
+  in_a_thread : ValidatorsTakeOne code → AreRightBodies false code.functions code.functions (length code.functions) → IsRefusedAlone true code.functions code.threads e → IsRefused code e
+  on_paths_of_functions : AllAreRight code → IsRefusedWalk code.functions (validators_of code.cells) e → IsRefused code e
+  on_paths_of_a_thread : AllAreRight code → (ks : List Kind) → AreKinds (parameters_of code.functions) code.functions ks → length ks ≡ length code.functions → EachValidator (IsPure ks) (validators_of code.cells) → IsRefusedOnPaths ks true (parameters_of code.functions) code.threads e → IsRefused code e
 
 -- With no rooms for stacks is the code well typed.
 abbrev pub IsIllTyped : PlainCode → Type 0

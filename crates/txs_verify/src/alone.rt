@@ -86,7 +86,7 @@ fn has_local(locals: u8, instr: Instr) -> bool
 }
 
 /// Whether a function has so many parameters; otherwise this, of one that isn't there.
-fn has_parameters(functions: &[Body], f: u16, count: usize, otherwise: bool) -> bool
+pub(crate) fn has_parameters(functions: &[Body], f: u16, count: usize, otherwise: bool) -> bool
     ensures present { (m : ℕ) → nth (parameters_of functions.now) f ≡ Some m → result ≡ nat_eq m count }
     ensures absent { nth (parameters_of functions.now) f ≡ None → result ≡ otherwise }
 {

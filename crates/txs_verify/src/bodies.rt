@@ -5,19 +5,23 @@ ghost use Rattle.txs_code_meaning.specs.PlainCode.{CodeBody, parameters_of};
 ghost use Rattle.txs_code_meaning.specs.WellTyped.{WellTyped};
 ghost use Rattle.txs_code_meaning.specs.declared.instr.Instr.{Instr as AnInstr};
 ghost use Rattle.txs_value_base.specs.Places.{nth};
+ghost use Rattle.txs_value_cell.specs.Cells.{validators_of};
+ghost use Rattle.txs_verify.specs.Validators.{EachValidator, IsPure};
 ghost use Rattle.txs_verify.specs.Alone.{IsRight, IsRightBody, IsWrongAlone};
 ghost use Rattle.txs_verify.specs.Going.{AllJumpWithin};
 ghost use Rattle.txs_verify.specs.Marks.{mark_at};
-ghost use Rattle.txs_verify.specs.Verdict.{AreKinds, AreRightBodies, AreWalked, AreWalkedThreads, AreLeastRooms, BodyInForm, IsInForm, IsRefused, IsRefusedAlone, IsIllTyped, IsRefusedFunction, IsRefusedOnPaths, IsLeastRoom, IsRoomFor, IsWalked, IsWrongOnPaths, OrMemory, callable, name_of, stopped};
+ghost use Rattle.txs_verify.specs.Verdict.{AreKinds, AreRightBodies, AreWalked, AreWalkedThreads, AreLeastRooms, BodyInForm, IsInForm, IsRefused, IsRefusedAlone, IsIllTyped, IsRefusedBehind, IsRefusedFunction, IsRefusedOnPaths, IsRefusedWalk, IsLeastRoom, IsRoomFor, IsWalked, IsWrongOnPaths, OrMemory, callable, name_of, stopped};
 ghost use Rattle.txs_verify.specs.Walk.{WhereRefused};
 ghost use Rattle.txs_verify.specs.declared.walk.Mark.{Mark as AMark};
 
 use crate::alone::look_alone;
 use crate::error::{BodyName, Refusal, Stop, VerifyError, VerifyErrorKind};
 use crate::standing::{Kind, look_over};
+use crate::validators::{look_at_counts, look_at_purity};
 use crate::walk::{Mark, mark_places};
 use std::alloc::Global;
 use txs_code_meaning::{Body, Code, Instr};
+use txs_value_cell::CellDefinition;
 
 /// How many values the stack of each function and of each thread needs at most.
 #[derive(Drop)]
@@ -166,6 +170,7 @@ fn add_function(
     ensures walked { OnOk result (AreWalked (parameters_of functions.now) functions.now kinds.new.items rooms.new.items) }
     ensures many { OnOk result (length kinds.new.items ≡ n + 1) }
     ensures wrong { IfErr result (λ stop. WhereRefused (λ r. (b : CodeBody) → nth functions.now n ≡ Some b → IsWrongOnPaths kinds.old.items false (parameters_of functions.now) b.instrs r.kind r.at) stop) }
+    ensures kept { IfErr result (λ stop. WhereRefused (λ r. kinds.new.items ≡ kinds.old.items) stop) }
 {
     let body = &functions[n];
     let (kind, room) = walk_body(alloc, functions, kinds.as_slice(), false, body.instrs())?;
@@ -214,6 +219,7 @@ fn function_at(
     ensures walked { OnOk result (AreWalked (parameters_of functions.now) functions.now kinds.new.items rooms.new.items) }
     ensures many { OnOk result (length kinds.new.items ≡ n + 1) }
     ensures wrong { IfErr result (λ e. OrMemory e.kind ((r : IsRefusedOnPaths kinds.old.items false (parameters_of functions.now) functions.now e) × (r.number ≡ n))) }
+    ensures kept { IfErr result (λ e. OrMemory e.kind (kinds.new.items ≡ kinds.old.items)) }
 {
     match add_function(alloc, functions, kinds, rooms, n) {
         Ok(()) => Ok(()),
@@ -234,12 +240,49 @@ fn walk_functions(
     requires few { (n : ℕ) (b : CodeBody) → nth functions.now n ≡ Some b → length b.instrs < 4294967295 }
     ensures walked { OnOk result (AreWalked (parameters_of functions.now) functions.now kinds.new.items rooms.new.items) }
     ensures many { OnOk result (length kinds.new.items ≡ length functions.now) }
-    ensures wrong { IfErr result (λ e. OrMemory e.kind (IsRefusedFunction functions.now e)) }
+    ensures wrong { IfErr result (λ e. OrMemory e.kind (IsRefusedBehind functions.now kinds.new.items e)) }
 {
     for n in 0..functions.len() {
         function_at(alloc, functions, kinds, rooms, n)?;
     }
     Ok(())
+}
+
+/// What is told where a function is refused: the first validator that isn't pure, by what the functions before it are for, or else the
+/// function.
+fn first_refusal(kinds: &[Kind], cells: &[CellDefinition], refused: VerifyError) -> VerifyError
+    ensures { (fs : List CodeBody) → OrMemory refused.kind (IsRefusedBehind fs kinds.now refused) → OrMemory result.kind (IsRefusedWalk fs (validators_of cells.now) result) }
+{
+    if refused.kind == VerifyErrorKind::Memory {
+        return refused;
+    }
+    match look_at_purity(kinds, cells) {
+        Ok(()) => refused,
+        Err(impure) => impure,
+    }
+}
+
+/// Looks at the paths of all functions, and at whether validators are pure.
+fn walk_with_validators(
+    alloc: Global,
+    functions: &[Body],
+    cells: &[CellDefinition],
+    kinds: &mut Vec<Kind>,
+    rooms: &mut Vec<u32>,
+) -> Result<(), VerifyError>
+    requires none { kinds.old.items ≡ [] }
+    requires no_rooms { rooms.old.items ≡ [] }
+    requires right { AreRightBodies false functions.now functions.now (length functions.now) }
+    requires few { (n : ℕ) (b : CodeBody) → nth functions.now n ≡ Some b → length b.instrs < 4294967295 }
+    ensures walked { OnOk result (AreWalked (parameters_of functions.now) functions.now kinds.new.items rooms.new.items) }
+    ensures many { OnOk result (length kinds.new.items ≡ length functions.now) }
+    ensures pure { OnOk result (EachValidator (IsPure kinds.new.items) (validators_of cells.now)) }
+    ensures wrong { IfErr result (λ e. OrMemory e.kind (IsRefusedWalk functions.now (validators_of cells.now) e)) }
+{
+    match walk_functions(alloc, functions, kinds, rooms) {
+        Ok(()) => look_at_purity(kinds.as_slice(), cells),
+        Err(refused) => Err(first_refusal(kinds.as_slice(), cells, refused)),
+    }
 }
 
 /// Looks at the paths of a thread.
@@ -287,7 +330,8 @@ fn walk_threads(
     Ok(())
 }
 
-/// Looks at all instructions alone, in functions and then in threads; and then at the paths of functions and of threads. Code is well
+/// Looks at what validators take; at all instructions alone, in functions and then in threads; at the paths of functions, and whether
+/// validators are pure; and at the paths of threads. Code is well
 /// typed with the rooms that it answers, and with none that are less, or it is refused for what is true of it, or there was no memory.
 pub fn verify_code(alloc: Global, code: &Code) -> Result<Rooms, VerifyError>
     requires { IsInForm code.now }
@@ -297,13 +341,15 @@ pub fn verify_code(alloc: Global, code: &Code) -> Result<Rooms, VerifyError>
     // No refused code is well typed.
     ensures ill_typed { IfErr result (λ e. OrMemory e.kind (IsIllTyped code.now)) }
 {
+    let cells = code.cells();
     let functions = code.functions();
     let threads = code.threads();
+    look_at_counts(functions, cells)?;
     look_at_bodies(functions, false, functions)?;
     look_at_bodies(functions, true, threads)?;
     let mut kinds = Vec::new(alloc);
     let mut function_rooms = Vec::new(alloc);
-    walk_functions(alloc, functions, &mut kinds, &mut function_rooms)?;
+    walk_with_validators(alloc, functions, cells, &mut kinds, &mut function_rooms)?;
     let mut thread_rooms = Vec::new(alloc);
     walk_threads(
         alloc,

@@ -17,11 +17,11 @@ pub enum VerifyErrorKind {
     StackDiffers,
     /// A local that the body doesn't have.
     LocalOut,
-    /// A number of arguments that the operation or callee doesn't take.
+    /// A number of arguments that the operation or callee doesn't take; or a validator that doesn't take one value.
     ArityWrong,
     /// A function that isn't numbered below its caller, or an open, call and close that aren't together.
     CallOrder,
-    /// What may not be inside a transaction or outside one, or two numbers of open transactions at one place.
+    /// What may not stand inside a transaction or outside one, or two numbers of open transactions at one place; or a validator that isn't pure.
     TxNesting,
     /// Code that continues past its end, reported at the instruction that does so, or at 0 of a body without instructions; or code that ends as a body of its
     /// kind doesn't.
@@ -66,16 +66,18 @@ impl VerifyErrorKind {
     }
 }
 
-/// A body of the code.
+/// A body of the code, or a cell with a validator.
 #[derive(Clone, Copy, PartialEq, Eq)]
 pub enum BodyName {
     /// That of a function, by its number.
     Function(usize),
     /// That of a thread, in script order.
     Thread(usize),
+    /// The validator of a cell, by the cell's number.
+    Cell(usize),
 }
 
-/// Why code is refused: the reason, the body, and the place of the instruction in it.
+/// Why code is refused: the reason, the body, and the place of the instruction in it; 0 of a cell's validator.
 #[derive(Clone, Copy, PartialEq, Eq)]
 pub struct VerifyError {
     pub kind: VerifyErrorKind,

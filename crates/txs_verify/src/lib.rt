@@ -6,6 +6,7 @@ pub mod bodies;
 pub mod effect;
 pub mod error;
 pub mod standing;
+pub mod validators;
 pub mod walk;
 
 pub use bodies::{Rooms, verify, verify_code};

@@ -167,7 +167,7 @@ fn kind_wrong(thread: bool, at: usize, mark: Mark, kind: Kind) -> Option<Refusal
 }
 
 /// Whether a callee is pure.
-fn is_pure(kinds: &[Kind], callee: Callee) -> bool
+pub(crate) fn is_pure(kinds: &[Kind], callee: Callee) -> bool
     ensures { result ≡ is_pure kinds.now callee }
 {
     match callee {

@@ -4,7 +4,7 @@ use Rattle.txs_cli_report.proofs.Fronts.{on_ok}
 use Rattle.txs_cli_report.proofs.Lessons.{two_pairs}
 use Rattle.txs_value_data.proofs.PrintedLemmas.{then_more}
 use Rattle.txs_verify.specs.declared.error.BodyName.{BodyName}
-use Rattle.txs_verify.specs.declared.error.BodyName.TheVariants.{Function, Thread}
+use Rattle.txs_verify.specs.declared.error.BodyName.TheVariants.{Function, Thread, Cell}
 use Rattle.txs_cli.specs.CodeTold.{at_number, in_body, refused_front}
 use Rattle.txs_cli.proofs.lines.write_line.Goals as goal
 
@@ -39,6 +39,15 @@ returns-in-Some-Thread c =
     let is : c.args.body ≡ Some (Thread c.in-Some-Thread.number) = search rules in
     placed c.end_at-in-Some-Thread.result c.args.body _ c.args.at c.args.number c.args.name.now old first c.write_both.new.out.items c.end_at-in-Some-Thread.new.line.items is
     (counted old first c.from.result c.args.number c.from.ensures c.in_ok-write_number.ensures.ok) named c.end_at-in-Some-Thread.ensures
+
+pub returns-in-Some-Cell : goal.returns-in-Some-Cell
+returns-in-Some-Cell c =
+    let old = c.args.line.now.items in
+    let first = c.write_number.new.out.items in
+    let named = c.in_ok-write_both.ensures.ok ∙ ap (λ (l : List ℕ). first ++ (codes " " ++ l)) c.as_bytes.ensures.value in
+    let is : c.args.body ≡ Some (Cell c.in-Some-Cell.number) = search rules in
+    placed c.end_at-in-Some-Cell.result c.args.body _ c.args.at c.args.number c.args.name.now old first c.write_both.new.out.items c.end_at-in-Some-Cell.new.line.items is
+    (counted old first c.from.result c.args.number c.from.ensures c.in_ok-write_number.ensures.ok) named c.end_at-in-Some-Cell.ensures
 
 pub returns-in-None : goal.returns-in-None
 returns-in-None c =

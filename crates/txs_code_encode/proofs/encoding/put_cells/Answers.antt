@@ -12,8 +12,8 @@ put_cell-requires c = all_at (λ c. IsWritable (plain_of c.opening)) c.args.cell
 
 pub loop-cell-preserved : goal.loop-cell-preserved
 loop-cell-preserved c =
-    flat_next cell_bytes c.args.cells.now c.loop-cell.cell-index c.cell-item.result c.args.out.now.items (to_be_bytes w16 (length c.args.cells.now)) c.loop-cell.out.items c.put_cell.new.out.items c.loop-cell-test.true c.cell-item.is c.loop-cell.invariant c.in_ok-put_cell.ensures
+    flat_next (cell_bytes c.args.validated) c.args.cells.now c.loop-cell.cell-index c.cell-item.result c.args.out.now.items (to_be_bytes w16 (length c.args.cells.now)) c.loop-cell.out.items c.put_cell.new.out.items c.loop-cell-test.true c.cell-item.is c.loop-cell.invariant c.in_ok-put_cell.ensures
 
 pub returns : goal.returns
 returns c =
-    flat_done cell_bytes c.args.cells.now c.loop-cell.cell-index c.args.out.now.items (to_be_bytes w16 (length c.args.cells.now)) c.loop-cell.out.items c.loop-cell-test.false c.loop-cell.invariant
+    flat_done (cell_bytes c.args.validated) c.args.cells.now c.loop-cell.cell-index c.args.out.now.items (to_be_bytes w16 (length c.args.cells.now)) c.loop-cell.out.items c.loop-cell-test.false c.loop-cell.invariant

@@ -48,7 +48,7 @@ seal-requires c =
     record {
       typed = subst (λ x. WellTyped x c.in_ok-of_functions.of_functions.rooms.items c.in_ok-of_threads.of_threads.rooms.items) (sym code)
           (subst (λ r. WellTyped (code_from zs fs ts) r c.in_ok-of_threads.of_threads.rooms.items) (sym (a.rooms ∙ ap function_rooms f))
-          (subst (λ r. WellTyped (code_from zs fs ts) (function_rooms fs) r) (sym (b.rooms ∙ ap thread_rooms t)) (code_well_typed zs fs ts sound.functions sound.threads)));
+          (subst (λ r. WellTyped (code_from zs fs ts) (function_rooms fs) r) (sym (b.rooms ∙ ap thread_rooms t)) (code_well_typed zs fs ts sound.functions sound.threads sound.cells)));
       own_cells = subst NamesOwnCells (sym code) (code_names_own_cells (code_from zs fs ts) (program_of c.args.program.now) (code_right zs fs ts sound.functions sound.threads (program_of c.args.program.now) refl refl refl) c.requires);
     }
 

@@ -1,6 +1,5 @@
-use Rattle.std.proofs.Common.{◌≡◌, ◌<◌, ◌∙◌, length, get_or, drop, replicate, true, false, rules, sym, ap}
-use Rattle.std.proofs.lemmas.List.{drop_all}
-use Rattle.txs_machine.specs.Schedule.{all_named, spread}
+use Rattle.std.proofs.Common.{◌≡◌, ◌<◌, length, get_or, replicate, true, false, rules}
+use Rattle.txs_machine.specs.Schedule.{all_named}
 use Rattle.txs_machine.specs.declared.schedule.Play.TheVariants.{Turn}
 use Rattle.txs_machine.specs.declared.schedule.Repeated.{Repeated}
 use Rattle.txs_machine.proofs.Repeats.{named_on, unnamed_on}

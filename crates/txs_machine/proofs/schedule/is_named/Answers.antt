@@ -1,4 +1,4 @@
-use Rattle.std.proofs.Common.{◌≡◌, ◌<◌, ◌∙◌, rules, sym, arith}
+use Rattle.std.proofs.Common.{◌≡◌, ◌<◌, rules, sym, arith}
 use Rattle.txs_machine.proofs.Repeats.{none_named, some_named}
 use Rattle.txs_machine.proofs.schedule.is_named.Goals as goal
 

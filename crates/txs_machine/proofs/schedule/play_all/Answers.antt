@@ -1,6 +1,6 @@
-use Rattle.std.proofs.Common.{◌≡◌, ◌<◌, ◌+◌, ◌++◌, length, get_or, take, replicate, rules, refl, sym, subst, ◌∙◌, arith}
+use Rattle.std.proofs.Common.{◌<◌, ◌+◌, length, take, rules, refl, subst, ◌∙◌, arith}
 use Rattle.txs_machine.specs.Playing.{HaveSteps}
-use Rattle.txs_machine.specs.Schedule.{player, spread}
+use Rattle.txs_machine.specs.Schedule.{spread}
 use Rattle.txs_machine.specs.declared.schedule.Play.TheVariants.{Turn}
 use Rattle.txs_machine.specs.declared.schedule.Repeated.{Repeated}
 use Rattle.txs_machine.proofs.Playing.{no_steps}

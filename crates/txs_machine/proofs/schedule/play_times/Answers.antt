@@ -1,6 +1,5 @@
-use Rattle.std.proofs.Common.{◌≡◌, ◌<◌, ◌+◌, ◌++◌, List, length, replicate, rules, refl, sym, subst, ◌∙◌, append-nil, arith}
+use Rattle.std.proofs.Common.{◌≡◌, ◌<◌, ◌++◌, replicate, rules, refl, sym, subst, ◌∙◌, append-nil, arith}
 use Rattle.txs_machine.specs.Playing.{HaveSteps}
-use Rattle.txs_machine.specs.Schedule.{player}
 use Rattle.txs_machine.proofs.Playing.{at_or_behind}
 use Rattle.txs_machine.proofs.Repeats.{made_more}
 use Rattle.txs_machine.proofs.schedule.play_times.Goals as goal

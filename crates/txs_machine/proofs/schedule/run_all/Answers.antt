@@ -1,10 +1,8 @@
-use Rattle.std.proofs.Common.{◌≡◌, ◌+◌, length, true, IfOk, subst, arith}
+use Rattle.std.proofs.Common.{◌≡◌, ◌+◌, length, true, subst, arith}
 use Rattle.txs_theorem_runs.proofs.Report.{typed_staged}
 use Rattle.txs_theorem_runs.specs.Invariant.{SharedStands}
 use Rattle.txs_world_shared.specs.SharedState.{shared_of}
-use Rattle.txs_machine.specs.Playing.{AreReported}
 use Rattle.txs_machine.specs.Plays.{ArePlayedOut}
-use Rattle.txs_machine.specs.Running.{attendants}
 use Rattle.txs_machine.specs.Schedule.{all_named, spread}
 use Rattle.txs_machine.proofs.Playing.{steps_later}
 use Rattle.txs_machine.proofs.Reporting.{says_of}

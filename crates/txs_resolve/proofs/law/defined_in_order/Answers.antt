@@ -4,6 +4,9 @@ use Rattle.txs_resolve.proofs.law.defined_in_order.Goals as goal
 pub returns-clause-cells : goal.returns-clause-cells
 returns-clause-cells c = defining.cells
 
+pub returns-clause-validators : goal.returns-clause-validators
+returns-clause-validators c = defining.spans
+
 pub returns-clause-functions : goal.returns-clause-functions
 returns-clause-functions c = defining.functions
 

@@ -40,7 +40,7 @@ returns-clause-state c =
     let w : Written = record { name = f.name.now; at = f.at; parameters = plain f.parameters.now; body = plain f.body.now } in
     let locals = c.bind_parameters.new.scope.locals in
     let bound = c.in_ok-bind_parameters.ensures in
-    let state : Scope → State = λ (x : Scope). record { defined = x.defined; cells = s.cells.items; functions = functions_of s.functions.items; threads = threads_of s.threads.items; defs = s.defs } in
+    let state : Scope → State = λ (x : Scope). record { defined = x.defined; cells = s.cells.items; validator_spans = s.validator_spans.items; functions = functions_of s.functions.items; threads = threads_of s.threads.items; defs = s.defs } in
     subst (Leaves c.named_function.result (state_of c.named_function.new.script))
     (ap (λ (x : Scope). function_with locals (state x) c.in_ok-name.name.now c.args.span (plain f.body.now)) bound.kept
     ∙ sym (function_bound s w c.args.span (omega (arith, c.if-len-ge-MOST_DEFINITIONS.false, c.len.ensures)) c.in_ok-name.name.now (sym c.in_ok-name.ensures.name) (Ok locals) bound.names))

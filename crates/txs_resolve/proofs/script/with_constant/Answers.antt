@@ -11,8 +11,8 @@ pub returns-clause-next : goal.returns-clause-next
 returns-clause-next c =
     let s = c.args.script.now in
     let e = c.in_ok-define.ensures in
-    let defined : Scope → State = λ (x : Scope). record { defined = x.defined; cells = s.cells.items; functions = functions_of s.functions.items; threads = threads_of s.threads.items; defs = suc s.defs } in
-    let counted : ℕ → State = λ (n : ℕ). record { defined = c.define.new.self.defined; cells = s.cells.items; functions = functions_of s.functions.items; threads = threads_of s.threads.items; defs = n } in
+    let defined : Scope → State = λ (x : Scope). record { defined = x.defined; cells = s.cells.items; validator_spans = s.validator_spans.items; functions = functions_of s.functions.items; threads = threads_of s.threads.items; defs = suc s.defs } in
+    let counted : ℕ → State = λ (n : ℕ). record { defined = c.define.new.self.defined; cells = s.cells.items; validator_spans = s.validator_spans.items; functions = functions_of s.functions.items; threads = threads_of s.threads.items; defs = n } in
     record {
       outside = ap (λ x. x.locals) e ∙ c.requires.script.outside;
       idle = ap (λ x. x.current) e ∙ c.requires.script.idle;

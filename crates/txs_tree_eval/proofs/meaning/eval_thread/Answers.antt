@@ -1,15 +1,19 @@
-use Rattle.std.proofs.Common.{◌≡◌, [], ap, length, sym, subst, IfOk}
+use Rattle.std.proofs.Common.{◌≡◌, [], ap, length, sym, subst, subst₂, IfOk}
 use Rattle.txs_tree_eval.specs.Told.{Accounts}
 use Rattle.txs_tree_eval_node.specs.Evaluated.{thread_state}
 use Rattle.txs_tree_eval_node.specs.Events.{seen_events}
-use Rattle.txs_tree_meaning.specs.Sound.{SoundFunctions}
+use Rattle.txs_tree_meaning.specs.Known.{known}
+use Rattle.txs_tree_meaning.specs.Sound.{SoundCells, SoundFunctions}
 use Rattle.txs_tree_meaning.specs.View.{functions_of}
 use Rattle.txs_tree_eval_node.proofs.Leaf.{length-seen}
 use Rattle.txs_tree_eval.proofs.Ends.{whole_of, sound_body, told_account}
 use Rattle.txs_tree_eval.proofs.meaning.eval_thread.Goals as goal
 
 pub new-context-requires : goal.new-context-requires
-new-context-requires c = subst (λ fs. SoundFunctions [] (functions_of fs)) (sym c.functions.ensures) c.is_sound.ensures.functions
+new-context-requires c =
+    let functions = subst (λ fs. SoundFunctions [] (functions_of fs)) (sym c.functions.ensures) c.is_sound.ensures.functions in
+    let cells = subst₂ (λ fs ds. SoundCells (known (functions_of fs)) ds) (sym c.functions.ensures) (sym c.cells.ensures) c.is_sound.ensures.cells in
+    record { functions = functions; cells = cells }
 
 pub evaluate-end-requires : goal.evaluate-end-requires
 evaluate-end-requires c =

@@ -1,6 +1,7 @@
-use Rattle.std.proofs.Common.{[], sym, subst}
+use Rattle.std.proofs.Common.{[], sym, subst, subst₂}
 use Rattle.txs_tree_meaning.specs.Pure.{pure_meaning}
-use Rattle.txs_tree_meaning.specs.Sound.{SoundFunctions}
+use Rattle.txs_tree_meaning.specs.Known.{known}
+use Rattle.txs_tree_meaning.specs.Sound.{SoundCells, SoundFunctions}
 use Rattle.txs_tree_meaning.specs.View.{functions_of}
 use Rattle.txs_value_base.specs.declared.op.Callee.TheVariants.{Function}
 use Rattle.txs_tree_eval.proofs.Ends.{whole_of, waitless}
@@ -8,7 +9,10 @@ use Rattle.txs_tree_eval.proofs.PureEnds.{callable_here, told_pure}
 use Rattle.txs_tree_eval.proofs.pure_call.call_function.Goals as goal
 
 pub new-context-requires : goal.new-context-requires
-new-context-requires c = subst (λ fs. SoundFunctions [] (functions_of fs)) (sym c.functions.ensures) c.is_sound.ensures.functions
+new-context-requires c =
+    let functions = subst (λ fs. SoundFunctions [] (functions_of fs)) (sym c.functions.ensures) c.is_sound.ensures.functions in
+    let cells = subst₂ (λ fs ds. SoundCells (known (functions_of fs)) ds) (sym c.functions.ensures) (sym c.cells.ensures) c.is_sound.ensures.cells in
+    record { functions = functions; cells = cells }
 
 pub apply_callee-given-requires : goal.apply_callee-given-requires
 apply_callee-given-requires c =

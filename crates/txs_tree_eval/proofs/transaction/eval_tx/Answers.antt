@@ -1,5 +1,6 @@
-use Rattle.std.proofs.Common.{[], length, true, sym, subst}
-use Rattle.txs_tree_meaning.specs.Sound.{SoundFunctions}
+use Rattle.std.proofs.Common.{[], length, true, sym, subst, subst₂}
+use Rattle.txs_tree_meaning.specs.Known.{known}
+use Rattle.txs_tree_meaning.specs.Sound.{SoundCells, SoundFunctions}
 use Rattle.txs_tree_meaning.specs.View.{functions_of, tree_of}
 use Rattle.txs_tree_eval_transaction.specs.Worked.{Gives, tx_state}
 use Rattle.txs_tree_meaning.specs.Transaction.{tx_meaning}
@@ -8,7 +9,10 @@ use Rattle.txs_tree_eval.proofs.Ends.{whole_of, waitless, sound_tx, told_body}
 use Rattle.txs_tree_eval.proofs.transaction.eval_tx.Goals as goal
 
 pub new-context-requires : goal.new-context-requires
-new-context-requires c = subst (λ fs. SoundFunctions [] (functions_of fs)) (sym c.functions.ensures) c.is_sound.ensures.functions
+new-context-requires c =
+    let functions = subst (λ fs. SoundFunctions [] (functions_of fs)) (sym c.functions.ensures) c.is_sound.ensures.functions in
+    let cells = subst₂ (λ fs ds. SoundCells (known (functions_of fs)) ds) (sym c.functions.ensures) (sym c.cells.ensures) c.is_sound.ensures.cells in
+    record { functions = functions; cells = cells }
 
 pub evaluate-gave-requires : goal.evaluate-gave-requires
 evaluate-gave-requires c =

@@ -4,28 +4,29 @@ use Rattle.txs_world_protocol.specs.Ask.{Writes, buffered}
 use Rattle.txs_world_protocol.specs.SeenEvent.{home}
 use Rattle.txs_frame.specs.Frame.{phase_work, set_writes}
 use Rattle.txs_value_apply.specs.Core.{is_false}
+use Rattle.txs_value_cell.specs.Cells.{validators_of, validator_at}
 use Rattle.txs_value_cell.specs.Forms.{rule, cell_of}
 use Rattle.txs_value_data.specs.Limits.{reruns}
 use Rattle.txs_value_base.specs.Places.{nth}
 use Rattle.txs_value_data.specs.declared.value.CellId.{CellId}
 use Rattle.txs_value_data.specs.declared.value.Value.{Value}
-use Rattle.txs_tree_eval_node.specs.Evaluated.{AnswersAt, Finishes, ReadyIn, retried, SoundCommutes, part, is_on, forms_in, calls_in, Yields, GivesAll, Steps, means, all_mean, do_means, let_means, locals_mean, if_means, strict_means, loop_means, turns_mean, form_means, inside_means, outside_means, update_means, swap_means, applied, redone_means, final_means, dosync_means, transacting, at_end, eat_means, ended, closing, closes, end_stop, with_todo, thread_state, tx_run}
-use Rattle.txs_tree_eval_transaction.specs.Worked.{Gives, Told, tx_state}
+use Rattle.txs_tree_eval_node.specs.Evaluated.{AnswersAt, Finishes, ReadyIn, retried, SoundCommutes, part, is_on, forms_in, calls_in, Yields, GivesAll, Steps, means, all_mean, do_means, let_means, locals_mean, if_means, strict_means, loop_means, turns_mean, form_means, inside_means, outside_means, update_means, swap_means, applied, redone_means, final_means, dosync_means, transacting, at_end, eat_means, ended, closing, closes, end_stop, with_todo, thread_state, tx_run, PutAccepted, PutStops, accept_means, accepted_means, made_means}
+use Rattle.txs_tree_eval_transaction.specs.Worked.{Gives, Told, ToldOf, of_one, tx_state}
 use Rattle.txs_tree_meaning.specs.Meaning.{Completes, Waits, result_of}
-use Rattle.txs_tree_eval_node.specs.Setting.{callable, zone_in, zone_on, on_view}
-use Rattle.txs_tree_meaning.specs.Sound.{SoundCall, SoundCallee, SoundTree, SoundAll, SoundDo, SoundLet, nodes, nodes_in, in_thread, in_dosync}
+use Rattle.txs_tree_eval_node.specs.Setting.{callable, deepest, zone_in, zone_on, on_view}
+use Rattle.txs_tree_meaning.specs.Sound.{SoundCall, SoundCallee, SoundCells, SoundValidator, SoundTree, SoundAll, SoundDo, SoundLet, nodes, nodes_in, in_thread, in_dosync}
 use Rattle.txs_tree_meaning.specs.Right.{up_to}
-use Rattle.txs_tree_meaning.specs.Thread.{uneaten, reads, sends}
+use Rattle.txs_tree_meaning.specs.Thread.{uneaten, reads, resets, sends}
 use Rattle.txs_tree_meaning.specs.Transaction.{merged}
 use Rattle.txs_tree_meaning.specs.Tree.{count}
 use Rattle.txs_tree_meaning.specs.View.{tree_of, trees_of, mark_of, function_of, functions_of}
 use Rattle.txs_tree_eval_transaction.specs.Views.{PlainView, or_nil, plain_view, plain_world}
-use Rattle.txs_tree_eval_node.proofs.Acting.{redone_made, redone_unmade, acted_inside, acted_outside, sound_at, redone_stop, redone_more, phase_sound, finals_stop, finals_done}
-use Rattle.txs_tree_eval_node.proofs.Called.{in_room, room, room-deeper, room_on, depth_left, is_function, as_many, called_body, pure_here}
+use Rattle.txs_tree_eval_node.proofs.Acting.{redone_made, redone_unmade, acted_inside, acted_outside, sound_at, redone_stop, redone_more, phase_sound, finals_stop, finals_full, finals_refused, finals_done, commutes_deepest, accept_stop, accept_answer, accepted_stop, accepted_more, made_stop, made_then}
+use Rattle.txs_tree_eval_node.proofs.Called.{in_room, room, room-deeper, room_on, room_deepest, callee_deepest, validator_sound, depth_left, is_function, as_many, called_body, pure_here}
 use Rattle.txs_tree_eval_node.proofs.Counting.{item_smaller, nodes-some, nodes-last}
-use Rattle.txs_tree_eval_node.proofs.Ending.{closes_todo, closes_other, zone_running, body_stop, body_done, body_keeps, ended_unrun, ended_closed, ends_viewed, ends_unviewed, end_stops, running, joined, begun}
+use Rattle.txs_tree_eval_node.proofs.Ending.{closes_todo, closes_other, zone_running, body_stop, body_done, body_keeps, ended_unrun, ended_closed, ends_viewed, ends_unviewed, end_stops, running, nowhere_running, joined, begun}
 use Rattle.txs_tree_eval_node.proofs.Evaluation.{halts_answers, StopsAt, collects, collects-start, cell_stop, if_stop, strict_stop, strict_done, rebound, stops_steps, stops_gives, local_done, all_more, all_stop, do_stop, do_done, locals_more, locals_stop, let_stop, let_done, loop_stop, loop_done, turn_value, turn_stop, turn_recur, take_kept, called, if_goes, args_stop, acted, const_done}
-use Rattle.txs_tree_eval_node.proofs.Forms.{IsOther, untaken_inside, untaken_outside, none_outside, answered, gives_at, reset_eaten, send_home, updates_ref, update_takes, update_unbegun, update_stop, update_done, update_inside, called_alone, core_done, vector_done, call_done, print_done, swap_stop, swap_done, put_inside, send_inside, put_outside, update_outside, put_takes, look_inside, look_outside, send_outside}
+use Rattle.txs_tree_eval_node.proofs.Forms.{IsOther, untaken_inside, untaken_outside, none_outside, refused_outside, answered, gives_at, reset_eaten, send_home, updates_ref, update_takes, update_unbegun, update_stop, update_done, update_inside, called_alone, core_done, vector_done, call_done, print_done, swap_stop, swap_done, put_inside, send_inside, put_outside, update_outside, put_takes, look_inside, look_outside, send_outside}
 use Rattle.txs_tree_eval_node.proofs.Leaf.{event_left}
 use Rattle.txs_tree_eval_node.proofs.Recurs.{recurs_many, never_recurs}
 use Rattle.txs_tree_eval_node.specs.Events.{seen_event}
@@ -343,17 +344,31 @@ act_outside-returns-in_err-cell t c =
     let before = thread_state c.args.thread.now in
     let told = subst (λ f. Told {A = CellId} (Err y) (result_of (cell_of (rule f) false c.args.value.now) c.args.span tt)) c.form.ensures c.in_err-cell.ensures in
     λ wanted. stops_gives (λ v. v) false c.from_residual.result y before (outside_means x c.args.act (mark_of c.args.span wanted) c.args.value.now c.args.args.items before) (halted c.from_residual.result y c.from_residual.ensures.1)
-    (untaken_outside x (mark_of c.args.span wanted) c.args.value.now before c.args.act c.args.args.items y c.requires told)
+    (untaken_outside x (mark_of c.args.span wanted) c.args.value.now before c.args.act c.args.args.items y c.requires.ready told)
+
+pub act_outside-returns-in_err-values : goal.act_outside-returns-in_err-values
+act_outside-returns-in_err-values t c =
+    let x = c.args.context.now in
+    let y = c.in_err-values.field-0.0 in
+    let cell = c.in_ok-cell.cell in
+    let before = thread_state c.args.thread.now in
+    let told = subst (λ f. Told (Ok cell) (result_of (cell_of (rule f) false c.args.value.now) c.args.span tt)) c.form.ensures c.in_ok-cell.ensures in
+    let stopped : c.from_residual-in_err-values.result ≡ Err y = halted c.from_residual-in_err-values.result y c.from_residual-in_err-values.ensures.1 in
+    let put = subst (λ z. PutStops z c.args.act cell c.args.span c.args.args.items y) c.deepest-inner.ensures.value c.in_err-values.ensures in
+    λ wanted. stops_gives (λ v. v) false c.from_residual-in_err-values.result y before (outside_means x c.args.act (mark_of c.args.span wanted) c.args.value.now c.args.args.items before) stopped
+    (refused_outside x c.is_sound.ensures c.deepest-inner.ensures.sound (mark_of c.args.span wanted) c.args.value.now before cell y c.args.act c.args.args.items c.requires.ready told put)
 
 pub act_outside-returns-in_err-event : goal.act_outside-returns-in_err-event
 act_outside-returns-in_err-event t c =
     let x = c.args.context.now in
     let y = c.in_err-event.field-0.0 in
+    let cell = c.in_ok-cell.cell in
     let before = thread_state c.args.thread.now in
-    let told = subst (λ f. Told (Ok c.in_ok-cell.cell) (result_of (cell_of (rule f) false c.args.value.now) c.args.span tt)) c.form.ensures c.in_ok-cell.ensures in
+    let told = subst (λ f. Told (Ok cell) (result_of (cell_of (rule f) false c.args.value.now) c.args.span tt)) c.form.ensures c.in_ok-cell.ensures in
     let stopped : c.from_residual-in_err-event.result ≡ Err y = halted c.from_residual-in_err-event.result y c.from_residual-in_err-event.ensures.1 in
+    let put = subst (λ z. PutAccepted z c.args.act cell c.args.span c.args.args.items) c.deepest-inner.ensures.value c.in_ok-values.ensures.1 in
     λ wanted. stops_gives (λ v. v) false c.from_residual-in_err-event.result y before (outside_means x c.args.act (mark_of c.args.span wanted) c.args.value.now c.args.args.items before) stopped
-    (none_outside x (mark_of c.args.span wanted) c.args.value.now before c.in_ok-cell.cell c.args.act c.args.args.items y c.home.result refl c.home.ensures c.requires told c.in_err-event.ensures)
+    (none_outside x c.is_sound.ensures c.deepest-inner.ensures.sound (mark_of c.args.span wanted) c.args.value.now before cell c.args.act c.args.args.items y c.home.result refl c.home.ensures c.requires.ready told put c.in_err-event.ensures)
 
 pub apply_callee-call-given-requires : goal.apply_callee-call-given-requires
 apply_callee-call-given-requires t c =
@@ -533,7 +548,7 @@ evaluate_form-act_outside-requires t c =
     let is = sym c.world.ensures ∙ ap plain_world c.in-None.is in
     let smaller : room x + 5 < room x + (k + 10) = omega arith in
     let ready = subst (λ n. ReadyIn (callable x) (zone_in x) c.args.act n) (sym c.in_ok-args.ensures.count) c.requires.ready in
-    (search (rules, smaller), subst (λ o. ReadyIn (callable x) (zone_on o) c.args.act (length c.in_ok-args.args.items)) is ready)
+    (search (rules, smaller), (is, subst (λ o. ReadyIn (callable x) (zone_on o) c.args.act (length c.in_ok-args.args.items)) is ready))
 
 pub evaluate_form-returns-in-Some-clause-value : goal.evaluate_form-returns-in-Some-clause-value
 evaluate_form-returns-in-Some-clause-value t c =
@@ -600,12 +615,15 @@ act_outside-returns-in-Put t c =
     let h = c.in_ok-event.ensures in
     let before = thread_state c.args.thread.now in
     let later = thread_state c.eat-in-Put.new.self in
-    let ready = subst (λ a. ReadyIn (callable x) in_thread a (length c.args.args.items)) c.in-Put.is c.requires in
+    let ready = subst (λ a. ReadyIn (callable x) in_thread a (length c.args.args.items)) c.in-Put.is c.requires.ready in
     let told = subst (λ f. Told (Ok cell) (result_of (cell_of (rule f) false c.args.value.now) c.args.span tt)) (c.form.ensures ∙ ap form_of_act c.in-Put.is) c.in_ok-cell.ensures in
     let r = c.reset_at.result in
-    let given = reset_eaten c.home.result (home x.cells cell) c.home.ensures e before later h r (c.eat-in-Put.ensures.eaten (seen_event e) h.0 h.1) c.args.args.items ready.1 (c.reset_at.ensures (with_todo h.0 before)) in
+    let put = subst (λ z. PutAccepted z c.args.act cell c.args.span c.args.args.items) c.deepest-inner.ensures.value c.in_ok-values.ensures.1 in
+    let ok = subst (λ a. PutAccepted (deepest x) a cell c.args.span c.args.args.items) c.in-Put.is put in
+    let reset = subst (λ vs. AnswersAt r (with_todo h.0 before) (of_one (λ w. resets w e.kind.now (with_todo h.0 before)) vs)) c.in_ok-values.ensures.0 (c.reset_at.ensures (with_todo h.0 before)) in
+    let given = reset_eaten c.home.result (home x.cells cell) c.home.ensures e before later h r (c.eat-in-Put.ensures.eaten (seen_event e) h.0 h.1) c.args.args.items ready.1 reset in
     λ wanted. subst₂ (λ a q. Gives false q later (outside_means x a (mark_of c.args.span wanted) c.args.value.now c.args.args.items before)) (sym c.in-Put.is) (sym c.eat-in-Put.ensures.same)
-    (put_outside x (mark_of c.args.span wanted) c.args.value.now before cell r later form c.args.args.items ready told given)
+    (put_outside x c.is_sound.ensures c.deepest-inner.ensures.sound (mark_of c.args.span wanted) c.args.value.now before cell r later form c.args.args.items ready told ok given)
 
 pub act_outside-eat-requires-in-Put : goal.act_outside-eat-requires-in-Put
 act_outside-eat-requires-in-Put t c =
@@ -813,7 +831,7 @@ swap-returns-in_err-world t c =
     let e = seen_event c.args.event.now in
     let stopped : c.from_residual.result ≡ Err y = halted c.from_residual.result y c.from_residual.ensures.1 in
     λ s. halts_answers c.from_residual.result y s (swap_means x c.args.callee c.args.cell c.args.args.now c.args.span e s) stopped
-    (swap_stop x c.is_sound.ensures c.args.callee c.args.cell c.args.args.now c.args.span e s y c.in_err-world.ensures)
+    (swap_stop x c.args.callee c.args.cell c.args.args.now c.args.span e s y c.in_err-world.ensures)
 
 pub swap-returns-in_err-value : goal.swap-returns-in_err-value
 swap-returns-in_err-value t c =
@@ -822,15 +840,26 @@ swap-returns-in_err-value t c =
 
 pub swap-returns : goal.swap-returns
 swap-returns t c =
-    λ s. swap_done c.args.context.now c.is_sound.ensures c.args.callee c.args.cell c.args.args.now c.args.span (seen_event c.args.event.now) s (plain_view c.in_ok-world.world) (option_copied c.in_ok-world.new) c.in_ok-value.value
-    c.apply_on.result c.end_swap.result c.in_ok-world.ensures c.in_ok-value.ensures c.requires c.apply_on.ensures c.end_swap.ensures
+    let x = c.args.context.now in
+    let vs = c.args.args.now in
+    let v = c.in_ok-value.value in
+    let told = subst (λ z. Told c.make.result (made_means z c.args.callee c.args.cell (v ∷ vs) c.args.span)) c.deepest-inner.ensures.value c.make.ensures in
+    let fits = callee_deepest x c.args.callee (suc (length vs)) c.requires.callee in
+    λ s. swap_done x c.args.callee c.args.cell vs c.args.span (seen_event c.args.event.now) s c.is_sound.ensures c.deepest-inner.ensures.sound (plain_view c.in_ok-world.world) (option_copied c.in_ok-world.new) v c.make.result c.end_swap.result c.in_ok-world.ensures c.in_ok-value.ensures fits told c.end_swap.ensures
+
+pub act_outside-accept_put-requires : goal.act_outside-accept_put-requires
+act_outside-accept_put-requires t c =
+    let x = c.args.context.now in
+    let inner = c.deepest-inner.result in
+    let smaller : room inner + 4 < t = omega (arith, c.decreases, room_deepest x inner c.deepest-inner.ensures.value c.requires.world) in
+    (smaller, subst (λ z. SoundCells (callable z) z.cells) (sym c.deepest-inner.ensures.value) c.deepest-inner.ensures.sound)
 
 pub act_outside-swap-requires : goal.act_outside-swap-requires
 act_outside-swap-requires t c =
     let x = c.args.context.now in
-    let ready = subst (λ a. ReadyIn (callable x) in_thread a (length c.args.args.items)) c.in-Update.is c.requires in
+    let ready = subst (λ a. ReadyIn (callable x) in_thread a (length c.args.args.items)) c.in-Update.is c.requires.ready in
     let smaller : room x + 4 < room x + 5 = omega arith in
-    (search (rules, smaller), subst (λ l. SoundCallee (callable x) c.in-Update.callee (suc (length l))) (sym c.as_slice-args.ensures.value) ready.1)
+    (search (rules, smaller), (c.requires.world, subst (λ l. SoundCallee (callable x) c.in-Update.callee (suc (length l))) (sym (c.as_slice-args.ensures.value ∙ c.in_ok-values.ensures.0)) ready.1))
 
 pub act_outside-returns-in-Update : goal.act_outside-returns-in-Update
 act_outside-returns-in-Update t c =
@@ -843,10 +872,10 @@ act_outside-returns-in-Update t c =
     let before = thread_state c.args.thread.now in
     let later = thread_state c.eat-in-Update.new.self in
     let vs = c.args.args.items in
-    let ready = subst (λ a. ReadyIn (callable x) in_thread a (length vs)) c.in-Update.is c.requires in
+    let ready = subst (λ a. ReadyIn (callable x) in_thread a (length vs)) c.in-Update.is c.requires.ready in
     let told = subst (λ f. Told (Ok cell) (result_of (cell_of (rule f) false c.args.value.now) c.args.span tt)) (c.form.ensures ∙ ap form_of_act c.in-Update.is) c.in_ok-cell.ensures in
     let r = c.swap.result in
-    let swapped = subst (λ l. AnswersAt r (with_todo h.0 before) (swap_means x callee cell l c.args.span (seen_event e) (with_todo h.0 before))) c.as_slice-args.ensures.value (c.swap.ensures (with_todo h.0 before)) in
+    let swapped = subst (λ l. AnswersAt r (with_todo h.0 before) (swap_means x callee cell l c.args.span (seen_event e) (with_todo h.0 before))) (c.as_slice-args.ensures.value ∙ c.in_ok-values.ensures.0) (c.swap.ensures (with_todo h.0 before)) in
     let given = gives_at c.home.result (home x.cells cell) c.home.ensures (λ a s. swap_means x callee cell vs c.args.span a s) e before later h r (c.eat-in-Update.ensures.eaten (seen_event e) h.0 h.1) swapped in
     λ wanted. subst₂ (λ a q. Gives false q later (outside_means x a (mark_of c.args.span wanted) c.args.value.now vs before)) (sym c.in-Update.is) (sym c.eat-in-Update.ensures.same)
     (update_outside x (mark_of c.args.span wanted) c.args.value.now before cell r later form callee vs ready told given)
@@ -877,7 +906,9 @@ eat_dosync-returns-clause-value t c =
     let run = c.in-Ok.run' in
     let items : Vec (CellId × Value) Global → Writes = λ ws. ws.items in
     let closed = closes_todo (closing items e.kind.now c.final_writes-last.result run.work.done.sends) m.span (tx_run run) h.0 res now shut c.close-given.ensures.value in
-    let given = ended_closed x m body env r w before c.is_sound.ensures run c.in-Ok.ensures.value c.in-Ok.ensures.sound items c.final_writes-last.result e.kind.now res (with_todo h.0 shut) c.final_writes-last.ensures closed in
+    let calm = commutes_deepest x run.work.done.commutes c.in-Ok.ensures.sound in
+    let last = subst (λ z. ToldOf items c.final_writes-last.result (final_means z run.work.done w m.span)) c.deepest-inner.ensures.value c.final_writes-last.ensures in
+    let given = ended_closed x m body env r w before c.is_sound.ensures c.deepest-inner.ensures.sound run c.in-Ok.ensures.value calm items c.final_writes-last.result e.kind.now res (with_todo h.0 shut) last closed in
     let left = c.close-given.ensures.kept ∙ h.1 in
     let start = retried (suc reruns) (thread_state c.args.thread.now) in
     let as_before : IsOther res → start ≡ shut = λ o. h.2 ∙ closes_other (closing items e.kind.now c.final_writes-last.result run.work.done.sends) m.span (tx_run run) res now shut c.close-given.ensures.value o in
@@ -897,7 +928,7 @@ pub final_writes-redo-requires : goal.final_writes-redo-requires
 final_writes-redo-requires t c =
     let x = c.args.context.now in
     let smaller : room x + 4 < room x + 5 = omega arith in
-    (search (rules, smaller), c.requires)
+    (search (rules, smaller), c.requires.commutes)
 
 pub final_writes-returns-in_err-redo : goal.final_writes-returns-in_err-redo
 final_writes-returns-in_err-redo t c =
@@ -913,8 +944,9 @@ final_writes-returns t c =
     let x = c.args.context.now in
     let w = c.args.done.now in
     let r = plain_view c.args.world in
-    let made = subst (λ us. MatchResult c.with_sets.result (λ last. last.items ≡ merged (set_writes w) us) (λ y. y ≡ Memory)) c.as_slice.ensures.value c.with_sets.ensures in
-    finals_done x c.args.span w r c.in_ok-writes.writes.items c.in_ok-writes.ensures (λ (us : Vec (CellId × Value) Global). us.items) c.redo.new.writes.items c.with_sets.result c.in_ok-redo.ensures made
+    let made = c.in_ok-last.ensures ∙ ap (λ us. merged (set_writes w) us) c.as_slice.ensures.value in
+    let all = ap (λ l. accepted_means x c.args.span l) (sym c.as_slice-2.ensures.value) ∙ c.in_ok-accept_all.ensures in
+    finals_done x c.args.span w r c.in_ok-writes.writes.items c.in_ok-writes.ensures c.redo.new.writes.items c.in_ok-redo.ensures c.in_ok-last.last.items made all
 
 pub redo-redo_one-requires : goal.redo-redo_one-requires
 redo-redo_one-requires t c =
@@ -969,7 +1001,7 @@ act_outside-returns-in-Look t c =
     let h = c.in_ok-event.ensures in
     let before = thread_state c.args.thread.now in
     let later = thread_state c.eat.new.self in
-    let ready = subst (λ a. ReadyIn (callable x) in_thread a (length c.args.args.items)) c.in-Look.is c.requires in
+    let ready = subst (λ a. ReadyIn (callable x) in_thread a (length c.args.args.items)) c.in-Look.is c.requires.ready in
     let told = subst (λ f. Told (Ok cell) (result_of (cell_of (rule f) false c.args.value.now) c.args.span tt)) (c.form.ensures ∙ ap form_of_act c.in-Look.is) c.in_ok-cell.ensures in
     let r = c.read_at.result in
     let given = gives_at c.home.result (home x.cells cell) c.home.ensures (λ a s. reads cell a.kind a.C s) e before later h r (c.eat.ensures.eaten (seen_event e) h.0 h.1) (c.read_at.ensures (with_todo h.0 before)) in
@@ -991,10 +1023,11 @@ act_outside-returns-in-Send t c =
     let later = thread_state c.eat-in-Send.new.self in
     let callee = c.in-Send.callee in
     let vs = c.args.args.items in
+    let sent = subst (λ us. AnswersAt c.send_at.result (with_todo h.0 before) (sends (record { agent = cell; callee = callee; args = us; span = c.args.span }) c.args.span e.kind.now (with_todo h.0 before))) c.in_ok-values.ensures.0 (c.send_at.ensures (with_todo h.0 before)) in
     let told = subst (λ f. Told (Ok cell) (result_of (cell_of (rule f) false c.args.value.now) c.args.span tt)) (c.form.ensures ∙ ap form_of_act c.in-Send.is) c.in_ok-cell.ensures in
     let r = c.send_at.result in
     let given = gives_at c.home.result 0 (c.home.ensures ∙ send_home x c.args.value.now c.args.span cell told) (λ a s. sends (record { agent = cell; callee = callee; args = vs; span = c.args.span }) c.args.span a.kind s) e before later h r (c.eat-in-Send.ensures.eaten (seen_event e) h.0 h.1)
-    (c.send_at.ensures (with_todo h.0 before)) in
+    sent in
     λ wanted. subst₂ (λ a q. Gives false q later (outside_means x a (mark_of c.args.span wanted) c.args.value.now vs before)) (sym c.in-Send.is) (sym c.eat-in-Send.ensures.same)
     (send_outside x (mark_of c.args.span wanted) c.args.value.now before cell r later refl callee vs told given)
 
@@ -1206,12 +1239,14 @@ evaluate_tail-evaluate_if-requires t c =
 pub eat_dosync-run_body-requires : goal.eat_dosync-run_body-requires
 eat_dosync-run_body-requires t c =
     let smaller : 16 * nodes (tree_of c.args.dosync.body.now) + 2 < 16 * nodes (tree_of c.args.dosync.body.now) + 9 = omega arith in
-    (search (rules, in_room c.args.context.now _ _ smaller), c.requires)
+    (search (rules, in_room c.args.context.now _ _ smaller), c.requires.body)
 
 pub evaluate_dosync-eat_dosync-requires : goal.evaluate_dosync-eat_dosync-requires
 evaluate_dosync-eat_dosync-requires t c =
+    let x = c.args.context.now in
     let smaller : 16 * nodes (tree_of c.args.dosync.body.now) + 9 < 16 * nodes (tree_of c.args.dosync.body.now) + 10 = omega arith in
-    (search (rules, in_room c.args.context.now _ _ smaller), c.requires)
+    let off : is_some c.world.result ≡ false = search rules in
+    (search (rules, in_room x _ _ smaller), (nowhere_running c.world.result x.world c.world.ensures off, c.requires))
 
 pub update_inside-apply_on-requires : goal.update_inside-apply_on-requires
 update_inside-apply_on-requires t c =
@@ -1219,10 +1254,45 @@ update_inside-apply_on-requires t c =
     let smaller : room x + 2 < room x + 3 = omega arith in
     (search (rules, smaller), subst (λ l. SoundCallee (callable x) c.args.callee (suc (length l))) (sym c.as_slice.ensures.value) c.requires.callee)
 
-pub swap-apply_on-requires : goal.swap-apply_on-requires
-swap-apply_on-requires t c =
-    let smaller : room c.args.context.now + 2 < room c.args.context.now + 4 = omega arith in
-    (search (rules, smaller), c.requires)
+pub swap-make-requires : goal.swap-make-requires
+swap-make-requires t c =
+    let x = c.args.context.now in
+    let inner = c.deepest-inner.result in
+    let is = c.deepest-inner.ensures.value in
+    let smaller : room inner + 3 < t = omega (arith, c.decreases, room_deepest x inner is c.requires.world) in
+    let fits = callee_deepest x c.args.callee (suc (length c.args.args.now)) c.requires.callee in
+    (smaller, (subst (λ z. SoundCells (callable z) z.cells) (sym is) c.deepest-inner.ensures.sound, subst (λ z. SoundCallee (callable z) c.args.callee (suc (length c.args.args.now))) (sym is) fits))
+
+pub make-apply_on-requires : goal.make-apply_on-requires
+make-apply_on-requires t c =
+    let smaller : room c.args.context.now + 2 < t = omega (arith, c.decreases) in
+    (smaller, c.requires.callee)
+
+pub make-accept-requires : goal.make-accept-requires
+make-accept-requires t c =
+    let smaller : room c.args.context.now + 2 < t = omega (arith, c.decreases) in
+    (smaller, c.requires.cells)
+
+pub make-returns-in_err-new : goal.make-returns-in_err-new
+make-returns-in_err-new t c =
+    let x = c.args.context.now in
+    let y = c.in_err-new.field-0.0 in
+    let vs = c.args.first ∷ c.args.args.now in
+    let r = c.from_residual in
+    stops_gives (λ v. v) true r.result y tt (made_means x c.args.callee c.args.cell vs c.args.span) (halted r.result y r.ensures.1) (made_stop x c.args.callee c.args.cell vs c.args.span y c.in_err-new.ensures)
+
+pub make-returns-in_err-accept : goal.make-returns-in_err-accept
+make-returns-in_err-accept t c =
+    let x = c.args.context.now in
+    let y = c.in_err-accept.field-0.0 in
+    let vs = c.args.first ∷ c.args.args.now in
+    let r = c.from_residual-in_err-accept in
+    let told = made_then x c.args.callee c.args.cell vs c.args.span c.in_ok-new.new c.in_ok-new.ensures (λ v. v) (Err y) c.in_err-accept.ensures in
+    stops_gives (λ v. v) true r.result y tt (made_means x c.args.callee c.args.cell vs c.args.span) (halted r.result y r.ensures.1) told
+
+pub make-returns : goal.make-returns
+make-returns t c =
+    made_then c.args.context.now c.args.callee c.args.cell (c.args.first ∷ c.args.args.now) c.args.span c.in_ok-new.new c.in_ok-new.ensures (λ v. v) (Ok c.in_ok-new.new) c.in_ok-accept.ensures
 
 pub apply_on-apply_callee-requires : goal.apply_on-apply_callee-requires
 apply_on-apply_callee-requires t c =
@@ -1232,8 +1302,8 @@ apply_on-apply_callee-requires t c =
 
 pub act_outside-reset_at-requires : goal.act_outside-reset_at-requires
 act_outside-reset_at-requires t c =
-    let ready = subst (λ a. ReadyIn (callable c.args.context.now) in_thread a (length c.args.args.items)) c.in-Put.is c.requires in
-    ready.1
+    let ready = subst (λ a. ReadyIn (callable c.args.context.now) in_thread a (length c.args.args.items)) c.in-Put.is c.requires.ready in
+    ap length c.in_ok-values.ensures.0 ∙ ready.1
 
 pub finish-call-requires : goal.finish-call-requires
 finish-call-requires t c =
@@ -1243,8 +1313,12 @@ finish-call-requires t c =
 
 pub eat_dosync-final_writes-last-requires : goal.eat_dosync-final_writes-last-requires
 eat_dosync-final_writes-last-requires t c =
-    let smaller : room c.args.context.now + 5 < t = omega (arith, c.decreases) in
-    (smaller, c.in-Ok.ensures.sound)
+    let x = c.args.context.now in
+    let inner = c.deepest-inner.result in
+    let is = c.deepest-inner.ensures.value in
+    let smaller : room inner + 5 < t = omega (arith, c.decreases, room_deepest x inner is c.requires.world) in
+    let cs = c.in-Ok.run'.work.done.commutes in
+    (smaller, (subst (λ z. SoundCells (callable z) z.cells) (sym is) c.deepest-inner.ensures.sound, subst (λ z. SoundCommutes (callable z) cs) (sym is) (commutes_deepest x cs c.in-Ok.ensures.sound)))
 
 pub evaluate_dosync-evaluate-requires : goal.evaluate_dosync-evaluate-requires
 evaluate_dosync-evaluate-requires t c =
@@ -1332,3 +1406,98 @@ redo_one-apply_on-requires t c =
     let x = c.args.context.now in
     let smaller : room x + 2 < t = omega (arith, c.decreases) in
     (smaller, subst (λ us. SoundCallee (callable x) c.args.commute.now.callee (suc (length us))) (sym c.as_slice-args.ensures) c.requires)
+
+-- ---- validators
+
+pub accept-apply_callee-requires : goal.accept-apply_callee-requires
+accept-apply_callee-requires t c =
+    let x = c.args.context.now in
+    let f = c.in-Some.callee in
+    let smaller : room x + 1 < t = omega (arith, c.decreases) in
+    let is : validator_at (validators_of x.cells) c.args.cell.number ≡ Some f = sym (c.validator_of.ensures ∙ ap (λ ds. validator_at (validators_of ds) c.args.cell.number) c.cells.ensures) ∙ c.in-Some.is in
+    let fits : SoundCallee (callable x) f 1 = subst (λ o. SoundValidator (callable x) o) is (validator_sound (callable x) x.cells c.args.cell.number c.requires) in
+    (smaller, subst (λ vs. SoundCallee (callable x) f (length vs)) (sym c.in_ok-values.ensures) fits)
+
+pub accept-returns-in_err-answer : goal.accept-returns-in_err-answer
+accept-returns-in_err-answer t c =
+    let x = c.args.context.now in
+    let f = c.in-Some.callee in
+    let v = c.args.value.now in
+    let y = c.in_err-answer.field-0.0 in
+    let is = c.validator_of.ensures ∙ ap (λ ds. validator_at (validators_of ds) c.args.cell.number) c.cells.ensures in
+    let copied = c.in_ok-values.ensures ∙ ap (λ w. w ∷ []) c.in_ok-copy.ensures in
+    let told = subst (λ vs. Told {A = Value} (Err y) (applied x f vs c.args.span)) copied c.in_err-answer.ensures in
+    let r = c.from_residual-in_err-answer in
+    stops_gives _ true r.result y tt (accept_means x c.args.cell c.args.span v) (halted r.result y r.ensures.1) (accept_stop x c.args.cell c.args.span v c.validator_of.result is f c.in-Some.is y told)
+
+pub accept-returns : goal.accept-returns
+accept-returns t c =
+    let x = c.args.context.now in
+    let f = c.in-Some.callee in
+    let v = c.args.value.now in
+    let is = c.validator_of.ensures ∙ ap (λ ds. validator_at (validators_of ds) c.args.cell.number) c.cells.ensures in
+    let copied = c.in_ok-values.ensures ∙ ap (λ w. w ∷ []) c.in_ok-copy.ensures in
+    let answer = c.in_ok-answer.answer in
+    let given = subst (λ vs. applied x f vs c.args.span ≡ Completes answer tt) copied c.in_ok-answer.ensures in
+    accept_answer x c.args.cell c.args.span v c.validator_of.result is f c.in-Some.is answer given (λ (u : Unit {0}). v) c.judge.result (c.judge.ensures v)
+
+pub accept_first-accept-requires : goal.accept_first-accept-requires
+accept_first-accept-requires t c =
+    let smaller : room c.args.context.now + 2 < t = omega (arith, c.decreases) in
+    (smaller, c.requires)
+
+pub accept_put-accept_first-requires : goal.accept_put-accept_first-requires
+accept_put-accept_first-requires t c =
+    let smaller : room c.args.context.now + 3 < t = omega (arith, c.decreases) in
+    (smaller, c.requires)
+
+pub accept_all-accept-requires : goal.accept_all-accept-requires
+accept_all-accept-requires t c =
+    let smaller : room c.args.context.now + 2 < t = omega (arith, c.decreases) in
+    (smaller, c.requires)
+
+pub accept_all-returns-in_err-accept : goal.accept_all-returns-in_err-accept
+accept_all-returns-in_err-accept t c =
+    let x = c.args.context.now in
+    let ws = c.args.writes.now in
+    let y = c.in_err-accept.field-0.0 in
+    let rest = accepted_stop x c.args.span ws c.loop-write.write-index c.write-item.result c.loop-write-test.true c.write-item.is y c.in_err-accept.ensures in
+    let r = c.from_residual in
+    stops_gives _ true r.result y tt (accepted_means x c.args.span ws) (halted r.result y r.ensures.1) (subst (λ q. Told {A = Unit {0}} (Err y) q) (sym c.loop-write.invariant) rest)
+
+pub accept_all-loop-write-preserved : goal.accept_all-loop-write-preserved
+accept_all-loop-write-preserved t c =
+    c.loop-write.invariant ∙ accepted_more c.args.context.now c.args.span c.args.writes.now c.loop-write.write-index c.write-item.result c.loop-write-test.true c.write-item.is c.write-item.result.1 c.in_ok-accept.ensures
+
+pub accept_all-returns : goal.accept_all-returns
+accept_all-returns t c =
+    let end = drop_all c.loop-write.write-index c.args.writes.now c.loop-write-test.false in
+    c.loop-write.invariant ∙ ap (λ l. accepted_means c.args.context.now c.args.span l) end
+
+pub final_writes-accept_all-requires : goal.final_writes-accept_all-requires
+final_writes-accept_all-requires t c =
+    let smaller : room c.args.context.now + 3 < t = omega (arith, c.decreases) in
+    (smaller, c.requires.cells)
+
+pub final_writes-returns-in_err-last : goal.final_writes-returns-in_err-last
+final_writes-returns-in_err-last t c =
+    let x = c.args.context.now in
+    let w = c.args.done.now in
+    let r = plain_view c.args.world in
+    let y = c.in_err-last.field-0.0 in
+    let z = c.from_residual-in_err-last in
+    stops_gives (λ (us : Vec (CellId × Value) Global). us.items) true z.result y tt (final_means x w r c.args.span) (halted z.result y z.ensures.1)
+    (finals_full x c.args.span w r c.in_ok-writes.writes.items c.in_ok-writes.ensures c.redo.new.writes.items c.in_ok-redo.ensures y c.in_err-last.ensures)
+
+pub final_writes-returns-in_err-accept_all : goal.final_writes-returns-in_err-accept_all
+final_writes-returns-in_err-accept_all t c =
+    let x = c.args.context.now in
+    let w = c.args.done.now in
+    let r = plain_view c.args.world in
+    let y = c.in_err-accept_all.field-0.0 in
+    let last = c.in_ok-last.last.items in
+    let made = c.in_ok-last.ensures ∙ ap (λ us. merged (set_writes w) us) c.as_slice.ensures.value in
+    let told = subst (λ l. Told {A = Unit {0}} (Err y) (accepted_means x c.args.span l)) c.as_slice-2.ensures.value c.in_err-accept_all.ensures in
+    let z = c.from_residual-in_err-accept_all in
+    stops_gives (λ (us : Vec (CellId × Value) Global). us.items) true z.result y tt (final_means x w r c.args.span) (halted z.result y z.ensures.1)
+    (finals_refused x c.args.span w r c.in_ok-writes.writes.items c.in_ok-writes.ensures c.redo.new.writes.items c.in_ok-redo.ensures last made y told)

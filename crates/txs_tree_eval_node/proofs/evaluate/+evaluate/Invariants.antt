@@ -1,5 +1,5 @@
 use Rattle.std.proofs.Common.{◌≡◌, ◌+◌, ◌-◌, ◌*◌, length, take, drop}
-use Rattle.txs_tree_eval_node.specs.Evaluated.{part, is_on, forms_in, calls_in, all_mean, locals_mean, turns_mean, redone_means}
+use Rattle.txs_tree_eval_node.specs.Evaluated.{part, is_on, forms_in, calls_in, all_mean, locals_mean, turns_mean, accepted_means, redone_means}
 use Rattle.txs_tree_eval_node.specs.Setting.{callable, zone_in}
 use Rattle.txs_frame.specs.Frame.{phase_work}
 use Rattle.txs_tree_meaning.specs.Sound.{SoundAll, SoundLet, nodes, nodes_in}
@@ -38,6 +38,21 @@ decreases-act_inside l = room l.context.now + 5
 
 abbrev pub decreases-act_outside : goal.decreases-act_outside
 decreases-act_outside l = room l.context.now + 5
+
+abbrev pub decreases-accept_put : goal.decreases-accept_put
+decreases-accept_put l = room l.context.now + 4
+
+abbrev pub decreases-accept_first : goal.decreases-accept_first
+decreases-accept_first l = room l.context.now + 3
+
+abbrev pub decreases-accept : goal.decreases-accept
+decreases-accept l = room l.context.now + 2
+
+abbrev pub decreases-accept_all : goal.decreases-accept_all
+decreases-accept_all l = room l.context.now + 3
+
+abbrev pub decreases-make : goal.decreases-make
+decreases-make l = room l.context.now + 3
 
 abbrev pub decreases-swap : goal.decreases-swap
 decreases-swap l = room l.context.now + 4
@@ -113,3 +128,7 @@ invariant-run_turns-loop-turn l =
 -- the commutes that are left
 abbrev pub invariant-redo-loop-commute : goal.invariant-redo-loop-commute
 invariant-redo-loop-commute l = redone_means l.context l.span (phase_work l.done) l.fn.writes.items ≡ redone_means l.context l.span (drop l.commute-index l.commutes) l.writes.items
+
+-- the writes that are left
+abbrev pub invariant-accept_all-loop-write : goal.invariant-accept_all-loop-write
+invariant-accept_all-loop-write l = accepted_means l.context l.span l.writes ≡ accepted_means l.context l.span (drop l.write-index l.writes)

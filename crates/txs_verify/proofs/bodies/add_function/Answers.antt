@@ -3,6 +3,7 @@ use Rattle.std.proofs.lemmas.Result.{err_from_is_err_and}
 use Rattle.txs_code_meaning.specs.PlainCode.{CodeBody, parameters_of}
 use Rattle.txs_verify.specs.Going.{AllJumpWithin}
 use Rattle.txs_verify.specs.Verdict.{AreWalked}
+use Rattle.txs_verify.proofs.Ends.{stays}
 use Rattle.txs_verify.proofs.Lists.{nth_is}
 use Rattle.txs_verify.proofs.Roomy.{jumps_of, stop_of, function_more}
 use Rattle.txs_verify.proofs.bodies.add_function.Goals as goal
@@ -40,3 +41,8 @@ walk_body-requires-clause-few c =
 
 pub returns-clause-many : goal.returns-clause-many
 returns-clause-many c = omega (arith, ap length c.in_ok-push.ensures.items, length-append c.args.kinds.now.items (c.in_ok-kind.kind ∷ []), c.requires.many)
+
+pub returns-in_err-kind-clause-kept : goal.returns-in_err-kind-clause-kept
+returns-in_err-kind-clause-kept c =
+    let p = err_from_is_err_and c.from_residual.result c.from_residual.ensures.1 in
+    rw (p.1, p.2) (stays c.args.kinds.now.items c.in_err-kind.field-0.0)

@@ -18,7 +18,7 @@ loop-n-init c =
 pub returns-in_err-function_at-clause-wrong : goal.returns-in_err-function_at-clause-wrong
 returns-in_err-function_at-clause-wrong c =
     let p = err_from_is_err_and c.from_residual.result c.from_residual.ensures.1 in
-    rw (p.1, p.2) (function_wrong c.args.functions.now c.loop-n.kinds.items c.loop-n.rooms.items c.loop-n.n c.in_err-function_at.field-0.0 c.loop-n.invariant.walked c.loop-n.invariant.many c.in_err-function_at.ensures.wrong)
+    rw (p.1, p.2) (function_wrong c.args.functions.now c.loop-n.kinds.items c.function_at.new.kinds.items c.loop-n.rooms.items c.loop-n.n c.in_err-function_at.field-0.0 c.loop-n.invariant.walked c.loop-n.invariant.many c.in_err-function_at.ensures.wrong c.in_err-function_at.ensures.kept)
 
 pub function_at-requires-clause-few : goal.function_at-requires-clause-few
 function_at-requires-clause-few c = c.requires.few

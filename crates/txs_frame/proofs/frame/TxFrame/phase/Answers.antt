@@ -1,12 +1,14 @@
-use Rattle.std.proofs.Common.{◌≡◌, ap, sym, subst, ◌∙◌, ◌+◌, List, [], ◌∷◌, ◌++◌, take, get_or, length, length-append}
+use Rattle.std.proofs.Common.{◌≡◌, ap, sym, subst, ◌∙◌, ◌+◌, List, [], ◌∷◌, ◌++◌, map, take, get_or, length, length-append}
 use Rattle.std.proofs.lemmas.List.{take_all, take_more}
 use Rattle.txs_world_protocol.specs.Ask.{Writes}
+use Rattle.txs_value_cell.specs.Cells.{validators_of}
 use Rattle.txs_value_data.specs.declared.value.CellId.{CellId}
 use Rattle.txs_value_data.specs.declared.value.CellKind.TheVariants.{Ref}
 use Rattle.txs_value_data.specs.declared.value.Value.TheVariants.{Nil}
-use Rattle.txs_frame.specs.Frame.{PlainTxFrame, by_ref, commuted, phase_work}
-use Rattle.txs_frame.specs.Phase.{blank, IsPhase, PlainPhase}
-use Rattle.txs_frame.specs.declared.frame.Commute.{Commute}
+use Rattle.txs_frame.specs.Frame.{PlainTxFrame, by_ref, commuted, written}
+use Rattle.txs_frame.specs.Phase.{blank, tasks_of, validations, IsPhase, PlainPhase}
+use Rattle.txs_frame.specs.declared.phase.Task.{Task}
+use Rattle.txs_frame.specs.declared.phase.Task.TheVariants.{Redoes}
 use Rattle.txs_frame.proofs.Phasing.{begins, blank_more}
 use Rattle.txs_frame.proofs.frame.TxFrame.phase.Goals as goal
 
@@ -30,18 +32,28 @@ loop-cell-preserved c =
 pub begin-requires : goal.begin-requires
 begin-requires c =
     let w : PlainTxFrame = c.args.self.now in
+    let vs = validators_of c.args.cells.now in
     let ds : List CellId = c.as_slice-refs.result.now in
-    let all : ds ≡ commuted w = c.as_slice-refs.ensures.value ∙ c.in_ok-cells.ensures in
+    let all : ds ≡ commuted w = c.as_slice-refs.ensures.value ∙ c.in_ok-commuted.ensures in
     let values : c.loop-cell.values.items ≡ blank (commuted w) = c.loop-cell.invariant.built ∙ ap blank (take_all c.loop-cell.cell-index ds c.loop-cell-test.false ∙ all) in
-    let work : c.in_ok-work.work.items ≡ phase_work w = c.in_ok-work.ensures ∙ ap (λ (cs : List CellId). by_ref cs w.commutes) all in
-    subst (λ (ws : Writes). IsPhase ws c.in_ok-work.work.items) (sym values) (subst (λ (ks : List Commute). IsPhase (blank (commuted w)) ks) (sym work) (begins w))
+    let redone : c.in_ok-work.work.items ≡ map Redoes (by_ref (commuted w) w.commutes) = c.in_ok-work.ensures ∙ ap (λ (cs : List CellId). map Redoes (by_ref cs w.commutes)) all in
+    let work : c.push_validations.new.tasks.items ≡ tasks_of vs w =
+    c.in_ok-push_validations.ensures
+    ∙ ap (λ (xs : List Task). xs ++ validations vs c.as_slice.result.now) redone
+    ∙ ap (λ (cs : List CellId). map Redoes (by_ref (commuted w) w.commutes) ++ validations vs cs) (c.as_slice.ensures.value ∙ c.in_ok-written.ensures) in
+    subst (λ (ws : Writes). IsPhase ws c.push_validations.new.tasks.items) (sym values) (subst (λ (xs : List Task). IsPhase (blank (commuted w)) xs) (sym work) (begins vs w))
 
 pub returns : goal.returns
 returns c =
     let w : PlainTxFrame = c.args.self.now in
+    let vs = validators_of c.args.cells.now in
     let ds : List CellId = c.as_slice-refs.result.now in
-    let all : ds ≡ commuted w = c.as_slice-refs.ensures.value ∙ c.in_ok-cells.ensures in
+    let all : ds ≡ commuted w = c.as_slice-refs.ensures.value ∙ c.in_ok-commuted.ensures in
     let values : c.loop-cell.values.items ≡ blank (commuted w) = c.loop-cell.invariant.built ∙ ap blank (take_all c.loop-cell.cell-index ds c.loop-cell-test.false ∙ all) in
-    let work : c.in_ok-work.work.items ≡ phase_work w = c.in_ok-work.ensures ∙ ap (λ (cs : List CellId). by_ref cs w.commutes) all in
-    let made : List Commute → Writes → PlainPhase = λ ks ws. record { work = ks; values = ws } in
-    c.begin.ensures ∙ ap (made c.in_ok-work.work.items) values ∙ ap (λ (ks : List Commute). made ks (blank (commuted w))) work
+    let redone : c.in_ok-work.work.items ≡ map Redoes (by_ref (commuted w) w.commutes) = c.in_ok-work.ensures ∙ ap (λ (cs : List CellId). map Redoes (by_ref cs w.commutes)) all in
+    let work : c.push_validations.new.tasks.items ≡ tasks_of vs w =
+    c.in_ok-push_validations.ensures
+    ∙ ap (λ (xs : List Task). xs ++ validations vs c.as_slice.result.now) redone
+    ∙ ap (λ (cs : List CellId). map Redoes (by_ref (commuted w) w.commutes) ++ validations vs cs) (c.as_slice.ensures.value ∙ c.in_ok-written.ensures) in
+    let made : List Task → Writes → PlainPhase = λ xs ws. record { work = xs; values = ws } in
+    c.begin.ensures ∙ ap (made c.push_validations.new.tasks.items) values ∙ ap (λ (xs : List Task). made xs (blank (commuted w))) work

@@ -2,6 +2,7 @@ use Rattle.std.proofs.Common.{◌≡◌, ◌∙◌, Option, refl, ap, sym, subst
 use Rattle.txs_frame.specs.Frame.{PlainTxFrame}
 use Rattle.txs_frame.specs.declared.frame.Commute.{Commute}
 use Rattle.txs_machine_stack.specs.PlainFrame.{PlainStack}
+use Rattle.txs_value_cell.specs.Cells.{validators_of}
 use Rattle.txs_machine_transaction.specs.Effect.{IsRare}
 use Rattle.txs_machine_actor.specs.PlainActor.{PlainActor}
 use Rattle.txs_machine_actor.specs.Turns.{CanTransact, Transacts, with_stack}
@@ -22,17 +23,17 @@ pub returns-in-Some : goal.returns-in-Some
 returns-in-Some c =
     let x = c.self.inside in
     let k = x.stack in
-    let a : PlainActor = record { number = x.number; role = x.role; body = k.body; frames = k.frames; locals = k.locals; place = k.place; values = k.values; printed = x.printed.items; at = x.at; view = x.view; done = x.frame; commuting = x.commuting; tx = x.tx; pending = x.pending; outcome = x.outcome; steps = x.steps; limit = x.limit; room = k.room } in
+    let a : PlainActor = record { number = x.number; role = x.role; body = k.body; frames = k.frames; locals = k.locals; place = k.place; values = k.values; printed = x.printed.items; at = x.at; view = x.view; done = x.frame; commuting = x.commuting; accepted = x.accepted; tx = x.tx; pending = x.pending; outcome = x.outcome; steps = x.steps; limit = x.limit; room = k.room } in
     let m = c.transact-quick in
     let f = c.follow_quickly in
-    subst (λ (y : PlainActor). Transacts y c.args.instr c.args.span c.args.next f.new.turn f.new.self) c.self.view_is
-    (quickly_so a c.args.span c.args.instr c.args.next c.in-Some.quick m.new.stack m.new.tx m.new.frame m.new.commuting f.new.turn f.new.self m.ensures.rest (c.in-Some.ensures.comes c.args.span) f.ensures)
+    subst (λ (y : PlainActor). Transacts (validators_of c.args.cells.now) y c.args.instr c.args.span c.args.next f.new.turn f.new.self) c.self.view_is
+    (quickly_so (validators_of c.args.cells.now) a c.args.span c.args.instr c.args.next c.in-Some.quick m.new.stack m.new.tx m.new.frame m.new.commuting f.new.turn f.new.self m.ensures.rest (c.in-Some.ensures.comes (validators_of c.args.cells.now) c.args.span) f.ensures)
 
 pub on_rare-requires-clause-can : goal.on_rare-requires-clause-can
 on_rare-requires-clause-can c =
     let x = c.self.inside in
     let k = x.stack in
-    let a : PlainActor = record { number = x.number; role = x.role; body = k.body; frames = k.frames; locals = k.locals; place = k.place; values = k.values; printed = x.printed.items; at = x.at; view = x.view; done = x.frame; commuting = x.commuting; tx = x.tx; pending = x.pending; outcome = x.outcome; steps = x.steps; limit = x.limit; room = k.room } in
+    let a : PlainActor = record { number = x.number; role = x.role; body = k.body; frames = k.frames; locals = k.locals; place = k.place; values = k.values; printed = x.printed.items; at = x.at; view = x.view; done = x.frame; commuting = x.commuting; accepted = x.accepted; tx = x.tx; pending = x.pending; outcome = x.outcome; steps = x.steps; limit = x.limit; room = k.room } in
     let m = c.transact-quick in
     let r = c.in-None.ensures.rare refl in
     let same : record (with_stack a m.new.stack) { tx = m.new.tx; done = m.new.frame; commuting = m.new.commuting } ≡ c.args.self.now = same_actor a k m.new.stack m.new.tx m.new.frame m.new.commuting refl r.1 r.2 r.3 r.4 ∙ c.self.view_is in
@@ -48,8 +49,8 @@ pub returns-in-None : goal.returns-in-None
 returns-in-None c =
     let x = c.self.inside in
     let k = x.stack in
-    let a : PlainActor = record { number = x.number; role = x.role; body = k.body; frames = k.frames; locals = k.locals; place = k.place; values = k.values; printed = x.printed.items; at = x.at; view = x.view; done = x.frame; commuting = x.commuting; tx = x.tx; pending = x.pending; outcome = x.outcome; steps = x.steps; limit = x.limit; room = k.room } in
+    let a : PlainActor = record { number = x.number; role = x.role; body = k.body; frames = k.frames; locals = k.locals; place = k.place; values = k.values; printed = x.printed.items; at = x.at; view = x.view; done = x.frame; commuting = x.commuting; accepted = x.accepted; tx = x.tx; pending = x.pending; outcome = x.outcome; steps = x.steps; limit = x.limit; room = k.room } in
     let m = c.transact-quick in
     let r = c.in-None.ensures.rare refl in
     let same : record (with_stack a m.new.stack) { tx = m.new.tx; done = m.new.frame; commuting = m.new.commuting } ≡ c.args.self.now = same_actor a k m.new.stack m.new.tx m.new.frame m.new.commuting refl r.1 r.2 r.3 r.4 ∙ c.self.view_is in
-    subst (λ (y : PlainActor). Transacts y c.args.instr c.args.span c.args.next c.on_rare.new.turn c.on_rare.new.self) same c.on_rare.ensures
+    subst (λ (y : PlainActor). Transacts (validators_of c.args.cells.now) y c.args.instr c.args.span c.args.next c.on_rare.new.turn c.on_rare.new.self) same c.on_rare.ensures

@@ -11,7 +11,7 @@ travel-made-requires c =
     let k = x.stack in
     let d = c.args.code.now in
     let count = c.args.count in
-    let v : PlainActor = record { number = x.number; role = x.role; body = k.body; frames = k.frames; locals = k.locals; place = k.place; values = k.values; printed = x.printed.items; at = x.at; view = x.view; done = x.frame; commuting = x.commuting; tx = x.tx; pending = x.pending; outcome = x.outcome; steps = x.steps; limit = x.limit; room = k.room } in
+    let v : PlainActor = record { number = x.number; role = x.role; body = k.body; frames = k.frames; locals = k.locals; place = k.place; values = k.values; printed = x.printed.items; at = x.at; view = x.view; done = x.frame; commuting = x.commuting; accepted = x.accepted; tx = x.tx; pending = x.pending; outcome = x.outcome; steps = x.steps; limit = x.limit; room = k.room } in
     let ended : v.outcome ≡ None = subst (λ (a : PlainActor). a.outcome ≡ None) (sym c.self.view_is) c.requires.unended in
     let unasked : unanswered v ≡ None = subst (λ (a : PlainActor). unanswered a ≡ None) (sym c.self.view_is) c.requires.answered in
     let runs : Runs d v = subst (λ (a : PlainActor). Runs d a) (sym c.self.view_is) c.requires.runs in
@@ -25,7 +25,7 @@ returns-clause-turns c =
     let k = x.stack in
     let d = c.args.code.now in
     let count = c.args.count in
-    let v : PlainActor = record { number = x.number; role = x.role; body = k.body; frames = k.frames; locals = k.locals; place = k.place; values = k.values; printed = x.printed.items; at = x.at; view = x.view; done = x.frame; commuting = x.commuting; tx = x.tx; pending = x.pending; outcome = x.outcome; steps = x.steps; limit = x.limit; room = k.room } in
+    let v : PlainActor = record { number = x.number; role = x.role; body = k.body; frames = k.frames; locals = k.locals; place = k.place; values = k.values; printed = x.printed.items; at = x.at; view = x.view; done = x.frame; commuting = x.commuting; accepted = x.accepted; tx = x.tx; pending = x.pending; outcome = x.outcome; steps = x.steps; limit = x.limit; room = k.room } in
     let ended : v.outcome ≡ None = subst (λ (a : PlainActor). a.outcome ≡ None) (sym c.self.view_is) c.requires.unended in
     let unasked : unanswered v ≡ None = subst (λ (a : PlainActor). unanswered a ≡ None) (sym c.self.view_is) c.requires.answered in
     let runs : Runs d v = subst (λ (a : PlainActor). Runs d a) (sym c.self.view_is) c.requires.runs in
@@ -42,7 +42,7 @@ returns-clause-runs c =
     let k = x.stack in
     let d = c.args.code.now in
     let count = c.args.count in
-    let v : PlainActor = record { number = x.number; role = x.role; body = k.body; frames = k.frames; locals = k.locals; place = k.place; values = k.values; printed = x.printed.items; at = x.at; view = x.view; done = x.frame; commuting = x.commuting; tx = x.tx; pending = x.pending; outcome = x.outcome; steps = x.steps; limit = x.limit; room = k.room } in
+    let v : PlainActor = record { number = x.number; role = x.role; body = k.body; frames = k.frames; locals = k.locals; place = k.place; values = k.values; printed = x.printed.items; at = x.at; view = x.view; done = x.frame; commuting = x.commuting; accepted = x.accepted; tx = x.tx; pending = x.pending; outcome = x.outcome; steps = x.steps; limit = x.limit; room = k.room } in
     let ended : v.outcome ≡ None = subst (λ (a : PlainActor). a.outcome ≡ None) (sym c.self.view_is) c.requires.unended in
     let unasked : unanswered v ≡ None = subst (λ (a : PlainActor). unanswered a ≡ None) (sym c.self.view_is) c.requires.answered in
     let runs : Runs d v = subst (λ (a : PlainActor). Runs d a) (sym c.self.view_is) c.requires.runs in

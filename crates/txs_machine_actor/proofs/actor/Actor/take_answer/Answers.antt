@@ -43,7 +43,7 @@ returns-in-Commit c =
     let a = c.args.self.now in
     let x = c.self-in-Commit.inside in
     let k = x.stack in
-    let v : PlainActor = record { number = x.number; role = x.role; body = k.body; frames = k.frames; locals = k.locals; place = k.place; values = k.values; printed = x.printed.items; at = x.at; view = x.view; done = x.frame; commuting = x.commuting; tx = x.tx; pending = x.pending; outcome = x.outcome; steps = x.steps; limit = x.limit; room = k.room } in
+    let v : PlainActor = record { number = x.number; role = x.role; body = k.body; frames = k.frames; locals = k.locals; place = k.place; values = k.values; printed = x.printed.items; at = x.at; view = x.view; done = x.frame; commuting = x.commuting; accepted = x.accepted; tx = x.tx; pending = x.pending; outcome = x.outcome; steps = x.steps; limit = x.limit; room = k.room } in
     let waits = subst (λ (w : Wanted). IsWanted w c.self.inside.pending) c.in-Commit.is c.wanted.ensures in
     ap (λ (t : Transaction). record v { tx = t; pending = c.clear.new.self }) c.leave.ensures
     ∙ ap (λ (o : Option Pending). record v { tx = Outside; pending = o }) c.clear.ensures

@@ -26,7 +26,7 @@ returns-clause-new c =
     c.index-threads-from.is ∙ ap (λ (ts : List CodeBody). get_or ts c.from.result b) (c.threads.ensures ∙ ap (λ (e : PlainCode). e.threads) c.code.ensures.value) ∙ ap (λ (i : ℕ). get_or d.threads i b) c.from.ensures in
     let sized : l ≡ b.locals = c.from-locals.ensures ∙ c.locals.ensures in
     let new : PlainStack → PlainActor =
-    λ s. record { number = c.args.k; role = Thread; body = s.body; frames = s.frames; locals = s.locals; place = s.place; values = s.values; printed = []; at = 0; view = 0; done = empty_frame; commuting = None; tx = Outside; pending = None; outcome = None; steps = 0; limit = c.args.max_steps; room = s.room } in
+    λ s. record { number = c.args.k; role = Thread; body = s.body; frames = s.frames; locals = s.locals; place = s.place; values = s.values; printed = []; at = 0; view = 0; done = empty_frame; commuting = None; accepted = None; tx = Outside; pending = None; outcome = None; steps = 0; limit = c.args.max_steps; room = s.room } in
     subst (λ (x : PlainActor). IsNew d c.args.k c.args.max_steps x) (sym c.fresh.ensures)
     (subst (λ (s : PlainStack). IsNew d c.args.k c.args.max_steps (new s)) (sym c.in_ok-stack.ensures)
     (is_new d c.args.k l c.args.max_steps (l + get_or c.rooms.result.1.now c.from-2.result 0) (nils l) [] [] empty_frame b is c.requires sized refl refl refl refl))
@@ -41,7 +41,7 @@ returns-clause-lives c =
     c.index-threads-from.is ∙ ap (λ (ts : List CodeBody). get_or ts c.from.result b) (c.threads.ensures ∙ ap (λ (e : PlainCode). e.threads) c.code.ensures.value) ∙ ap (λ (i : ℕ). get_or d.threads i b) c.from.ensures in
     let sized : l ≡ b.locals = c.from-locals.ensures ∙ c.locals.ensures in
     let new : PlainStack → PlainActor =
-    λ s. record { number = c.args.k; role = Thread; body = s.body; frames = s.frames; locals = s.locals; place = s.place; values = s.values; printed = []; at = 0; view = 0; done = empty_frame; commuting = None; tx = Outside; pending = None; outcome = None; steps = 0; limit = c.args.max_steps; room = s.room } in
+    λ s. record { number = c.args.k; role = Thread; body = s.body; frames = s.frames; locals = s.locals; place = s.place; values = s.values; printed = []; at = 0; view = 0; done = empty_frame; commuting = None; accepted = None; tx = Outside; pending = None; outcome = None; steps = 0; limit = c.args.max_steps; room = s.room } in
     let roomy : l + get_or rooms c.from-2.result 0 ≡ l + get_or rooms c.args.k 0 = ap (λ (i : ℕ). l + get_or rooms i 0) c.from-2.ensures in
     inl (subst (λ (x : PlainActor). Runs d x) (sym c.fresh.ensures) (subst (λ (s : PlainStack). Runs d (new s)) (sym c.in_ok-stack.ensures)
     (new_runs d c.args.k l c.args.max_steps (l + get_or rooms c.from-2.result 0) (nils l) [] [] empty_frame b is c.requires sized refl refl refl refl c.rooms.result.0.now rooms c.rooms.ensures roomy)))
