@@ -1,7 +1,7 @@
 #!/usr/bin/env python3
 """audited.py [--long] [--seed N]
 Audits runs of the built program, by schedules and by workers: of each example, and of random scripts of one to four threads, also with few
-steps. These have refs, atoms and agents, of which some have validators. Each audit has to agree. No cell may have a value that its validator
+steps. These have refs, atoms and agents, of which some have validators. Actions run transactions, swap, print and send. Each audit has to agree. No cell may have a value that its validator
 refuses, unless it opened with it. --long makes 500 scripts; else 60 are made. TXS names another program than
 crates/txs/out/txs. Its last line is 'N passed, M failed'."""
 import argparse
@@ -31,6 +31,13 @@ INNER = ["(alter R inc)"] * 4 + ["(ref-set R (+ @S 1))"] * 2 + ["(commute R f N)
 # what a thread does outside transactions; T is a whole transaction, A an atom
 OUTER = ["T"] * 9 + ["(println T)"] * 2 + ["(println @R)", "(println @G)", "(println @A)", "(swap! A inc)", "(swap! A f 3)", "(println (swap! A spin 4))",
     "(reset! A 5)", "(swap! A bad)", "(send G inc)", "(send G f 2)", "(send G quot 0)", "(send G spin 5)", "(loop [i 0] (when (< i 4) (dosync (alter R inc)) (recur (inc i))))"]
+# what a thread or a transaction sends, where there are functions that act
+ACTED = ["(send G act0 N)"] * 3 + ["(send G act1 N)"] * 2 + ["(dosync (send G act0 N) (alter R inc))"] * 2
+# what such a function does; its last form is one of the second list
+ACTS = ["T"] * 6 + ["(println s n)", "(println T)", "(println @R)", "(println @G)", "(println @A)", "(swap! A inc)", "(swap! A f n)", "(reset! A n)", "(swap! A bad)",
+    "(send G inc)", "(send G f n)", "(send G - N)", "(send G quot 0)", "(dosync (alter R + n))", "(dosync (send G f n) (alter R - N))",
+    "(loop [i 0] (when (< i 3) (dosync (alter R inc)) (recur (inc i))))"]
+LAST = ["(inc s)", "(f s n)", "(- s n)", "s", "(spin s 3)", "(bad s)"]
 
 
 class Maker:
@@ -38,14 +45,18 @@ class Maker:
 
     def __init__(self, seed):
         self.rng = random.Random(seed)
-        self.cells, self.validators, self.outer, self.modes = {}, {}, OUTER, ["", "", " :error-mode :continue"]
+        self.cells, self.validators, self.outer, self.inner, self.modes = {}, {}, OUTER, INNER, ["", "", " :error-mode :continue"]
+        # how many functions act, and what they do
+        self.acting, self.acts, self.last = 0, ACTS, LAST
+        # functions that stand behind the cells
+        self.before = None
 
     def one(self, forms):
         """One of these forms for which there are cells, with names and numbers in it."""
         while True:
             form = self.rng.choice(forms)
             if "T" in form:
-                form = form.replace("T", "(dosync %s)" % " ".join(self.one(INNER) for _ in range(self.rng.randint(1, 4))))
+                form = form.replace("T", "(dosync %s)" % " ".join(self.one(self.inner) for _ in range(self.rng.randint(1, 4))))
             if all(self.cells[kind] for kind in re.findall(r"\b[RSAG]\b", form)):
                 named = re.sub(r"\b[RSAG]\b", lambda m: self.rng.choice(self.cells[m[0]]), form)
                 return re.sub(r"\bN\b", lambda m: str(self.rng.randint(0, 9)), named)
@@ -61,8 +72,15 @@ class Maker:
         # each cell with a validator, by its opening value and what is accepted
         self.validators = {}
         lines = ["(def %s (%s %d%s))" % (name, kind, values[name], self.options(kind, name, values[name])) for kind, name in opened]
+        lines += [self.before] if self.before else []
+        lines += [self.act(number) for number in range(self.acting)]
         threads = ["(future %s)" % " ".join(self.one(self.outer) for _ in range(many(1, 5))) for _ in range(many(1, most))]
         return "\n".join([FUNCTIONS, *lines, *threads])
+
+    def act(self, number):
+        """A function for actions, which may send those before it."""
+        forms = self.acts + ["(send G act%d N)" % it for it in range(number)] * 3
+        return "(defn act%d [s n] %s %s)" % (number, " ".join(self.one(forms) for _ in range(self.rng.randint(1, 3))), self.rng.choice(self.last))
 
     def options(self, kind, name, value):
         """The options of a cell, in some order."""
@@ -80,9 +98,10 @@ class Maker:
         return all(name in cells and (int(cells[name]) == value or accepts(int(cells[name]))) for name, (value, accepts) in self.validators.items())
 
     def turns(self, threads):
-        """A schedule of the first thread, and of the second where there is one."""
+        """A schedule of the first thread, of the second where there is one, and of the agents where functions act."""
         rng = self.rng
-        return ",".join("%s%d%s" % (rng.choice(["", "t"]), rng.randrange(min(2, threads)), rng.choice(["", "x3", "x9"])) for _ in range(rng.randint(0, 40)))
+        actors = [*range(min(2, threads)), *range(threads, threads + (len(self.cells["G"]) if self.acting else 0))]
+        return ",".join("%s%d%s" % (rng.choice(["", "t"]), rng.choice(actors), rng.choice(["", "x3", "x9"])) for _ in range(rng.randint(0, 40)))
 
 
 def take(count, told, what, ran, is_valid=True):
@@ -102,6 +121,7 @@ def main():
     trial.need_the_program()
     count, told = trial.Count(), collections.Counter()
     maker = Maker(a.seed)
+    maker.acting, maker.outer = 2, OUTER + ACTED
     with tempfile.TemporaryDirectory() as folder:
         t = trial.Trial(folder)
         for file in sorted(glob.glob(os.path.join(EXAMPLES, "*.clj"))):

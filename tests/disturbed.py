@@ -21,6 +21,9 @@ SHARED = CELLS + (
 CHECKED = SHARED.replace(CELLS, "(defn ok [x] (loop [i 0] (if (< i 2) (recur (inc i)) (>= x 0)))) (def r (ref 1 :validator ok)) (def a (atom 2 :validator pos?)) "
                          "(def g (agent 0 :validator ok :error-mode :continue)) ").replace("(println :one)", "(send g - 100) (println :one)")
 CHECKED += "(future (dosync (alter r - 50) (send g inc)) (println :three)) (future (swap! a - 50) (println :four))"
+# actions that print, commit and send: what they leave is the same in any order
+ACTING = "(def r (ref 1)) (def g (agent 0)) (def h (agent 0)) (defn done [s n] (println :done n) (+ s n)) "
+ACTING += "(defn work [s n] (println :work n) (dosync (alter r + n) (send h done n)) (send h done 10) (+ s n)) (future (send g work 1) (dosync (send g work 2)))"
 GROWING = "(def r (ref [])) (future (dosync (ref-set r (loop [i 0 v []] (if (< i 70) (recur (inc i) (conj v [i])) v)))) (println (nth @r 69)))"
 CASES = [
     ("check", "(future (println (loop [a 1 b 2] (if (= a 2) b (recur b a)))))"),
@@ -47,6 +50,10 @@ CASES = [
     ("schedule --cells --audit", CHECKED),
     ("schedule --cells --audit", SHARED),
     ("run --cells --audit --workers 2", SHARED),
+    ("dis", ACTING),
+    ("schedule --cells --events", ACTING),
+    ("run --cells --workers 2", ACTING),
+    ("schedule --cells --audit", ACTING),
 ]
 SHARED_CELLS = b"r 4\na 5\ng 13\n"
 REFUSED = ("", "out of memory\n", 4)

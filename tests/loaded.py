@@ -46,6 +46,11 @@ def journals(t, count, is_long):
     ran = t.run([*schedule, "1x2," + TEN], busy.encode())
     wanted = FULL + "agent g stopped: JournalFull\n"
     count.take("an agent with actions", (ran.err.decode(), ran.status) == (wanted, 4) and ran.out.startswith(b"r 0\ng 5\n") and events_of(ran) == {b"read": MOST - 2, b"send": 2}, ran)
+    # an action that fills it is stopped where it is handed in; what it committed stays
+    fills = "(def r (ref 0)) (def g (agent 5)) (defn fill [s] (loop [i 0] (when (< i 999999) (dosync (alter r inc)) (recur (inc i)))) (inc s)) (future (send g fill))"
+    ran = t.run(["schedule", "--cells", "--events"], fills.encode())
+    is_well = (ran.err.decode(), ran.status) == ("agent g stopped: JournalFull\n", 4) and ran.out.startswith(b"r 999999\ng 5\n0 0 send\n")
+    count.take("an action that fills it", is_well and events_of(ran) == {b"send": 1, b"commit": MOST - 1}, ran)
     for _ in range(20 if is_long else 2):
         ran = t.run(["run", "--cells", "--events", "--workers", "2"], READS.encode())
         events, left = events_of(ran), ran.out[:4]
@@ -104,6 +109,40 @@ def runs(t, count, is_long):
         count.take("run %d" % k, is_lawful(ran), ran)
         retried += b" retry\n" in ran.out
     print("runs: %d, of which %d had to run a transaction again" % (many, retried))
+    retried = 0
+    for k, ran in enumerate(trial.each(lambda it: t.run(["run", "--cells", "--events", "--audit", "--workers", str(workers[it % 4])], ORDERS.encode()), range(many // 2), 4)):
+        count.take("run %d of actions" % k, is_sold(ran), ran)
+        retried += b" retry\n" in ran.out
+    print("runs of actions: %d, of which %d had to run a transaction again" % (many // 2, retried))
+
+
+# The actions of two agents take from a stock; each tells a third agent what was left, once it is over.
+ORDERS = """(def stock (ref 20)) (def sold (ref 0)) (def log (agent [])) (def n (atom 0)) (def anna (agent 0)) (def bert (agent 0))
+(defn noted [lines who left] (conj lines [who left]))
+(defn order [done who k]
+  (dosync (alter stock - k) (alter sold + k) (send log noted who @stock))
+  (swap! n + k)
+  (println who k)
+  (inc done))
+(future (send anna order 1 1) (send anna order 1 2) (send anna order 1 3))
+(future (send bert order 2 1) (send bert order 2 2) (send bert order 2 3))
+"""
+
+
+def is_sold(ran):
+    """Whether what a run of it has left obeys its laws: each agent's actions come in order, and each took from what the one before left."""
+    lines = "".join("%d %d\n" % (who, k) for who in (1, 2) for k in (1, 2, 3))
+    cells = re.fullmatch(lines + r"stock 8\nsold 12\nlog \[(.*)\]\nn 12\nanna 3\nbert 3\n((?:\d+ \d+ [a-z-]+\n)*)audit agrees serial\n", ran.out.decode())
+    if not cells or ran.err or ran.status:
+        return False
+    noted = [(int(who), int(left)) for who, left in (it.split() for it in re.findall(r"\[([^]]*)\]", cells[1]))]
+    left, came = 20, {1: [], 2: []}
+    for who, now in sorted(noted, key=lambda it: -it[1]):
+        came[who].append(left - now)
+        left = now
+    kinds = collections.Counter(it.split()[2] for it in cells[2].splitlines())
+    in_order = all([it[1] for it in noted if it[0] == who] == sorted((it[1] for it in noted if it[0] == who), reverse=True) for who in came)
+    return came == {1: [1, 2, 3], 2: [1, 2, 3]} and in_order and (kinds["commit"], kinds["send"], kinds["act"]) == (6, 6, 12) and set(kinds) <= {"commit", "send", "act", "retry"}
 
 
 # Two threads want of an atom what it has but once, and then move between two refs; two more may follow them, but not both.

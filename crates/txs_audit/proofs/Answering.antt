@@ -1,13 +1,12 @@
 -- The verdict, by the first test that finds something.
-use Rattle.std.proofs.Common.{◌≡◌, ◌≤◌, ◌<◌, ℕ, suc, ◌+◌, Bool, true, false, List, [], ◌∷◌, ◌++◌, length, refl, sym, ap, ◌∙◌, subst, arith}
-use Rattle.std.specs.Prelude.{map}
+use Rattle.std.proofs.Common.{◌≡◌, ◌≤◌, ◌<◌, ℕ, suc, ◌+◌, ◌&&◌, Bool, true, false, List, [], ◌∷◌, ◌++◌, length, refl, sym, ap, ◌∙◌, subst, arith}
 use Rattle.std.proofs.lemmas.Bool.{false≢true}
+use Rattle.txs_value_cell.specs.Agents.{agents_from}
 use Rattle.txs_tree_meaning.specs.Tree.{PlainProgram}
 use Rattle.txs_world_protocol.specs.declared.event.Event.{Event}
 use Rattle.txs_theorem_audit.specs.Audited as audited
 use Rattle.txs_theorem_audit.specs.Audited.{PlainActorReport, PlainReport, books_of, Finding, Fine, Off, Short, and_then, check, answer}
-use Rattle.txs_theorem_audit.specs.Pieces.{PiecesAreAll, pieces_of}
-use Rattle.txs_theorem_audit.specs.Verdict.{agents_found, are_serial, atoms_found, atoms_from, fits_sizes, store_found, threads_found, trace_found, traces_found, verdict}
+use Rattle.txs_theorem_audit.specs.Verdict.{agents_found, agents_serial, are_serial, atoms_found, atoms_from, fits_sizes, store_found, threads_found, trace_found, traces_found, verdict}
 use Rattle.txs_audit_piece.specs.Judged.{is_fine}
 
 three : (f g h : Finding) → and_then (and_then f g) h ≡ and_then f (and_then g h)
@@ -33,10 +32,10 @@ module _ (p : PlainProgram) (r : PlainReport) (n : ℕ) where
   atoms = atoms_found p r (atoms_from 0 p.cells)
 
   abbrev pieces : Finding
-  pieces = and_then (threads_found p r n 0 p.threads r.threads) (agents_found p r n (length p.threads) r.agents)
+  pieces = and_then (threads_found p r n 0 p.threads r.threads) (agents_found p r n (length p.threads) (agents_from 0 p.cells) r.agents)
 
   abbrev serial : Bool
-  serial = are_serial p r n p.threads r.threads
+  serial = are_serial p r n p.threads r.threads && agents_serial p r n (agents_from 0 p.cells) r.agents
 
   -- the sizes are wrong
   pub by_sizes : fits_sizes p r ≡ false → audited.Differs 0 0 ≡ verdict p r n

@@ -1,6 +1,6 @@
 -- What is sought of pieces, put together.
 use Rattle.std.proofs.Common.{◌≡◌, ℕ, ◌&&◌, Bool, true, false, List, [], ◌∷◌, ◌++◌, take, drop, Result, refl, sym, ap, ◌∙◌, subst, arith}
-use Rattle.std.specs.Prelude.{map, length, Ok, Err, IfOk, OnOk}
+use Rattle.std.specs.Prelude.{length, Ok, Err, IfOk, OnOk}
 use Rattle.std.proofs.lemmas.List.{map-append, take-append-drop}
 use Rattle.core.specs.declared.thread.PromisedHandle.{PromisedHandle}
 use Rattle.txs_tree_meaning.specs.View.{program_of}

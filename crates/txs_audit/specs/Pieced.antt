@@ -1,9 +1,11 @@
 -- Pieces as an audit's definition has them, and what is sought of them.
-use Rattle.std.specs.Prelude.{◌≡◌, ℕ, Bool, true, ◌&&◌, List, [], ◌∷◌, ◌++◌, map}
+use Rattle.std.specs.Prelude.{◌≡◌, ℕ, Bool, true, ◌&&◌, List, ◌++◌, drop, map}
 use Rattle.txs_tree_meaning.specs.View.{program_of}
-use Rattle.txs_theorem_audit.specs.Audited.{PlainActorReport, Finding, Fine, and_then}
+use Rattle.txs_theorem_audit.specs.Audited.{Finding, Fine, and_then}
 use Rattle.txs_theorem_audit.specs.Pieces as plain
-use Rattle.txs_theorem_audit.specs.Pieces.{pieces_finding, pieces_serial}
+use Rattle.txs_world_protocol.specs.declared.event.Event.{Event}
+use Rattle.txs_theorem_runs.specs.Told.{Place}
+use Rattle.txs_theorem_audit.specs.Pieces.{act_pieces, pieces_finding, pieces_serial}
 use Rattle.txs_audit_piece.specs.Judged.{as_found}
 use Rattle.txs_audit_evidence.specs.Evidence.{PlainBooks}
 use Rattle.txs_audit_evidence.specs.declared.transactions.Found.{Found}
@@ -13,16 +15,16 @@ use Rattle.txs_audit.specs.declared.pieces.Piece.TheVariants as piece
 -- a piece as the definition of an audit has it
 abbrev pub piece_as : Piece → plain.Piece
 piece_as (piece.Thread a) = plain.OfThread a
-piece_as (piece.Act i j) = plain.OfAct i j
-piece_as (piece.End i) = plain.OfEnd i
+piece_as (piece.Act i from at) = plain.OfAct i from at
+piece_as (piece.End i from) = plain.OfEnd i from
 
 -- the same of several
 abbrev pub pieces_as : List Piece → List plain.Piece
 pieces_as xs = map piece_as xs
 
--- the pieces of the agent with this number
-abbrev pub agent_piece : ℕ → PlainActorReport → List plain.Piece
-agent_piece i ran = plain.act_pieces i 0 ran.trace ++ plain.OfEnd i ∷ []
+-- these pieces, and those of an agent's trace from the k-th entry on, where an action began at the i-th
+abbrev pub acts_left : (ℕ → List Event) → List plain.Piece → ℕ → ℕ → ℕ → List Place → List plain.Piece
+acts_left books ps a i k trace = ps ++ act_pieces books a i k (drop k trace)
 
 -- what an audit finds, and if that is nothing, whether each commit is covered
 pub record Sought : Type 0 where

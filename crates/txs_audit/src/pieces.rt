@@ -1,9 +1,11 @@
-//! The pieces of an audit: each thread, each entry of an agent's trace, and the end of each agent.
+//! The pieces of an audit: each thread, each action of an agent that is over, and the end of each agent.
 
-ghost use Rattle.std.specs.Prelude.{◌≡◌, ◌≤◌, ◌<◌, ◌&&◌, ◌++◌, length, map, IfOk, OnOk};
-ghost use Rattle.txs_theorem_audit.specs.Audited.{place_of, ran_as};
+ghost use Rattle.std.specs.Prelude.{◌≡◌, ◌≤◌, ◌<◌, ◌+◌, ◌&&◌, ◌++◌, length, map, IfOk, OnOk, Some};
+ghost use Rattle.txs_theorem_audit.specs.Audited.{books_of, place_of, ran_as};
+ghost use Rattle.txs_theorem_serial.specs.Whole.{is_act};
+ghost use Rattle.txs_value_base.specs.Places.{nth};
 ghost use Rattle.txs_theorem_audit.specs.Pieces.{act_pieces, agent_pieces, pieces_of, thread_pieces};
-ghost use Rattle.txs_audit.specs.Pieced.{IsFound, agent_piece, piece_as, pieces_as, sought_of, sought_of_one};
+ghost use Rattle.txs_audit.specs.Pieced.{IsFound, acts_left, piece_as, pieces_as, sought_of, sought_of_one};
 
 use std::alloc::{AllocError, Global};
 use txs_audit_evidence::Books;
@@ -11,17 +13,17 @@ use txs_audit_evidence::acts::{act_found, agent_end};
 use txs_audit_evidence::threads::thread_found;
 use txs_audit_evidence::transactions::Found;
 use txs_audit_piece::Finding;
-use txs_world_protocol::{ActorReport, Place};
+use txs_world_protocol::{ActorReport, EventKind, Place};
 
 /// A piece.
 #[derive(Clone, Copy)]
 pub enum Piece {
     /// The thread with this number.
     Thread(u16),
-    /// Of the agent with this number among the agents the entry of its trace at this index.
-    Act(u16, usize),
-    /// The end of the agent with this number among the agents.
-    End(u16),
+    /// Of the agent with this number among the agents an action that is over: the index of the first of its events, and that of its act.
+    Act(u16, usize, usize),
+    /// The end of the agent with this number among the agents, and the index behind its last act.
+    End(u16, usize),
 }
 
 /// The threads with these entries join the pieces.
@@ -35,32 +37,69 @@ fn add_threads(pieces: &mut Vec<Piece>, threads: &[ActorReport]) -> Result<(), A
     Ok(())
 }
 
-/// The entries of this agent's trace join the pieces.
-fn add_acts(pieces: &mut Vec<Piece>, agent: u16, trace: &[Place]) -> Result<(), AllocError>
-    ensures { OnOk result (pieces_as pieces.new.items ≡ pieces_as pieces.old.items ++ act_pieces agent 0 (map place_of trace.now)) }
+/// Whether an entry names an act.
+fn is_act(books: &Books<'_>, place: Place) -> bool
+    ensures { result ≡ is_act (nth (books_of books.now.report place.book) place.at) }
 {
-    for j in 0..trace.len() {
-        pieces.push(Piece::Act(agent, j))?;
+    match books.event_at(place) {
+        Some(event) => match event.kind {
+            EventKind::Act { .. } => true,
+            _ => false,
+        },
+        None => false,
     }
-    Ok(())
 }
 
-/// The pieces of an agent with this entry join the pieces.
-fn add_agent(pieces: &mut Vec<Piece>, agent: u16, ran: &ActorReport) -> Result<(), AllocError>
-    ensures { OnOk result (pieces_as pieces.new.items ≡ pieces_as pieces.old.items ++ agent_piece agent (ran_as ran.now)) }
+/// The action that is over with this entry, which is at this index of a trace, joins the pieces, where the entry names an act. The answer is
+/// the index at which what comes behind begins.
+fn add_act(
+    pieces: &mut Vec<Piece>,
+    books: &Books<'_>,
+    agent: u16,
+    from: usize,
+    at: usize,
+    place: Place,
+    trace: &[Place],
+) -> Result<usize, AllocError>
+    requires { nth (map place_of trace.now) at ≡ Some (place_of place) }
+    ensures { IfOk result (λ next. acts_left (books_of books.now.report) (pieces_as pieces.new.items) agent next (at + 1) (map place_of trace.now) ≡ acts_left (books_of books.now.report) (pieces_as pieces.old.items) agent from at (map place_of trace.now)) }
 {
-    add_acts(pieces, agent, ran.trace.as_slice())?;
-    pieces.push(Piece::End(agent))?;
+    if !is_act(books, place) {
+        return Ok(from);
+    }
+    pieces.push(Piece::Act(agent, from, at))?;
+    Ok(at + 1)
+}
+
+/// The pieces of an agent with this entry join the pieces: each action that is over, and the end.
+fn add_agent(
+    pieces: &mut Vec<Piece>,
+    books: &Books<'_>,
+    agent: u16,
+    ran: &ActorReport,
+) -> Result<(), AllocError>
+    ensures { OnOk result (pieces_as pieces.new.items ≡ pieces_as pieces.old.items ++ act_pieces (books_of books.now.report) agent 0 0 (map place_of ran.now.trace.items)) }
+{
+    let trace = ran.trace.as_slice();
+    let mut from = 0;
+    for (at, place) in trace.iter().enumerate() {
+        from = add_act(pieces, books, agent, from, at, *place, trace)?;
+    }
+    pieces.push(Piece::End(agent, from))?;
     Ok(())
 }
 
 /// The pieces of the agents with these entries join the pieces.
-fn add_agents(pieces: &mut Vec<Piece>, agents: &[ActorReport]) -> Result<(), AllocError>
+fn add_agents(
+    pieces: &mut Vec<Piece>,
+    books: &Books<'_>,
+    agents: &[ActorReport],
+) -> Result<(), AllocError>
     requires { length agents.now ≤ 65535 }
-    ensures { OnOk result (pieces_as pieces.new.items ≡ pieces_as pieces.old.items ++ agent_pieces 0 (map ran_as agents.now)) }
+    ensures { OnOk result (pieces_as pieces.new.items ≡ pieces_as pieces.old.items ++ agent_pieces (books_of books.now.report) 0 (map ran_as agents.now)) }
 {
     for i in 0..agents.len() {
-        add_agent(pieces, i as u16, &agents[i])?;
+        add_agent(pieces, books, i as u16, &agents[i])?;
     }
     Ok(())
 }
@@ -74,7 +113,7 @@ pub fn pieces_of(alloc: Global, books: &Books<'_>) -> Result<Vec<Piece>, AllocEr
     let report = books.report();
     let mut pieces = Vec::new(alloc);
     add_threads(&mut pieces, report.threads.as_slice())?;
-    add_agents(&mut pieces, report.agents.as_slice())?;
+    add_agents(&mut pieces, books, report.agents.as_slice())?;
     Ok(pieces)
 }
 
@@ -87,15 +126,11 @@ pub fn piece_found(
 ) -> Result<Found, AllocError>
     ensures { IfOk result (IsFound (sought_of_one books.now turns (piece_as piece.now))) }
 {
-    let finding = match *piece {
-        Piece::Thread(thread) => return thread_found(alloc, books, thread, turns),
-        Piece::Act(agent, index) => act_found(alloc, books, agent, index, turns)?,
-        Piece::End(agent) => agent_end(books, agent),
-    };
-    Ok(Found {
-        finding,
-        serial: true,
-    })
+    match *piece {
+        Piece::Thread(thread) => thread_found(alloc, books, thread, turns),
+        Piece::Act(agent, from, at) => act_found(alloc, books, agent, from, at, turns),
+        Piece::End(agent, from) => agent_end(alloc, books, agent, from, turns),
+    }
 }
 
 /// Whether both are so. A call, so that no branch joins in a loop.

@@ -12,6 +12,12 @@ plain_at [] i d lt = absurd (omega (arith, lt))
 plain_at (x ∷ bs) zero d lt = refl
 plain_at (x ∷ bs) (suc i) d lt = plain_at bs i d (omega (arith, lt))
 
+-- there are as many as before
+pub set_many : (bs : List Inbox) (i : ℕ) (new : Inbox) → length (set bs i new) ≡ length bs
+set_many [] i new = refl
+set_many (b ∷ bs) zero new = refl
+set_many (b ∷ bs) (suc i) new = ap suc (set_many bs i new)
+
 -- an inbox that was read
 pub old_plain : (bs : List Inbox) (i n : ℕ) (old : Inbox) → old ≡ get_or bs i old → i ≡ n → n < length bs → plain_inbox old ≡ get_or (plain_inboxes bs) n no_inbox
 old_plain bs i n old at is lt = ap plain_inbox (subst (λ k. old ≡ get_or bs k old) is at) ∙ sym (plain_at bs n old lt)

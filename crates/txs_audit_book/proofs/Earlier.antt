@@ -15,7 +15,7 @@ use Rattle.txs_world_protocol.specs.declared.event.EventKind.{EventKind}
 use Rattle.txs_world_protocol.specs.declared.event.EventKind.TheVariants.{Read, Commit, Retry, Fail, Refused, Send, SendRefused, Act, Swap, Broke}
 use Rattle.txs_audit_book.specs.Gone.{PlainInbox, IsInbox, IsPast, Queued, no_inbox}
 use Rattle.txs_theorem_audit.specs.Verdict.{is_legal_kind}
-use Rattle.txs_audit_book.specs.Moves.{acted_in, inbox_changed}
+use Rattle.txs_audit_book.specs.Moves.{acted_in, entered, inbox_changed}
 use Rattle.txs_audit_book.proofs.Mailing.{act_stands, equal, inbox_more}
 
 -- more is sent, and what was sent stays
@@ -31,6 +31,9 @@ acted_grows goes n (Ok v) b = record { more = []; sent = sym (append-nil b.sent)
 acted_grows true n (Err f) b = record { more = []; sent = sym (append-nil b.sent) }
 acted_grows false n (Err f) b = record { more = []; sent = sym (append-nil b.sent) }
 
+entered_grows : (b c : PlainInbox) (xs : List Action) → Grows b c → Grows b (entered xs c)
+entered_grows b c xs g = record { more = g.more ++ xs; sent = ap (λ l. l ++ xs) g.sent ∙ append_assoc b.sent g.more xs }
+
 grows : (goes : Bool) (k n : ℕ) (d : EventKind) (b : PlainInbox) → Grows b (inbox_changed goes k n d b)
 grows goes k n (Read c) b = same_grows b
 grows goes k n (Commit at view ws sends) b = record { more = sent_to k sends; sent = refl }
@@ -39,7 +42,7 @@ grows goes k n (Fail at view) b = same_grows b
 grows goes k n (Refused at view g) b = same_grows b
 grows goes k n (Send x) b = record { more = sent_to k (x ∷ []); sent = refl }
 grows goes k n (SendRefused g) b = same_grows b
-grows goes k n (Act g number new sends) b = go (g.number == k)
+grows goes k n (Act g number new sends) b = entered_grows b (if g.number == k then acted_in goes n new b else b) (sent_to k sends) (go (g.number == k))
   where
     go : (t : Bool) → Grows b (if t then acted_in goes n new b else b)
     go true = acted_grows goes n new b
@@ -70,6 +73,10 @@ acted_keeps goes n (Ok v) b e = kept refl refl
 acted_keeps true n (Err f) b e = kept refl refl
 acted_keeps false n (Err f) b e = got e refl
 
+entered_keeps : (n : ℕ) (b c : PlainInbox) (xs : List Action) → Keeps n b c → Keeps n b (entered xs c)
+entered_keeps n b c xs (kept f g) = kept f g
+entered_keeps n b c xs (got f g) = got f g
+
 keeps : (cells : List StoreCell) (done : List Event) (a k n : ℕ) (d : EventKind) (b : PlainInbox) → is_legal_kind cells done a d ≡ true → IsInbox (mail_after cells done k) b → Keeps n b (inbox_changed (goes_on (nth cells k)) k n d b)
 keeps cells done a k n (Read c) b l h = kept refl refl
 keeps cells done a k n (Commit at view ws sends) b l h = kept refl refl
@@ -78,7 +85,7 @@ keeps cells done a k n (Fail at view) b l h = kept refl refl
 keeps cells done a k n (Refused at view g) b l h = kept refl refl
 keeps cells done a k n (Send x) b l h = kept refl refl
 keeps cells done a k n (SendRefused g) b l h = kept refl refl
-keeps cells done a k n (Act g number new sends) b l h = go (g.number == k) refl
+keeps cells done a k n (Act g number new sends) b l h = entered_keeps n b (if g.number == k then acted_in (goes_on (nth cells k)) n new b else b) (sent_to k sends) (go (g.number == k) refl)
   where
     go : (t : Bool) → (g.number == k) ≡ t → Keeps n b (if t then acted_in (goes_on (nth cells k)) n new b else b)
     go true e =

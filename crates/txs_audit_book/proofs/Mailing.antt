@@ -8,7 +8,7 @@ use Rattle.txs_value_base.specs.declared.fault.Fault.{Fault}
 use Rattle.txs_value_cell.specs.declared.action.Action.{Action}
 use Rattle.txs_value_data.specs.declared.value.CellId.{CellId}
 use Rattle.txs_value_data.specs.declared.value.Value.{Value}
-use Rattle.txs_world_book.specs.Book.{Mail, acted, goes_on, has_agent, is_empty, is_failed, mail_after, mail_changed, mailed, sent_to, waits}
+use Rattle.txs_world_book.specs.Book.{Mail, acted, are_sends, first_failed, goes_on, has_agent, is_failed, is_there, may_send, mail_after, mail_changed, mailed, sent_to, waits}
 use Rattle.txs_world_book.specs.declared.cell.StoreCell.{StoreCell}
 use Rattle.txs_world_book.proofs.Outcomes.{both}
 use Rattle.txs_world_protocol.specs.declared.event.Event.{Event}
@@ -58,16 +58,12 @@ inbox_acted goes n (Ok v) m b w h = record { fault = h.fault; acts = ap suc h.ac
 inbox_acted true n (Err f) m b w h = record { fault = h.fault; acts = ap suc h.acts; queue = shorter m b h; enough = (let l = acts_left m b h w in omega (arith, l)) }
 inbox_acted false n (Err f) m b w h = record { fault = refl; acts = ap suc h.acts; queue = shorter m b h; enough = (let l = acts_left m b h w in omega (arith, l)) }
 
-unmailed : (xs : List Action) (k : ℕ) (m : Mail) → is_empty xs ≡ true → mailed (sent_to k xs) m ≡ m
-unmailed [] k m e = ap (λ l. record m { actions = l }) (append-nil m.actions)
-unmailed (x ∷ xs) k m e = absurd (false≢true e)
-
 -- what a legal action tells
 pub record ActStands (cells : List StoreCell) (done : List Event) (g : CellId) (number : ℕ) (sends : List Action) : Type 0 where
   pub has : has_agent cells g ≡ true
   pub runs : is_failed cells done g ≡ false
   pub waits_there : waits (mail_after cells done g.number).actions ≡ true
-  pub none : is_empty sends ≡ true
+  pub theirs : are_sends cells sends ≡ true
 
 not_true : (b : Bool) → not b ≡ true → b ≡ false
 not_true true e = absurd (false≢true e)
@@ -76,11 +72,13 @@ not_true false e = refl
 pub act_stands : (cells : List StoreCell) (done : List Event) (a : ℕ) (g : CellId) (number : ℕ) (new : Result Value Fault) (sends : List Action) → is_legal_kind cells done a (Act g number new sends) ≡ true → ActStands cells done g number sends
 act_stands cells done a g number new sends h =
     let m = mail_after cells done g.number in
-    let p = both (has_agent cells g) (not (is_failed cells done g) && (waits m.actions && ((number == suc m.acts) && is_empty sends))) h in
-    let q = both (not (is_failed cells done g)) (waits m.actions && ((number == suc m.acts) && is_empty sends)) p.1 in
-    let r = both (waits m.actions) ((number == suc m.acts) && is_empty sends) q.1 in
-    let s = both (number == suc m.acts) (is_empty sends) r.1 in
-    record { has = p.0; runs = not_true (is_failed cells done g) q.0; waits_there = r.0; none = s.1 }
+    let last = not (is_there (first_failed cells done sends)) in
+    let p = both (has_agent cells g) (not (is_failed cells done g) && (waits m.actions && ((number == suc m.acts) && (may_send new sends && (are_sends cells sends && last))))) h in
+    let q = both (not (is_failed cells done g)) (waits m.actions && ((number == suc m.acts) && (may_send new sends && (are_sends cells sends && last)))) p.1 in
+    let r = both (waits m.actions) ((number == suc m.acts) && (may_send new sends && (are_sends cells sends && last))) q.1 in
+    let s = both (number == suc m.acts) (may_send new sends && (are_sends cells sends && last)) r.1 in
+    let t = both (may_send new sends) (are_sends cells sends && last) s.1 in
+    record { has = p.0; runs = not_true (is_failed cells done g) q.0; waits_there = r.0; theirs = (both (are_sends cells sends) last t.1).0 }
 
 -- an inbox after an event that may stand behind those that were gone through
 pub inbox_more : (cells : List StoreCell) (done : List Event) (a k n : ℕ) (d : EventKind) (b : PlainInbox) → is_legal_kind cells done a d ≡ true → IsInbox (mail_after cells done k) b → IsInbox (mail_changed (goes_on (nth cells k)) k d (mail_after cells done k)) (inbox_changed (goes_on (nth cells k)) k n d b)
@@ -92,7 +90,7 @@ inbox_more cells done a k n (Refused at view g) b l h = h
 inbox_more cells done a k n (Send x) b l h = inbox_entered (mail_after cells done k) b (sent_to k (x ∷ [])) h
 inbox_more cells done a k n (SendRefused g) b l h = h
 inbox_more cells done a k n (Act g number new sends) b l h =
-    subst (λ m. IsInbox m (inbox_changed goes k n (Act g number new sends) b)) (sym (unmailed sends k (if g.number == k then acted goes new (mail_after cells done k) else mail_after cells done k) stands.none)) (go (g.number == k) refl)
+    inbox_entered (if g.number == k then acted goes new (mail_after cells done k) else mail_after cells done k) (if g.number == k then acted_in goes n new b else b) (sent_to k sends) (go (g.number == k) refl)
   where
     goes : Bool
     goes = goes_on (nth cells k)
@@ -146,7 +144,8 @@ put_many cells n (Fail at view) bs = refl
 put_many cells n (Refused at view g) bs = refl
 put_many cells n (Send x) bs = entered_many bs (x ∷ [])
 put_many cells n (SendRefused g) bs = refl
-put_many cells n (Act g number new sends) bs = length-set bs g.number (acted_in (goes_on (nth cells g.number)) n new (get_or bs g.number no_inbox))
+put_many cells n (Act g number new sends) bs =
+    entered_many (set bs g.number (acted_in (goes_on (nth cells g.number)) n new (get_or bs g.number no_inbox))) sends ∙ length-set bs g.number (acted_in (goes_on (nth cells g.number)) n new (get_or bs g.number no_inbox))
 put_many cells n (Swap new) bs = refl
 put_many cells n (Broke at) bs = refl
 
@@ -158,7 +157,8 @@ put_moves cells n (Fail at view) bs k lt = refl
 put_moves cells n (Refused at view g) bs k lt = refl
 put_moves cells n (Send x) bs k lt = entered_at bs (x ∷ []) k lt
 put_moves cells n (SendRefused g) bs k lt = refl
-put_moves cells n (Act g number new sends) bs k lt = go (g.number == k) refl
+put_moves cells n (Act g number new sends) bs k lt =
+    entered_at (set bs g.number over) sends k (subst (λ i. k < i) (sym (length-set bs g.number over)) lt) ∙ ap (entered (sent_to k sends)) (go (g.number == k) refl)
   where
     over : PlainInbox
     over = acted_in (goes_on (nth cells g.number)) n new (get_or bs g.number no_inbox)

@@ -112,7 +112,7 @@ may_put cells histories bs views tries done a (Act agent number new sends) g h =
     let lt = agent_in cells agent s.has in
     let many = g.as_many in
     let there : agent.number < length bs = omega (arith, lt, many) in
-    (lt, there, acts_left (mail_after cells done agent.number) (get_or bs agent.number no_inbox) (g.mail agent.number there) s.waits_there)
+    (lt, there, acts_left (mail_after cells done agent.number) (get_or bs agent.number no_inbox) (g.mail agent.number there) s.waits_there, sends_below cells (length bs) sends many s.theirs)
 may_put cells histories bs views tries done a (Swap new) g h = tt
 may_put cells histories bs views tries done a (Broke at) g h = tt
 

@@ -74,7 +74,8 @@ inbox_changed goes k n (Fail at view) b = b
 inbox_changed goes k n (Refused at view g) b = b
 inbox_changed goes k n (Send x) b = entered (sent_to k (x ∷ [])) b
 inbox_changed goes k n (SendRefused g) b = b
-inbox_changed goes k n (Act g number new sends) b = if g.number == k then acted_in goes n new b else b
+-- what an action sends enters once its end is set
+inbox_changed goes k n (Act g number new sends) b = entered (sent_to k sends) (if g.number == k then acted_in goes n new b else b)
 inbox_changed goes k n (Swap new) b = b
 inbox_changed goes k n (Broke at) b = b
 
@@ -92,7 +93,7 @@ mail_put cells n (Fail at view) bs = bs
 mail_put cells n (Refused at view g) bs = bs
 mail_put cells n (Send x) bs = entered_all bs (x ∷ [])
 mail_put cells n (SendRefused g) bs = bs
-mail_put cells n (Act g number new sends) bs = set bs g.number (acted_in (goes_on (nth cells g.number)) n new (get_or bs g.number no_inbox))
+mail_put cells n (Act g number new sends) bs = entered_all (set bs g.number (acted_in (goes_on (nth cells g.number)) n new (get_or bs g.number no_inbox))) sends
 mail_put cells n (Swap new) bs = bs
 mail_put cells n (Broke at) bs = bs
 
@@ -105,6 +106,7 @@ MayPut cells bs (Fail at view) = Unit {0}
 MayPut cells bs (Refused at view g) = Unit {0}
 MayPut cells bs (Send x) = all_sent_below (length bs) (x ∷ []) ≡ true
 MayPut cells bs (SendRefused g) = Unit {0}
-MayPut cells bs (Act g number new sends) = (g.number < length cells) × (g.number < length bs) × ((get_or bs g.number no_inbox).acts < length (get_or bs g.number no_inbox).sent)
+MayPut cells bs (Act g number new sends) =
+    (g.number < length cells) × (g.number < length bs) × ((get_or bs g.number no_inbox).acts < length (get_or bs g.number no_inbox).sent) × (all_sent_below (length bs) sends ≡ true)
 MayPut cells bs (Swap new) = Unit {0}
 MayPut cells bs (Broke at) = Unit {0}

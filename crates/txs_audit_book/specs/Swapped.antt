@@ -41,9 +41,9 @@ pub record GoneSwaps (h : List (ℕ × Value)) (views : List ℕ) (done : List E
 
 -- whether an event may stand behind these in an atom's book
 abbrev pub atom_test : CellId → ℕ → List Event → Event → Bool
-atom_test cell threads done e = nat_lt e.actor threads && is_legal_swap cell done e.actor e.kind
+atom_test cell actors done e = nat_lt e.actor actors && is_legal_swap cell done e.actor e.kind
 
 -- an atom's book was gone through, or up to an event that may not stand there
 abbrev pub WentAtom : CellId → ℕ → List Event → Gone (List (ℕ × Value)) → Type 0
-WentAtom cell threads book (Through h) = IsLegalBook (atom_test cell threads) book × SwapsAre h book
-WentAtom cell threads book (UpTo i) = IsOffAt (atom_test cell threads) book i
+WentAtom cell actors book (Through h) = IsLegalBook (atom_test cell actors) book × SwapsAre h book
+WentAtom cell actors book (UpTo i) = IsOffAt (atom_test cell actors) book i

@@ -43,11 +43,11 @@ fn is_legal_swap(views: &[u32], cell: CellId, done: &[Event], actor: u16, kind: 
 }
 
 /// Whether this event may stand behind these in the atom's book.
-fn is_legal(views: &[u32], cell: CellId, threads: u16, done: &[Event], event: &Event) -> bool
+fn is_legal(views: &[u32], cell: CellId, actors: usize, done: &[Event], event: &Event) -> bool
     requires { (a : ℕ) → StandsAt true done.now a (slice_index views.now a) }
-    ensures { result ≡ atom_test cell threads done.now event.now }
+    ensures { result ≡ atom_test cell actors done.now event.now }
 {
-    event.actor < threads && is_legal_swap(views, cell, done, event.actor, &event.kind)
+    usize::from(event.actor) < actors && is_legal_swap(views, cell, done, event.actor, &event.kind)
 }
 
 /// What an event, which is the last of so many, makes of the swaps.
@@ -75,17 +75,17 @@ fn put(swaps: &mut Swaps, done: &[Event], event: &Event) -> Result<(), AllocErro
     mark(&mut swaps.views, event.actor, events, true)
 }
 
-/// Goes through the book of an atom: the values that it was swapped to.
+/// Goes through the book of an atom, where there are so many actors: the values that it was swapped to.
 ///
 /// # Errors
 /// `AllocError` where there was no memory for them.
 pub fn go_through_atom(
     alloc: Global,
     cell: CellId,
-    threads: u16,
+    actors: usize,
     book: &[Event],
 ) -> Result<Gone<History>, AllocError>
-    ensures { IfOk result (λ g. WentAtom cell threads book.now g) }
+    ensures { IfOk result (λ g. WentAtom cell actors book.now g) }
 {
     let mut swaps = Swaps {
         swaps: History::new(alloc),
@@ -96,7 +96,7 @@ pub fn go_through_atom(
         if i >= MOST_EVENTS {
             return Ok(Gone::UpTo(i));
         }
-        if !is_legal(swaps.views.as_slice(), cell, threads, done, event) {
+        if !is_legal(swaps.views.as_slice(), cell, actors, done, event) {
             return Ok(Gone::UpTo(i));
         }
         put(&mut swaps, done, event)?;

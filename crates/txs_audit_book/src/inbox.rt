@@ -112,7 +112,8 @@ pub(crate) fn act_at(
 )
     requires place { number < length inboxes.old.items }
     requires waits { (get_or (plain_inboxes inboxes.old.items) number no_inbox).acts < length (get_or (plain_inboxes inboxes.old.items) number no_inbox).sent }
-    ensures { plain_inboxes inboxes.new.items ≡ set (plain_inboxes inboxes.old.items) number (acted_in goes_on events new.now (get_or (plain_inboxes inboxes.old.items) number no_inbox)) }
+    ensures many { length inboxes.new.items ≡ length inboxes.old.items }
+    ensures acted { plain_inboxes inboxes.new.items ≡ set (plain_inboxes inboxes.old.items) number (acted_in goes_on events new.now (get_or (plain_inboxes inboxes.old.items) number no_inbox)) }
 {
     let place = usize::from(number);
     let inbox = &mut inboxes[place];

@@ -1,8 +1,8 @@
 //! What is kept of the store's cells, and whether an event may stand behind those that were gone through.
 
-ghost use Rattle.std.specs.Prelude.{◌≡◌, ◌<◌, ◌&&◌, ◌==◌, ◌++◌, ◌∷◌, [], not, suc, length, false, true, IfOk, OnOk};
+ghost use Rattle.std.specs.Prelude.{◌≡◌, ◌<◌, ◌&&◌, ◌==◌, ◌++◌, ◌∷◌, [], nat_lt, not, suc, length, false, true, IfOk, OnOk};
 ghost use Rattle.txs_value_data.specs.Limits.{most_events};
-ghost use Rattle.txs_world_book.specs.Book.{actor_of, makes, may_name, may_end, has_ref, has_agent, are_sends, are_refs, cells_in, first_failed, is_failed, is_there, is_empty, mail_after, waits, written};
+ghost use Rattle.txs_world_book.specs.Book.{actor_of, actors, makes, may_name, may_end, may_send, has_ref, has_agent, are_sends, are_refs, cells_in, first_failed, is_failed, is_there, mail_after, waits, written};
 ghost use Rattle.txs_world_book.specs.Served.{cells_of, event_of};
 ghost use Rattle.txs_world_protocol.specs.declared.event.EventKind.TheVariants as event;
 ghost use Rattle.txs_audit_book.specs.Gone.{GoneParts, plain_inboxes};
@@ -15,10 +15,11 @@ use crate::stands::{is_no_redo, mark};
 use crate::values::{open_histories, put_values};
 use std::alloc::{AllocError, Global};
 use txs_tree_eval_transaction::History;
+use txs_value_base::Fault;
 use txs_value_cell::{Action, CellDefinition};
 use txs_value_data::{CellId, Listed, Value};
 use txs_world_book::{
-    Cells, StoreCell, are_sends, are_written, has_agent, has_readable, has_ref, stand_of,
+    Cells, StoreCell, are_sends, are_written, has_agent, has_readable, has_ref, may_send, stand_of,
 };
 use txs_world_protocol::{Event, EventKind};
 
@@ -66,13 +67,27 @@ impl Parts {
         usize::from(actor) == usize::from(self.threads) + agents
     }
 
-    /// Whether the actor makes such events: a thread all but actions, an agent's actor those of its agent.
+    /// Whether there is such an actor: a thread or an agent.
+    fn is_actor(&self, actor: u16) -> bool
+        ensures { result ≡ nat_lt actor (actors self.now.threads self.now.cells) }
+    {
+        usize::from(actor) < self.cells.actors(self.threads)
+    }
+
+    /// Whether the actor makes such events: a thread all but actions; an agent's actor those of its agent, and all others but sends
+    /// and refused transactions, where its commits send nothing.
     fn makes(&self, actor: u16, kind: &EventKind) -> bool
         ensures { result ≡ makes self.now.cells self.now.threads actor kind.now }
     {
         match kind {
             EventKind::Act { agent, .. } => self.is_actor_of(actor, *agent),
-            _ => actor < self.threads,
+            EventKind::Commit { sends, .. } => {
+                self.cells.may_commit(self.threads, actor, sends.as_slice())
+            }
+            EventKind::Send { .. } | EventKind::SendRefused { .. } | EventKind::Refused { .. } => {
+                actor < self.threads
+            }
+            _ => self.is_actor(actor),
         }
     }
 
@@ -181,10 +196,31 @@ impl Parts {
         inbox.acts < inbox.sent.len() && number as usize == inbox.acts + 1
     }
 
-    /// Whether an action may stand here.
-    fn may_act(&self, done: &[Event], agent: CellId, number: u32, sends: &Listed<Action>) -> bool
+    /// Whether the end of an action may send these: one that faults sends nothing, and no agent of theirs has failed.
+    fn may_send(&self, done: &[Event], new: &Result<Value, Fault>, sends: &[Action]) -> bool
         requires { GoneParts self.now done.now }
-        ensures { result ≡ (has_agent self.now.cells agent && (not (is_failed self.now.cells done.now agent) && (waits (mail_after self.now.cells done.now agent.number).actions && (number == suc (mail_after self.now.cells done.now agent.number).acts && is_empty sends.now)))) }
+        ensures { result ≡ (may_send new.now sends.now && (are_sends self.now.cells sends.now && not (is_there (first_failed self.now.cells done.now sends.now)))) }
+    {
+        if !may_send(new, sends) {
+            return false;
+        }
+        if !are_sends(self.cells.as_slice(), sends) {
+            return false;
+        }
+        self.none_failed(done, sends)
+    }
+
+    /// Whether the end of an action may stand here.
+    fn may_act(
+        &self,
+        done: &[Event],
+        agent: CellId,
+        number: u32,
+        new: &Result<Value, Fault>,
+        sends: &Listed<Action>,
+    ) -> bool
+        requires { GoneParts self.now done.now }
+        ensures { result ≡ (has_agent self.now.cells agent && (not (is_failed self.now.cells done.now agent) && (waits (mail_after self.now.cells done.now agent.number).actions && (number == suc (mail_after self.now.cells done.now agent.number).acts && (may_send new.now sends.now && (are_sends self.now.cells sends.now && not (is_there (first_failed self.now.cells done.now sends.now)))))))) }
     {
         if !has_agent(self.cells.as_slice(), agent) {
             return false;
@@ -192,7 +228,7 @@ impl Parts {
         if self.is_failed(done, agent) || !self.is_next(done, agent, number) {
             return false;
         }
-        sends.as_slice().is_empty()
+        self.may_send(done, new, sends.as_slice())
     }
 
     /// Whether the actor may have done this behind these events.
@@ -229,9 +265,9 @@ impl Parts {
             EventKind::Act {
                 agent,
                 number,
-                new: _,
+                new,
                 sends,
-            } => self.may_act(done, *agent, *number, sends),
+            } => self.may_act(done, *agent, *number, new, sends),
             EventKind::Swap { .. } | EventKind::Broke { .. } => false,
         }
     }
@@ -259,10 +295,15 @@ fn put_mail(
     match kind {
         EventKind::Commit { sends, .. } => send_all(alloc, inboxes, sends.as_slice()),
         EventKind::Send { action } => send_one(alloc, inboxes, action),
-        EventKind::Act { agent, new, .. } => {
+        EventKind::Act {
+            agent,
+            new,
+            sends,
+            ..
+        } => {
             let goes_on = cells[usize::from(agent.number)].goes_on;
             act_at(inboxes, agent.number, goes_on, new, events);
-            Ok(())
+            send_all(alloc, inboxes, sends.as_slice())
         }
         _ => Ok(()),
     }

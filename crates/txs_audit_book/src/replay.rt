@@ -6,7 +6,8 @@ ghost use Rattle.txs_tree_eval_transaction.specs.Views.{held};
 ghost use Rattle.txs_audit_book.specs.Replayed.{WentThrough, WorldsAre, IsRun, newest_there, failure_there, value_there, mail_there};
 ghost use Rattle.txs_audit_book.specs.Gone.{index_in};
 ghost use Rattle.txs_tree_eval_transaction.specs.Pasts.{entry_at};
-ghost use Rattle.txs_world_book.specs.Book.{is_there, written};
+ghost use Rattle.txs_value_base.specs.Places.{nth};
+ghost use Rattle.txs_world_book.specs.Book.{is_there, mail_after, written};
 
 use crate::parts::{Parts, open_parts, put};
 use std::alloc::{AllocError, Global};
@@ -126,6 +127,15 @@ impl<'a> Replay<'a> {
             return false;
         }
         inbox.failed <= events
+    }
+
+    /// The first action that waits for the agent with this number.
+    pub fn next(&self, number: u16) -> Option<&Action>
+        requires { number < length self.now.cells }
+        ensures { option_copied result ≡ nth (mail_after self.now.cells self.now.book number).actions 0 }
+    {
+        let inbox = &self.parts.inboxes[usize::from(number)];
+        inbox.sent.get(inbox.acts)
     }
 
     /// The action that the agent with this number ran as its so many-th, counted from 1.

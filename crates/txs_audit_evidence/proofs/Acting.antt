@@ -1,22 +1,20 @@
--- An event of an agent in legal books: the action and the state that it ran on.
-use Rattle.std.proofs.Common.{◌≡◌, ℕ, zero, suc, ◌+◌, ◌≤◌, ◌<◌, ◌==◌, ◌&&◌, Bool, true, false, List, [], ◌∷◌, ◌++◌, length, take, Option, Some, None, Result, refl, sym, ap, ◌∙◌, subst, arith, if◌then◌else◌, Fits, w16}
+-- An act of an agent in legal books: the action and the state that it ran on.
+use Rattle.std.proofs.Common.{◌≡◌, ℕ, zero, suc, ◌+◌, ◌<◌, ◌==◌, ◌&&◌, Bool, true, false, List, [], ◌∷◌, ◌++◌, length, take, Option, Some, None, Result, refl, sym, ap, ◌∙◌, subst, arith, if◌then◌else◌, Fits, w16}
 use Rattle.std.specs.Prelude.{not, nat_lt}
 use Rattle.std.proofs.lemmas.Bool.{eqb-true, false≢true, lt-ltb}
 use Rattle.std.proofs.lemmas.List.{append-nil}
 use Rattle.txs_value_base.specs.Places.{nth}
 use Rattle.txs_value_base.specs.declared.fault.Fault.{Fault}
-use Rattle.txs_value_cell.specs.Agents.{agents_from, with_agent}
 use Rattle.txs_value_cell.specs.Cells.{World}
+use Rattle.txs_value_cell.specs.Forms.{same_kind}
 use Rattle.txs_value_cell.specs.declared.action.Action.{Action}
-use Rattle.txs_value_cell.specs.declared.cell.CellDefinition.{CellDefinition}
 use Rattle.txs_value_data.specs.Limits.{most_events}
 use Rattle.txs_value_data.specs.declared.value.CellId.{CellId}
 use Rattle.txs_value_data.specs.declared.value.CellKind.{CellKind}
-use Rattle.txs_value_data.specs.declared.value.CellKind.TheVariants.{Ref, Atom, Agent}
+use Rattle.txs_value_data.specs.declared.value.CellKind.TheVariants.{Agent}
 use Rattle.txs_value_data.specs.declared.value.Value.{Value}
-use Rattle.txs_value_cell.specs.Forms.{same_kind}
 use Rattle.txs_world.specs.Store.{first_action, next_action}
-use Rattle.txs_world_book.specs.Book.{after, changed, has_agent, is_of_kind, is_empty, is_failed, mail_after, makes, newest, opening, waits}
+use Rattle.txs_world_book.specs.Book.{actors, after, are_sends, changed, first_failed, has_agent, is_of_kind, is_failed, is_there, mail_after, makes, may_send, newest, opening, waits}
 use Rattle.txs_world_book.specs.Served.{cells_of}
 use Rattle.txs_world_book.specs.declared.cell.StoreCell.{StoreCell}
 use Rattle.txs_world_protocol.specs.declared.event.Event.{Event}
@@ -25,19 +23,23 @@ use Rattle.txs_world_protocol.specs.declared.event.EventKind.TheVariants.{Read, 
 use Rattle.txs_tree_meaning.proofs.Callable.{both}
 use Rattle.txs_tree_meaning.proofs.Soundness.{threads-length}
 use Rattle.txs_tree_meaning.specs.Sound.{Sound}
-use Rattle.txs_tree_meaning.specs.Tree.{PlainProgram}
 use Rattle.txs_tree_meaning.specs.declared.node.Thread.{Thread}
 use Rattle.txs_tree_meaning.specs.View.{Parts, program_of, threads_of}
+use Rattle.txs_theorem_runs.specs.Told.{Place}
+use Rattle.txs_theorem_serial.specs.Whole.{is_act, is_act_kind}
 use Rattle.txs_theorem_audit.proofs.Agreeing.{sized_of}
 use Rattle.txs_theorem_audit.proofs.Findings.{and_fine, check_fine, not_there, not_true}
 use Rattle.txs_theorem_audit.proofs.Listing.{there_is, within}
 use Rattle.txs_theorem_audit.specs.Audited.{Fine, books_of, book_or_none, check}
-use Rattle.txs_theorem_audit.specs.Verdict.{act_at, act_found, act_kind, atoms_from, book_found, is_legal_kind, is_legal_swap}
-use Rattle.txs_audit_book.specs.Replayed.{IsLegalBook, IsRun, plain_replay, value_there}
+use Rattle.txs_theorem_audit.specs.Verdict.{atoms_from, book_found, is_legal_kind, is_legal_swap}
+use Rattle.txs_audit_book.specs.Replayed.{IsLegalBook, IsRun, value_there}
 use Rattle.txs_audit_book.specs.Swapped.{atom_test}
 use Rattle.txs_audit_book.specs.Tests.{store_test}
-use Rattle.txs_audit_evidence.specs.Acted.{IsAct, IsActIf, acted}
+use Rattle.txs_audit_evidence.specs.Acted.{HasAct, IsAct, NamesAct}
 use Rattle.txs_audit_evidence.specs.Evidence.{AreLegal, PlainBooks, replay_in}
+use Rattle.txs_audit_evidence.specs.declared.acts.Act as act
+use Rattle.txs_audit_evidence.proofs.Looking.{cells_many}
+use Rattle.txs_audit_evidence.proofs.Numbering.{agents_few}
 
 -- ---- legal books
 
@@ -76,7 +78,7 @@ newest_at R [] (suc p) k = refl
 newest_at R (e ∷ es) zero k = refl
 newest_at R (e ∷ es) (suc p) k = newest_at (changed e.kind R) es p k
 
--- ---- an event of the store's book by which an agent ran an action
+-- ---- an act of the store's book
 
 -- what its legality says
 record MayAct (cells : List StoreCell) (done : List Event) (g : CellId) (n : ℕ) : Type 0 where
@@ -85,106 +87,83 @@ record MayAct (cells : List StoreCell) (done : List Event) (g : CellId) (n : ℕ
   waiting : waits (mail_after cells done g.number).actions ≡ true
   number : n ≡ suc (mail_after cells done g.number).acts
 
-may_act : (cells : List StoreCell) (done : List Event) (a : ℕ) (g : CellId) (n : ℕ) (new : Result Value Fault) (d : EventKind) → IsAct g n new d → is_legal_kind cells done a d ≡ true → MayAct cells done g n
-may_act cells done a g n new (Read c) is h = absurd is
-may_act cells done a g n new (Commit at view ws sends) is h = absurd is
-may_act cells done a g n new (Retry since c commute) is h = absurd is
-may_act cells done a g n new (Fail at view) is h = absurd is
-may_act cells done a g n new (Refused at view f) is h = absurd is
-may_act cells done a g n new (Send x) is h = absurd is
-may_act cells done a g n new (SendRefused f) is h = absurd is
-may_act cells done a g n new (Act f m r sends) is h =
-    let last = m == suc (mail_after cells done f.number).acts && is_empty sends in
-    let x = both (has_agent cells f) (not (is_failed cells done f) && (waits (mail_after cells done f.number).actions && last)) h in
-    let y = both (not (is_failed cells done f)) (waits (mail_after cells done f.number).actions && last) x.1 in
-    let z = both (waits (mail_after cells done f.number).actions) last y.1 in
-    let w = both (m == suc (mail_after cells done f.number).acts) (is_empty sends) z.1 in
-    let e : f ≡ g = is.0 in
-    record {
-      agent = subst (λ (c : CellId). has_agent cells c ≡ true) e x.0;
-      goes = subst (λ (c : CellId). is_failed cells done c ≡ false) e (not_true (is_failed cells done f) y.0);
-      waiting = subst (λ (c : CellId). waits (mail_after cells done c.number).actions ≡ true) e z.0;
-      number = sym is.1 ∙ eqb-true m (suc (mail_after cells done f.number).acts) w.0 ∙ ap (λ (c : CellId). suc (mail_after cells done c.number).acts) e;
-    }
-may_act cells done a g n new (Swap v) is h = absurd is
-may_act cells done a g n new (Broke at) is h = absurd is
+may_act : (cells : List StoreCell) (done : List Event) (a : ℕ) (g : CellId) (n : ℕ) (new : Result Value Fault) (sends : List Action) → is_legal_kind cells done a (Act g n new sends) ≡ true → MayAct cells done g n
+may_act cells done a g n new sends h =
+    let sent = may_send new sends && (are_sends cells sends && not (is_there (first_failed cells done sends))) in
+    let last = n == suc (mail_after cells done g.number).acts && sent in
+    let x = both (has_agent cells g) (not (is_failed cells done g) && (waits (mail_after cells done g.number).actions && last)) h in
+    let y = both (not (is_failed cells done g)) (waits (mail_after cells done g.number).actions && last) x.1 in
+    let z = both (waits (mail_after cells done g.number).actions) last y.1 in
+    let w = both (n == suc (mail_after cells done g.number).acts) sent z.1 in
+    record { agent = x.0; goes = not_true (is_failed cells done g) y.0; waiting = z.0; number = eqb-true n (suc (mail_after cells done g.number).acts) w.0 }
 
 cell_within : (cells : List StoreCell) (k : CellKind) (n : ℕ) → is_of_kind k (nth cells n) ≡ true → n < length cells
 cell_within [] k n h = absurd (false≢true h)
 cell_within (c ∷ cells) k zero h = omega arith
 cell_within (c ∷ cells) k (suc n) h = let lt = cell_within cells k n h in omega (arith, lt)
 
-cells_many : (ds : List _) → length (cells_of ds) ≡ length ds
-cells_many [] = refl
-cells_many (d ∷ ds) = ap suc (cells_many ds)
+module _ (b : PlainBooks) (legal : AreLegal b) (a : act.Act) (has : HasAct b a) where
+  abbrev cells : List StoreCell
+  cells = cells_of b.program.cells
 
--- such an event stands at this index of a book
-module _ (cells : List StoreCell) (threads : ℕ) (book : List Event) (legal : IsLegalBook (store_test cells threads) book)
-    (at : ℕ) (g : CellId) (n : ℕ) (new : Result Value Fault) (here : IsActIf g n new (nth book at)) where
-  abbrev Stands : Type 0
-  Stands = MayAct cells (take at book) g n × (at < length book)
+  abbrev before : List Event
+  before = take a.at b.report.book
 
-  stands_if : (o : Option Event) → nth book at ≡ o → IsActIf g n new o → Stands
-  stands_if None e is = absurd is
-  stands_if (Some x) e is = (
-    may_act cells (take at book) x.actor g n new x.kind is (both (makes cells threads x.actor x.kind) (is_legal_kind cells (take at book) x.actor x.kind) (legal_at (store_test cells threads) book legal at x e)).1,
-    within book at x e,
-  )
-
-  stands : Stands
-  stands = stands_if (nth book at) refl here
+  stands : MayAct cells before a.agent a.number × (a.at < length b.report.book)
+  stands =
+      let e = has.0 in
+      let test = legal_at (store_test cells (length b.program.threads)) b.report.book legal.store a.at e has.1 in
+      let kind = (both (makes cells (length b.program.threads) e.actor e.kind) (is_legal_kind cells before e.actor e.kind) test).1 in (
+        may_act cells before e.actor a.agent a.number a.new.now a.sends.now (subst (λ d. is_legal_kind cells before e.actor d ≡ true) has.2 kind),
+        within b.report.book a.at e has.1,
+      )
 
   -- its agent is there
-  pub agent_within : g.number < length cells
-  agent_within = cell_within cells g.kind g.number (both (same_kind g.kind Agent) (is_of_kind g.kind (nth cells g.number)) stands.0.agent).1
+  pub agent_within : a.agent.number < length cells
+  agent_within = cell_within cells a.agent.kind a.agent.number (both (same_kind a.agent.kind Agent) (is_of_kind a.agent.kind (nth cells a.agent.number)) stands.0.agent).1
 
   -- the action with its number is the one that the agent runs next
-  pub action_is : (a : Option Action) → IsRun (plain_replay cells threads book) g.number n a → a ≡ next_action cells (take at book) g
-  action_is a run =
-      first (mail_after cells (take at book) g.number).actions refl stands.0.waiting
-      ∙ ap (λ b. first_action b (mail_after cells (take at book) g.number).actions) (sym stands.0.goes)
+  pub action_is : (o : Option Action) → (a.agent.number < length b.program.cells → IsRun (replay_in b) a.agent.number a.number o) → o ≡ next_action cells before a.agent
+  action_is o run =
+      first (mail_after cells before a.agent.number).actions refl stands.0.waiting
+      ∙ ap (λ t. first_action t (mail_after cells before a.agent.number).actions) (sym stands.0.goes)
     where
-      first : (xs : List Action) → (mail_after cells (take at book) g.number).actions ≡ xs → waits xs ≡ true → a ≡ first_action false (mail_after cells (take at book) g.number).actions
+      first : (xs : List Action) → (mail_after cells before a.agent.number).actions ≡ xs → waits xs ≡ true → o ≡ first_action false (mail_after cells before a.agent.number).actions
       first [] e h = absurd (false≢true h)
-      first (x ∷ xs) e h = let lt = stands.1 in run at (omega (arith, lt)) stands.0.number x xs e ∙ ap (first_action false) (sym e)
+      first (x ∷ xs) e h =
+          let lt = stands.1 in
+          let cell = agent_within in
+          let many = cells_many b in
+          run (omega (arith, cell, many)) a.at (omega (arith, lt)) stands.0.number x xs e ∙ ap (first_action false) (sym e)
 
   -- and the state is the one before it
-  pub state_is : value_there (plain_replay cells threads book) g.number at ≡ Some (newest (opening cells) (take at book) g.number)
-  state_is =
-      ap (λ b. if b then Some (after (opening cells) book at g.number) else None) (lt-ltb g.number (length cells) agent_within)
-      ∙ ap Some (sym (newest_at (opening cells) book at g.number))
+  pub state_is : (v : Option Value) → v ≡ value_there (replay_in b) a.agent.number a.at → v ≡ Some (newest (opening cells) before a.agent.number)
+  state_is v is =
+      is ∙ ap (λ t. if t then Some (after (opening cells) b.report.book a.at a.agent.number) else None) (lt-ltb a.agent.number (length cells) agent_within)
+      ∙ ap Some (sym (newest_at (opening cells) b.report.book a.at a.agent.number))
 
--- what is found of the action that is next, on the state behind these events
-next_acted : (p : PlainProgram) (n a i : ℕ) (done : List Event) (g : CellId) (new : Result Value Fault) (o : Option Action) → acted p n a i o (Some (newest (opening (cells_of p.cells)) done g.number)) new ≡ act_found p n a i done g new o
-next_acted p n a i done g new None = refl
-next_acted p n a i done g new (Some x) = refl
-
-pub ran_is : (b : PlainBooks) → AreLegal b → (at : ℕ) (g : CellId) (k : ℕ) (new : Result Value Fault) → IsActIf g k new (nth b.report.book at)
-    → (n a i : ℕ) (x : Option Action) (v : Option Value) → (g.number < length b.program.cells → IsRun (replay_in b) g.number k x) → v ≡ value_there (replay_in b) g.number at
-    → acted (program_of b.program) n a i x v new ≡ act_found (program_of b.program) n a i (take at b.report.book) g new (next_action (cells_of b.program.cells) (take at b.report.book) g)
-ran_is b legal at g k new here n a i x v run state =
-    let cells = cells_of b.program.cells in
-    let threads = length b.program.threads in
-    let lt = agent_within cells threads b.report.book legal.store at g k new here in
-    let many = cells_many b.program.cells in
-    ap (λ o. acted (program_of b.program) n a i o v new) (action_is cells threads b.report.book legal.store at g k new here x (run (omega (arith, lt, many))))
-    ∙ ap (λ o. acted (program_of b.program) n a i (next_action cells (take at b.report.book) g) o new) (state ∙ state_is cells threads b.report.book legal.store at g k new here)
-    ∙ next_acted (program_of b.program) n a i (take at b.report.book) g new (next_action cells (take at b.report.book) g)
+-- the newest state of an agent is the one behind the whole book
+pub last_state : (b : PlainBooks) (g : CellId) → g.number < length b.program.cells → (k : ℕ) → k ≡ length b.report.book → (v : Option Value) → v ≡ value_there (replay_in b) g.number k
+    → v ≡ Some (newest (opening (cells_of b.program.cells)) b.report.book g.number)
+last_state b g lt k all v is =
+    let many = cells_many b in
+    is ∙ ap (λ t. if t then Some (after (opening (cells_of b.program.cells)) b.report.book k g.number) else None) (lt-ltb g.number (length (cells_of b.program.cells)) (omega (arith, lt, many)))
+    ∙ ap (λ m. Some (after (opening (cells_of b.program.cells)) b.report.book m g.number)) all
 
 -- ---- an atom's book
 
--- no agent ran an action there
-no_act : (p : PlainProgram) (n a i : ℕ) (done before : List Event) (c : CellId) (b : ℕ) (d : EventKind) → is_legal_swap c before b d ≡ true → act_kind p n a i done d ≡ Fine
-no_act p n a i done before c b (Read d) h = refl
-no_act p n a i done before c b (Commit at view ws sends) h = refl
-no_act p n a i done before c b (Retry since d commute) h = refl
-no_act p n a i done before c b (Fail at view) h = refl
-no_act p n a i done before c b (Refused at view g) h = refl
-no_act p n a i done before c b (Send x) h = refl
-no_act p n a i done before c b (SendRefused g) h = refl
-no_act p n a i done before c b (Act g m new sends) h = absurd (false≢true h)
-no_act p n a i done before c b (Swap new) h = refl
-no_act p n a i done before c b (Broke at) h = refl
+-- there is no act there
+not_act : (front : List Event) (c : CellId) (a : ℕ) (d : EventKind) → is_legal_swap c front a d ≡ true → is_act_kind d ≡ false
+not_act front c a (Read d) h = refl
+not_act front c a (Commit at view ws sends) h = refl
+not_act front c a (Retry since d commute) h = refl
+not_act front c a (Fail at view) h = refl
+not_act front c a (Refused at view g) h = refl
+not_act front c a (Send x) h = refl
+not_act front c a (SendRefused g) h = refl
+not_act front c a (Act g m new sends) h = absurd (false≢true h)
+not_act front c a (Swap new) h = refl
+not_act front c a (Broke at) h = refl
 
 -- a book of atoms that has an event is that of an atom
 book_within : (books : List (List Event)) (m at : ℕ) (e : Event) → nth (book_or_none (nth books m)) at ≡ Some e → m < length books
@@ -192,45 +171,41 @@ book_within [] m at e h = not_there h
 book_within (x ∷ xs) zero at e h = omega arith
 book_within (x ∷ xs) (suc m) at e h = let lt = book_within xs m at e h in omega (arith, lt)
 
-pub atom_is : (b : PlainBooks) → AreLegal b → (m at : ℕ) (n a i : ℕ)
-    → act_at (program_of b.program) n a i (take at (books_of b.report (suc m))) (nth (books_of b.report (suc m)) at) ≡ Fine
-atom_is b legal m at n a i = by_event (nth (books_of b.report (suc m)) at) refl
+atom_acts : (b : PlainBooks) → AreLegal b → (m at : ℕ) → is_act (nth (books_of b.report (suc m)) at) ≡ false
+atom_acts b legal m at = by_event (nth (books_of b.report (suc m)) at) refl
   where
-    by_event : (o : Option Event) → nth (books_of b.report (suc m)) at ≡ o → act_at (program_of b.program) n a i (take at (books_of b.report (suc m))) o ≡ Fine
+    by_event : (o : Option Event) → nth (books_of b.report (suc m)) at ≡ o → is_act o ≡ false
     by_event None e = refl
     by_event (Some x) e =
         let lt = book_within b.report.atom_books m at x e in
         let many = (sized_of (program_of b.program) b.report legal.fits).atoms in
         let c = there_is (atoms_from 0 b.program.cells) m (omega (arith, lt, many)) in
-        let test = atom_test c.0 (length b.program.threads) in
-        let ok = legal_at test (books_of b.report (suc m)) (legal.atoms m c.0 c.1) at x e in
-        no_act (program_of b.program) n a i (take at (books_of b.report (suc m))) (take at (books_of b.report (suc m))) c.0 x.actor x.kind
-        (both (nat_lt x.actor (length b.program.threads)) (is_legal_swap c.0 (take at (books_of b.report (suc m))) x.actor x.kind) ok).1
+        let all = actors (length b.program.threads) (cells_of b.program.cells) in
+        let ok = legal_at (atom_test c.0 all) (books_of b.report (suc m)) (legal.atoms m c.0 c.1) at x e in
+        not_act (take at (books_of b.report (suc m))) c.0 x.actor x.kind (both (nat_lt x.actor all) (is_legal_swap c.0 (take at (books_of b.report (suc m))) x.actor x.kind) ok).1
 
--- ---- an event at a place
+-- ---- an entry of a trace
 
--- in a book that isn't the store's nothing is found
-pub other_book : (b : PlainBooks) → AreLegal b → (k at : ℕ) (n a i : ℕ) → (k ≡ 0 → ⊥)
-    → Fine ≡ act_at (program_of b.program) n a i (take at (books_of b.report k)) (nth (books_of b.report k) at)
-other_book b legal zero at n a i other = absurd (other refl)
-other_book b legal (suc m) at n a i other = sym (atom_is b legal m at n a i)
+-- in a book that isn't the store's it names none
+pub other_book : (b : PlainBooks) → AreLegal b → (k at : ℕ) → (k ≡ 0 → ⊥) → is_act (nth (books_of b.report k) at) ≡ false
+other_book b legal zero at other = absurd (other refl)
+other_book b legal (suc m) at other = atom_acts b legal m at
+
+-- what an event of the store's book is, is what an entry names that names it
+pub named_act : (b : PlainBooks) (q : Place) (e : Event) → q.book ≡ 0 → nth (books_of b.report q.book) q.at ≡ Some e → (o : Option act.Act) → IsAct e.kind q.at o → NamesAct b q o
+named_act b q e home there None is = ap is_act there ∙ is
+named_act b q e home there (Some a) is = (home, is.1, (e, ap (nth b.report.book) is.1 ∙ ap (λ k. nth (books_of b.report k) q.at) (sym home) ∙ there, is.0))
+
+pub names_none : (b : PlainBooks) (q : Place) → nth (books_of b.report q.book) q.at ≡ None → NamesAct b q None
+names_none b q there = ap is_act there
 
 -- ---- numbers of actors
-
-agents_few : (n : ℕ) (ds : List CellDefinition) → length (agents_from n ds) ≤ length ds
-agents_few n [] = omega arith
-agents_few n (d ∷ ds) = go d.kind (agents_few (suc n) ds)
-  where
-    go : (k : CellKind) → length (agents_from (suc n) ds) ≤ length ds → length (with_agent k n (agents_from (suc n) ds)) ≤ suc (length ds)
-    go Ref le = omega (arith, le)
-    go Atom le = omega (arith, le)
-    go Agent le = omega (arith, le)
 
 -- an actor's number is small
 few_actors : (b : PlainBooks) → AreLegal b → Sound (program_of b.program) → (i : ℕ) → i < length b.report.agents → length b.program.threads + i < 65536
 few_actors b legal sound i lt =
     let agents = (sized_of (program_of b.program) b.report legal.fits).agents in
-    let few = agents_few 0 b.program.cells in
+    let few = agents_few b.program.cells in
     let cells = sound.scoped.few_cells in
     let threads = sound.scoped.few_threads in
     let many = threads-length b.program.threads in
@@ -240,15 +215,15 @@ fits_word : (n : ℕ) → n < 65536 → Fits w16 n
 fits_word n lt = omega (arith, lt)
 
 module _ (b : PlainBooks) (p : Parts) (ts : List Thread) (i : ℕ) (lt : i < length b.report.agents) (legal : AreLegal b) (same : p ≡ b.program) (threads : ts ≡ p.threads) (sound : Sound (program_of p)) where
-  actors : length ts + i < 65536
-  actors =
+  few_here : length ts + i < 65536
+  few_here =
       subst (λ n. n + i < 65536) (ap (λ (x : Parts). length x.threads) (sym same) ∙ ap length (sym threads)) (few_actors b legal (subst (λ (x : Parts). Sound (program_of x)) same sound) i lt)
 
   pub threads_fit : Fits w16 (length ts)
-  threads_fit = let few = actors in fits_word (length ts) (omega (arith, few))
+  threads_fit = let few = few_here in fits_word (length ts) (omega (arith, few))
 
   pub actor_fits : Fits w16 (length ts + i)
-  actor_fits = fits_word (length ts + i) actors
+  actor_fits = fits_word (length ts + i) few_here
 
   pub actor_is : length ts + i ≡ length (threads_of b.program.threads) + i
   actor_is = ap (λ n. n + i) (ap length threads ∙ ap (λ (x : Parts). length x.threads) same ∙ sym (threads-length b.program.threads))

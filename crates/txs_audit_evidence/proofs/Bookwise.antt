@@ -9,7 +9,7 @@ use Rattle.txs_value_data.specs.declared.value.CellId.{CellId}
 use Rattle.txs_value_data.specs.declared.value.Value.{Value}
 use Rattle.txs_tree_meaning.specs.View.{Parts, program_of}
 use Rattle.txs_world_book.specs.Atom.{atom_after}
-use Rattle.txs_world_book.specs.Book.{opening}
+use Rattle.txs_world_book.specs.Book.{actors, opening}
 use Rattle.txs_world_book.specs.Served.{cells_of}
 use Rattle.txs_world_book.proofs.Outcomes.{both}
 use Rattle.txs_world_protocol.specs.SeenEvent.{home}
@@ -70,16 +70,16 @@ module _ (p : Parts) (r : Report) (n : ℕ) (c : CellId) (there : nth (atoms_fro
   -- what is found by the book of this number
   abbrev found_in : ℕ → ℕ → Finding
   found_in threads b =
-      and_then (book_found (atom_test c threads) (λ a k. index_if b k (entry_of (report_as r) a)) [] (books_of (report_as r) b))
+      and_then (book_found (atom_test c (actors threads (cells_of p.cells))) (λ a k. index_if b k (entry_of (report_as r) a)) [] (books_of (report_as r) b))
       (check (is_value (atom_after (opening (cells_of p.cells) c.number) (books_of (report_as r) b) (length (books_of (report_as r) b))) (nth r.cells.items c.number)) 0 (length_if (entry_of (report_as r) 0)))
 
-  atom_split : atom_found (program_of p) (report_as r) c ≡ and_then (book_found (atom_test c (length p.threads)) (entry_index r (suc n)) [] book) (atom_rest p r n c)
+  atom_split : atom_found (program_of p) (report_as r) c ≡ and_then (book_found (atom_test c (actors (length p.threads) (cells_of p.cells))) (entry_index r (suc n)) [] book) (atom_rest p r n c)
   atom_split = ap (λ m. found_in m (home p.cells c)) (threads_many p.threads) ∙ ap (found_in (length p.threads)) (listed_home p.cells n c there)
 
-  pub atom_through : IsLegalBook (atom_test c (length p.threads)) book → atom_found (program_of p) (report_as r) c ≡ atom_rest p r n c
+  pub atom_through : IsLegalBook (atom_test c (actors (length p.threads) (cells_of p.cells))) book → atom_found (program_of p) (report_as r) c ≡ atom_rest p r n c
   atom_through legal = atom_split ∙ ap (λ f. and_then f (atom_rest p r n c)) (legal (entry_index r (suc n)))
 
-  pub atom_off : (i a : ℕ) → IsOffAt (atom_test c (length p.threads)) book i → a ≡ actor_in (nth book i)
+  pub atom_off : (i a : ℕ) → IsOffAt (atom_test c (actors (length p.threads) (cells_of p.cells))) book i → a ≡ actor_in (nth book i)
       → atom_found (program_of p) (report_as r) c ≡ Off a (index_if (suc n) i (entry_of (report_as r) a))
   atom_off i a off is = atom_split ∙ ap (λ f. and_then f (atom_rest p r n c)) (off.1 (entry_index r (suc n)) ∙ ap (λ m. Off m (entry_index r (suc n) m i)) (sym is))
 
@@ -106,18 +106,18 @@ pub no_swaps : (p : Parts) (r : Report) → AreSwaps p r []
 no_swaps p r = record { legal = λ n c lt there. absurd (omega (arith, lt)); swapped = λ n lt. absurd (omega (arith, lt)) }
 
 module _ (p : Parts) (r : Report) (swaps : List (List (ℕ × Value))) (n : ℕ) (c : CellId) (h : List (ℕ × Value)) (many : length swaps ≡ n) (there : nth (atoms_from 0 p.cells) n ≡ Some c)
-    (legal : IsLegalBook (atom_test c (length p.threads)) (books_of (report_as r) (suc n))) (swapped : SwapsAre h (books_of (report_as r) (suc n))) (before : AreSwaps p r swaps) where
+    (legal : IsLegalBook (atom_test c (actors (length p.threads) (cells_of p.cells))) (books_of (report_as r) (suc n))) (swapped : SwapsAre h (books_of (report_as r) (suc n))) (before : AreSwaps p r swaps) where
   some_same : (x y : CellId) → Some x ≡ Some y → x ≡ y
   some_same x y e = cc
 
-  legal_more : (m : ℕ) (d : CellId) → m < length (swaps ++ h ∷ []) → nth (atoms_from 0 p.cells) m ≡ Some d → IsLegalBook (atom_test d (length p.threads)) (books_of (report_as r) (suc m))
+  legal_more : (m : ℕ) (d : CellId) → m < length (swaps ++ h ∷ []) → nth (atoms_from 0 p.cells) m ≡ Some d → IsLegalBook (atom_test d (actors (length p.threads) (cells_of p.cells))) (books_of (report_as r) (suc m))
   legal_more m d lt is =
       ⊎_elim
       (λ less. before.legal m d (omega (arith, less, many)) is)
       (λ le. (let long = length_push swaps h in
       let same : n ≡ m = omega (arith, lt, le, long, many) in
       let cell : c ≡ d = some_same c d (sym there ∙ ap (nth (atoms_from 0 p.cells)) same ∙ is) in
-      subst (λ k. IsLegalBook (atom_test d (length p.threads)) (books_of (report_as r) (suc k))) same (subst (λ x. IsLegalBook (atom_test x (length p.threads)) (books_of (report_as r) (suc n))) cell legal)))
+      subst (λ k. IsLegalBook (atom_test d (actors (length p.threads) (cells_of p.cells))) (books_of (report_as r) (suc k))) same (subst (λ x. IsLegalBook (atom_test x (actors (length p.threads) (cells_of p.cells))) (books_of (report_as r) (suc n))) cell legal)))
       (cases_lt m n)
 
   swapped_more : (m : ℕ) → m < length (swaps ++ h ∷ []) → SwapsAre (get_or (swaps ++ h ∷ []) m []) (books_of (report_as r) (suc m))

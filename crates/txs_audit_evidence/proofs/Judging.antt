@@ -4,11 +4,12 @@ use Rattle.std.specs.Borrow.{Bor}
 use Rattle.std.specs.Prelude.{IfSome, option_copied}
 use Rattle.std.proofs.lemmas.Bool.{eqb-true}
 use Rattle.std.proofs.lemmas.List.{drop_all, drop_more}
-use Rattle.std.proofs.Math.Numerals.{add-one}
 use Rattle.txs_value_base.specs.Places.{nth}
 use Rattle.txs_value_cell.specs.Agents.{agents_from}
 use Rattle.txs_value_data.specs.declared.value.CellId.{CellId}
 use Rattle.txs_frame.specs.Frame.{has_number}
+use Rattle.txs_world_book.specs.Book.{actors}
+use Rattle.txs_world_book.specs.Served.{cells_of}
 use Rattle.txs_world_book.specs.declared.cell.StoreCell.{StoreCell}
 use Rattle.txs_world_book.proofs.Outcomes.{both}
 use Rattle.txs_world_protocol.specs.declared.event.Event.{Event}
@@ -88,7 +89,7 @@ end_is_home b legal (suc n) at d is = go (nth b.report.atom_books n) refl
     go None q = clash (ap (λ x. end_in (nth (book_or_none x) at)) q)
     go (Some es) q =
         let there = member_too b.report.atom_books (atoms_in b) n es as_many q in
-        clash (no_such (nth (books_of b.report (suc n)) at) (λ e f. no_end there.0 (length b.program.threads) (books_of b.report (suc n)) (legal.atoms n there.0 there.1) at e f))
+        clash (no_such (nth (books_of b.report (suc n)) at) (λ e f. no_end there.0 (actors (length b.program.threads) (cells_of b.program.cells)) (books_of b.report (suc n)) (legal.atoms n there.0 there.1) at e f))
 
 -- the same of one that was looked up
 pub home_of : (b : PlainBooks) → AreLegal b → (book at : ℕ) (o : Option (Bor EventKind)) → option_copied o ≡ end_in (nth (books_of b.report book) at) → IfSome o (λ k. book ≡ 0)
@@ -211,18 +212,22 @@ pub from_here : {A : Type 0} (xs : List A) (i : ℕ) (x : A) → i < length xs �
 from_here xs i x lt is = drop_more xs i x lt ∙ ap (λ y. y ∷ drop (i + 1) xs) (sym is)
 
 -- What is found so far: of the rest of the trace and of the transactions what is found of all, and the rest is covered with those before if all are.
-pub record Left (cells : List StoreCell) (books : ℕ → List Event) (a : ℕ) (trace : List event.Place) (txs : List TxMeaning) (i next : ℕ) (serial : Bool) : Type 0 where
+pub record Left (cells : List StoreCell) (books : ℕ → List Event) (a first : ℕ) (trace : List event.Place) (txs : List TxMeaning) (i next : ℕ) (serial : Bool) : Type 0 where
   pub within : next ≤ length txs
-  pub found : calm_found_by cells books a i (plain_trace (drop i trace)) (drop next txs) ≡ calm_found_by cells books a 0 (plain_trace trace) txs
+  pub found : calm_found_by cells books a (first + i) (plain_trace (drop i trace)) (drop next txs) ≡ calm_found_by cells books a first (plain_trace trace) txs
   pub covered : (serial && covered_all_by books (plain_trace (drop i trace)) (drop next txs)) ≡ covered_all_by books (plain_trace trace) txs
 
-module _ (cells : List StoreCell) (books : ℕ → List Event) (a : ℕ) (trace : List event.Place) (txs : List TxMeaning) where
+module _ (cells : List StoreCell) (books : ℕ → List Event) (a first : ℕ) (trace : List event.Place) (txs : List TxMeaning) where
   abbrev left : ℕ → ℕ → Bool → Type 0
-  left i next serial = Left cells books a trace txs i next serial
+  left i next serial = Left cells books a first trace txs i next serial
+
+  -- before the first event
+  pub left_first : left 0 0 true
+  left_first = (let z : first + 0 ≡ first = omega arith in record { within = omega arith; found = ap (λ n. calm_found_by cells books a n (plain_trace trace) txs) z; covered = refl })
 
   -- where no transaction is left
-  pub left_found : (i next : ℕ) (serial : Bool) → left i next serial → length txs ≤ next → Fine ≡ calm_found_by cells books a 0 (plain_trace trace) txs
-  left_found i next serial h le = sym (none_found cells books a i (plain_trace (drop i trace))) ∙ ap (calm_found_by cells books a i (plain_trace (drop i trace))) (sym (drop_all next txs le)) ∙ h.found
+  pub left_found : (i next : ℕ) (serial : Bool) → left i next serial → length txs ≤ next → Fine ≡ calm_found_by cells books a first (plain_trace trace) txs
+  left_found i next serial h le = sym (none_found cells books a (first + i) (plain_trace (drop i trace))) ∙ ap (calm_found_by cells books a (first + i) (plain_trace (drop i trace))) (sym (drop_all next txs le)) ∙ h.found
 
   pub left_covered : (i next : ℕ) (serial : Bool) → left i next serial → length txs ≤ next → serial ≡ covered_all_by books (plain_trace trace) txs
   left_covered i next serial h le =
@@ -236,35 +241,38 @@ module _ (cells : List StoreCell) (books : ℕ → List Event) (a : ℕ) (trace 
     here : plain_trace (drop i trace) ≡ place_of p ∷ plain_trace (drop (i + 1) trace)
     here = ap plain_trace (from_here trace i p lt is)
 
+    next_index : first + (i + 1) ≡ suc (first + i)
+    next_index = omega arith
+
     -- one more event, which ends no transaction
     pub left_beside : end_in (nth (books p.book) p.at) ≡ None → left (i + 1) next serial
     left_beside none = record {
       within = h.within;
-      found = ap (λ n. calm_found_by cells books a n (plain_trace (drop (i + 1) trace)) (drop next txs)) (add-one i)
-          ∙ sym (found_beside cells books a i (place_of p) (plain_trace (drop (i + 1) trace)) (drop next txs) none)
-          ∙ ap (λ ps. calm_found_by cells books a i ps (drop next txs)) (sym here) ∙ h.found;
+      found = ap (λ n. calm_found_by cells books a n (plain_trace (drop (i + 1) trace)) (drop next txs)) next_index
+          ∙ sym (found_beside cells books a (first + i) (place_of p) (plain_trace (drop (i + 1) trace)) (drop next txs) none)
+          ∙ ap (λ ps. calm_found_by cells books a (first + i) ps (drop next txs)) (sym here) ∙ h.found;
       covered = ap (λ b. serial && b) (sym (covered_beside cells books a (place_of p) (plain_trace (drop (i + 1) trace)) (drop next txs) none))
           ∙ ap (λ ps. serial && covered_all_by books ps (drop next txs)) (sym here) ∙ h.covered;
     }
 
     module _ (d : EventKind) (ends : end_in (nth (books p.book) p.at) ≡ Some d) (m : TxMeaning) (there : next < length txs) (at : m ≡ get_or txs next m) where
-      both_here : calm_found_by cells books a 0 (plain_trace trace) txs
-          ≡ and_then (check (calm_by cells (take p.at (books p.book)) d m) a i) (calm_found_by cells books a (suc i) (plain_trace (drop (i + 1) trace)) (drop (next + 1) txs))
+      both_here : calm_found_by cells books a first (plain_trace trace) txs
+          ≡ and_then (check (calm_by cells (take p.at (books p.book)) d m) a (first + i)) (calm_found_by cells books a (suc (first + i)) (plain_trace (drop (i + 1) trace)) (drop (next + 1) txs))
       both_here =
-          sym h.found ∙ ap (λ ps. calm_found_by cells books a i ps (drop next txs)) here
-          ∙ ap (calm_found_by cells books a i (place_of p ∷ plain_trace (drop (i + 1) trace))) (from_here txs next m there at)
-          ∙ found_here cells books a i (place_of p) (plain_trace (drop (i + 1) trace)) m (drop (next + 1) txs) d ends
+          sym h.found ∙ ap (λ ps. calm_found_by cells books a (first + i) ps (drop next txs)) here
+          ∙ ap (calm_found_by cells books a (first + i) (place_of p ∷ plain_trace (drop (i + 1) trace))) (from_here txs next m there at)
+          ∙ found_here cells books a (first + i) (place_of p) (plain_trace (drop (i + 1) trace)) m (drop (next + 1) txs) d ends
 
       -- one that ends a transaction which was disturbed
-      pub off_here : calm_by cells (take p.at (books p.book)) d m ≡ false → Off a i ≡ calm_found_by cells books a 0 (plain_trace trace) txs
-      off_here off = sym (both_here ∙ ap (λ b. and_then (check b a i) (calm_found_by cells books a (suc i) (plain_trace (drop (i + 1) trace)) (drop (next + 1) txs))) off)
+      pub off_here : calm_by cells (take p.at (books p.book)) d m ≡ false → Off a (first + i) ≡ calm_found_by cells books a first (plain_trace trace) txs
+      off_here off = sym (both_here ∙ ap (λ b. and_then (check b a (first + i)) (calm_found_by cells books a (suc (first + i)) (plain_trace (drop (i + 1) trace)) (drop (next + 1) txs))) off)
 
       -- one that ends a transaction which wasn't
       pub left_here : calm_by cells (take p.at (books p.book)) d m ≡ true → (more : Bool) → more ≡ (serial && covered_by d m) → left (i + 1) (next + 1) more
       left_here calm more all = record {
         within = omega (arith, there);
-        found = ap (λ n. calm_found_by cells books a n (plain_trace (drop (i + 1) trace)) (drop (next + 1) txs)) (add-one i)
-            ∙ sym (both_here ∙ ap (λ b. and_then (check b a i) (calm_found_by cells books a (suc i) (plain_trace (drop (i + 1) trace)) (drop (next + 1) txs))) calm);
+        found = ap (λ n. calm_found_by cells books a n (plain_trace (drop (i + 1) trace)) (drop (next + 1) txs)) next_index
+            ∙ sym (both_here ∙ ap (λ b. and_then (check b a (first + i)) (calm_found_by cells books a (suc (first + i)) (plain_trace (drop (i + 1) trace)) (drop (next + 1) txs))) calm);
         covered = ap (λ b. b && covered_all_by books (plain_trace (drop (i + 1) trace)) (drop (next + 1) txs)) all
             ∙ and_three serial (covered_by d m) (covered_all_by books (plain_trace (drop (i + 1) trace)) (drop (next + 1) txs))
             ∙ ap (λ b. serial && b) (sym (covered_here cells books a (place_of p) (plain_trace (drop (i + 1) trace)) m (drop (next + 1) txs) d ends))

@@ -1,10 +1,12 @@
 pub mod Acting
+pub mod ActionFound
 pub mod Bookwise
 pub mod Judging
 pub mod Locating
 pub mod Looking
 pub mod Numbering
 pub mod Opened
+pub mod Printing
 pub mod SeenWorlds
 pub mod Sized
 pub mod ThreadFound

@@ -17,7 +17,7 @@ behind_past [] ys a k e = let z : a ≡ k = omega (arith, e) in ap (nth ys) z
 behind_past (x ∷ xs) ys zero k e = absurd (omega (arith, e))
 behind_past (x ∷ xs) ys (suc a) k e = behind_past xs ys a k (omega (arith, e))
 
-entry_nth : (xs : List ActorReport) (a : ℕ) → nth (map ran_as xs) a ≡ plain_entry (nth xs a)
+pub entry_nth : (xs : List ActorReport) (a : ℕ) → nth (map ran_as xs) a ≡ plain_entry (nth xs a)
 entry_nth [] a = refl
 entry_nth (x ∷ xs) zero = refl
 entry_nth (x ∷ xs) (suc a) = entry_nth xs a

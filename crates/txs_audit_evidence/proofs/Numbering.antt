@@ -55,3 +55,6 @@ kind_few k n (d ∷ ds) = go (same_kind d.kind k) (kind_few k (suc n) ds)
 
 pub atoms_few : (ds : List CellDefinition) → length (atoms_from 0 ds) ≤ length ds
 atoms_few ds = subst (λ l. length l ≤ length ds) (kind_atoms 0 ds) (kind_few Atom 0 ds)
+
+pub agents_few : (ds : List CellDefinition) → length (agents_from 0 ds) ≤ length ds
+agents_few ds = subst (λ l. length l ≤ length ds) (kind_agents 0 ds) (kind_few Agent 0 ds)

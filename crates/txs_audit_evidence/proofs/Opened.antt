@@ -1,13 +1,15 @@
 -- What going through the books of a report says of them.
-use Rattle.std.proofs.Common.{◌≡◌, ◌<◌, ℕ, zero, suc, true, List, [], ◌∷◌, length, get_or, Some, sym, ap, ◌∙◌, subst, arith}
+use Rattle.std.proofs.Common.{◌≡◌, ◌<◌, ◌+◌, ℕ, zero, suc, true, List, [], ◌∷◌, length, get_or, Some, sym, ap, ◌∙◌, subst, arith}
 use Rattle.txs_value_base.specs.Places.{nth}
+use Rattle.txs_value_cell.specs.Agents.{agents_from}
 use Rattle.txs_value_cell.specs.declared.cell.CellDefinition.{CellDefinition}
 use Rattle.txs_value_data.specs.declared.value.CellId.{CellId}
 use Rattle.txs_value_data.specs.declared.value.Value.{Value}
 use Rattle.txs_tree_eval_transaction.specs.Views.{held}
 use Rattle.txs_tree_meaning.specs.View.{Parts, program_of}
+use Rattle.txs_tree_meaning.specs.declared.node.Thread.{Thread}
 use Rattle.txs_world_book.specs.Atom.{atom_after}
-use Rattle.txs_world_book.specs.Book.{opening, value_or}
+use Rattle.txs_world_book.specs.Book.{actors, agents_below, opening, value_or}
 use Rattle.txs_world_book.specs.Served.{cells_of}
 use Rattle.txs_world_protocol.specs.Ask.{same_value}
 use Rattle.txs_world_protocol.specs.declared.event.Event.{Event}
@@ -15,6 +17,7 @@ use Rattle.txs_world_protocol.specs.declared.report.Report.{Report}
 use Rattle.txs_theorem_audit.specs.Audited.{book_or_none, books_of, report_as}
 use Rattle.txs_theorem_audit.specs.Verdict.{atoms_from, fits_sizes, is_value}
 use Rattle.txs_theorem_audit.proofs.Listing.{within}
+use Rattle.txs_theorem_audit.proofs.Ordered.{agents_many}
 use Rattle.txs_audit_book.specs.Replayed.{IsLegalBook, IsOffAt, PlainReplay, WentThrough, plain_replay}
 use Rattle.txs_audit_book.specs.Swapped.{SwapsAre, WentAtom, atom_test}
 use Rattle.txs_audit_book.specs.Tests.{store_test}
@@ -45,6 +48,13 @@ module _ (c : CellId) (t u : ℕ) (b book : List Event) (threads : t ≡ u) (is 
 
   pub atom_gone : (h : List (ℕ × Value)) → g ≡ Through h → IsLegalBook (atom_test c u) book × SwapsAre h book
   atom_gone h e = subst (WentAtom c u book) e went_atom
+
+-- how many actors there are
+pub actors_many : (p : Parts) (ts : List Thread) (ds : List CellDefinition) (n k : ℕ) → ts ≡ p.threads → ds ≡ p.cells → n ≡ length (agents_from 0 ds) → k ≡ length ts + n → k ≡ actors (length p.threads) (cells_of p.cells)
+actors_many p ts ds n k threads cells agents sum =
+    let a = ap length threads in
+    let b : n ≡ agents_below (cells_of p.cells) (length (cells_of p.cells)) = agents ∙ ap (λ l. length (agents_from 0 l)) cells ∙ agents_many 0 p.cells in
+    omega (arith, a, b, sum)
 
 -- there is a book of each atom
 pub book_in : (p : Parts) (r : Report) (n : ℕ) (c : CellId) → fits_sizes (program_of p) (report_as r) ≡ true → nth (atoms_from 0 p.cells) n ≡ Some c → n < length r.atom_books.items

@@ -1,36 +1,65 @@
--- What is found of an event of an agent's trace, by what the books give of it.
-use Rattle.std.specs.Prelude.{◌≡◌, ℕ, Option, Some, None, Result}
+-- Acts of agents, as a trace names them, and what is found of actions.
+use Rattle.std.specs.Prelude.{◌≡◌, ◌≤◌, ℕ, suc, Bool, false, List, ◌++◌, drop, Option, Some, None, Result}
+use Rattle.txs_value_base.specs.Places.{nth}
 use Rattle.txs_value_base.specs.declared.fault.Fault.{Fault}
 use Rattle.txs_value_cell.specs.declared.action.Action.{Action}
-use Rattle.txs_value_data.specs.declared.value.CellId.{CellId}
 use Rattle.txs_value_data.specs.declared.value.Value.{Value}
+use Rattle.txs_world_book.specs.Served.{cells_of}
 use Rattle.txs_world_protocol.specs.declared.event.Event.{Event}
 use Rattle.txs_world_protocol.specs.declared.event.EventKind.{EventKind}
-use Rattle.txs_world_protocol.specs.declared.event.EventKind.TheVariants.{Read, Commit, Retry, Fail, Refused, Send, SendRefused, Act, Swap, Broke}
+use Rattle.txs_world_protocol.specs.declared.event.EventKind.TheVariants.{Act as Acted}
 use Rattle.txs_tree_meaning.specs.Tree.{PlainProgram}
-use Rattle.txs_theorem_audit.specs.Audited.{Finding, Off}
-use Rattle.txs_audit_piece.specs.Judged.{judged}
+use Rattle.txs_theorem_threads.specs.Noted.{txs_of}
+use Rattle.txs_theorem_runs.specs.Told.{Place, seen_of}
+use Rattle.txs_theorem_serial.specs.Whole.{is_act, is_act_kind}
+use Rattle.txs_theorem_audit.specs.Audited.{PlainReport, books_of, Finding, and_then}
+use Rattle.txs_theorem_audit.specs.Pieces.{acts_print, part_of}
+use Rattle.txs_theorem_audit.specs.Verdict.{act_ends, calm_found, covered_all, noted_in, still_ends}
+use Rattle.txs_theorem_audit_eval.specs.Evaluated.{means_on}
+use Rattle.txs_audit_evidence.specs.Evidence.{PlainBooks}
+use Rattle.txs_audit_evidence.specs.declared.acts.Act.{Act}
 
--- what is found of this action on this state, where both are there
-abbrev pub acted : PlainProgram → ℕ → ℕ → ℕ → Option Action → Option Value → Result Value Fault → Finding
-acted p n a i None s new = Off a i
-acted p n a i (Some x) None new = Off a i
-acted p n a i (Some x) (Some v) new = judged p n a i x v new
+-- what is known of an event of this kind with so many before it: what an act says, of any other nothing
+abbrev pub IsAct : EventKind → ℕ → Option Act → Type 0
+IsAct k at None = is_act_kind k ≡ false
+IsAct k at (Some a) = (k ≡ Acted a.agent a.number a.new.now a.sends.now) × (a.at ≡ at)
 
--- an event by which this agent ran its so many-th action, which came to this
-abbrev pub IsAct : CellId → ℕ → Result Value Fault → EventKind → Type 0
-IsAct g k new (Read c) = ⊥
-IsAct g k new (Commit at view ws sends) = ⊥
-IsAct g k new (Retry since c commute) = ⊥
-IsAct g k new (Fail at view) = ⊥
-IsAct g k new (Refused at view h) = ⊥
-IsAct g k new (Send x) = ⊥
-IsAct g k new (SendRefused h) = ⊥
-IsAct g k new (Act h m r sends) = (h ≡ g) × (m ≡ k) × (r ≡ new)
-IsAct g k new (Swap v) = ⊥
-IsAct g k new (Broke at) = ⊥
+-- the store's book has this act
+abbrev pub HasAct : PlainBooks → Act → Type 0
+HasAct b a = (e : Event) × (nth b.report.book a.at ≡ Some e) × (e.kind ≡ Acted a.agent a.number a.new.now a.sends.now)
 
--- such an event is there
-abbrev pub IsActIf : CellId → ℕ → Result Value Fault → Option Event → Type 0
-IsActIf g k new None = ⊥
-IsActIf g k new (Some e) = IsAct g k new e.kind
+-- what an entry of a trace names: an act of the store's book, or none
+abbrev pub NamesAct : PlainBooks → Place → Option Act → Type 0
+NamesAct b q None = is_act (nth (books_of b.report q.book) q.at) ≡ false
+NamesAct b q (Some a) = (q.book ≡ 0) × (a.at ≡ q.at) × HasAct b a
+
+-- the transactions of an action on this state and the events of a part of a trace, of which the first is the i-th of the actor's
+abbrev pub calm_since : PlainProgram → PlainReport → ℕ → ℕ → ℕ → Action → Value → List Place → Finding
+calm_since p r n a i x v since = calm_found (cells_of p.cells) (books_of r) a i since (noted_in (means_on p n x v) (seen_of p.cells (books_of r) since))
+
+-- the end of an action that is over, against its act
+abbrev pub acted_end : PlainProgram → PlainReport → ℕ → ℕ → ℕ → ℕ → List Event → Action → Value → List Place → Result Value Fault → List Action → Finding
+acted_end p r n a i k done x v since new sends =
+    act_ends (cells_of p.cells) done x.span a i k (means_on p n x v) (seen_of p.cells (books_of r) since) new sends (means_on p n x v (seen_of p.cells (books_of r) since))
+
+-- all that is found of it
+abbrev pub acted : PlainProgram → PlainReport → ℕ → ℕ → ℕ → ℕ → List Event → Action → Value → List Place → Result Value Fault → List Action → Finding
+acted p r n a i k done x v since new sends = and_then (calm_since p r n a i x v since) (acted_end p r n a i k done x v since new sends)
+
+-- the end of an action that isn't over and has printed this
+abbrev pub waited_end : PlainProgram → PlainReport → ℕ → ℕ → ℕ → ℕ → Action → Value → List Place → List ℕ → Finding
+waited_end p r n a i k x v since out = still_ends a i k (means_on p n x v) (seen_of p.cells (books_of r) since) out (means_on p n x v (seen_of p.cells (books_of r) since))
+
+-- all that is found of it
+abbrev pub waited : PlainProgram → PlainReport → ℕ → ℕ → ℕ → ℕ → Action → Value → List Place → List ℕ → Finding
+waited p r n a i k x v since out = and_then (calm_since p r n a i x v since) (waited_end p r n a i k x v since out)
+
+-- whether its commits are covered
+abbrev pub covered_since : PlainProgram → PlainReport → ℕ → Action → Value → List Place → Bool
+covered_since p r n x v since = covered_all (books_of r) since (txs_of (means_on p n x v (seen_of p.cells (books_of r) since)))
+
+-- The entry at index k of a trace is gone through, where the action there began at the i-th entry, and the next one begins at the j-th: what was
+-- printed, and what the rest prints, are as before.
+pub record PrintsOn (p : PlainProgram) (r : PlainReport) (n : ℕ) (trace : List Place) (i k : ℕ) (old : List ℕ) (j : ℕ) (new : List ℕ) : Type 0 where
+  pub began : j ≤ suc k
+  pub prints : new ++ acts_print p r n (part_of j (suc k) trace) (drop (suc k) trace) ≡ old ++ acts_print p r n (part_of i k trace) (drop k trace)

@@ -6,7 +6,7 @@ use Rattle.txs_value_cell.specs.Agents.{agents_from}
 use Rattle.txs_value_data.specs.declared.value.CellId.{CellId}
 use Rattle.txs_value_data.specs.declared.value.Value.{Value}
 use Rattle.txs_world_book.specs.Atom.{atom_after}
-use Rattle.txs_world_book.specs.Book.{opening}
+use Rattle.txs_world_book.specs.Book.{actors, opening}
 use Rattle.txs_world_book.specs.Served.{cells_of}
 use Rattle.txs_world_protocol.specs.declared.report.Report.{Report}
 use Rattle.txs_tree_meaning.specs.View.{Parts, program_of}
@@ -39,7 +39,7 @@ atoms_in b = atoms_from 0 b.program.cells
 pub record AreLegal (b : PlainBooks) : Type 0 where
   pub fits : fits_sizes (program_of b.program) b.report ≡ true
   pub store : IsLegalBook (store_test (cells_of b.program.cells) (length b.program.threads)) b.report.book
-  pub atoms : (n : ℕ) (c : CellId) → nth (atoms_in b) n ≡ Some c → IsLegalBook (atom_test c (length b.program.threads)) (books_of b.report (suc n))
+  pub atoms : (n : ℕ) (c : CellId) → nth (atoms_in b) n ≡ Some c → IsLegalBook (atom_test c (actors (length b.program.threads) (cells_of b.program.cells))) (books_of b.report (suc n))
 
 -- these are the books, gone through, the swaps of each atom, and the table of the program's functions
 pub record AreGone (b : PlainBooks) (replay : PlainReplay) (swaps : List (List (ℕ × Value))) (functions : Parts) : Type 0 where
@@ -74,12 +74,12 @@ AtomLeft p r n c f =
 -- the book of the n-th atom was gone through, and an audit finds nothing in it; or that is what it finds
 abbrev pub AtomOpened : Parts → Report → ℕ → CellId → Result (List (ℕ × Value)) Finding → Type 0
 AtomOpened p r n c (Ok h) =
-    IsLegalBook (atom_test c (length p.threads)) (books_of (report_as r) (suc n)) × SwapsAre h (books_of (report_as r) (suc n)) × (atom_found (program_of p) (report_as r) c ≡ audited.Fine)
+    IsLegalBook (atom_test c (actors (length p.threads) (cells_of p.cells))) (books_of (report_as r) (suc n)) × SwapsAre h (books_of (report_as r) (suc n)) × (atom_found (program_of p) (report_as r) c ≡ audited.Fine)
 AtomOpened p r n c (Err f) = (as_found f ≡ atom_found (program_of p) (report_as r) c) × (is_fine (as_found f) ≡ false)
 
 -- these are the swaps of so many atoms' books, and each is legal
 pub record AreSwaps (p : Parts) (r : Report) (swaps : List (List (ℕ × Value))) : Type 0 where
-  pub legal : (n : ℕ) (c : CellId) → n < length swaps → nth (atoms_from 0 p.cells) n ≡ Some c → IsLegalBook (atom_test c (length p.threads)) (books_of (report_as r) (suc n))
+  pub legal : (n : ℕ) (c : CellId) → n < length swaps → nth (atoms_from 0 p.cells) n ≡ Some c → IsLegalBook (atom_test c (actors (length p.threads) (cells_of p.cells))) (books_of (report_as r) (suc n))
   pub swapped : (n : ℕ) → n < length swaps → SwapsAre (get_or swaps n []) (books_of (report_as r) (suc n))
 
 -- the books of all atoms were gone through, and an audit finds nothing in them; or that is what it finds

@@ -2,6 +2,8 @@
 
 ghost use Rattle.std.specs.Prelude.{◌≡◌, ◌≤◌, ◌<◌, length, take, option_copied};
 ghost use Rattle.txs_value_base.specs.Places.{nth};
+ghost use Rattle.txs_value_data.specs.declared.value.CellId.{CellId as PlainCell};
+ghost use Rattle.txs_world.specs.Store.{next_action};
 ghost use Rattle.txs_world_book.specs.Book.{is_there, mail_after, written};
 ghost use Rattle.txs_world_book.specs.Served.{cells_of};
 ghost use Rattle.txs_theorem_audit.specs.Audited.{books_of, report_as};
@@ -148,6 +150,18 @@ impl<'a> Books<'a> {
             return None;
         }
         self.replay.action(number, nth)
+    }
+
+    /// What the agent with this number runs next behind the whole of the store's book: the first action that waits, unless the agent has
+    /// failed.
+    pub fn next_action(&self, number: u16) -> Option<&Action>
+        requires { number < length self.now.program.cells }
+        ensures { (g : PlainCell) → g.number ≡ number → option_copied result ≡ next_action (cells_of self.now.program.cells) self.now.report.book g }
+    {
+        match self.replay.failure(number) {
+            Some(_) => None,
+            None => self.replay.next(number),
+        }
     }
 
     /// The value of the cell with this number behind so many events of the store's book, if there is one.

@@ -20,6 +20,7 @@ use txs_audit_piece::finding::check;
 use txs_check::function_table;
 use txs_tree_eval::History;
 use txs_tree_meaning::Program;
+use txs_value_cell::count_agents;
 use txs_value_data::CellId;
 use txs_world_protocol::Report;
 
@@ -103,9 +104,9 @@ fn open_atom(
 {
     // A step of the proof, which does nothing when it runs.
     program.is_sound();
-    let threads = program.threads().len() as u16;
+    let actors = program.threads().len() + count_agents(program.cells());
     let events = report.atom_books[n].as_slice();
-    let swaps = match go_through_atom(alloc, cell, threads, events)? {
+    let swaps = match go_through_atom(alloc, cell, actors, events)? {
         Gone::UpTo(at) => return Ok(Err(off_at(report, n as u32 + 1, events[at].actor, at))),
         Gone::Through(swaps) => swaps,
     };

@@ -46,7 +46,8 @@ fn judge<'b>(
     calm_is_answered();
     covered_is_answered();
     noted_are_answered();
-    let found = transactions_found(books, thread, ran.trace.as_slice(), meaning.txs.as_slice())?;
+    let trace = ran.trace.as_slice();
+    let found = transactions_found(books, thread, 0, trace, meaning.txs.as_slice())?;
     if !found.finding.is_fine() {
         return Ok(found);
     }

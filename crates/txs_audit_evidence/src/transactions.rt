@@ -1,6 +1,6 @@
 //! The transactions of a thread, at the events that ended them.
 
-ghost use Rattle.std.specs.Prelude.{◌≡◌, ◌&&◌, true, take, IfOk, IfSome, option_copied};
+ghost use Rattle.std.specs.Prelude.{◌≡◌, ◌+◌, ◌^◌, ◌<◌, ◌&&◌, length, true, take, IfOk, IfSome, option_copied};
 ghost use Rattle.txs_frame.specs.Frame.{has_number};
 ghost use Rattle.txs_value_base.specs.Places.{nth};
 ghost use Rattle.txs_world_book.specs.Book.{first_failed};
@@ -99,7 +99,7 @@ fn is_undisturbed(books: &Books<'_>, done: &TxFrame, sets: &[CellId], at: u32, e
 }
 
 /// The agent of the first of these actions whose agent has failed among the first so many events of the store's book.
-fn first_failed(books: &Books<'_>, sends: &[Action], events: u32) -> Option<CellId>
+pub(crate) fn first_failed(books: &Books<'_>, sends: &[Action], events: u32) -> Option<CellId>
     ensures { result ≡ first_failed (cells_of books.now.program.cells) (take events books.now.report.book) sends.now }
 {
     for action in sends {
@@ -267,17 +267,19 @@ fn both(a: bool, b: bool) -> bool
 }
 
 /// What is found of an actor's transactions, each at the event of its trace that ended it: that of the first that was
-/// disturbed.
+/// disturbed. The first of these entries is at index `first` of the trace.
 ///
 /// # Errors
 /// `AllocError` where there was no memory for what a transaction set.
 pub fn transactions_found(
     books: &Books<'_>,
     actor: u16,
+    first: usize,
     trace: &[Place],
     txs: &[TxMeaning],
 ) -> Result<Found, AllocError>
-    ensures found { IfOk result (λ f. as_found f.finding ≡ calm_found_by (cells_of books.now.program.cells) (books_of books.now.report) actor 0 (plain_trace trace.now) txs.now) }
+    requires { first + length trace.now < 2 ^ 64 }
+    ensures found { IfOk result (λ f. as_found f.finding ≡ calm_found_by (cells_of books.now.program.cells) (books_of books.now.report) actor first (plain_trace trace.now) txs.now) }
     ensures serial { IfOk result (λ f. as_found f.finding ≡ Fine → f.serial ≡ covered_all_by (books_of books.now.report) (plain_trace trace.now) txs.now) }
 {
     let mut next = 0;
@@ -293,7 +295,7 @@ pub fn transactions_found(
             let judged = judge(books, kind, &txs[next], place.at)?;
             if !judged.calm {
                 return Ok(Found {
-                    finding: Finding::Off(actor, i),
+                    finding: Finding::Off(actor, first + i),
                     serial: false,
                 });
             }

@@ -1,29 +1,28 @@
 -- What an agent's validator says of a new state.
-use Rattle.std.proofs.Common.{◌≡◌, ℕ, zero, suc, ◌==◌, ◌&&◌, Bool, true, false, List, [], ◌∷◌, length, Option, Some, None, Result, Ok, Err, IfOk, refl, sym, ap, ◌∙◌, subst, if◌then◌else◌}
-use Rattle.std.proofs.lemmas.Bool.{eq-eqb, false≢true}
-use Rattle.txs_value_base.specs.Places.{nth}
+use Rattle.std.proofs.Common.{◌≡◌, ℕ, zero, suc, true, false, List, [], ◌∷◌, Option, Some, None, Result, Ok, Err, IfOk, refl, sym, ap, ◌∙◌, subst}
+use Rattle.std.proofs.lemmas.Bool.{false≢true}
 use Rattle.txs_value_base.specs.declared.fault.Fault.{Fault}
-use Rattle.txs_value_base.specs.declared.fault.Span.{Span}
 use Rattle.txs_value_base.specs.declared.op.Callee.{Callee}
 use Rattle.txs_value_base.specs.declared.op.Callee.TheVariants.{Core as CoreOp, Function}
 use Rattle.txs_value_apply.specs.Core.{is_false}
 use Rattle.txs_value_apply.specs.Truth.{choose}
 use Rattle.txs_value_cell.specs.Cells.{validators_of, validator_at}
-use Rattle.txs_value_cell.specs.declared.action.Action.{Action}
 use Rattle.txs_value_cell.specs.declared.cell.CellDefinition.{CellDefinition}
 use Rattle.txs_value_data.specs.declared.value.Value.{Value}
 use Rattle.txs_value_data.specs.declared.value.Value.TheVariants.{Nil, Truth, Int, Key, Text, Vector, Cell}
-use Rattle.txs_tree_meaning.specs.Known.{Known, known}
+use Rattle.txs_tree_meaning.specs.Known.{Known}
 use Rattle.txs_tree_meaning.specs.Pure.{PureCallee}
 use Rattle.txs_tree_meaning.specs.Sound.{SoundCallee, SoundCells, SoundValidator}
-use Rattle.txs_tree_meaning.specs.Tree.{PlainProgram}
 use Rattle.txs_tree_eval.specs.declared.pure_call.EvalStop.{EvalStop}
 use Rattle.txs_tree_eval.specs.declared.pure_call.EvalStop.TheVariants.{Memory}
-use Rattle.txs_theorem_threads.specs.FollowsAgent.{new_state}
-use Rattle.txs_theorem_audit.specs.Audited.{Off}
-use Rattle.txs_theorem_audit.specs.Verdict.{act_means, is_pure_call, is_pure_known}
-use Rattle.txs_theorem_audit_eval.specs.Evaluated.{ActBy, ValidatorGives, act_by, answer_in}
-use Rattle.txs_audit_piece.specs.Judged.{AcceptedBy, CalleeGives, StateBy, is_no_memory, judged}
+use Rattle.txs_value_cell.specs.declared.action.Action.{Action}
+use Rattle.txs_tree_eval.specs.declared.action.ActionMeaning.{ActionMeaning}
+use Rattle.txs_tree_eval.specs.declared.meaning.Needs.{Needs}
+use Rattle.txs_tree_eval.specs.declared.meaning.Needs.TheVariants as needs
+use Rattle.txs_tree_meaning.specs.Tree.{PlainProgram}
+use Rattle.txs_theorem_audit_eval.specs.Evaluated as evaluated
+use Rattle.txs_theorem_audit_eval.specs.Evaluated.{ValidatorGives}
+use Rattle.txs_audit_piece.specs.Judged.{AcceptedBy, EndsBy, ValueEnds, is_no_memory}
 
 -- of a value that is logically false the second is chosen
 pub refuses : {A : Type 0} (v : Value) (a b : A) → is_false v ≡ true → choose v a b ≡ b
@@ -58,43 +57,81 @@ pure_validator ks [] k c h e = absurd cc
 pure_validator ks (d ∷ ds) zero c h e = pure_callee ks c 1 (subst (SoundValidator ks) (sym e) h.0)
 pure_validator ks (d ∷ ds) (suc k) c h e = pure_validator ks ds k c h.1 e
 
--- ---- an agent's new state
-
 -- where an answer isn't out of memory there was memory
 pub had_memory : (q : Result Value EvalStop) → is_no_memory q ≡ false → q ≡ Err Memory → ⊥
 had_memory q h e = false≢true (sym (subst (λ r. is_no_memory r ≡ false) e h))
 
-abbrev value_or : Value → Result Value EvalStop → Value
-value_or d (Ok v) = v
-value_or d (Err e) = d
+-- ---- how an action ends
 
--- what is accepted is the new state, where the action's callee gives a value
-pub state_accepted : {E : Type 0} (p : PlainProgram) (n : ℕ) (x : Action) (v : Value) (s : Result (Result Value EvalStop) E)
-    → IfOk s (AcceptedBy p n (validator_at (validators_of p.cells) x.agent.number) x.span v) → IfOk s (StateBy p n x (Ok v))
-state_accepted p n x v (Ok s) h = (h.0, h.1, λ w e. subst (λ u. ValidatorGives n p.functions (validator_at (validators_of p.cells) x.agent.number) u h.0) (ap (value_or v) e) h.2)
-state_accepted p n x v (Err e) h = tt
+-- a property of what is answered, by another one
+pub so : {A E : Type 0} {P Q : A → Type 0} (r : Result A E) → IfOk r P → ((x : A) → P x → Q x) → IfOk r Q
+so (Ok x) h f = f x h
+so (Err e) h f = tt
 
-abbrev IsValue : Result Value EvalStop → Type 0
-IsValue (Ok v) = Unit {0}
-IsValue (Err e) = ⊥
+-- by what is answered of the validator on its value
+pub value_ends : (p : PlainProgram) (n : ℕ) (x : Action) (v w : Value) (s : Result Value EvalStop) → w ≡ v → AcceptedBy p n (validator_at (validators_of p.cells) x.agent.number) x.span w s
+    → (end : evaluated.ActionEnd) → end ≡ evaluated.end_of_state s → ValueEnds p n x v end
+value_ends p n x v w s same accepted end is =
+    let a = subst (λ y. AcceptedBy p n (validator_at (validators_of p.cells) x.agent.number) x.span y s) same accepted in
+    (a.0, is ∙ ap evaluated.end_of_state a.1, a.2)
 
--- what is answered in place of a value
-pub state_stopped : (p : PlainProgram) (n : ℕ) (x : Action) (e : EvalStop) (s : Result Value EvalStop) → s ≡ answer_in x.callee x.span (Err e) → StateBy p n x (Err e) s
-state_stopped p n x e s is = (Err e, is, λ v same. absurd (subst IsValue (sym same) tt))
+abbrev value_or : Value → Option (Result Value Fault) → Value
+value_or d None = d
+value_or d (Some (Ok y)) = y
+value_or d (Some (Err f)) = d
 
--- ---- what is found of an action
+value_same : (o : Option (Result Value Fault)) (v w : Value) → o ≡ Some (Ok v) → o ≡ Some (Ok w) → v ≡ w
+value_same o v w p q = ap (value_or v) (sym p ∙ q)
 
-known_pure : (k : Known) (n : ℕ) → k.parameters ≡ n → k.pure ≡ true → is_pure_known (Some k) n ≡ true
-known_pure k n arity pure = ap (λ b. b && k.pure) (eq-eqb k.parameters n arity) ∙ pure
+no_value : (o : Option (Result Value Fault)) (w : Value) → o ≡ None → o ≡ Some (Ok w) → ⊥
+no_value o w p q = cc
 
--- a pure callee is one to an audit
-pub pure_call : (ks : List Known) (c : Callee) (n : ℕ) → PureCallee ks c n → is_pure_call ks c n ≡ true
-pure_call ks (CoreOp op) n h = h
-pure_call ks (Function f) n h = ap (λ o. is_pure_known o n) h.found ∙ known_pure h.function n h.arity h.pure
+no_such_value : (o : Option (Result Value Fault)) (f : Fault) (w : Value) → o ≡ Some (Err f) → o ≡ Some (Ok w) → ⊥
+no_such_value o f w p q = cc
 
-pub act_judged : ActBy → (p : PlainProgram) (n a i : ℕ) (x : Action) (state : Value) (new : Result Value Fault) (r s : Result Value EvalStop)
-    → PureCallee (known p.functions) x.callee (suc (length x.args)) → CalleeGives n p.functions x.callee (state ∷ x.args) r → StateBy p n x r s
-    → act_by a i new s ≡ judged p n a i x state new
-act_judged law p n a i x state new r s pure gives h =
-    ap (act_by a i new) h.1 ∙ sym (law p.functions (validators_of p.cells) n a i new x state r h.0 gives.0 gives.1 h.2)
-    ∙ sym (ap (λ b. if b then act_means a i new (new_state n p.functions (validators_of p.cells) x state) else Off a i) (pure_call (known p.functions) x.callee (suc (length x.args)) pure))
+-- an action that has a value
+pub ends_by_value : (p : PlainProgram) (n : ℕ) (x : Action) (m : ActionMeaning) (v : Value) → m.needs ≡ needs.Nothing → m.result ≡ Some (Ok v) → (end : evaluated.ActionEnd) → ValueEnds p n x v end → EndsBy p n x m end
+ends_by_value p n x m v lack result end h =
+    let guard = validator_at (validators_of p.cells) x.agent.number in
+    let accepted = λ (w : Value). evaluated.accepted_by guard x.span w h.0 in (
+      h.0,
+      h.1 ∙ sym (ap (λ l. evaluated.end_of_action l m.result accepted) lack ∙ ap (λ r. evaluated.end_of_action needs.Nothing r accepted) result),
+      λ w less there. subst (λ y. ValidatorGives n p.functions guard y h.0) (value_same m.result v w result there) h.2,
+    )
+
+-- of any other the validator isn't asked
+module _ (p : PlainProgram) (n : ℕ) (x : Action) (m : ActionMeaning) (end : evaluated.ActionEnd) where
+  abbrev ended : Needs → Option (Result Value Fault) → evaluated.ActionEnd
+  ended lack result = evaluated.end_of_action lack result (λ w. evaluated.accepted_by (validator_at (validators_of p.cells) x.agent.number) x.span w (Err Memory))
+
+  pub ends_by_fault : (f : Fault) → m.needs ≡ needs.Nothing → m.result ≡ Some (Err f) → end ≡ evaluated.HandedIn (Err f) → EndsBy p n x m end
+  ends_by_fault f lack result is = (
+    Err Memory,
+    is ∙ sym (ap (λ l. ended l m.result) lack ∙ ap (ended needs.Nothing) result),
+    λ w less there. absurd (no_such_value m.result f w result there),
+  )
+
+  pub ends_by_none : m.needs ≡ needs.Nothing → m.result ≡ None → end ≡ evaluated.Disallows → EndsBy p n x m end
+  ends_by_none lack result is = (
+    Err Memory,
+    is ∙ sym (ap (λ l. ended l m.result) lack ∙ ap (ended needs.Nothing) result),
+    λ w less there. absurd (no_value m.result w result there),
+  )
+
+  pub ends_by_event : m.needs ≡ needs.Event → end ≡ evaluated.LacksEvent → EndsBy p n x m end
+  ends_by_event lack is = (Err Memory, is ∙ sym (ap (λ l. ended l m.result) lack), λ w less there. absurd (other (sym lack ∙ less)))
+    where
+      other : needs.Event ≡ needs.Nothing → ⊥
+      other e = cc
+
+  pub ends_by_turns : m.needs ≡ needs.Turns → end ≡ evaluated.LacksTurns → EndsBy p n x m end
+  ends_by_turns lack is = (Err Memory, is ∙ sym (ap (λ l. ended l m.result) lack), λ w less there. absurd (other (sym lack ∙ less)))
+    where
+      other : needs.Turns ≡ needs.Nothing → ⊥
+      other e = cc
+
+  pub ends_by_wrong : m.needs ≡ needs.Wrong → end ≡ evaluated.Disallows → EndsBy p n x m end
+  ends_by_wrong lack is = (Err Memory, is ∙ sym (ap (λ l. ended l m.result) lack), λ w less there. absurd (other (sym lack ∙ less)))
+    where
+      other : needs.Wrong ≡ needs.Nothing → ⊥
+      other e = cc

@@ -1,5 +1,5 @@
 -- What is found of the pieces of an audit.
-use Rattle.std.specs.Prelude.{◌≡◌, ℕ, suc, Bool, true, false, List, ◌∷◌, length, Option, Result, Ok, Err, if◌then◌else◌}
+use Rattle.std.specs.Prelude.{◌≡◌, ℕ, Bool, true, false, List, Option, Some, Result, Ok, Err}
 use Rattle.txs_value_base.specs.declared.fault.Fault.{Fault}
 use Rattle.txs_value_base.specs.declared.fault.Span.{Span}
 use Rattle.txs_value_base.specs.declared.op.Callee.{Callee}
@@ -10,13 +10,15 @@ use Rattle.txs_world_protocol.specs.Ask.{same_new}
 use Rattle.txs_tree_eval.specs.Told.{PureGives}
 use Rattle.txs_tree_eval.specs.declared.pure_call.EvalStop.{EvalStop}
 use Rattle.txs_tree_eval.specs.declared.pure_call.EvalStop.TheVariants as stop
-use Rattle.txs_tree_meaning.specs.Known.{known}
 use Rattle.txs_tree_meaning.specs.Pure.{pure_meaning}
 use Rattle.txs_tree_meaning.specs.Tree.{PlainFunction, PlainProgram}
-use Rattle.txs_theorem_threads.specs.FollowsAgent.{new_state}
-use Rattle.txs_theorem_audit_eval.specs.Evaluated.{accepted_by, state_by, ValidatorGives}
+use Rattle.txs_tree_eval.specs.declared.action.ActionMeaning.{ActionMeaning}
+use Rattle.txs_tree_eval.specs.declared.meaning.Needs.TheVariants as needs
+use Rattle.txs_theorem_audit_eval.specs.Evaluated.{accepted_by, end_by_answers, ValidatorGives}
+use Rattle.txs_theorem_audit_eval.specs.Evaluated as evaluated
 use Rattle.txs_theorem_audit.specs.Audited as audited
-use Rattle.txs_theorem_audit.specs.Verdict.{act_means, is_pure_call}
+use Rattle.txs_audit_piece.specs.declared.acts.ActionEnd.{ActionEnd}
+use Rattle.txs_audit_piece.specs.declared.acts.ActionEnd.TheVariants as ends
 use Rattle.txs_audit_piece.specs.declared.finding.Finding.{Finding}
 use Rattle.txs_audit_piece.specs.declared.finding.Finding.TheVariants as found
 
@@ -55,15 +57,20 @@ CalleeGives n functions f vs q = PureGives q (pure_meaning n functions f vs) × 
 abbrev pub AcceptedBy : PlainProgram → ℕ → Option Callee → Span → Value → Result Value EvalStop → Type 0
 AcceptedBy p n guard span v s = (q : Result Value EvalStop) × (s ≡ accepted_by guard span v q) × ValidatorGives n p.functions guard v q
 
--- an agent's new state, by what is answered of its action's callee, and by what some evaluation answers of the agent's validator
-abbrev pub StateBy : PlainProgram → ℕ → Action → Result Value EvalStop → Result Value EvalStop → Type 0
-StateBy p n x r s =
-    (q : Result Value EvalStop) × (s ≡ state_by x (validator_at (validators_of p.cells) x.agent.number) r q)
-    × ((v : Value) → r ≡ Ok v → ValidatorGives n p.functions (validator_at (validators_of p.cells) x.agent.number) v q)
+-- how an action ends, as the definition of an audit has it
+abbrev pub as_end : ActionEnd → evaluated.ActionEnd
+as_end (ends.HandedIn new) = evaluated.HandedIn new
+as_end ends.LacksEvent = evaluated.LacksEvent
+as_end ends.LacksTurns = evaluated.LacksTurns
+as_end ends.Disallows = evaluated.Disallows
 
--- what is found of an action on its agent's state, which came to this; its callee has to be pure
-abbrev pub judged : PlainProgram → ℕ → ℕ → ℕ → Action → Value → Result Value Fault → audited.Finding
-judged p n a i x state new =
-    if is_pure_call (known p.functions) x.callee (suc (length x.args))
-    then act_means a i new (new_state n p.functions (validators_of p.cells) x state)
-    else audited.Off a i
+-- how an action ends that has this value, by what some evaluation answers of the agent's validator on it
+abbrev pub ValueEnds : PlainProgram → ℕ → Action → Value → evaluated.ActionEnd → Type 0
+ValueEnds p n x v end =
+    (q : Result Value EvalStop) × (end ≡ evaluated.end_of_state (accepted_by (validator_at (validators_of p.cells) x.agent.number) x.span v q)) × ValidatorGives n p.functions (validator_at (validators_of p.cells) x.agent.number) v q
+
+-- how an action ends of which this is answered, by what some evaluation answers of the agent's validator on its value
+abbrev pub EndsBy : PlainProgram → ℕ → Action → ActionMeaning → evaluated.ActionEnd → Type 0
+EndsBy p n x m end =
+    (q : Result Value EvalStop) × (end ≡ end_by_answers m (validator_at (validators_of p.cells) x.agent.number) x.span q)
+    × ((v : Value) → m.needs ≡ needs.Nothing → m.result ≡ Some (Ok v) → ValidatorGives n p.functions (validator_at (validators_of p.cells) x.agent.number) v q)

@@ -1,6 +1,6 @@
-//! What an action came to, against what its callee means and the agent's validator says of that.
+//! How an action ends, against its act: what its callee means, and what the agent's validator says of that.
 
-ghost use Rattle.std.specs.Prelude.{◌≡◌, ◌∷◌, length, Some, Ok, Err, IfOk};
+ghost use Rattle.std.specs.Prelude.{◌≡◌, ◌==◌, ◌+◌, ◌^◌, ◌<◌, ◌∷◌, List, length, Some, Ok, Err, IfOk};
 ghost use Rattle.txs_tree_meaning.specs.Known.{known};
 ghost use Rattle.txs_tree_meaning.specs.Pure.{PureCallee};
 ghost use Rattle.txs_tree_meaning.specs.View.{functions_of, program_of};
@@ -11,23 +11,46 @@ ghost use Rattle.txs_value_cell.specs.Cells.{validator_at, validators_of};
 ghost use Rattle.txs_value_apply.specs.Truth.{choose};
 ghost use Rattle.txs_tree_eval.specs.declared.pure_call.EvalStop.TheVariants.{Fault as StopFault};
 ghost use Rattle.txs_value_base.specs.declared.fault.Fault.{Fault as AFault};
-ghost use Rattle.txs_value_base.specs.declared.fault.FaultKind.TheVariants.{InvalidState};
-ghost use Rattle.txs_theorem_audit_eval.specs.Evaluated.{act_by, answer_in, fault_in, judged_by};
-ghost use Rattle.txs_audit_piece.specs.Judged.{AcceptedBy, CalleeGives, StateBy, as_found, is_no_memory, judged, new_value, new_fault};
+ghost use Rattle.txs_value_base.specs.declared.fault.FaultKind.TheVariants.{AgentFailed, InvalidState};
+ghost use Rattle.txs_world_book.specs.Book.{first_failed};
+ghost use Rattle.txs_world_book.specs.declared.cell.StoreCell.{StoreCell};
+ghost use Rattle.txs_world_protocol.specs.declared.event.Event.{Event as PlainEvent};
+ghost use Rattle.txs_theorem_audit.specs.Audited.{and_then, check};
+ghost use Rattle.txs_theorem_audit.specs.Verdict.{is_booked};
+ghost use Rattle.txs_theorem_audit_eval.specs.Evaluated.{act_by, answer_in, end_of_state, fault_in, judged_by, still_by};
+ghost use Rattle.txs_audit_piece.specs.Judged.{AcceptedBy, CalleeGives, EndsBy, ValueEnds, as_end, as_found, is_no_memory, new_value, new_fault};
 
 use crate::ends::same_fault;
 use crate::finding::{Finding, check};
 use std::alloc::{AllocError, Global};
-use txs_check::FunctionTable;
 use txs_frame::validator_of;
-use txs_theorem_audit_eval::act_is_answered;
-use txs_tree_eval::{EvalStop, eval_pure};
+use txs_tree_eval::{ActionMeaning, EvalStop, Needs, eval_pure};
 use txs_tree_meaning::Program;
 use txs_value_apply::is_false;
 use txs_value_base::{Callee, Fault, FaultKind, Span};
 use txs_value_cell::Action;
 use txs_value_data::{CellId, Value, copy_value};
-use txs_world_protocol::same_value;
+use txs_world_book::sends_nothing;
+use txs_world_protocol::{same_actions, same_value};
+
+/// How an action ends: it hands this in, it lacks an event or turns, or it doesn't allow an event.
+#[derive(Drop)]
+pub enum ActionEnd {
+    HandedIn(Result<Value, Fault>),
+    LacksEvent,
+    LacksTurns,
+    Disallows,
+}
+
+/// The part of an actor's trace that is an action's: the actor, the index of the first of its events, how many these are, and the index
+/// behind them.
+#[derive(Clone, Copy)]
+pub struct Stretch {
+    pub actor: u16,
+    pub first: usize,
+    pub events: usize,
+    pub index: usize,
+}
 
 /// The agent's state and the action's values.
 fn with_state(alloc: Global, state: &Value, args: &[Value]) -> Result<Vec<Value>, AllocError>
@@ -186,65 +209,142 @@ fn checked(
     }
 }
 
-/// The agent's new state by this action, whose callee gives this: a value is one that the agent's validator has to accept.
-fn new_state(
+/// How an action ends, by what is answered of the agent's validator on its value.
+fn end_of_state(state: Result<Value, EvalStop>) -> Result<ActionEnd, AllocError>
+    ensures { IfOk result (λ e. as_end e ≡ end_of_state state) }
+{
+    match state {
+        Ok(value) => Ok(ActionEnd::HandedIn(Ok(value))),
+        Err(EvalStop::Fault(fault)) => Ok(ActionEnd::HandedIn(Err(fault))),
+        Err(EvalStop::Turns) => Ok(ActionEnd::LacksTurns),
+        Err(EvalStop::Memory) => Err(AllocError),
+    }
+}
+
+/// How an action ends that has this value, which the agent's validator has to accept.
+fn value_end(
     alloc: Global,
     program: &Program,
     turns: u32,
     action: &Action,
-    given: Result<Value, EvalStop>,
-) -> Result<Result<Value, EvalStop>, AllocError>
-    ensures { IfOk result (λ s. StateBy (program_of program.now) turns action.now given s) }
+    value: &Value,
+) -> Result<ActionEnd, AllocError>
+    ensures { IfOk result (λ e. ValueEnds (program_of program.now) turns action.now value.now (as_end e)) }
 {
-    match given {
-        Ok(value) => checked(alloc, program, turns, action.agent, action.span, value),
-        Err(stop) => Ok(answer_in(action.callee, action.span, Err(stop))),
-    }
+    let copy = copy_value(value)?;
+    let state = checked(alloc, program, turns, action.agent, action.span, copy)?;
+    end_of_state(state)
 }
 
-/// What an action came to, against the new state that is answered; fine where there was no memory.
-fn judge(
-    actor: u16,
-    index: usize,
-    new: &Result<Value, Fault>,
-    given: &Result<Value, EvalStop>,
-) -> Finding
-    ensures { as_found result ≡ act_by actor index new.now given.now }
-{
-    match given {
-        Ok(value) => check(is_value(value, new), actor, index),
-        Err(EvalStop::Fault(fault)) => check(is_fault(*fault, new), actor, index),
-        Err(EvalStop::Turns) => Finding::Short(actor, index),
-        Err(EvalStop::Memory) => Finding::Fine,
-    }
-}
-
-/// What is found of an action on its agent's state, which came to this, where each loop makes at most `turns` turns.
+/// How an action ends of which this is answered: a value is one that the agent's validator has to accept.
 ///
 /// # Errors
-/// `AllocError` where there was no memory for what the callee or the validator means.
-pub fn act_means(
+/// `AllocError` where there was no memory for what the validator means.
+pub fn action_end(
     alloc: Global,
-    functions: &FunctionTable<'_>,
+    program: &Program,
     turns: u32,
-    actor: u16,
-    index: usize,
     action: &Action,
-    state: &Value,
-    new: &Result<Value, Fault>,
-) -> Result<Finding, AllocError>
-    ensures { IfOk result (λ f. as_found f ≡ judged (program_of functions.now) turns actor index action.now state.now new.now) }
+    meaning: &ActionMeaning,
+) -> Result<ActionEnd, AllocError>
+    ensures { IfOk result (λ e. EndsBy (program_of program.now) turns action.now meaning.now (as_end e)) }
 {
-    let args = action.args.as_slice();
-    let values = with_state(alloc, state, args)?;
-    let all = values.as_slice();
-    if !functions.is_pure(action.callee, all.len()) {
-        return Ok(Finding::Off(actor, index));
+    match meaning.needs {
+        Needs::Nothing => match &meaning.result {
+            Some(Ok(value)) => value_end(alloc, program, turns, action, value),
+            Some(Err(fault)) => Ok(ActionEnd::HandedIn(Err(*fault))),
+            None => Ok(ActionEnd::Disallows),
+        },
+        Needs::Event => Ok(ActionEnd::LacksEvent),
+        Needs::Turns => Ok(ActionEnd::LacksTurns),
+        Needs::Wrong => Ok(ActionEnd::Disallows),
     }
-    let program = functions.program();
-    let given = answered(alloc, program, turns, action.callee, all)?;
-    // A law that the proof uses; it does nothing when it runs.
-    act_is_answered();
-    let next = new_state(alloc, program, turns, action, given)?;
-    Ok(judge(actor, index, new, &next))
+}
+
+/// The fault of an action of whose sends an agent has failed.
+fn failure(span: Span) -> Fault
+    ensures { result ≡ fault_at AgentFailed span }
+{
+    Fault {
+        kind: FaultKind::AgentFailed,
+        span,
+    }
+}
+
+/// Whether an act has this value and these sends; where an agent of theirs had failed, the fault of that and none.
+fn is_booked(
+    failed: Option<CellId>,
+    span: Span,
+    value: &Value,
+    held: &[Action],
+    new: &Result<Value, Fault>,
+    sends: &[Action],
+) -> bool
+    ensures { result ≡ is_booked failed span value.now held.now new.now sends.now }
+{
+    match failed {
+        None => is_value(value, new) && same_actions(held, sends),
+        Some(_) => is_fault(failure(span), new) && sends_nothing(sends),
+    }
+}
+
+/// Fine where an action ate so many events and this holds.
+fn eaten_and(stretch: Stretch, eaten: usize, at: usize, holds: bool) -> Finding
+    ensures { as_found result ≡ and_then (check (eaten == stretch.events) stretch.actor at) (check holds stretch.actor stretch.index) }
+{
+    let all = check(eaten == stretch.events, stretch.actor, at);
+    all.and_then(check(holds, stretch.actor, stretch.index))
+}
+
+/// What is found of an action that is over, of which this is answered and which ends so, against its act. The failed agent is that of
+/// the first of its sends whose agent had failed.
+pub fn act_ends(
+    stretch: Stretch,
+    span: Span,
+    failed: Option<CellId>,
+    meaning: &ActionMeaning,
+    end: &ActionEnd,
+    new: &Result<Value, Fault>,
+    sends: &[Action],
+) -> Finding
+    requires { stretch.first + meaning.now.eaten < 2 ^ 64 }
+    ensures { (cells : List StoreCell) (done : List PlainEvent) → first_failed cells done meaning.now.sends ≡ failed
+        → as_found result ≡ act_by cells done span stretch.actor stretch.first stretch.index stretch.events meaning.now.eaten meaning.now.sends new.now sends.now (as_end end.now) }
+{
+    let eaten = meaning.eaten;
+    let at = stretch.first + eaten;
+    match end {
+        ActionEnd::HandedIn(Ok(value)) => {
+            let held = meaning.sends.as_slice();
+            let booked = is_booked(failed, span, value, held, new, sends);
+            eaten_and(stretch, eaten, at, booked)
+        }
+        ActionEnd::HandedIn(Err(fault)) => {
+            let booked = is_fault(*fault, new) && sends_nothing(sends);
+            eaten_and(stretch, eaten, at, booked)
+        }
+        ActionEnd::LacksEvent => Finding::Off(stretch.actor, stretch.index),
+        ActionEnd::LacksTurns => Finding::Short(stretch.actor, at),
+        ActionEnd::Disallows => Finding::Off(stretch.actor, at),
+    }
+}
+
+/// What is found of an action that isn't over, of which this is answered and which ends so, where it is known whether it printed a
+/// part of what it prints.
+pub fn still_ends(stretch: Stretch, meaning: &ActionMeaning, end: &ActionEnd, part: bool) -> Finding
+    requires { stretch.first + meaning.now.eaten < 2 ^ 64 }
+    ensures { as_found result ≡ still_by stretch.actor stretch.first stretch.index stretch.events meaning.now.eaten part (as_end end.now) }
+{
+    let eaten = meaning.eaten;
+    let at = stretch.first + eaten;
+    match end {
+        ActionEnd::HandedIn(_) | ActionEnd::LacksEvent => eaten_and(stretch, eaten, at, part),
+        ActionEnd::LacksTurns => {
+            if eaten == stretch.events && part {
+                return Finding::Fine;
+            }
+            Finding::Short(stretch.actor, at)
+        }
+        ActionEnd::Disallows => Finding::Off(stretch.actor, at),
+    }
 }

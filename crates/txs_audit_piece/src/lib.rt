@@ -1,4 +1,4 @@
-//! The pieces of an audit, as they are found: what an action came to, and how a thread ended.
+//! The pieces of an audit, as they are found: how an action and a thread ended.
 #![tactic(auto)]
 
 pub mod acts;
@@ -6,6 +6,6 @@ pub mod endings;
 pub mod ends;
 pub mod finding;
 
-pub use acts::act_means;
+pub use acts::{ActionEnd, Stretch, act_ends, action_end, still_ends};
 pub use endings::end_found;
 pub use finding::Finding;

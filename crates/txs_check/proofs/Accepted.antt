@@ -12,7 +12,7 @@ use Rattle.txs_value_base.specs.declared.op.Callee.{Callee}
 use Rattle.txs_value_base.specs.declared.op.Callee.TheVariants.{Core as CoreOp, Function}
 use Rattle.txs_tree_meaning.specs.Known.{Known, is_pure}
 use Rattle.txs_tree_meaning.specs.Scoped.{ScopedTree, ScopedAll, ScopedLet}
-use Rattle.txs_tree_meaning.specs.Sound.{SoundTree, SoundAll, SoundLet, SoundDo, SoundCall, SoundCallee, PureCall, TakesFew, MayCall, MayStand, in_function, in_thread, in_dosync}
+use Rattle.txs_tree_meaning.specs.Sound.{SoundTree, SoundAll, SoundLet, SoundDo, SoundCall, SoundCallee, SoundSent, PureCall, SentCall, TakesFew, MayCall, MayStand, in_function, in_thread, in_dosync}
 use Rattle.txs_tree_meaning.specs.Sound as sound
 use Rattle.txs_tree_meaning.specs.Tree.{Tree, Const, Local, If, Do, Let, Loop, Recur, Core, Call, VectorOf, Println, Dosync, Look, Put, Update, Send, Trees, none, more, count}
 use Rattle.txs_check.specs.declared.error.CheckErrorKind.TheVariants.{RecurNotTail, RecurCount, RecurAcrossDosync, Arity, NotPure, InsideOnly, OutsideOnly}
@@ -20,7 +20,7 @@ use Rattle.txs_check.specs.declared.place.Target.{Target}
 use Rattle.txs_check.specs.declared.place.Target.TheVariants.{Nowhere, Across, Nearest}
 use Rattle.txs_check.specs.declared.place.Zone.{Zone}
 use Rattle.txs_check.specs.declared.place.Zone.TheVariants.{InFunction, InFuture, InDosync}
-use Rattle.txs_check.specs.Refused.{fine, ◌>>◌, only, inner, across, recurs, accepts, zoned, calls, called, placed, formed, applied, turned_in, in_turn, checked, checked_all, checked_do}
+use Rattle.txs_check.specs.Refused.{fine, ◌>>◌, only, inner, across, recurs, accepts, zoned, calls, called, sent, sent_zoned, placed, formed, applied, turned_in, in_turn, checked, checked_all, checked_do}
 use Rattle.txs_check.proofs.Steps.{refused_not_fine, first, second, both, turn_first, turn_second, turn_both, only_true, only_fine}
 
 -- the number of values of a recur that may stand here
@@ -113,6 +113,26 @@ sound_called ks (Function f) n at s =
     ∙ both (only (eqb s.function.parameters n) Arity at) (only s.function.pure NotPure at)
     (only_fine (eqb s.function.parameters n) Arity at (eq-eqb s.function.parameters n s.arity)) (only_fine s.function.pure NotPure at s.pure)
 
+sent_sound : (ks : List Known) (c : Callee) (n : ℕ) (at : Span) → n ≤ 65535 → sent ks c n at ≡ fine → SoundSent ks c n
+sent_sound ks (CoreOp op) n at le e = (only_true (takes op n) Arity at e, le)
+sent_sound ks (Function f) n at le e = by_known (nth ks f) refl e
+  where
+    by_known : (o : Option Known) → nth ks f ≡ o → only (accepts o n) Arity at >> sent_zoned o at ≡ fine → SentCall ks f n
+    by_known None is e = absurd (refused_not_fine Arity at e)
+    by_known (Some k) is e = record {
+      function = k;
+      found = is;
+      arity = eqb-true k.parameters n (only_true (eqb k.parameters n) Arity at (first (only (eqb k.parameters n) Arity at) (sent_zoned (Some k) at) e));
+      zoned = not-true k.inside (only_true (not k.inside) InsideOnly at (second (only (eqb k.parameters n) Arity at) (sent_zoned (Some k) at) e));
+    }
+
+sound_sent : (ks : List Known) (c : Callee) (n : ℕ) (at : Span) → SoundSent ks c n → sent ks c n at ≡ fine
+sound_sent ks (CoreOp op) n at s = only_fine (takes op n) Arity at s.0
+sound_sent ks (Function f) n at s =
+    ap (λ o. only (accepts o n) Arity at >> sent_zoned o at) s.found
+    ∙ both (only (eqb s.function.parameters n) Arity at) (sent_zoned (Some s.function) at)
+    (only_fine (eqb s.function.parameters n) Arity at (eq-eqb s.function.parameters n s.arity)) (only_fine (not s.function.inside) InsideOnly at (not_from_false s.function.inside s.zoned))
+
 placed_may : (z : Zone) (s : Standing) (at : Span) → placed z s at ≡ fine → MayStand (zone_of z) s
 placed_may InFunction s at e = tt
 placed_may InFuture Anywhere at e = tt
@@ -187,13 +207,13 @@ mutual
       (placed_may z (rule (form_of.Put form)).stands m.span (first x (y >> w) h), subst (λ o. SoundTree ks (zone_of z) d o cell) (inner_tail t) (accepted_sound ks z (inner t) d cell s.0 (first y w g)), subst (λ o. SoundTree ks (zone_of z) d o value) (inner_tail t) (accepted_sound ks z (inner t) d value s.1 (second y w g)))
   accepted_sound ks z t d (Send cell callee args m) s h =
       let n = suc (count args) in
-      let v = called ks callee n m.span in
+      let v = sent ks callee n m.span in
       let w = formed z form_of.Send m.span in
       let x = checked ks z (inner t) cell in
       let y = checked_all ks z (inner t) args in
       let g : v >> w ≡ fine = first (v >> w) (x >> y) h in
       let k : x >> y ≡ fine = second (v >> w) (x >> y) h in
-      (subst (λ o. SoundTree ks (zone_of z) d o cell) (inner_tail t) (accepted_sound ks z (inner t) d cell s.0 (first x y k)), called_sound ks callee n m.span (omega (arith, s.2)) (first v w g), accepted_all ks z t d args s.3 (second x y k))
+      (subst (λ o. SoundTree ks (zone_of z) d o cell) (inner_tail t) (accepted_sound ks z (inner t) d cell s.0 (first x y k)), sent_sound ks callee n m.span (omega (arith, s.2)) (first v w g), accepted_all ks z t d args s.3 (second x y k))
   accepted_sound ks z t d (Update form cell callee args m) s h =
       let n = suc (count args) in
       let v = called ks callee n m.span in
@@ -259,8 +279,8 @@ mutual
       (sound_accepted ks z (inner t) d value (subst (λ o. SoundTree ks (zone_of z) d o value) (sym (inner_tail t)) s.2)))
   sound_accepted ks z t d (Send cell callee args m) s =
       let n = suc (count args) in
-      both (applied ks z form_of.Send callee n m.span) (checked ks z (inner t) cell >> checked_all ks z (inner t) args)
-      (both (called ks callee n m.span) (formed z form_of.Send m.span) (sound_called ks callee n m.span s.1) (may_placed z Anywhere m.span (anywhere z)))
+      both (sent ks callee n m.span >> formed z form_of.Send m.span) (checked ks z (inner t) cell >> checked_all ks z (inner t) args)
+      (both (sent ks callee n m.span) (formed z form_of.Send m.span) (sound_sent ks callee n m.span s.1) (may_placed z Anywhere m.span (anywhere z)))
       (both (checked ks z (inner t) cell) (checked_all ks z (inner t) args)
       (sound_accepted ks z (inner t) d cell (subst (λ o. SoundTree ks (zone_of z) d o cell) (sym (inner_tail t)) s.0))
       (sound_all ks z t d args s.2))

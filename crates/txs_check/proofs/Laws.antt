@@ -24,7 +24,7 @@ use Rattle.txs_check.specs.declared.place.Target.{Target}
 use Rattle.txs_check.specs.declared.place.Target.TheVariants.{Nowhere, Across, Nearest}
 use Rattle.txs_check.specs.declared.place.Zone.{Zone}
 use Rattle.txs_check.specs.declared.place.Zone.TheVariants.{InFunction, InFuture, InDosync}
-use Rattle.txs_check.specs.Refused.{Checked, fine, ◌>>◌, only, inner, across, operates, recurs, accepts, zoned, calls, called, placed, formed, applied, turned_in, in_turn, checked, checked_all, checked_do, Body, function_body, thread_body, in_order, checked_body, checked_bodies, validators_in, validates, Checkable, of_body, of_validator, together, checked_one, checked_each, ◌>>=◌, room, few, refusal, CheckStops}
+use Rattle.txs_check.specs.Refused.{Checked, fine, ◌>>◌, only, inner, across, operates, recurs, accepts, zoned, calls, called, sent, sent_zoned, placed, formed, applied, turned_in, in_turn, checked, checked_all, checked_do, Body, function_body, thread_body, in_order, checked_body, checked_bodies, validators_in, validates, Checkable, of_body, of_validator, together, checked_one, checked_each, ◌>>=◌, room, few, refusal, CheckStops}
 use Rattle.txs_check.specs.Walked.{walked}
 use Rattle.txs_check.proofs.Steps.{first, second, both, err_not_fine, Told, told_then, told_turn, told_only, told_kind}
 use Rattle.txs_check.proofs.Accepted.{accepted_sound, sound_accepted, called_sound, sound_called}
@@ -137,6 +137,14 @@ told_called : (ks : List Known) (c : Callee) (n : ℕ) (at : Span) → Told (cal
 told_called ks (CoreOp op) n at = told_only (takes op n) Arity at (λ m. m)
 told_called ks (Function f) n at = told_then (only (accepts (nth ks f) n) Arity at) (only (is_pure (nth ks f)) NotPure at) (told_only (accepts (nth ks f) n) Arity at (λ m. m)) (told_only (is_pure (nth ks f)) NotPure at (λ m. m))
 
+told_sent_zoned : (o : Option Known) (at : Span) → Told (sent_zoned o at)
+told_sent_zoned None at = tt
+told_sent_zoned (Some k) at = told_only (not k.inside) InsideOnly at (λ m. m)
+
+told_sent : (ks : List Known) (c : Callee) (n : ℕ) (at : Span) → Told (sent ks c n at)
+told_sent ks (CoreOp op) n at = told_only (takes op n) Arity at (λ m. m)
+told_sent ks (Function f) n at = told_then (only (accepts (nth ks f) n) Arity at) (sent_zoned (nth ks f) at) (told_only (accepts (nth ks f) n) Arity at (λ m. m)) (told_sent_zoned (nth ks f) at)
+
 told_placed : (z : Zone) (s : Standing) (at : Span) → Told (placed z s at)
 told_placed InFunction s at = tt
 told_placed InFuture Anywhere at = tt
@@ -172,8 +180,8 @@ module _ (ks : List Known) where
         (told_then (checked ks z (inner t) cell) (checked_all ks z (inner t) args) (told_checked z (inner t) cell) (told_all z (inner t) args))
     told_checked z t (Send cell callee args m) =
         let n = suc (count args) in
-        told_then (applied ks z form_of.Send callee n m.span) (checked ks z (inner t) cell >> checked_all ks z (inner t) args)
-        (told_then (called ks callee n m.span) (formed z form_of.Send m.span) (told_called ks callee n m.span) (told_placed z Anywhere m.span))
+        told_then (sent ks callee n m.span >> formed z form_of.Send m.span) (checked ks z (inner t) cell >> checked_all ks z (inner t) args)
+        (told_then (sent ks callee n m.span) (formed z form_of.Send m.span) (told_sent ks callee n m.span) (told_placed z Anywhere m.span))
         (told_then (checked ks z (inner t) cell) (checked_all ks z (inner t) args) (told_checked z (inner t) cell) (told_all z (inner t) args))
 
     told_all : (z : Zone) (t : Target) (es : Trees) → Told (checked_all ks z t es)

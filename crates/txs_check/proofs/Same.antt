@@ -18,7 +18,7 @@ use Rattle.txs_check.specs.declared.place.Target.{Target}
 use Rattle.txs_check.specs.declared.place.Target.TheVariants.{Nearest}
 use Rattle.txs_check.specs.declared.place.Zone.{Zone}
 use Rattle.txs_check.specs.declared.place.Zone.TheVariants.{InFunction, InFuture, InDosync}
-use Rattle.txs_check.specs.Refused.{◌>>◌, only, inner, across, operates, recurs, accepts, zoned, calls, called, placed, formed, turned_in, in_turn, checked, checked_all, checked_do, validates, Checkable, of_body, of_validator, checked_one, checked_each}
+use Rattle.txs_check.specs.Refused.{◌>>◌, only, inner, across, operates, recurs, accepts, zoned, calls, called, sent, sent_zoned, placed, formed, turned_in, in_turn, checked, checked_all, checked_do, validates, Checkable, of_body, of_validator, checked_one, checked_each}
 use Rattle.txs_check.specs.Signatures.{bare_one, bare, class_in, known_row, known_as}
 
 abbrev pub signature : ℕ → Class → Signature
@@ -55,6 +55,10 @@ zoned_bare InFunction (Some k) at = refl
 zoned_bare InFuture (Some k) at = refl
 zoned_bare InDosync (Some k) at = refl
 
+sent_zoned_bare : (o : Option Known) (at : Span) → sent_zoned (bare_if o) at ≡ sent_zoned o at
+sent_zoned_bare None at = refl
+sent_zoned_bare (Some k) at = refl
+
 module _ (ks ls : List Known) (same : bare ls ≡ bare ks) where
   at : (f : ℕ) → bare_if (nth ls f) ≡ bare_if (nth ks f)
   at f = sym (nth_bare ls f) ∙ ap (λ l. nth l f) same ∙ nth_bare ks f
@@ -73,6 +77,9 @@ module _ (ks ls : List Known) (same : bare ls ≡ bare ks) where
 
   zoned_at : (z : Zone) (f : ℕ) (s : Span) → zoned z (nth ls f) s ≡ zoned z (nth ks f) s
   zoned_at z f s = sym (zoned_bare z (nth ls f) s) ∙ ap (λ o. zoned z o s) (at f) ∙ zoned_bare z (nth ks f) s
+
+  sent_zoned_at : (f : ℕ) (s : Span) → sent_zoned (nth ls f) s ≡ sent_zoned (nth ks f) s
+  sent_zoned_at f s = sym (sent_zoned_bare (nth ls f) s) ∙ ap (λ o. sent_zoned o s) (at f) ∙ sent_zoned_bare (nth ks f) s
 
   mutual
     pub inside_same : (e : Tree) → inside_in ls e ≡ inside_in ks e
@@ -150,6 +157,10 @@ module _ (ks ls : List Known) (same : bare ls ≡ bare ks) where
   called_same (CoreOp op) n s = refl
   called_same (Function f) n s = λ i. only (accepts_at f n i) Arity s >> only (pure_at f i) NotPure s
 
+  sent_same : (c : Callee) (n : ℕ) (s : Span) → sent ls c n s ≡ sent ks c n s
+  sent_same (CoreOp op) n s = refl
+  sent_same (Function f) n s = λ i. only (accepts_at f n i) Arity s >> sent_zoned_at f s i
+
   mutual
     pub checked_same : (z : Zone) (t : Target) (e : Tree) → checked ls z t e ≡ checked ks z t e
     checked_same z t (Const v m) = refl
@@ -167,7 +178,7 @@ module _ (ks ls : List Known) (same : bare ls ≡ bare ks) where
     checked_same z t (Look form cell m) = λ i. formed z (form_of.Look form) m.span >> checked_same z (inner t) cell i
     checked_same z t (Put form cell value m) = λ i. formed z (form_of.Put form) m.span >> (checked_same z (inner t) cell i >> checked_same z (inner t) value i)
     checked_same z t (Update form cell callee args m) = λ i. (called_same callee (suc (count args)) m.span i >> formed z (form_of.Update form) m.span) >> (checked_same z (inner t) cell i >> all_same z (inner t) args i)
-    checked_same z t (Send cell callee args m) = λ i. (called_same callee (suc (count args)) m.span i >> formed z form_of.Send m.span) >> (checked_same z (inner t) cell i >> all_same z (inner t) args i)
+    checked_same z t (Send cell callee args m) = λ i. (sent_same callee (suc (count args)) m.span i >> formed z form_of.Send m.span) >> (checked_same z (inner t) cell i >> all_same z (inner t) args i)
 
     pub all_same : (z : Zone) (t : Target) (es : Trees) → checked_all ls z t es ≡ checked_all ks z t es
     all_same z t none = refl
@@ -229,6 +240,10 @@ module _ (ks ms : List Known) where
   called_front (CoreOp op) n s lt = refl
   called_front (Function f) n s lt = ap (λ o. only (accepts o n) Arity s >> only (is_pure o) NotPure s) (front f lt)
 
+  sent_front : (c : Callee) (n : ℕ) (at : Span) → ScopedCallee ks c → sent (ks ++ ms) c n at ≡ sent ks c n at
+  sent_front (CoreOp op) n at s = refl
+  sent_front (Function f) n at s = λ i. only (accepts (front f s i) n) Arity at >> sent_zoned (front f s i) at
+
   mutual
     pub checked_front : (z : Zone) (t : Target) (d : ℕ) (e : Tree) → ScopedTree ks d e → checked (ks ++ ms) z t e ≡ checked ks z t e
     checked_front z t d (Const v m) s = refl
@@ -246,7 +261,7 @@ module _ (ks ms : List Known) where
     checked_front z t d (Look form cell m) s = λ i. formed z (form_of.Look form) m.span >> checked_front z (inner t) d cell s i
     checked_front z t d (Put form cell value m) s = λ i. formed z (form_of.Put form) m.span >> (checked_front z (inner t) d cell s.0 i >> checked_front z (inner t) d value s.1 i)
     checked_front z t d (Update form cell callee args m) s = λ i. (called_front callee (suc (count args)) m.span s.1 i >> formed z (form_of.Update form) m.span) >> (checked_front z (inner t) d cell s.0 i >> all_front z (inner t) d args s.3 i)
-    checked_front z t d (Send cell callee args m) s = λ i. (called_front callee (suc (count args)) m.span s.1 i >> formed z form_of.Send m.span) >> (checked_front z (inner t) d cell s.0 i >> all_front z (inner t) d args s.3 i)
+    checked_front z t d (Send cell callee args m) s = λ i. (sent_front callee (suc (count args)) m.span s.1 i >> formed z form_of.Send m.span) >> (checked_front z (inner t) d cell s.0 i >> all_front z (inner t) d args s.3 i)
 
     all_front : (z : Zone) (t : Target) (d : ℕ) (es : Trees) → ScopedAll ks d es → checked_all (ks ++ ms) z t es ≡ checked_all ks z t es
     all_front z t d none s = refl

@@ -7,6 +7,7 @@ use Rattle.txs_value_base.specs.Places.{nth}
 use Rattle.txs_value_base.specs.declared.fault.Span.{Span}
 use Rattle.txs_value_cell.specs.declared.form.CellForm.{CellForm}
 use Rattle.txs_value_cell.specs.declared.form.CellForm.TheVariants as form_of
+use Rattle.txs_value_cell.specs.declared.form.UpdateForm.{UpdateForm}
 use Rattle.txs_value_cell.specs.declared.form.Standing.{Standing}
 use Rattle.txs_value_cell.specs.declared.form.Standing.TheVariants.{Anywhere, Inside, Outside}
 use Rattle.txs_value_base.specs.declared.op.Callee.{Callee}
@@ -14,7 +15,7 @@ use Rattle.txs_value_base.specs.declared.op.Callee.TheVariants.{Core as CoreOp, 
 use Rattle.txs_tree_meaning.specs.Known.{Known, is_pure, known}
 use Rattle.txs_tree_meaning.specs.Sound.{nodes}
 use Rattle.txs_tree_meaning.specs.Tree.{Tree, Mark, Const, Local, If, Do, Let, Loop, Recur, Core, Call, VectorOf, Println, Dosync, Look, Put, Update, Send, Trees, none, more, count, PlainProgram}
-use Rattle.txs_check.specs.Faulty.{IsAmong, is_first, is_later, IsLast, is_only, is_behind, IsBefore, is_now, is_then, Stands, as_whole, in_test, in_first, in_second, in_block, in_last, in_bound, in_let, in_start, in_loop, in_recur, in_operation, in_call, in_vector, in_line, in_transaction, in_looked, in_filled, in_value, in_updated, in_further, in_agent, in_sent, IsForm, it_looks, it_puts, it_updates, it_sends, HasApplied, in_update, in_action, HasFault, recurs_nowhere, recurs_before_end, recurs_across, recurs_with_others, operates_on_others, calls_with_others, applies_to_others, applies_impurely, calls_outside, stands_outside, calls_inside, stands_inside, prints_inside, FaultIn, IsBody, body_first, body_later, IsValidator, validates_others, validates_impurely, FaultOfValidator, all_nodes, IsTrueOf, of_form, of_validator, of_size}
+use Rattle.txs_check.specs.Faulty.{IsAmong, is_first, is_later, IsLast, is_only, is_behind, IsBefore, is_now, is_then, Stands, as_whole, in_test, in_first, in_second, in_block, in_last, in_bound, in_let, in_start, in_loop, in_recur, in_operation, in_call, in_vector, in_line, in_transaction, in_looked, in_filled, in_value, in_updated, in_further, in_agent, in_sent, IsForm, it_looks, it_puts, it_updates, it_sends, HasApplied, in_update, in_action, HasFault, recurs_nowhere, recurs_before_end, recurs_across, recurs_with_others, operates_on_others, calls_with_others, applies_to_others, applies_impurely, calls_outside, sends_inside, stands_outside, calls_inside, stands_inside, prints_inside, FaultIn, IsBody, body_first, body_later, IsValidator, validates_others, validates_impurely, FaultOfValidator, all_nodes, IsTrueOf, of_form, of_validator, of_size}
 use Rattle.txs_check.specs.declared.error.CheckError.{CheckError}
 use Rattle.txs_check.specs.declared.error.CheckErrorKind.{CheckErrorKind}
 use Rattle.txs_check.specs.declared.error.CheckErrorKind.TheVariants.{RecurCount, Arity, NotPure, InsideOnly, OutsideOnly, CodeTooLarge}
@@ -22,7 +23,7 @@ use Rattle.txs_check.specs.declared.place.Target.{Target}
 use Rattle.txs_check.specs.declared.place.Target.TheVariants.{Nowhere, Across, Nearest}
 use Rattle.txs_check.specs.declared.place.Zone.{Zone}
 use Rattle.txs_check.specs.declared.place.Zone.TheVariants.{InFunction, InFuture, InDosync}
-use Rattle.txs_check.specs.Refused.{Checked, ◌>>◌, only, inner, across, recurs, accepts, zoned, called, placed, formed, here, place_of, turned_in, in_turn, checked, checked_all, checked_do, Body, in_order, checked_body, Validator, validators_in, validates, of_body, of_validator as a_validator, earlier, together, checked_each, ◌>>=◌, room, few, refusal, CheckStops}
+use Rattle.txs_check.specs.Refused.{Checked, ◌>>◌, only, inner, across, recurs, accepts, zoned, called, sent, sent_zoned, placed, formed, here, place_of, turned_in, in_turn, checked, checked_all, checked_do, Body, in_order, checked_body, Validator, validators_in, validates, of_body, of_validator as a_validator, earlier, together, checked_each, ◌>>=◌, room, few, refusal, CheckStops}
 use Rattle.txs_check.proofs.Walking.{each_append}
 
 -- this holds of the refusal, if there is one
@@ -72,13 +73,36 @@ module _ (ks : List Known) where
   own_zoned InFuture t f args m (Some k) is = holds_only (Own InFuture t (Call f args m)) (not k.inside) InsideOnly m.span (λ h. (calls_outside f args m k refl is (not_false k.inside h), refl))
   own_zoned InDosync t f args m (Some k) is = holds_only (Own InDosync t (Call f args m)) (not k.outside) OutsideOnly m.span (λ h. (calls_inside f args m k refl is (not_false k.outside h), refl))
 
-  own_called : (z : Zone) (t : Target) (e : Tree) (callee : Callee) (n : ℕ) → HasApplied callee n e → (at : Span) → at ≡ place_of e → Holds (Own z t e) (called ks callee n at)
-  own_called z t e (CoreOp op) n has at is = holds_only (Own z t e) (takes op n) Arity at (λ h. (applies_to_others (CoreOp op) n e has h, is))
-  own_called z t e (Function f) n has at is =
+  -- a form has a callee applied to the value of its cell that it may not have
+  own_called : (z : Zone) (t : Target) (form : UpdateForm) (cell : Tree) (callee : Callee) (args : Trees) (m : Mark) → Holds (Own z t (Update form cell callee args m)) (called ks callee (suc (count args)) m.span)
+  own_called z t form cell (CoreOp op) args m =
+      let e = Update form cell (CoreOp op) args m in
+      holds_only (Own z t e) (takes op (suc (count args))) Arity m.span (λ h. (applies_to_others (CoreOp op) (suc (count args)) e (in_update form cell (CoreOp op) args m) h, refl))
+  own_called z t form cell (Function f) args m =
+      let e = Update form cell (Function f) args m in
+      let n = suc (count args) in
       let P = Own z t e in
-      holds_then P (only (accepts (nth ks f) n) Arity at) (only (is_pure (nth ks f)) NotPure at)
-      (holds_only P (accepts (nth ks f) n) Arity at (λ h. (applies_to_others (Function f) n e has h, is)))
-      (holds_only P (is_pure (nth ks f)) NotPure at (λ h. (applies_impurely f n e has h, is)))
+      holds_then P (only (accepts (nth ks f) n) Arity m.span) (only (is_pure (nth ks f)) NotPure m.span)
+      (holds_only P (accepts (nth ks f) n) Arity m.span (λ h. (applies_to_others (Function f) n e (in_update form cell (Function f) args m) h, refl)))
+      (holds_only P (is_pure (nth ks f)) NotPure m.span (λ h. (applies_impurely form cell f args m h, refl)))
+
+  own_sent_zoned : (z : Zone) (t : Target) (cell : Tree) (f : ℕ) (args : Trees) (m : Mark) (o : Option Known) → nth ks f ≡ o → Holds (Own z t (Send cell (Function f) args m)) (sent_zoned o m.span)
+  own_sent_zoned z t cell f args m None is = tt
+  own_sent_zoned z t cell f args m (Some k) is =
+      holds_only (Own z t (Send cell (Function f) args m)) (not k.inside) InsideOnly m.span (λ h. (sends_inside cell f args m k is (not_false k.inside h), refl))
+
+  -- a send is of a callee that may not be sent
+  own_sent : (z : Zone) (t : Target) (cell : Tree) (callee : Callee) (args : Trees) (m : Mark) → Holds (Own z t (Send cell callee args m)) (sent ks callee (suc (count args)) m.span)
+  own_sent z t cell (CoreOp op) args m =
+      let e = Send cell (CoreOp op) args m in
+      holds_only (Own z t e) (takes op (suc (count args))) Arity m.span (λ h. (applies_to_others (CoreOp op) (suc (count args)) e (in_action cell (CoreOp op) args m) h, refl))
+  own_sent z t cell (Function f) args m =
+      let e = Send cell (Function f) args m in
+      let n = suc (count args) in
+      let P = Own z t e in
+      holds_then P (only (accepts (nth ks f) n) Arity m.span) (sent_zoned (nth ks f) m.span)
+      (holds_only P (accepts (nth ks f) n) Arity m.span (λ h. (applies_to_others (Function f) n e (in_action cell (Function f) args m) h, refl)))
+      (own_sent_zoned z t cell f args m (nth ks f) refl)
 
   own_placed : (z : Zone) (t : Target) (f : CellForm) (e : Tree) → IsForm f e → (s : Standing) → (rule f).stands ≡ s → (at : Span) → at ≡ place_of e → Holds (Own z t e) (placed z s at)
   own_placed InFunction t f e it s stands at is = tt
@@ -121,12 +145,12 @@ module _ (ks : List Known) where
       let e = Update form cell callee args m in
       let n = suc (count args) in
       holds_then (Own z t e) (called ks callee n m.span) (formed z (form_of.Update form) m.span)
-      (own_called z t e callee n (in_update form cell callee args m) m.span refl) (own_formed z t (form_of.Update form) e (it_updates form cell callee args m) m.span refl)
+      (own_called z t form cell callee args m) (own_formed z t (form_of.Update form) e (it_updates form cell callee args m) m.span refl)
   own z t (Send cell callee args m) =
       let e = Send cell callee args m in
       let n = suc (count args) in
-      holds_then (Own z t e) (called ks callee n m.span) (formed z form_of.Send m.span)
-      (own_called z t e callee n (in_action cell callee args m) m.span refl) (own_formed z t form_of.Send e (it_sends cell callee args m) m.span refl)
+      holds_then (Own z t e) (sent ks callee n m.span) (formed z form_of.Send m.span)
+      (own_sent z t cell callee args m) (own_formed z t form_of.Send e (it_sends cell callee args m) m.span refl)
 
   -- a fault of the form is one in it
   as_own : (z : Zone) (t : Target) (e : Tree) (err : CheckError) → Own z t e err → FaultIn ks z t e err

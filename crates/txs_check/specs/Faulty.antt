@@ -102,10 +102,12 @@ pub data HasFault (ks : List Known) (zone : Zone) (target : Target) : CheckError
   operates_on_others : (op : Op) (args : Trees) (m : Mark) → takes op (count args) ≡ false → HasFault ks zone target Arity (Core op args m)
   calls_with_others : (f : ℕ) (args : Trees) (m : Mark) → accepts (nth ks f) (count args) ≡ false → HasFault ks zone target Arity (Call f args m)
   applies_to_others : (callee : Callee) (n : ℕ) (e : Tree) → HasApplied callee n e → callee_takes ks callee n ≡ false → HasFault ks zone target Arity e
-  -- a function that isn't pure, where a form on a cell has it applied
-  applies_impurely : (f n : ℕ) (e : Tree) → HasApplied (Function f) n e → is_pure (nth ks f) ≡ false → HasFault ks zone target NotPure e
+  -- a function that isn't pure, where a form on a cell has it applied to the cell's value
+  applies_impurely : (form : UpdateForm) (cell : Tree) (f : ℕ) (args : Trees) (m : Mark) → is_pure (nth ks f) ≡ false → HasFault ks zone target NotPure (Update form cell (Function f) args m)
   -- what is for transactions alone, in a future outside them
   calls_outside : (f : ℕ) (args : Trees) (m : Mark) (k : Known) → zone ≡ InFuture → nth ks f ≡ Some k → k.inside ≡ true → HasFault ks zone target InsideOnly (Call f args m)
+  -- or sent, wherever that is
+  sends_inside : (cell : Tree) (f : ℕ) (args : Trees) (m : Mark) (k : Known) → nth ks f ≡ Some k → k.inside ≡ true → HasFault ks zone target InsideOnly (Send cell (Function f) args m)
   stands_outside : (f : CellForm) (e : Tree) → zone ≡ InFuture → IsForm f e → (rule f).stands ≡ Inside → HasFault ks zone target InsideOnly e
   -- what is for outside alone, in a transaction
   calls_inside : (f : ℕ) (args : Trees) (m : Mark) (k : Known) → zone ≡ InDosync → nth ks f ≡ Some k → k.outside ≡ true → HasFault ks zone target OutsideOnly (Call f args m)

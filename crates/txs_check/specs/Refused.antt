@@ -92,6 +92,16 @@ abbrev pub called : List Known → Callee → ℕ → Span → Checked
 called ks (CoreOp op) n at = operates op n at
 called ks (Function f) n at = only (accepts (nth ks f) n) Arity at >> only (is_pure (nth ks f)) NotPure at
 
+-- a function that is there isn't for transactions alone
+abbrev pub sent_zoned : Option Known → Span → Checked
+sent_zoned None at = fine
+sent_zoned (Some k) at = only (not k.inside) InsideOnly at
+
+-- a callee that is sent, of so many arguments, the agent's state among them: it runs outside every transaction, wherever its send is
+abbrev pub sent : List Known → Callee → ℕ → Span → Checked
+sent ks (CoreOp op) n at = operates op n at
+sent ks (Function f) n at = only (accepts (nth ks f) n) Arity at >> sent_zoned (nth ks f) at
+
 -- what is for transactions alone isn't in a future outside them, nor is what is for outside alone in them
 abbrev pub placed : Zone → Standing → Span → Checked
 placed InFunction s at = fine
@@ -105,6 +115,10 @@ formed zone form at = placed zone (rule form).stands at
 -- a form on a cell that applies a callee to so many arguments, the cell's value among them
 abbrev pub applied : List Known → Zone → CellForm → Callee → ℕ → Span → Checked
 applied ks zone form callee n at = called ks callee n at >> formed zone form at
+
+-- a send of so many arguments, the agent's state among them: of what may be sent, where a send may be
+abbrev pub sends : List Known → Zone → Callee → ℕ → Span → Checked
+sends ks zone callee n at = sent ks callee n at >> formed zone form_of.Send at
 
 -- the node itself, without its parts
 abbrev pub here : List Known → Zone → Target → Tree → Checked
@@ -124,7 +138,7 @@ here ks zone target (Dosync body m) = fine
 here ks zone target (Look form cell m) = formed zone (form_of.Look form) m.span
 here ks zone target (Put form cell value m) = formed zone (form_of.Put form) m.span
 here ks zone target (Update form cell callee args m) = applied ks zone (form_of.Update form) callee (suc (count args)) m.span
-here ks zone target (Send cell callee args m) = applied ks zone form_of.Send callee (suc (count args)) m.span
+here ks zone target (Send cell callee args m) = sends ks zone callee (suc (count args)) m.span
 
 -- ---- the order of branches
 

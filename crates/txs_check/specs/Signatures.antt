@@ -1,5 +1,5 @@
 -- What the table of functions says of them: all that is known but how deep they are.
-use Rattle.std.specs.Prelude.{ℕ, Bool, false, ◌==◌, ◌&&◌, ◌||◌, List, map, Option, Some, None}
+use Rattle.std.specs.Prelude.{ℕ, Bool, false, not, ◌==◌, ◌&&◌, ◌||◌, List, map, Option, Some, None}
 use Rattle.txs_value_base.specs.Places.{nth}
 use Rattle.txs_value_cell.specs.Forms.{rule}
 use Rattle.txs_value_cell.specs.declared.form.CellForm.TheVariants as form_of
@@ -78,3 +78,12 @@ is_pure_taking (Some k) n = k.parameters == n && k.pure
 -- whether the function of this number is pure and takes so many values
 abbrev pub is_pure_call : List Known → ℕ → ℕ → Bool
 is_pure_call ks f n = is_pure_taking (nth ks f) n
+
+-- whether a function takes so many values and isn't for transactions alone; no function does
+abbrev pub is_sent_taking : Option Known → ℕ → Bool
+is_sent_taking None n = false
+is_sent_taking (Some k) n = k.parameters == n && not k.inside
+
+-- whether the function of this number may be sent to so many values
+abbrev pub is_sent_call : List Known → ℕ → ℕ → Bool
+is_sent_call ks f n = is_sent_taking (nth ks f) n

@@ -1,10 +1,11 @@
-//! Which callees are pure.
+//! Which callees are pure, and which may be sent.
 
 ghost use Rattle.std.specs.Prelude.{◌≡◌, ◌↔◌, IfOk, true};
 ghost use Rattle.txs_tree_meaning.specs.Known.{known};
 ghost use Rattle.txs_tree_meaning.specs.Pure.{PureCallee};
+ghost use Rattle.txs_tree_meaning.specs.Sound.{SentCallee};
 ghost use Rattle.txs_tree_meaning.specs.View.{functions_of};
-ghost use Rattle.txs_check.specs.Signatures.{is_pure_call, known_as};
+ghost use Rattle.txs_check.specs.Signatures.{is_pure_call, is_sent_call, known_as};
 
 use crate::class::{Signature, signature_of, signatures_of};
 use std::alloc::{AllocError, Global};
@@ -20,6 +21,16 @@ fn is_pure_function(signatures: &[Signature], number: u16, count: usize) -> bool
     match signature_of(signatures, number) {
         None => false,
         Some(signature) => usize::from(signature.parameters) == count && signature.class.pure,
+    }
+}
+
+/// Whether the function of this number takes so many values and isn't for transactions alone.
+fn is_sent_function(signatures: &[Signature], number: u16, count: usize) -> bool
+    ensures { result ≡ is_sent_call (known_as signatures.now) number count }
+{
+    match signature_of(signatures, number) {
+        None => false,
+        Some(signature) => usize::from(signature.parameters) == count && !signature.class.inside,
     }
 }
 
@@ -86,6 +97,18 @@ impl<'a> FunctionTable<'a> {
             }
         }
     }
+
+    /// Whether the callee may be sent to so many values, the agent's state among them: what its meaning as an action rests on.
+    pub fn may_be_sent(&self, callee: Callee, count: usize) -> bool
+        ensures { (result ≡ true) ↔ SentCallee (known (functions_of self.now.functions)) callee count }
+    {
+        match callee {
+            Callee::Core(operation) => takes(operation, count),
+            Callee::Function(number) => {
+                is_sent_function(self.signatures.as_slice(), number, count)
+            }
+        }
+    }
 }
 
 /// Whether the callee is pure and takes so many values, for one callee alone.
@@ -102,4 +125,20 @@ pub fn is_pure_callee(
 {
     let functions = function_table(alloc, program)?;
     Ok(functions.is_pure(callee, count))
+}
+
+/// Whether the callee may be sent to so many values, the agent's state among them, for one callee alone.
+///
+/// # Errors
+/// Where there was no memory for what is known of the functions.
+pub fn is_sent_callee(
+    alloc: Global,
+    program: &Program,
+    callee: Callee,
+    count: usize,
+) -> Result<bool, AllocError>
+    ensures { IfOk result (λ sent. (sent ≡ true) ↔ SentCallee (known (functions_of program.now.functions)) callee count) }
+{
+    let functions = function_table(alloc, program)?;
+    Ok(functions.may_be_sent(callee, count))
 }

@@ -19,9 +19,9 @@ pub enum CheckErrorKind {
     RecurAcrossDosync,
     /// A number of arguments that the operation or function doesn't take.
     Arity,
-    /// A function that isn't pure, where a form on a cell calls it.
+    /// A function that isn't pure, where a form on a cell calls it on the cell's value.
     NotPure,
-    /// What is for transactions alone, in a future outside every transaction.
+    /// What is for transactions alone, in a future outside every transaction, or sent.
     InsideOnly,
     /// What is for outside alone, in a transaction.
     OutsideOnly,

@@ -15,7 +15,7 @@ pub mod size;
 mod validators;
 mod walk;
 
-pub use callee::{FunctionTable, function_table, is_pure_callee};
+pub use callee::{FunctionTable, function_table, is_pure_callee, is_sent_callee};
 pub use error::{CheckError, CheckErrorKind};
 pub use program::check;
 pub use size::nodes_left;

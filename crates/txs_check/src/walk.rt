@@ -2,7 +2,7 @@
 
 ghost use Rattle.std.specs.Prelude.{◌≡◌, length, suc};
 ghost use Rattle.txs_tree_meaning.specs.View.{tree_of, trees_of};
-ghost use Rattle.txs_check.specs.Refused.{accepts, applied, called, calls, checked, checked_all, formed, here, turned, zoned};
+ghost use Rattle.txs_check.specs.Refused.{accepts, applied, called, calls, checked, checked_all, formed, here, sends, sent, sent_zoned, turned, zoned};
 ghost use Rattle.txs_tree_meaning.specs.Known.{is_pure};
 ghost use Rattle.txs_check.specs.Signatures.{known_as, known_if};
 
@@ -104,6 +104,49 @@ fn check_applied(
     check_form(zone, form, at)
 }
 
+/// Whether what is known allows a send: the function isn't for transactions alone.
+fn check_sent_zone(signature: Option<Signature>, at: Span) -> Result<(), CheckError>
+    ensures { result ≡ sent_zoned (known_if signature) at }
+{
+    match signature {
+        None => Ok(()),
+        Some(signature) => only(!signature.class.inside, CheckErrorKind::InsideOnly, at),
+    }
+}
+
+/// Whether this may be sent on so many arguments, the agent's state among them: its action runs outside every transaction.
+fn check_sent(
+    signatures: &[Signature],
+    callee: Callee,
+    count: usize,
+    at: Span,
+) -> Result<(), CheckError>
+    ensures { result ≡ sent (known_as signatures.now) callee count at }
+{
+    match callee {
+        Callee::Core(op) => only(takes(op, count), CheckErrorKind::Arity, at),
+        Callee::Function(number) => {
+            let signature = signature_of(signatures, number);
+            only(accepts(signature, count), CheckErrorKind::Arity, at)?;
+            check_sent_zone(signature, at)
+        }
+    }
+}
+
+/// Whether a send of this may be here, with these arguments behind the agent's state.
+fn check_send(
+    signatures: &[Signature],
+    zone: Zone,
+    callee: Callee,
+    args: &[Node],
+    at: Span,
+) -> Result<(), CheckError>
+    ensures { result ≡ sends (known_as signatures.now) zone callee (suc (length args.now)) at }
+{
+    check_sent(signatures, callee, args.len() + 1, at)?;
+    check_form(zone, CellForm::Send, at)
+}
+
 /// Whether the node itself may be here.
 fn check_here(
     signatures: &[Signature],
@@ -137,7 +180,7 @@ fn check_here(
             check_applied(signatures, zone, form, *callee, args, node.span)
         }
         NodeKind::Send(_, callee, args) => {
-            check_applied(signatures, zone, CellForm::Send, *callee, args, node.span)
+            check_send(signatures, zone, *callee, args, node.span)
         }
     }
 }

@@ -15,7 +15,7 @@ use Rattle.txs_world_protocol.specs.declared.report.Report.{Report}
 pub of_audited : (unrun : PlainCode → Told → Type 0) (unaudited : Parts → Report → AuditError → Type 0) (script : Script) (o : RunOptions) (t : Told) (parts : Parts) (code : PlainCode)
     → IsCompiled script.text (program_of parts) code → AuditedRunTells (unaudited parts) parts code script o t → AuditedTells unrun unaudited script o t
 of_audited unrun unaudited script o t parts code compiled told =
-    of_run parts code compiled told (told.worked.explained (program_of parts) (sym compiled.same) compiled.follows compiled.agents compiled.sends)
+    of_run parts code compiled told (told.worked.explained (program_of parts) (sym compiled.same) compiled.follows compiled.agents compiled.sends compiled.agents_send)
 
 -- what is told of an audit behind some lines is told of it behind what the threads printed and these lines
 pub audit_behind : (failed : AuditError → Type 0) (script : Script) (v : Verdict) (bytes : List ℕ) (before t : Told) → AuditTells failed script v before t → AuditTells failed script v (behind_bytes bytes before) (behind_bytes bytes t)

@@ -26,8 +26,8 @@ of_script failed script p code steps cells events t compiled (of_report shared r
       shared = shared;
       report = report;
       worked = worked;
-      explained = worked.explained p (sym compiled.same) compiled.follows compiled.agents compiled.sends;
-      output = told.output ∙ ap (λ (ds : List CellDefinition). (all_printed report.threads.items ++ cells_told cells ds shared) ++ events_told events (numbered_book shared 0)) compiled.same;
+      explained = worked.explained p (sym compiled.same) compiled.follows compiled.agents compiled.sends compiled.agents_send;
+      output = told.output ∙ ap (λ (ds : List CellDefinition). (all_printed (report.threads.items ++ report.agents.items) ++ cells_told cells ds shared) ++ events_told events (numbered_book shared 0)) compiled.same;
       errors = told.errors;
       status = told.status;
     })

@@ -21,7 +21,7 @@ pub record CodeWorkersTell (code : PlainCode) (steps : ℕ) (cells events : Bool
   pub shared : PlainShared
   pub report : Entries
   pub worked : IsWorked code steps shared report
-  pub output : t.output ≡ (all_printed report.threads.items ++ cells_told cells code.cells shared) ++ events_told events (numbered_book shared 0)
+  pub output : t.output ≡ (all_printed (report.threads.items ++ report.agents.items) ++ cells_told cells code.cells shared) ++ events_told events (numbered_book shared 0)
   pub errors : EndsTold code.cells no_script shared report.threads.items report.agents.items t.errors
   pub status : t.status ≡ run_status code.cells shared report.threads.items report.agents.items
 

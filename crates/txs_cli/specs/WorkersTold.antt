@@ -20,7 +20,7 @@ pub record WorkersTell (p : PlainProgram) (code : PlainCode) (script : Script) (
   pub report : Entries
   pub worked : IsWorked code steps shared report
   pub explained : ExplainsAll p (shared_of shared) report.threads.items report.agents.items
-  pub output : t.output ≡ (all_printed report.threads.items ++ cells_told cells p.cells shared) ++ events_told events (numbered_book shared 0)
+  pub output : t.output ≡ (all_printed (report.threads.items ++ report.agents.items) ++ cells_told cells p.cells shared) ++ events_told events (numbered_book shared 0)
   pub errors : EndsTold code.cells script shared report.threads.items report.agents.items t.errors
   pub status : t.status ≡ run_status code.cells shared report.threads.items report.agents.items
 

@@ -64,6 +64,7 @@ fn audit_run<A: Fn(Global, &Program, &Report, u32, usize) -> Result<Verdict, Aud
     let workers = working.workers;
     add_audit(alloc, auditor, script, audited, turns, workers, &mut told)?;
     mem::swap(&mut told.threads, &mut report.threads);
+    mem::swap(&mut told.agents, &mut report.agents);
     Ok(told)
 }
 

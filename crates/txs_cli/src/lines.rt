@@ -71,6 +71,7 @@ pub(crate) fn refused(alloc: Global, error: LoadError) -> Result<Told, AllocErro
     write_refusal(&mut errors, error)?;
     Ok(Told {
         threads: Vec::new(alloc),
+        agents: Vec::new(alloc),
         output: Vec::new(alloc),
         errors,
         status: REFUSED,

@@ -93,7 +93,7 @@ pub fn of_check(kind: CheckErrorKind) -> Option<&'static str>
             "Give it a core operation or a pure function: one with no `println`, no `dosync` and no form on cells, also in what it calls."
         }
         CheckErrorKind::InsideOnly => {
-            "Put it into a `dosync`: a `ref-set`, `alter`, `commute` or `ensure`, and a function that needs a transaction around it, stand in one alone."
+            "Put it into a `dosync`: a `ref-set`, `alter`, `commute` or `ensure`, and a function that needs a transaction around it, stand in one alone; a function that is sent has its own `dosync`."
         }
         CheckErrorKind::OutsideOnly => {
             "Move it out of the `dosync`: a `println`, `swap!` or `reset!`, and a function that has one of them, stand outside of transactions."
@@ -123,7 +123,9 @@ pub fn of_fault(kind: FaultKind) -> &'static str {
         FaultKind::RetryLimit => {
             "Make the `dosync` shorter, or write its refs less often: it had to run again too often."
         }
-        FaultKind::AgentFailed => "Send to it no more: this agent has failed.",
+        FaultKind::AgentFailed => {
+            "Send no more to an agent that has failed: here, or in the action that was sent here."
+        }
         FaultKind::InvalidState => "Give the cell a value that its validator takes.",
         FaultKind::TooDeep => "Keep vectors at 32 levels: here is one more.",
         FaultKind::TooLong => "Keep vectors at 65,535 items: here is one more.",

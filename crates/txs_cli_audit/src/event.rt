@@ -145,7 +145,7 @@ fn span_among(actions: &[Action], agent: CellId, number: u32) -> Result<Span, u3
 fn sent_by(kind: &EventKind) -> &[Action] {
     match kind {
         EventKind::Send { action } => std::slice::from_ref(action),
-        EventKind::Commit { sends, .. } => sends.as_slice(),
+        EventKind::Commit { sends, .. } | EventKind::Act { sends, .. } => sends.as_slice(),
         _ => &[],
     }
 }
@@ -185,10 +185,66 @@ fn form_in(report: &Report, at: EventAt) -> Option<Span> {
     }
 }
 
-/// The form of the text that is shown: of a `send`, of an action or of a fault, else the thread's.
+/// The n-th agent, counted from 0.
+fn agent_in(program: &Program, n: usize) -> Option<CellId> {
+    let mut before = n;
+    for (number, cell) in program.cells().iter().enumerate() {
+        if cell.kind == CellKind::Agent {
+            if before == 0 {
+                let number = u16::try_from(number).ok()?;
+                return Some(CellId {
+                    kind: CellKind::Agent,
+                    number,
+                });
+            }
+            before -= 1;
+        }
+    }
+    None
+}
+
+/// Whether the end of an action is at this index of this book.
+fn is_act(report: &Report, place: Place) -> bool {
+    match event_in(report, place) {
+        Some(event) => matches!(event.kind, EventKind::Act { .. }),
+        None => false,
+    }
+}
+
+/// How many of these events are the ends of actions.
+fn acts_among(report: &Report, places: &[Place]) -> u32 {
+    let mut acts: u32 = 0;
+    for place in places {
+        if is_act(report, *place) {
+            acts = acts.saturating_add(1);
+        }
+    }
+    acts
+}
+
+/// The form by which the action was sent in which an event of an agent's actor is, or behind its last event the action under way.
+fn form_of_action(audited: Audited<'_>, at: EventAt) -> Option<Span> {
+    let report = audited.report;
+    let number = usize::from(at.actor).checked_sub(report.threads.len())?;
+    let agent = agent_in(audited.program, number)?;
+    let trace = entry_of(report, at.actor)?.trace.as_slice();
+    let before = &trace[..at.event.min(trace.len())];
+    let number = acts_among(report, before).saturating_add(1);
+    form_of_act(report.book.as_slice(), agent, number)
+}
+
+/// The form of the thread with this number.
+fn form_of_thread(program: &Program, actor: u16) -> Option<Span> {
+    Some(program.threads().get(usize::from(actor))?.span)
+}
+
+/// The form of the text that is shown: of a `send`, of the action in which an agent's event is, or of a fault, else the thread's.
 pub(crate) fn form_of(audited: Audited<'_>, at: EventAt) -> Option<Span> {
-    match form_in(audited.report, at) {
+    if let Some(span) = form_in(audited.report, at) {
+        return Some(span);
+    }
+    match form_of_action(audited, at) {
         Some(span) => Some(span),
-        None => Some(audited.program.threads().get(usize::from(at.actor))?.span),
+        None => form_of_thread(audited.program, at.actor),
     }
 }

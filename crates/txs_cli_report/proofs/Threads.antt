@@ -11,8 +11,8 @@ dropped rs k r l e = drop_more rs k r l ∙ ap (λ x. x ∷ drop (k + 1) rs) (sy
 -- ---- what is printed
 
 -- of no thread nothing is
-pub none_printed : (rs : List ActorReport) (lines xs : List ℕ) → rs ≡ [] → lines ≡ xs → all_printed rs ++ lines ≡ xs
-none_printed rs lines xs none is = ap (λ (l : List ActorReport). all_printed l ++ lines) none ∙ is
+pub none_printed : (rs ss : List ActorReport) (lines xs : List ℕ) → rs ≡ [] → ss ≡ [] → lines ≡ xs → all_printed (rs ++ ss) ++ lines ≡ xs
+none_printed rs ss lines xs none no_more is = ap (λ (l : List ActorReport). all_printed (l ++ ss) ++ lines) none ∙ ap (λ (l : List ActorReport). all_printed l ++ lines) no_more ∙ is
 
 -- ---- lines and status
 

@@ -17,7 +17,7 @@ pub whole_run : (code : PlainCode) (script : Script) (steps : ℕ) (s : PlainSha
     → AgentsAreDone code steps (books_of s) report.agents.items → AreDrained code (shared_of s) report.agents.items → AreExplainedBy code (shared_of s) report.threads.items report.agents.items
     → ReportTells code script s report cells events t → WholeRunTells code script steps cells events s t
 whole_run code script steps s report cells events t done ended explained agents_done drained all_explained told = record {
-  ran = record { output = all_printed report.threads.items; errors = t.errors; status = t.status };
+  ran = record { output = all_printed (report.threads.items ++ report.agents.items); errors = t.errors; status = t.status };
   told = record {
     rans = report.threads.items;
     agents = report.agents.items;
@@ -40,6 +40,6 @@ whole_run code script steps s report cells events t done ended explained agents_
 pub script_by_turns : (script : Script) (p : PlainProgram) (code : PlainCode) (plays : List Play) (steps : ℕ) (cells events : Bool) (t : Told)
     → IsCompiled script.text p code → TurnsTell code script plays steps cells events t → ScriptTells script t (Run plays steps cells events)
 script_by_turns script p code plays steps cells events t compiled (of_turns s of named told) =
-    of_run plays steps cells events told.ran p code s compiled of named told.told (told.told.all_explained p (sym compiled.same) compiled.follows compiled.agents compiled.sends)
+    of_run plays steps cells events told.ran p code s compiled of named told.told (told.told.all_explained p (sym compiled.same) compiled.follows compiled.agents compiled.sends compiled.agents_send)
     (told.output ∙ ap (λ (ds : List CellDefinition). (told.ran.output ++ cells_told cells ds s) ++ events_told events (numbered_book s 0)) compiled.same) told.errors told.status
 script_by_turns script p code plays steps cells events t compiled (of_none unnamed output errors status) = of_no_actor plays steps cells events p code compiled unnamed output errors status

@@ -1,5 +1,5 @@
 -- What is lent to the program's parts, as plain data.
-use Rattle.std.specs.Prelude.{ℕ, List, [], Option, Some, None, Result, codes}
+use Rattle.std.specs.Prelude.{ℕ, List, [], ◌++◌, Option, Some, None, Result, codes}
 use Rattle.std.specs.Borrow.{Bor}
 use Rattle.std.specs.declared.result.Result.TheVariants.{Ok, Err}
 use Rattle.txs_machine.specs.Schedule.{spread}
@@ -21,13 +21,13 @@ text_in (Some text) = Some text.now
 abbrev pub script_of : lent.Script → Script
 script_of s = record { text = s.text.now; file = text_in s.file }
 
--- what is told by lines, without what threads printed
+-- what is told by lines, without what threads and agents printed
 abbrev pub lines_of : owned.Told → Told
 lines_of t = record { output = t.output.items; errors = t.errors.items; status = t.status }
 
--- what is told, as plain data: behind what the threads printed the lines
+-- what is told, as plain data: what the threads printed, behind that what the agents printed, and then the lines
 abbrev pub told_of : owned.Told → Told
-told_of t = behind_bytes (all_printed t.threads.items) (lines_of t)
+told_of t = behind_bytes (all_printed (t.threads.items ++ t.agents.items)) (lines_of t)
 
 -- what is told of an answer, which may be that there was no memory for it
 abbrev pub answer_of : {E : Type 0} → Result owned.Told E → Told

@@ -105,7 +105,7 @@ abbrev pub how_ended : Option Outcome → Outcome
 how_ended None = Done
 how_ended (Some o) = o
 
--- what all threads printed, one after the other in their order
+-- what all these actors printed, one after the other in their order
 abbrev pub all_printed : List ActorReport → List ℕ
 all_printed [] = []
 all_printed (r ∷ rs) = r.printed.items ++ all_printed rs

@@ -12,7 +12,7 @@ use Rattle.txs_disasm.specs.Listing.{listing}
 use Rattle.txs_disasm.specs.Sent.{Sent}
 use Rattle.txs_theorem_threads.specs.FollowsAgent.{FollowsAgents}
 use Rattle.txs_theorem_threads.specs.FollowsAll.{FollowsAll}
-use Rattle.txs_theorem_threads.specs.Sends.{CodesSendSound}
+use Rattle.txs_theorem_threads.specs.Sends.{CodesSendSound, AgentsSendSound}
 use Rattle.txs_gen.specs.Generated.{IsCodeOf}
 use Rattle.txs_opt.specs.Optimised.{optimised}
 use Rattle.txs_machine.specs.Agents.{actors_of, AgentsAreDone, AreDrained, AreExplainedBy}
@@ -65,7 +65,7 @@ pub record EndsTold (cells : List CellDefinition) (script : Script) (s : PlainSh
 abbrev pub run_status : List CellDefinition → PlainShared → List ActorReport → List ActorReport → ℕ
 run_status cells s threads agents = status_of_agents (status_from 0 threads) (failure_of s) (named_from 0 cells) agents
 
--- What a run of all threads and agents of the code over what they share tells, which it leaves so: what the threads printed, how each ended, which
+-- What a run of all threads and agents of the code over what they share tells, which it leaves so: what the threads printed and then the agents, how each ended, which
 -- agents have failed and whose actors were stopped, and the highest status. The entries of the report say what each actor did, and each program that
 -- the code follows explains them: those of the threads, and, where the code follows its functions as well and sends what it may send, all.
 pub record RunTells (code : PlainCode) (script : Script) (steps : ℕ) (s : PlainShared) (t : Told) : Type 0 where
@@ -77,7 +77,7 @@ pub record RunTells (code : PlainCode) (script : Script) (steps : ℕ) (s : Plai
   pub agents_done : AgentsAreDone code steps (books_of s) agents
   pub drained : AreDrained code (shared_of s) agents
   pub all_explained : AreExplainedBy code (shared_of s) rans agents
-  pub output : t.output ≡ all_printed rans
+  pub output : t.output ≡ all_printed (rans ++ agents)
   pub errors : EndsTold code.cells script s rans agents t.errors
   pub status : t.status ≡ run_status code.cells s rans agents
 
@@ -112,10 +112,10 @@ pub data TurnsTell (code : PlainCode) (script : Script) (plays : List Play) (ste
       (unnamed : all_named (actors_of code) plays ≡ false)
       (output : t.output ≡ []) (errors : t.errors ≡ codes "run failed: NoActor" ++ codes "\n") (status : t.status ≡ 2) → TurnsTell code script plays steps cells events t
 
--- What a run that leaves what its actors share so, and that has this report, tells: what the threads printed, how each ended, which agents have failed and whose
+-- What a run that leaves what its actors share so, and that has this report, tells: what the threads printed and then the agents, how each ended, which agents have failed and whose
 -- actors were stopped, with the highest status; and behind it the cells and the events, where they are wanted.
 pub record ReportTells (code : PlainCode) (script : Script) (shared : PlainShared) (report : Entries) (cells events : Bool) (t : Told) : Type 0 where
-  pub output : t.output ≡ (all_printed report.threads.items ++ cells_told cells code.cells shared) ++ events_told events (numbered_book shared 0)
+  pub output : t.output ≡ (all_printed (report.threads.items ++ report.agents.items) ++ cells_told cells code.cells shared) ++ events_told events (numbered_book shared 0)
   pub errors : EndsTold code.cells script shared report.threads.items report.agents.items t.errors
   pub status : t.status ≡ run_status code.cells shared report.threads.items report.agents.items
 
@@ -134,7 +134,8 @@ pub record IsCompiled (text : List ℕ) (p : PlainProgram) (code : PlainCode) : 
   pub program : IsProgramOf text p
   pub generated : IsCodeOf code (optimised most_nodes p)
   pub follows : FollowsAll (codes_of code) p
-  pub agents : FollowsAgents (library_of code) p.functions
+  pub agents : FollowsAgents (library_of code) p.cells p.functions
+  pub agents_send : AgentsSendSound p.functions (library_of code)
   pub sends : CodesSendSound p.functions (codes_of code)
   pub same : code.cells ≡ p.cells
 

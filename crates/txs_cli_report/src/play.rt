@@ -42,44 +42,47 @@ fn write_fault<F: Write>(faults: &mut F, errors: &[u8]) -> Result<(), WriteFault
     write_bytes(faults, b"write failed\n")
 }
 
-/// Writes what threads printed, in their order and nothing else. The writer isn't flushed.
-fn write_printed<W: Write>(writer: &mut W, threads: &[ActorReport]) -> Result<(), WriteFault>
-    ensures whole { OnOk result (Appends (W.contents writer.old) (W.contents writer.new) (all_printed threads.now)) }
-    ensures begun { OnErr result (IsBegun (W.contents writer.old) (W.contents writer.new) (all_printed threads.now)) }
+/// Writes what these actors printed, in their order and nothing else. The writer isn't flushed.
+fn write_printed<W: Write>(writer: &mut W, actors: &[ActorReport]) -> Result<(), WriteFault>
+    ensures whole { OnOk result (Appends (W.contents writer.old) (W.contents writer.new) (all_printed actors.now)) }
+    ensures begun { OnErr result (IsBegun (W.contents writer.old) (W.contents writer.new) (all_printed actors.now)) }
 {
-    for thread in threads {
-        write_piece(writer, thread.printed.as_slice())?;
+    for actor in actors {
+        write_piece(writer, actor.printed.as_slice())?;
     }
     Ok(())
 }
 
-/// Writes the standard output: what threads printed, in their order, and these lines behind it.
+/// Writes the standard output: what threads printed, in their order, then what agents printed, and these lines behind it.
 fn write_output<W: Write>(
     writer: &mut W,
     threads: &[ActorReport],
+    agents: &[ActorReport],
     lines: &[u8],
 ) -> Result<(), WriteFault>
-    ensures whole { OnOk result (Appends (W.contents writer.old) (W.contents writer.new) (all_printed threads.now ++ lines.now)) }
-    ensures begun { OnErr result (IsBegun (W.contents writer.old) (W.contents writer.new) (all_printed threads.now ++ lines.now)) }
+    ensures whole { OnOk result (Appends (W.contents writer.old) (W.contents writer.new) (all_printed (threads.now ++ agents.now) ++ lines.now)) }
+    ensures begun { OnErr result (IsBegun (W.contents writer.old) (W.contents writer.new) (all_printed (threads.now ++ agents.now) ++ lines.now)) }
 {
     write_printed(writer, threads)?;
+    write_printed(writer, agents)?;
     write_bytes(writer, lines)
 }
 
-/// Writes the standard output, which begins with what threads printed, and then the standard error. Answers the status, which is 2 at least
+/// Writes the standard output, which begins with what threads and agents printed, and then the standard error. Answers the status, which is 2 at least
 /// where one of them couldn't be written; and whether the standard error was, of which only a write that failed says that it wasn't.
 fn write_streams<W: Write, F: Write>(
     threads: &[ActorReport],
+    agents: &[ActorReport],
     output: &[u8],
     errors: &[u8],
     status: u8,
     writer: &mut W,
     faults: &mut F,
 ) -> (u8, Result<(), WriteFault>)
-    ensures whole { OnOk result.1 (HasErrors (W.contents writer.old) (W.contents writer.new) (F.contents faults.old) (F.contents faults.new) (record { output = all_printed threads.now ++ output.now; errors = errors.now; status = status }) result.0) }
-    ensures cut { OnErr result.1 (LacksErrors (W.contents writer.old) (W.contents writer.new) (F.contents faults.old) (F.contents faults.new) (record { output = all_printed threads.now ++ output.now; errors = errors.now; status = status }) result.0) }
+    ensures whole { OnOk result.1 (HasErrors (W.contents writer.old) (W.contents writer.new) (F.contents faults.old) (F.contents faults.new) (record { output = all_printed (threads.now ++ agents.now) ++ output.now; errors = errors.now; status = status }) result.0) }
+    ensures cut { OnErr result.1 (LacksErrors (W.contents writer.old) (W.contents writer.new) (F.contents faults.old) (F.contents faults.new) (record { output = all_printed (threads.now ++ agents.now) ++ output.now; errors = errors.now; status = status }) result.0) }
 {
-    if write_output(writer, threads, output).is_err() {
+    if write_output(writer, threads, agents, output).is_err() {
         let told = write_fault(faults, errors);
         return (status.max(UNUSABLE), told);
     }
@@ -89,19 +92,20 @@ fn write_streams<W: Write, F: Write>(
     }
 }
 
-/// Writes the standard output, which begins with what threads printed, and then the standard error. Answers the status, which is 2 at least
+/// Writes the standard output, which begins with what threads and agents printed, and then the standard error. Answers the status, which is 2 at least
 /// where one of them couldn't be written.
 fn write_whole<W: Write, F: Write>(
     threads: &[ActorReport],
+    agents: &[ActorReport],
     output: &[u8],
     errors: &[u8],
     status: u8,
     writer: &mut W,
     faults: &mut F,
 ) -> u8
-    ensures { Written (W.contents writer.old) (W.contents writer.new) (F.contents faults.old) (F.contents faults.new) (record { output = all_printed threads.now ++ output.now; errors = errors.now; status = status }) result }
+    ensures { Written (W.contents writer.old) (W.contents writer.new) (F.contents faults.old) (F.contents faults.new) (record { output = all_printed (threads.now ++ agents.now) ++ output.now; errors = errors.now; status = status }) result }
 {
-    let ended = write_streams(threads, output, errors, status, writer, faults);
+    let ended = write_streams(threads, agents, output, errors, status, writer, faults);
     ended.0
 }
 
@@ -116,7 +120,7 @@ pub fn write_told<W: Write, F: Write>(
 ) -> u8
     ensures { Written (W.contents writer.old) (W.contents writer.new) (F.contents faults.old) (F.contents faults.new) (record { output = output.now; errors = errors.now; status = status }) result }
 {
-    write_whole(&[], output, errors, status, writer, faults)
+    write_whole(&[], &[], output, errors, status, writer, faults)
 }
 
 /// Writes what is told, or that there was no memory for it. Answers the status.
@@ -130,6 +134,7 @@ pub fn write_answer<W: Write, F: Write>(
     match told {
         Ok(told) => write_whole(
             told.threads.as_slice(),
+            told.agents.as_slice(),
             told.output.as_slice(),
             told.errors.as_slice(),
             told.status,

@@ -117,8 +117,8 @@ fn tell_book(
     done
 }
 
-/// What is told of a run of the code that is over, but for what its threads printed: how each ended, its cells and the events of the store's book,
-/// where they are wanted. Behind what the threads printed it is what the report tells.
+/// What is told of a run of the code that is over, but for what its threads and agents printed: how each ended, its cells and the events of the
+/// store's book, where they are wanted. Behind what they printed it is what the report tells.
 pub fn report_lines(
     alloc: Global,
     script: Script<'_>,
@@ -131,7 +131,7 @@ pub fn report_lines(
     requires few_cells { length code.now.cells ≤ 1000 }
     requires made { shared.now.cells ≡ code.now.cells }
     requires one_each { length report.now.agents.items ≡ length (agents_of code.now) }
-    ensures { IfOk result (λ t. ReportTells code.now (script_of script.entry) shared.now report.now options.cells options.events (behind_bytes (all_printed report.now.threads.items) (lines_of t))) }
+    ensures { IfOk result (λ t. ReportTells code.now (script_of script.entry) shared.now report.now options.cells options.events (behind_bytes (all_printed (report.now.threads.items ++ report.now.agents.items)) (lines_of t))) }
 {
     let cells = code.cells();
     let mut told = of_report(alloc, script, cells, report, shared)?;
@@ -140,7 +140,7 @@ pub fn report_lines(
 }
 
 /// What is told of a run of the code that is over: what its report tells, and behind it its cells and the events of the store's book, where
-/// they are wanted. What its threads printed is moved, and not copied.
+/// they are wanted. What its threads and agents printed is moved, and not copied.
 pub fn report_run(
     alloc: Global,
     script: Script<'_>,
@@ -157,6 +157,7 @@ pub fn report_run(
 {
     let mut told = report_lines(alloc, script, code, &report, shared, options)?;
     mem::swap(&mut told.threads, &mut report.threads);
+    mem::swap(&mut told.agents, &mut report.agents);
     Ok(told)
 }
 

@@ -24,6 +24,8 @@ use txs_world_protocol::Outcome;
 pub struct Told {
     /// The threads that have run. The standard output begins with what they printed, in their order; it is written from here, and not copied.
     pub threads: Vec<ActorReport>,
+    /// The agents whose actors have run. What their actions printed comes behind that of the threads, in the order of the agents.
+    pub agents: Vec<ActorReport>,
     /// The lines of the standard output behind that.
     pub output: Vec<u8>,
     pub errors: Vec<u8>,
@@ -35,11 +37,13 @@ impl Drop for Told {
     fn drop(self) {
         let Told {
             threads,
+            agents,
             output,
             errors,
             status: _,
         } = self;
         drop(threads);
+        drop(agents);
         drop(output);
         drop(errors);
     }
@@ -101,6 +105,7 @@ pub fn answer(output: Vec<u8>, alloc: Global) -> Told
 {
     Told {
         threads: Vec::new(alloc),
+        agents: Vec::new(alloc),
         output,
         errors: Vec::new(alloc),
         status: DONE,
@@ -117,6 +122,7 @@ pub fn complaint(alloc: Global, status: u8, line: &str) -> Result<Told, AllocErr
     write_both(&mut errors, line.as_bytes(), b"\n")?;
     Ok(Told {
         threads: Vec::new(alloc),
+        agents: Vec::new(alloc),
         output: Vec::new(alloc),
         errors,
         status,
@@ -252,6 +258,7 @@ pub fn refused(alloc: Global, script: Script<'_>, error: &CompileError) -> Resul
     write_refusal(&mut errors, script, &refusal, advice)?;
     Ok(Told {
         threads: Vec::new(alloc),
+        agents: Vec::new(alloc),
         output: Vec::new(alloc),
         errors,
         status: REFUSED,

@@ -10,7 +10,7 @@ use std::fmt::{self, Display, Formatter, Write};
 /// The reasons for which bytes are no code.
 #[derive(Clone, Copy, PartialEq, Eq)]
 pub enum CodeErrorKind {
-    /// They don't begin with `TXS1`.
+    /// They don't begin with `TXS1` or `TXS2`.
     BadMagic,
     /// They end within a field.
     Truncated,

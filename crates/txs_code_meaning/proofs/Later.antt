@@ -4,7 +4,7 @@ use Rattle.txs_world_protocol.specs.Ask.{Writes, buffered, Exchange, same_ask}
 use Rattle.txs_world_protocol.specs.declared.ask.Ask.{Ask}
 use Rattle.txs_world_protocol.specs.declared.ask.Ask.TheVariants as ask
 use Rattle.txs_world_protocol.specs.declared.ask.Reply.{Reply}
-use Rattle.txs_frame.specs.Frame.{commuted, set_writes, set_ref}
+use Rattle.txs_frame.specs.Frame.{commuted, set_writes, set_ref, sends_of_commit}
 use Rattle.txs_frame.specs.Phase.{tasks_of, to_write}
 use Rattle.txs_frame.specs.declared.frame.Commute.{Commute}
 use Rattle.txs_frame.specs.declared.phase.Task.{Task}
@@ -17,7 +17,7 @@ use Rattle.txs_value_base.specs.Places.{nth, fault_at}
 use Rattle.txs_value_cell.specs.declared.action.Action.{Action}
 use Rattle.txs_value_base.specs.declared.fault.Fault.{Fault}
 use Rattle.txs_value_base.specs.declared.fault.FaultKind.{FaultKind}
-use Rattle.txs_value_base.specs.declared.fault.FaultKind.TheVariants.{InvalidState}
+use Rattle.txs_value_base.specs.declared.fault.FaultKind.TheVariants.{InvalidState, RetryLimit, AgentFailed}
 use Rattle.txs_value_base.specs.declared.fault.Span.{Span}
 use Rattle.txs_value_cell.specs.declared.form.CellForm.{CellForm}
 use Rattle.txs_value_cell.specs.declared.form.CellForm.TheVariants as form
@@ -33,8 +33,8 @@ use Rattle.txs_value_data.specs.declared.value.CellId.{CellId}
 use Rattle.txs_value_data.specs.declared.value.Value.{Value}
 use Rattle.txs_code_meaning.specs.declared.instr.OpenForm.{OpenForm}
 use Rattle.txs_code_meaning.specs.declared.instr.OpenForm.TheVariants as open_form
-use Rattle.txs_code_meaning.specs.ActorState.{ActorState, Reception, Replied, Unreplied, receives, asks, StepResult, Continue, Break, Redo, Await, Malformed, on_step, step_of, Reading, Says, SaysRetry, SaysNothing, read_as, heard, read_point, just_done, value_there, newest_value, views, Verdict, Landed, Outdated, Undone, Denied, commit_verdict, opened, swap_verdict, send_verdict, sent, Taken, handed_out, begun, begin, fail, buffered_or, look, paired, viewed, view, commit, peek, SwapInHand, open_atom, close_swap, break_swap, reset_atom, send_now, take_action, finish, cell_at, read_cell, read, set_own, assign_cell, assign, RefUpdate, Alters, Commutes, update_form, kept_open, open_update, close_own, close_update, open_swap, send_action, send_to, print, InHand, send_or_hold}
-use Rattle.txs_code_meaning.specs.Machine.{PlainInstr, Push, Load, Store, Pop, Jump, JumpFalse, CoreOf, CallOf, Return, MakeVector, PrintOf, TxBegin, TxEnd, LookOf, PutOf, OpenOf, CloseOf, SendOf, Halt, TakeOf, RunOf, FinishOf, ThreadCode, fetch, Frame, Savepoint, Activity, Outside, Restarting, Running, Applying, Swapping, is_inside, Configuration, Turned, Ended, Failed, Asking, Unfinished, Stuck, and_then, told, raise, try_more, rerun, retried, on, found, on_top, on_args, on_args_of, on_two, gives, starts, begins, decided, lands, settles, arguments_of, applies, ends, returns_to, opens_ref, opens_atom, opens, swap_decided, closes_swap, closes, started, runs_callee, runs, act, turn, run, ends_with, validates, where_accepted, where_valid, works, puts, finishes, Destination, to_stack, to_commutes, to_validation, stack_after, doing_after, state_after, staying, first_place, rested}
+use Rattle.txs_code_meaning.specs.ActorState.{ActorState, Reception, Replied, Unreplied, receives, asks, StepResult, Continue, Break, Redo, Await, Malformed, on_step, step_of, Reading, Says, SaysRetry, SaysNothing, read_as, heard, read_point, just_done, value_there, newest_value, views, Verdict, Landed, Outdated, Undone, Denied, commit_verdict, opened, swap_verdict, send_verdict, sent, Taken, handed_out, begun, begin, fail, buffered_or, look, paired, viewed, view, commit, peek, SwapInHand, open_atom, close_swap, break_swap, reset_atom, send_now, take_action, finish, cell_at, read_cell, read, set_own, assign_cell, assign, RefUpdate, Alters, Commutes, update_form, kept_open, open_update, close_own, close_update, open_swap, send_action, send_to, print, InHand, send_or_hold, held_in, landed, taken_back}
+use Rattle.txs_code_meaning.specs.Machine.{PlainInstr, Push, Load, Store, Pop, Jump, JumpFalse, CoreOf, CallOf, Return, MakeVector, PrintOf, TxBegin, TxEnd, LookOf, PutOf, OpenOf, CloseOf, SendOf, Halt, TakeOf, RunOf, FinishOf, ThreadCode, fetch, Frame, Savepoint, Activity, Outside, Restarting, Running, Applying, Swapping, is_inside, Configuration, Turned, Ended, Failed, Asking, Unfinished, Stuck, and_then, told, raise, try_more, rerun, retried, on, found, on_top, on_args, on_args_of, on_two, gives, starts, begins, decided, lands, settles, arguments_of, applies, ends, returns_to, opens_ref, opens_atom, opens, swap_decided, closes_swap, closes, started, runs_callee, runs, act, turn, run, ends_with, fails_with, hands_in, fault_in, validates, where_accepted, where_valid, works, puts, finishes, Destination, to_stack, to_commutes, to_validation, stack_after, doing_after, state_after, staying, first_place, rested}
 use Rattle.txs_code_meaning.specs.Opening.{given}
 
 module _ (ys : List Exchange) where
@@ -124,9 +124,17 @@ module _ (ys : List Exchange) where
       let go : ℕ × List Value → ActorState → StepResult Writes = λ x s1. viewed x.0 (paired (commuted s.done) x.1) s1 in
       step_more (heard views (asks q s)) (heard views (asks q (later s))) go go (ask_more views q s) (λ x s1. viewed_more x.0 (paired (commuted s.done) x.1) s1)
 
+  landed_more : (v : Verdict) (s : ActorState) → StepMore (landed v s) (landed v (later s))
+  landed_more Landed s = refl
+  landed_more Outdated s = refl
+  landed_more Undone s = refl
+  landed_more Denied s = refl
+
   commit_more : (ws : Writes) (s : ActorState) → StepMore (commit ws s) (commit ws (later s))
   unfolding commit
-  commit_more ws s = ask_more commit_verdict (ask.Commit s.at (set_writes s.done) s.done.ensures s.view ws s.done.sends) s
+  commit_more ws s =
+      let q = ask.Commit s.at (set_writes s.done) s.done.ensures s.view ws (sends_of_commit (held_in s.acting) s.done.sends) in
+      step_more (heard commit_verdict (asks q s)) (heard commit_verdict (asks q (later s))) landed landed (ask_more commit_verdict q s) landed_more
 
   peek_more : (c : CellId) (s : ActorState) → StepMore (peek c s) (peek c (later s))
   unfolding peek
@@ -162,9 +170,9 @@ module _ (ys : List Exchange) where
   unfolding take_action
   take_more g s = ask_more handed_out (ask.Take g) s
 
-  finish_more : (g : CellId) (new : Result Value Fault) (s : ActorState) → StepMore (finish g new s) (finish g new (later s))
+  finish_more : (g : CellId) (new : Result Value Fault) (sends : List Action) (s : ActorState) → StepMore (finish g new sends s) (finish g new sends (later s))
   unfolding finish
-  finish_more g new s = ask_more just_done (ask.Finish g new []) s
+  finish_more g new sends s = ask_more taken_back (ask.Finish g new sends) s
 
   -- ---- forms
 
@@ -243,17 +251,21 @@ module _ (ys : List Exchange) where
 
   over_more : (o : Option InHand) (f : Fault) (s : ActorState) → More (ends_with o f s) (ends_with o f (later s))
   over_more None f s = refl
-  over_more (Some h) f s = told_more (finish h.agent (Err f) s) (finish h.agent (Err f) (later s)) _ _ (finish_more h.agent (Err f) s) (λ s1. refl)
+  over_more (Some h) f s = told_more (finish h.agent (Err f) [] s) (finish h.agent (Err f) [] (later s)) _ _ (finish_more h.agent (Err f) [] s) (λ s1. refl)
+
+  fails_more : (o : Option InHand) (f : Fault) (s : ActorState) → More (fails_with o f s) (fails_with o f (later s))
+  fails_more None f s = refl
+  fails_more (Some h) f s = refl
 
   raise_more : (doing : Activity) (f : Fault) (s : ActorState) → More (raise doing f s) (raise doing f (later s))
   raise_more Outside f s = over_more s.acting f s
-  raise_more (Restarting left) f s = refl
-  raise_more (Running left inner from) f s = told_more (fail s) (fail (later s)) _ _ (fail_more s) (λ s1. refl)
-  raise_more (Applying left from work values) f s = told_more (fail s) (fail (later s)) _ _ (fail_more s) (λ s1. refl)
-  raise_more (Swapping swap from) f s = told_more (break_swap swap s) (break_swap swap (later s)) _ _ (break_swap_more swap s) (λ s1. refl)
+  raise_more (Restarting left) f s = fails_more s.acting f s
+  raise_more (Running left inner from) f s = told_more (fail s) (fail (later s)) _ _ (fail_more s) (λ s1. fails_more s1.acting f s1)
+  raise_more (Applying left from work values) f s = told_more (fail s) (fail (later s)) _ _ (fail_more s) (λ s1. fails_more s1.acting f s1)
+  raise_more (Swapping swap from) f s = told_more (break_swap swap s) (break_swap swap (later s)) _ _ (break_swap_more swap s) (λ s1. fails_more s1.acting f s1)
 
   tries_more : (left : ℕ) (from : Savepoint) (s : ActorState) (a b : ℕ → Configuration) → ((k : ℕ) → b k ≡ given ys (a k)) → More (try_more left from s a) (try_more left from (later s) b)
-  tries_more zero from s a b k = refl
+  tries_more zero from s a b k = fails_more s.acting (fault_at RetryLimit from.span) s
   tries_more (suc left) from s a b k = ap (λ c. Unfinished c) (k left)
 
   rerun_later : (left : ℕ) (from : Savepoint) (s : ActorState) → More (rerun left from s) (rerun left from (later s))
@@ -305,7 +317,7 @@ module _ (ys : List Exchange) where
   decided_more Landed left from c s = refl
   decided_more Outdated left from c s = tries_more left from s _ _ (λ k. refl)
   decided_more Undone left from c s = rerun_later left from s
-  decided_more Denied left from c s = refl
+  decided_more Denied left from c s = fails_more s.acting (fault_at AgentFailed from.span) s
 
   lands_more : (left : ℕ) (from : Savepoint) (ws : Writes) (c : Configuration) → More (lands left from ws c) (lands left from ws (given ys c))
   lands_more left from ws c = on_more c.doing (commit ws c.state) (commit ws (later c.state)) _ _ (commit_more ws c.state) (λ v s. decided_more v left from c s)
@@ -400,8 +412,12 @@ module _ (ys : List Exchange) where
   finishes_more : (code : ThreadCode) (g : CellId) (o : Option InHand) (v : Value) (c : Configuration) → More (finishes code g o v c) (finishes code g o v (given ys c))
   finishes_more code g None v c = tt
   finishes_more code g (Some h) v c =
-      let go : Configuration → Turned Configuration = λ c1. told (finish g (Ok v) c1.state) (λ s. Unfinished (first_place [] (rested s))) in
-      valid_more code (validator_at code.validators h.action.agent.number) v h.action.span c go go (λ c1. told_more _ _ _ _ (finish_more g (Ok v) c1.state) (λ s. refl))
+      let go : Configuration → Turned Configuration = λ c1. told (finish g (Ok v) h.sends c1.state) (λ s. Unfinished (first_place [] (rested s))) in
+      valid_more code (validator_at code.validators h.action.agent.number) v h.action.span c go go (λ c1. told_more _ _ _ _ (finish_more g (Ok v) h.sends c1.state) (λ s. refl))
+
+  hands_in_more : (code : ThreadCode) (g : CellId) (o : Option InHand) (f : Option Fault) (c : Configuration) → More (hands_in code g o f c) (hands_in code g o f (given ys c))
+  hands_in_more code g o (Some f) c = told_more _ _ _ _ (finish_more g (Err f) [] c.state) (λ s. refl)
+  hands_in_more code g o None c = top_more c.stack _ _ (λ v rest. finishes_more code g o v c)
 
   closes_more : (code : ThreadCode) (form : UpdateForm) (span : Span) (w cell : Value) (rest : List Value) (c : Configuration) → More (closes code form span w cell rest c) (closes code form span w cell rest (given ys c))
   closes_more code update.Alter span w cell rest c = gives_more c rest _ _ (close_update_more span cell w c.state)
@@ -443,7 +459,7 @@ module _ (ys : List Exchange) where
   act_more code (Some Halt) c = refl
   act_more code (Some (TakeOf g)) c = on_more c.doing _ _ _ _ (take_more g c.state) (λ o s. started_more g o c s)
   act_more code (Some RunOf) c = top_more c.stack _ _ (λ v rest. runs_more code c.state.acting v rest c)
-  act_more code (Some (FinishOf g)) c = top_more c.stack _ _ (λ v rest. finishes_more code g c.state.acting v c)
+  act_more code (Some (FinishOf g)) c = hands_in_more code g c.state.acting (fault_in c.state.acting) c
 
   then_more : (t u : Turned Configuration) (f g : Configuration → Turned Configuration) → More t u → ((d : Configuration) → More (f d) (g (given ys d))) → More (and_then t f) (and_then u g)
   then_more (Ended s) u f g e k = ap (λ r. and_then r g) e

@@ -4,7 +4,7 @@ use Rattle.txs_world_protocol.specs.Ask.{Writes, buffered, Exchange, same_ask}
 use Rattle.txs_world_protocol.specs.declared.ask.Ask.{Ask}
 use Rattle.txs_world_protocol.specs.declared.ask.Ask.TheVariants as ask
 use Rattle.txs_world_protocol.specs.declared.ask.Reply.{Reply}
-use Rattle.txs_frame.specs.Frame.{commuted, set_writes, set_ref}
+use Rattle.txs_frame.specs.Frame.{commuted, set_writes, set_ref, sends_of_commit}
 use Rattle.txs_frame.specs.Phase.{tasks_of, to_write}
 use Rattle.txs_frame.specs.declared.frame.Commute.{Commute}
 use Rattle.txs_frame.specs.declared.phase.Task.{Task}
@@ -17,7 +17,7 @@ use Rattle.txs_value_base.specs.Places.{nth, fault_at}
 use Rattle.txs_value_cell.specs.declared.action.Action.{Action}
 use Rattle.txs_value_base.specs.declared.fault.Fault.{Fault}
 use Rattle.txs_value_base.specs.declared.fault.FaultKind.{FaultKind}
-use Rattle.txs_value_base.specs.declared.fault.FaultKind.TheVariants.{InvalidState}
+use Rattle.txs_value_base.specs.declared.fault.FaultKind.TheVariants.{InvalidState, RetryLimit, AgentFailed}
 use Rattle.txs_value_base.specs.declared.fault.Span.{Span}
 use Rattle.txs_value_cell.specs.declared.form.CellForm.TheVariants as form
 use Rattle.txs_value_cell.specs.declared.form.LookForm.{LookForm}
@@ -33,9 +33,9 @@ use Rattle.txs_value_data.specs.declared.value.Value.{Value}
 use Rattle.txs_value_data.specs.declared.value.Value.TheVariants.{Cell}
 use Rattle.txs_code_meaning.specs.declared.instr.OpenForm.{OpenForm}
 use Rattle.txs_code_meaning.specs.declared.instr.OpenForm.TheVariants as open_form
-use Rattle.txs_code_meaning.specs.ActorState.{ActorState, Reception, Replied, Unreplied, receives, asks, StepResult, Continue, Break, Redo, Await, Malformed, on_step, step_of, Reading, Says, SaysRetry, SaysNothing, read_as, heard, read_point, just_done, value_there, newest_value, views, Verdict, Landed, Outdated, Undone, Denied, commit_verdict, opened, swap_verdict, send_verdict, sent, Taken, handed_out, begun, begin, fail, buffered_or, look, paired, viewed, view, commit, peek, SwapInHand, open_atom, close_swap, break_swap, reset_atom, send_now, take_action, finish, read_cell, read, set_own, assign_cell, assign, RefUpdate, Alters, Commutes, update_form, kept_open, open_update, close_own, close_update, open_swap, send_to, print, InHand, send_or_hold, now_holding, send_action}
+use Rattle.txs_code_meaning.specs.ActorState.{ActorState, Reception, Replied, Unreplied, receives, asks, StepResult, Continue, Break, Redo, Await, Malformed, on_step, step_of, Reading, Says, SaysRetry, SaysNothing, read_as, heard, read_point, just_done, value_there, newest_value, views, Verdict, Landed, Outdated, Undone, Denied, commit_verdict, opened, swap_verdict, send_verdict, sent, Taken, handed_out, begun, begin, fail, buffered_or, look, paired, viewed, view, commit, peek, SwapInHand, open_atom, close_swap, break_swap, reset_atom, send_now, take_action, finish, read_cell, read, set_own, assign_cell, assign, RefUpdate, Alters, Commutes, update_form, kept_open, open_update, close_own, close_update, open_swap, send_to, print, InHand, send_or_hold, holding, held_in, landed, taken_back, send_action}
 use Rattle.txs_code_meaning.specs.Laws.{TakesOne, TurnTakesOne, MaySend, SendsLawfully, AsksOnce}
-use Rattle.txs_code_meaning.specs.Machine.{PlainInstr, Push, Load, Store, Pop, Jump, JumpFalse, CoreOf, CallOf, Return, MakeVector, PrintOf, TxBegin, TxEnd, LookOf, PutOf, OpenOf, CloseOf, SendOf, Halt, TakeOf, RunOf, FinishOf, ThreadCode, fetch, Frame, Savepoint, Activity, Outside, Restarting, Running, Applying, Swapping, is_inside, Configuration, Turned, Unfinished, told, raise, try_more, rerun, retried, on, found, on_top, on_args, on_args_of, on_two, gives, starts, begins, decided, lands, settles, arguments_of, applies, ends, returns_to, opens_ref, opens_atom, opens, swap_decided, closes_swap, closes, started, runs_callee, runs, act, ends_with, validates, where_accepted, where_valid, works, puts, finishes, Destination, to_stack, to_commutes, to_validation, state_after, staying, first_place, rested}
+use Rattle.txs_code_meaning.specs.Machine.{PlainInstr, Push, Load, Store, Pop, Jump, JumpFalse, CoreOf, CallOf, Return, MakeVector, PrintOf, TxBegin, TxEnd, LookOf, PutOf, OpenOf, CloseOf, SendOf, Halt, TakeOf, RunOf, FinishOf, ThreadCode, fetch, Frame, Savepoint, Activity, Outside, Restarting, Running, Applying, Swapping, is_inside, Configuration, Turned, Unfinished, told, raise, try_more, rerun, retried, on, found, on_top, on_args, on_args_of, on_two, gives, starts, begins, decided, lands, settles, arguments_of, applies, ends, returns_to, opens_ref, opens_atom, opens, swap_decided, closes_swap, closes, started, runs_callee, runs, act, ends_with, fails_with, hands_in, fault_in, validates, where_accepted, where_valid, works, puts, finishes, Destination, to_stack, to_commutes, to_validation, state_after, staying, first_place, rested}
 
 -- ---- steps
 
@@ -186,9 +186,17 @@ view_once s =
     let q = ask.View (commuted s.done) in
     ask_then s.todo (heard views (asks q s)) (λ x s1. viewed x.0 (paired (commuted s.done) x.1) s1) (ask_once views q s) (λ x s1. viewed_calm x.0 (paired (commuted s.done) x.1) s1)
 
+landed_calm : (v : Verdict) (s : ActorState) → Calm s.todo (landed v s)
+landed_calm Landed s = refl
+landed_calm Outdated s = refl
+landed_calm Undone s = refl
+landed_calm Denied s = refl
+
 commit_once : (ws : Writes) (s : ActorState) → StepTakesOne s.todo (commit ws s)
 unfolding commit
-commit_once ws s = ask_once commit_verdict (ask.Commit s.at (set_writes s.done) s.done.ensures s.view ws s.done.sends) s
+commit_once ws s =
+    let q = ask.Commit s.at (set_writes s.done) s.done.ensures s.view ws (sends_of_commit (held_in s.acting) s.done.sends) in
+    ask_then s.todo (heard commit_verdict (asks q s)) landed (ask_once commit_verdict q s) landed_calm
 
 peek_once : (c : CellId) (s : ActorState) → StepTakesOne s.todo (peek c s)
 unfolding peek
@@ -224,9 +232,9 @@ take_once : (g : CellId) (s : ActorState) → StepTakesOne s.todo (take_action g
 unfolding take_action
 take_once g s = ask_once handed_out (ask.Take g) s
 
-finish_once : (g : CellId) (new : Result Value Fault) (s : ActorState) → StepTakesOne s.todo (finish g new s)
+finish_once : (g : CellId) (new : Result Value Fault) (sends : List Action) (s : ActorState) → StepTakesOne s.todo (finish g new sends s)
 unfolding finish
-finish_once g new s = ask_once just_done (ask.Finish g new []) s
+finish_once g new sends s = ask_once taken_back (ask.Finish g new sends) s
 
 -- ---- forms
 
@@ -298,17 +306,21 @@ told_once before Malformed go h k = tt
 
 over_once : (o : Option InHand) (f : Fault) (s : ActorState) → TurnTakesOne s.todo (ends_with o f s)
 over_once None f s = takes_none s.todo
-over_once (Some h) f s = told_once s.todo (finish h.agent (Err f) s) _ (finish_once h.agent (Err f) s) (λ s1 g. g)
+over_once (Some h) f s = told_once s.todo (finish h.agent (Err f) [] s) _ (finish_once h.agent (Err f) [] s) (λ s1 g. g)
+
+fails_once : (before : List Exchange) (o : Option InHand) (f : Fault) (s : ActorState) → TakesOne before s.todo → TurnTakesOne before (fails_with o f s)
+fails_once before None f s h = h
+fails_once before (Some a) f s h = h
 
 raise_once : (doing : Activity) (f : Fault) (s : ActorState) → TurnTakesOne s.todo (raise doing f s)
 raise_once Outside f s = over_once s.acting f s
-raise_once (Restarting left) f s = takes_none s.todo
-raise_once (Running left inner from) f s = told_once s.todo (fail s) _ (fail_once s) (λ s1 h. h)
-raise_once (Applying left from work values) f s = told_once s.todo (fail s) _ (fail_once s) (λ s1 h. h)
-raise_once (Swapping swap from) f s = told_once s.todo (break_swap swap s) _ (break_swap_once swap s) (λ s1 h. h)
+raise_once (Restarting left) f s = fails_once s.todo s.acting f s (takes_none s.todo)
+raise_once (Running left inner from) f s = told_once s.todo (fail s) _ (fail_once s) (λ s1 h. fails_once s.todo s1.acting f s1 h)
+raise_once (Applying left from work values) f s = told_once s.todo (fail s) _ (fail_once s) (λ s1 h. fails_once s.todo s1.acting f s1 h)
+raise_once (Swapping swap from) f s = told_once s.todo (break_swap swap s) _ (break_swap_once swap s) (λ s1 h. fails_once s.todo s1.acting f s1 h)
 
 tries_once : (before : List Exchange) (left : ℕ) (from : Savepoint) (s : ActorState) (go : ℕ → Configuration) → TakesOne before s.todo → ((k : ℕ) → (go k).state ≡ s) → TurnTakesOne before (try_more left from s go)
-tries_once before zero from s go h k = h
+tries_once before zero from s go h k = fails_once before s.acting (fault_at RetryLimit from.span) s h
 tries_once before (suc left) from s go h k = subst (λ t. TakesOne before t.todo) (sym (k left)) h
 
 rerun_once : (before : List Exchange) (left : ℕ) (from : Savepoint) (s : ActorState) → TakesOne before s.todo → TurnTakesOne before (rerun left from s)
@@ -384,7 +396,7 @@ on_outside before Malformed go h e k = tt
 
 on_restarting : {A : Type 0} (before : List Exchange) (left : ℕ) (x : StepResult A) (go : A → ActorState → Turned Configuration) → StepTakesSome before x → GoesOn before go → TurnTakesOne before (on (Restarting left) x go)
 on_restarting before left (Continue a s) go h k = k a s h
-on_restarting before left (Break f s) go h k = h
+on_restarting before left (Break f s) go h k = fails_once before s.acting f s h
 on_restarting before left (Redo s) go h k = tt
 on_restarting before left (Await s) go h k = h
 on_restarting before left Malformed go h k = tt
@@ -421,7 +433,7 @@ decided_once : (before : List Exchange) (v : Verdict) (left : ℕ) (from : Savep
 decided_once before Landed left from c s h = h
 decided_once before Outdated left from c s h = tries_once before left from s _ h (λ k. refl)
 decided_once before Undone left from c s h = rerun_once before left from s h
-decided_once before Denied left from c s h = h
+decided_once before Denied left from c s h = fails_once before s.acting (fault_at AgentFailed from.span) s h
 
 lands_once : (left : ℕ) (from : Savepoint) (ws : Writes) (c : Configuration) → TurnTakesOne c.state.todo (lands left from ws c)
 lands_once left from ws c = on_once c.state.todo c.doing (commit ws c.state) _ (commit_once ws c.state) (λ v s h. decided_once c.state.todo v left from c s h)
@@ -519,8 +531,12 @@ puts_once code Reset span w cell rest c = by (cell_of (rule (form.Put Reset)) (i
 finishes_once : (code : ThreadCode) (g : CellId) (o : Option InHand) (v : Value) (c : Configuration) → TurnTakesOne c.state.todo (finishes code g o v c)
 finishes_once code g None v c = tt
 finishes_once code g (Some h) v c =
-    valid_once code (validator_at code.validators h.action.agent.number) v h.action.span c (λ c1. told (finish g (Ok v) c1.state) (λ s. Unfinished (first_place [] (rested s))))
-    (λ c1 e. subst (λ before. TurnTakesOne before (told (finish g (Ok v) c1.state) (λ s. Unfinished (first_place [] (rested s))))) e (told_once c1.state.todo _ _ (finish_once g (Ok v) c1.state) (λ s q. q)))
+    valid_once code (validator_at code.validators h.action.agent.number) v h.action.span c (λ c1. told (finish g (Ok v) h.sends c1.state) (λ s. Unfinished (first_place [] (rested s))))
+    (λ c1 e. subst (λ before. TurnTakesOne before (told (finish g (Ok v) h.sends c1.state) (λ s. Unfinished (first_place [] (rested s))))) e (told_once c1.state.todo _ _ (finish_once g (Ok v) h.sends c1.state) (λ s q. q)))
+
+hands_in_once : (code : ThreadCode) (g : CellId) (o : Option InHand) (f : Option Fault) (c : Configuration) → TurnTakesOne c.state.todo (hands_in code g o f c)
+hands_in_once code g o (Some f) c = told_once c.state.todo (finish g (Err f) [] c.state) _ (finish_once g (Err f) [] c.state) (λ s h. h)
+hands_in_once code g o None c = top_once c.state.todo c.stack _ (λ v rest. finishes_once code g o v c)
 
 closes_once : (code : ThreadCode) (by : UpdateForm) (span : Span) (w cell : Value) (rest : List Value) (c : Configuration) → TurnTakesOne c.state.todo (closes code by span w cell rest c)
 closes_once code update.Alter span w cell rest c = gives_once c rest _ (close_update_once span cell w c.state)
@@ -532,7 +548,7 @@ send_once Outside ok span v f vs s go k = by (cell_of (rule form.Send) false v)
   where
     or_hold : (a : Action) (o : Option InHand) → s.acting ≡ o → TurnTakesOne s.todo (on Outside (send_or_hold o a s) go)
     or_hold a None e = on_outside s.todo (send_now a s) go (send_now_once a s) (subst (λ o. FaultsIn o (send_now a s)) e (send_in a s)) k
-    or_hold a (Some h) e = k (Cell a.agent) (record s { acting = now_holding a s.acting }) (takes_none s.todo)
+    or_hold a (Some h) e = k (Cell a.agent) (holding (a ∷ []) s) (takes_none s.todo)
 
     by : (r : Result CellId FaultKind) → TurnTakesOne s.todo (on Outside (on_step (step_of r span s) (λ g s1. send_action false (record { agent = g; callee = f; args = vs; span = span }) s1)) go)
     by (Ok g) = or_hold (record { agent = g; callee = f; args = vs; span = span }) s.acting refl
@@ -577,7 +593,7 @@ act_once code (Some (SendOf f args span)) c ok = args_of_once c.state.todo args 
 act_once code (Some Halt) c ok = takes_none c.state.todo
 act_once code (Some (TakeOf g)) c ok = on_once c.state.todo c.doing _ _ (take_once g c.state) (λ o s h. started_once c.state.todo g o c s h)
 act_once code (Some RunOf) c ok = top_once c.state.todo c.stack _ (λ v rest. runs_once code c.state.acting v rest c)
-act_once code (Some (FinishOf g)) c ok = top_once c.state.todo c.stack _ (λ v rest. finishes_once code g c.state.acting v c)
+act_once code (Some (FinishOf g)) c ok = hands_in_once code g c.state.acting (fault_in c.state.acting) c
 
 -- no turn asks twice
 pub turn_asks_once : AsksOnce

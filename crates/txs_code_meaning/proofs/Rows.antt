@@ -275,3 +275,23 @@ action_faults : result (agent_target (record { bodies = adds ∷ breaks ∷ []; 
     answered (ask.Take g0) reply.Idle ∷ [])) ≡ waiting (ask.Take g0)
 unfolding asks take_action finish core
 action_faults = refl
+
+-- What an action sends in a transaction is handed in with its state. One that faults there fails first, and hands the fault in next.
+abbrev sends_in_tx : PlainBody
+sends_in_tx = record { locals = 1; instrs = TxBegin (at 1) ∷ Push (Cell g0) ∷ SendOf (callee.Core Inc) 0 (at 5) ∷ TxEnd ∷ Pop ∷ Load 0 ∷ Return ∷ [] }
+
+abbrev faults_in_tx : PlainBody
+faults_in_tx = record { locals = 1; instrs = TxBegin (at 1) ∷ Push (int 6) ∷ Push (int 0) ∷ CoreOf Quot 2 (at 82) ∷ TxEnd ∷ Return ∷ [] }
+
+actions_transact : result (agent_target (record { bodies = sends_in_tx ∷ faults_in_tx ∷ []; validators = [] }) g0 60 (
+    answered (ask.Take g0) (reply.Action 1 (action (callee.Function 0) []) (int 6)) ∷
+    answered ask.Begin (reply.At 0) ∷
+    answered (ask.Commit 0 [] [] 0 [] []) reply.Done ∷
+    answered (ask.Finish g0 (Ok (int 6)) (action (callee.Core Inc) [] ∷ [])) reply.Done ∷
+    answered (ask.Take g0) (reply.Action 2 (action (callee.Function 1) []) (int 6)) ∷
+    answered ask.Begin (reply.At 0) ∷
+    answered (ask.Fail 0 0) reply.Done ∷
+    answered (ask.Finish g0 (Err (fault_at DivideByZero (at 82))) []) reply.Done ∷
+    answered (ask.Take g0) reply.Idle ∷ [])) ≡ waiting (ask.Take g0)
+unfolding asks take_action finish begin commit fail core reruns
+actions_transact = refl

@@ -5,7 +5,7 @@ use Rattle.txs_world_protocol.specs.declared.ask.Ask.{Ask}
 use Rattle.txs_world_protocol.specs.declared.ask.Ask.TheVariants as ask
 use Rattle.txs_world_protocol.specs.declared.ask.Reply.{Reply}
 use Rattle.txs_world_protocol.specs.declared.ask.Reply.TheVariants as reply
-use Rattle.txs_frame.specs.Frame.{PlainTxFrame, empty_frame, commuted, set_writes, set_ref, ensure_ref, commute_ref, hold_send}
+use Rattle.txs_frame.specs.Frame.{PlainTxFrame, empty_frame, commuted, set_writes, set_ref, ensure_ref, commute_ref, hold_send, sends_of_commit}
 use Rattle.txs_frame.specs.declared.frame.Commute.{Commute}
 use Rattle.txs_value_cell.specs.Forms.{rule, cell_of}
 use Rattle.txs_value_base.specs.Places.{fault_at}
@@ -28,16 +28,22 @@ use Rattle.txs_value_data.specs.declared.value.CellId.{CellId}
 use Rattle.txs_value_data.specs.declared.value.Value.{Value}
 use Rattle.txs_value_data.specs.declared.value.Value.TheVariants.{Nil, Cell}
 
--- an action that runs: its agent, the action, and the sends that it holds
+-- an action that runs: its agent, the action, the sends that it holds, and the fault that it is over with, where that is yet to be handed in
 pub record InHand : Type 0 where
   pub agent : CellId
   pub action : Action
   pub sends : List Action
+  pub fault : Option Fault
 
--- this send is held too, in an action
-abbrev pub now_holding : Action → Option InHand → Option InHand
-now_holding a None = None
-now_holding a (Some h) = Some (record h { sends = h.sends ++ a ∷ [] })
+-- the sends that are held, in an action
+abbrev pub held_in : Option InHand → Option (List Action)
+held_in None = None
+held_in (Some h) = Some h.sends
+
+-- these sends are held too, in an action
+abbrev pub now_holding : List Action → Option InHand → Option InHand
+now_holding sends None = None
+now_holding sends (Some h) = Some (record h { sends = h.sends ++ sends })
 
 -- An actor's state but for its code: the exchanges to come, the bytes that it has printed, its transaction's read point, the place
 -- of its last view (the read point where there is none), what the transaction has done, and the commute that is open.
@@ -225,9 +231,21 @@ view_of cs s = on_step (heard views (asks (ask.View cs) s)) (λ x s1. viewed x.0
 unfoldable pub view : ActorState → StepResult Writes
 view s = view_of (commuted s.done) s
 
+-- these sends are held, in an action
+abbrev pub holding : List Action → ActorState → ActorState
+holding sends s = record s { acting = now_holding sends s.acting }
+
+-- what a transaction leaves that committed: an action holds its sends
+abbrev pub landed : Verdict → ActorState → StepResult Verdict
+landed Landed s = Continue Landed (holding s.done.sends s)
+landed Outdated s = Continue Outdated s
+landed Undone s = Continue Undone s
+landed Denied s = Continue Denied s
+
 -- a transaction ends, with these values of the refs that were commuted and not set
 unfoldable pub commit : Writes → ActorState → StepResult Verdict
-commit ws s = heard commit_verdict (asks (ask.Commit s.at (set_writes s.done) s.done.ensures s.view ws s.done.sends) s)
+commit ws s =
+    on_step (heard commit_verdict (asks (ask.Commit s.at (set_writes s.done) s.done.ensures s.view ws (sends_of_commit (held_in s.acting) s.done.sends)) s)) landed
 
 -- ---- outside transactions
 
@@ -273,9 +291,15 @@ send_now a s = on_step (heard send_verdict (asks (ask.Send a) s)) (sent a)
 unfoldable pub take_action : CellId → ActorState → StepResult (Option Taken)
 take_action g s = heard handed_out (asks (ask.Take g) s)
 
--- an agent's action ends, with the new state or a fault
-unfoldable pub finish : CellId → Result Value Fault → ActorState → StepResult (Unit {0})
-finish g new s = heard just_done (asks (ask.Finish g new []) s)
+-- an action was handed in, also where an agent of its sends had failed
+abbrev pub taken_back : Reply → Reading (Unit {0})
+taken_back reply.Done = Says tt
+taken_back (reply.AgentIsFailed g) = Says tt
+taken_back _ = SaysNothing
+
+-- an agent's action ends, with the new state and its sends, or a fault
+unfoldable pub finish : CellId → Result Value Fault → List Action → ActorState → StepResult (Unit {0})
+finish g new sends s = heard taken_back (asks (ask.Finish g new sends) s)
 
 -- ---- the forms, inside a transaction and outside
 
@@ -349,7 +373,7 @@ open_swap false span v s = on_step (cell_at (form.Update update.Swap) false span
 -- a send outside every transaction: a thread's is made, an action's is held
 abbrev pub send_or_hold : Option InHand → Action → ActorState → StepResult Value
 send_or_hold None a s = send_now a s
-send_or_hold (Some h) a s = Continue (Cell a.agent) (record s { acting = now_holding a s.acting })
+send_or_hold (Some h) a s = Continue (Cell a.agent) (holding (a ∷ []) s)
 
 -- a send, held or made
 abbrev pub send_action : Bool → Action → ActorState → StepResult Value

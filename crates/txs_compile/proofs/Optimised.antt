@@ -13,7 +13,7 @@ use Rattle.txs_code_meaning.specs.OwnCells.{HoldsDefined, RowHoldsDefined, Names
 use Rattle.txs_code_meaning.specs.PlainCode.{PlainCode, library_of}
 use Rattle.txs_theorem_threads.specs.FollowsAgent.{FollowsAgents}
 use Rattle.txs_theorem_threads.specs.FollowsAll.{FollowsAll}
-use Rattle.txs_theorem_threads.specs.Sends.{CodesSendSound}
+use Rattle.txs_theorem_threads.specs.Sends.{CodesSendSound, AgentsSendSound}
 use Rattle.txs_gen.specs.Agents.{CodeOfActionsBehaves}
 use Rattle.txs_gen.specs.CodeFollows.{CodeOfProgramBehaves}
 use Rattle.txs_gen.specs.Generated.{IsCodeOf, constants_of, constants_in, constants_of_functions, constants_of_threads}
@@ -165,10 +165,11 @@ module _ (limit : ℕ) (p q : PlainProgram) (same : q ≡ optimised limit p) whe
       pub follows : CodeOfProgramBehaves → OptimisedFollows → FollowsAll (codes_of code) p
       follows behaves law = law (codes_of code) limit p sound (behaves code (optimised limit p) (optimised_sound limit p sound) is_made)
 
-      pub agents_follow : CodeOfActionsBehaves → OptimisedFollowsAgents → FollowsAgents (library_of code) p.functions
-      agents_follow behaves law = law (library_of code) limit p sound (ap validators_of is_made.cells) (behaves code (optimised limit p) (optimised_sound limit p sound) is_made)
+      pub agents_follow : CodeOfActionsBehaves → OptimisedFollowsAgents → FollowsAgents (library_of code) p.cells p.functions
+      agents_follow behaves law = law (library_of code) limit p sound (ap validators_of is_made.cells)
+          (λ g a is fits. behaves code (optimised limit p) g a (optimised_sound limit p sound) is_made is fits)
 
-      pub sends : SoundProgramSendsSound → CodeOfProgramSendsSound → CodesSendSound p.functions (codes_of code)
+      pub sends : SoundProgramSendsSound → CodeOfProgramSendsSound → CodesSendSound p.functions (codes_of code) × AgentsSendSound p.functions (library_of code)
       sends of_sound law =
           let any : KeptByOperations (sound_sends (known p.functions)) = record { core_keeps = λ op vs v h is. tt; vector_keeps = λ vs v h is. tt } in
           law code p.functions (optimised limit p) (optimised_has (sound_sends (known p.functions)) any limit p (of_sound p sound)) is_made

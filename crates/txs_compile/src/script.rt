@@ -8,7 +8,7 @@ ghost use Rattle.txs_code_meaning.specs.PlainCode.{library_of};
 ghost use Rattle.txs_opt.specs.Optimised.{optimised};
 ghost use Rattle.txs_theorem_threads.specs.FollowsAgent.{FollowsAgents};
 ghost use Rattle.txs_theorem_threads.specs.FollowsAll.{FollowsAll};
-ghost use Rattle.txs_theorem_threads.specs.Sends.{CodesSendSound};
+ghost use Rattle.txs_theorem_threads.specs.Sends.{CodesSendSound, AgentsSendSound};
 ghost use Rattle.txs_gen.specs.Generated.{IsCodeOf};
 ghost use Rattle.txs_gen.specs.OwnCells.{ProgramNamesOwnCells};
 ghost use Rattle.txs_reader.specs.Script.{Reads};
@@ -95,8 +95,8 @@ pub fn compile(alloc: Global, bytes: &[u8]) -> Result<(Program, Verified), Compi
     ensures marked { IfOk result (λ c. ProgramMarkedBy Exactly (program_of c.0)) }
     ensures generated { IfOk result (λ c. IsCodeOf c.1 (optimised most_nodes (program_of c.0))) }
     ensures code { IfOk result (λ c. FollowsAll (codes_of c.1) (program_of c.0)) }
-    ensures agents { IfOk result (λ c. FollowsAgents (library_of c.1) (program_of c.0).functions) }
-    ensures sends { IfOk result (λ c. CodesSendSound (program_of c.0).functions (codes_of c.1)) }
+    ensures agents { IfOk result (λ c. FollowsAgents (library_of c.1) (program_of c.0).cells (program_of c.0).functions) }
+    ensures sends { IfOk result (λ c. CodesSendSound (program_of c.0).functions (codes_of c.1) × AgentsSendSound (program_of c.0).functions (library_of c.1)) }
     ensures cells { IfOk result (λ c. c.1.cells ≡ c.0.cells) }
     ensures own_cells { IfOk result (λ c. NamesOwnCells c.1) }
     ensures form { IfOk result (λ c. HasForm c.1) }

@@ -1,5 +1,5 @@
 -- What a transaction has done so far, as plain data, and its operations.
-use Rattle.std.specs.Prelude.{◌≡◌, ℕ, Bool, false, ◌==◌, ◌||◌, nat_lt, List, [], ◌∷◌, ◌++◌, map, Result, Ok, Err, if◌then◌else◌}
+use Rattle.std.specs.Prelude.{◌≡◌, ℕ, Bool, false, ◌==◌, ◌||◌, nat_lt, List, [], ◌∷◌, ◌++◌, map, Result, Ok, Err, if◌then◌else◌, Option, Some, None}
 use Rattle.txs_world_protocol.specs.Ask.{Writes, with_write}
 use Rattle.txs_value_cell.specs.declared.action.Action.{Action}
 use Rattle.txs_value_base.specs.declared.fault.FaultKind.{FaultKind}
@@ -131,3 +131,15 @@ by_ref (d ∷ ds) cs = commutes_of d.number cs ++ by_ref ds cs
 -- their work when they were called.
 abbrev pub phase_work : PlainTxFrame → List Commute
 phase_work w = by_ref (commuted w) w.commutes
+
+-- ---- the sends of an action
+
+-- the sends of a commit, by what is held: those of the transaction, and none in an action, which holds them up to its end
+abbrev pub sends_of_commit : Option (List Action) → List Action → List Action
+sends_of_commit None sends = sends
+sends_of_commit (Some held) sends = []
+
+-- what an action holds, with these behind it
+abbrev pub with_sends : List Action → Option (List Action) → Option (List Action)
+with_sends sends None = None
+with_sends sends (Some held) = Some (held ++ sends)

@@ -12,7 +12,7 @@ use Rattle.txs_value_base.specs.declared.op.Callee.{Callee}
 use Rattle.txs_value_base.specs.declared.op.Callee.TheVariants.{Core as CoreOp, Function}
 use Rattle.txs_value_base.specs.declared.op.Op.{Op}
 use Rattle.txs_value_data.specs.declared.value.Value.{Value}
-use Rattle.txs_tree_meaning.specs.Sound.{nodes, nodes_in, SoundCallee, SoundLet, SoundDo}
+use Rattle.txs_tree_meaning.specs.Sound.{nodes, nodes_in, SoundCallee, SoundSent, SoundLet, SoundDo}
 use Rattle.txs_tree_meaning.specs.Tree.{Mark, Tree, Const, Local, If, Do, Let, Loop, Recur, Core, Call, VectorOf, Println, Dosync, Look, Put, Update, Send, Trees, none, more, count, is_none}
 use Rattle.txs_tree_meaning.specs.View.{tree_of, trees_of}
 use Rattle.txs_tree_meaning.specs.declared.node.Node.{Node}
@@ -462,6 +462,10 @@ stores_length i (suc n) = ap suc (stores_length i n)
 pub callee_few : (p : Place) (c : Callee) (n : ℕ) → SoundCallee p.known c (suc n) → n < 65535
 callee_few p (CoreOp op) n q = omega (arith, q.1)
 callee_few p (Function f) n q = omega (arith, q.arity, (p.lawful f q.function q.found).0)
+
+pub sent_few : (p : Place) (c : Callee) (n : ℕ) → SoundSent p.known c (suc n) → n < 65535
+sent_few p (CoreOp op) n q = omega (arith, q.1)
+sent_few p (Function f) n q = omega (arith, q.arity, (p.lawful f q.function q.found).0)
 
 callee_length : (c : Callee) (n : ℕ) → length (callee_instrs c n) ≤ 1
 callee_length (CoreOp op) n = omega arith

@@ -15,7 +15,7 @@ use Rattle.txs_theorem_threads.specs.OnReplies.{on_replies}
 use Rattle.txs_theorem_threads.proofs.Accepted.{validators_pure}
 use Rattle.txs_theorem_threads.proofs.Callees.{callees_in}
 use Rattle.txs_theorem_threads.proofs.Longer.{longer}
-use Rattle.txs_theorem_threads.proofs.Resting.{EndsRested, thread_rests}
+use Rattle.txs_theorem_threads.proofs.Resting.{EndsRested, HasNone, thread_rests}
 use Rattle.txs_gen.specs.Correct.{CodeBehaves}
 use Rattle.txs_gen.specs.Gen.{gen, body_code, generated}
 use Rattle.txs_gen.proofs.Calls.{stands_from, called_with, calls_simulate}
@@ -35,7 +35,7 @@ Ends_so p todo n (Waits s) = (m : ℕ) × (target (generated p) m todo ≡ Askin
 Ends_so p todo n (OutOfTurns s) = (m : ℕ) × (n ≤ m) × (target (generated p) m todo ≡ Unfinished s)
 Ends_so p todo n Invalid = Unit {0}
 
-main_ends : (p : ThreadSource) (todo : List Exchange) (n : ℕ) (r : Completion ActorState Value) → EndsRested r → Simulates (generated p) n (of None Outside) (AtValue None 0 (0 + length (gen p.main 0 0 0 0)) [] [] [] Outside) Never (opening (generated p) todo) r → Ends_so p todo n r
+main_ends : (p : ThreadSource) (todo : List Exchange) (n : ℕ) (r : Completion ActorState Value) → EndsRested HasNone r → Simulates (generated p) n (of Outside) (AtValue 0 (0 + length (gen p.main 0 0 0 0)) [] [] [] Outside) Never (opening (generated p) todo) r → Ends_so p todo n r
 main_ends p todo n (Completes v s) e r =
     let code = generated p in
     let is = gen p.main 0 0 0 0 in
@@ -45,7 +45,7 @@ main_ends p todo n (Completes v s) e r =
     let a = r.2.by 1 in
     (a.0, a.2 ∙ ap (exec code 1) g.2 ∙ step code last Halt rear.0 0)
 main_ends p todo n (Recurs vs s) e r = tt
-main_ends p todo n (Faults f s) e r = let a = (r e).by 0 in (a.0, a.2 ∙ ap (λ t. and_then t (exec (generated p) 0)) (ends_thread f s e))
+main_ends p todo n (Faults f s) e r = let a = r.2.by 0 in (a.0, a.2 ∙ ap (λ t. and_then t (exec (generated p) 0)) (ends_thread f s r.0 e r.1))
 main_ends p todo n (Retries s) e r = tt
 main_ends p todo n (Waits s) e r = r
 main_ends p todo n (OutOfTurns s) e r = r
@@ -59,15 +59,15 @@ ends_so p sound todo n =
     let bd = length fs in
     let call = call_at (λ d. on_replies (validators_of p.cells)) n fs bd in
     let valid = validators_pure all p.cells sound.cells in
-    let called = called_with None fs sound.functions (body_code p.main) (validators_of p.cells) valid n bd (calls_simulate None fs sound.functions (body_code p.main) (validators_of p.cells) valid n bd) in
+    let called = called_with fs sound.functions (body_code p.main) (validators_of p.cells) valid n bd (calls_simulate fs sound.functions (body_code p.main) (validators_of p.cells) valid n bd) in
     let is = gen p.main 0 0 0 0 in
     let stop = 0 + length is in
     let has = stands_from code 0 (body_code p.main) refl (is ++ Halt ∷ []) [] refl in
     let c = opening (generated p) todo in
     let callees = callees_in all p.main in_thread false 0 None sound.main in
     main_ends p todo n (source p n todo) (thread_rests p sound n todo)
-    (closed_simulates code n (of None Outside) (AtValue None 0 stop [] [] [] Outside) (AtLoop None 0 0 [] [] [] Outside) Never c (eval (on_replies (validators_of p.cells)) call n false p.main [] (fresh todo))
-    (expression_simulates None code n all call called 0 [] all (λ g e. e) p.main Outside [] [] [] (locals_of (Some (body_code p.main)) []) 0 0 0 0 stop (fresh todo) callees tt (stands_front code 0 0 is (Halt ∷ []) _ has) (record { inner = []; within = refl; size = refl; depth = refl }) (holds_opening (Some (body_code p.main)) []) (λ e. refl)))
+    (closed_simulates code n (of Outside) (AtValue 0 stop [] [] [] Outside) (AtLoop 0 0 [] [] [] Outside) Never c (eval (on_replies (validators_of p.cells)) call n false p.main [] (fresh todo))
+    (expression_simulates code n all call called 0 [] all (λ g e. e) p.main Outside [] [] [] (locals_of (Some (body_code p.main)) []) 0 0 0 0 stop (fresh todo) callees tt (stands_front code 0 0 is (Halt ∷ []) _ has) (record { inner = []; within = refl; size = refl; depth = refl }) (holds_opening (Some (body_code p.main)) []) refl))
 
 one_end : (p : ThreadSource) (todo : List Exchange) (m n : ℕ) (o q : Outcome) → IsOver o → IsOver q → target (generated p) m todo ≡ o → target (generated p) n todo ≡ q → o ≡ q
 one_end p todo m n o q over_o over_q e f =

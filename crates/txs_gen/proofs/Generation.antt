@@ -17,13 +17,13 @@ use Rattle.txs_value_cell.specs.declared.form.UpdateForm.{UpdateForm}
 use Rattle.txs_value_cell.specs.declared.form.UpdateForm.TheVariants as update
 use Rattle.txs_value_base.specs.declared.op.Callee.{Callee}
 use Rattle.txs_tree_meaning.specs.Known.{Known, only_inside, only_outside, is_inside, is_outside, is_pure, inside_in, any_inside, outside_in, any_outside, pure_in, all_pure}
-use Rattle.txs_tree_meaning.specs.Sound.{Zone, in_function, in_thread, in_dosync, MayStand, MayCall, SoundCallee, SoundTree, SoundAll, SoundLet, SoundDo}
+use Rattle.txs_tree_meaning.specs.Sound.{Zone, in_function, in_thread, in_dosync, MayStand, MayCall, SoundCallee, SoundSent, SoundTree, SoundAll, SoundLet, SoundDo}
 use Rattle.txs_tree_meaning.specs.Tree.{Tree, Const, Local, If, Do, Let, Loop, Recur, Core, Call, VectorOf, Println, Dosync, Look, Put, Update, Send, Trees, none, more, count}
 use Rattle.txs_code_meaning.specs.declared.instr.Instr.{Instr}
 use Rattle.txs_code_meaning.specs.declared.instr.Instr.TheVariants as instr
 use Rattle.txs_code_meaning.specs.Machine.{PlainInstr, Push, Store, Jump, JumpFalse, Pop, CallOf, OpenOf, CloseOf, SendOf, PutOf}
 use Rattle.txs_code_meaning.specs.PlainCode.{plain_instr}
-use Rattle.txs_code_meaning.specs.WellTyped.{Functions, FunctionKind, Owner, a_thread, a_function, IsImpure, MayStandInside, MayStandOutside, KindMayStand, IsPureCallee, IsNamed, CalleeTakes, NamedTakes, IsFollowed, Depths, depth_at, plain, opened, applied, Stages, stage_at, TakesParameters}
+use Rattle.txs_code_meaning.specs.WellTyped.{Functions, FunctionKind, Owner, a_thread, a_function, IsImpure, MayStandInside, MayStandOutside, KindMayStand, IsPureCallee, MayBeSent, IsNamed, CalleeTakes, NamedTakes, IsFollowed, Depths, depth_at, plain, opened, applied, Stages, stage_at, TakesParameters}
 use Rattle.txs_code_meaning.specs.WellTyped as typed
 use Rattle.txs_gen.specs.Gen.{opening, callee_code, gen, gen_all, gen_let, gen_do, stores, if_code, locals_in, locals_in_all, locals_in_let}
 use Rattle.txs_gen.specs.Generated.{copies, spans_of, spans_of_all, spans_of_let, spans_of_do, constants_of, constants_in, numbers_in}
@@ -324,6 +324,18 @@ module _ (x : Setting) (ks : List Known) (tells : Tells x.functions x.callable k
       let e : q.function.parameters ≡ c + 1 = omega (arith, q.arity) in
       (told.0, told.1 ∙ ap (λ n. Some n) e)
 
+  -- what is sent isn't for transactions alone, and takes so many
+  callee_sent : (callee : Callee) (n : ℕ) → SoundSent ks callee n → MayBeSent x.functions.kinds callee
+  callee_sent (CoreOp op) n q = tt
+  callee_sent (Function f) n q = (kind_of q.function, (tells f q.function q.found).2, q.zoned)
+
+  sent_takes : (callee : Callee) (c : ℕ) → SoundSent ks callee (suc c) → CalleeTakes x.callable x.functions.parameters callee (c + 1)
+  sent_takes (CoreOp op) c q = let e : suc c ≡ c + 1 = omega arith in subst (λ n. takes op n ≡ true) e q.0
+  sent_takes (Function f) c q =
+      let told = tells f q.function q.found in
+      let e : q.function.parameters ≡ c + 1 = omega (arith, q.arity) in
+      (told.0, told.1 ∙ ap (λ n. Some n) e)
+
   -- an update with this instruction as its call
   update_with : (form : UpdateForm) (callee : Callee) (i : Instr) (c u h k at : ℕ) (span : Span) → SoundCallee ks callee (suc c) → typed.FormMayStand x.owner u (form_of.Update form) → Here x.depths x.stages at (h + 1 + c) (plain u) → h + c + 2 ≤ x.most → On x.depths x.stages (at + 1) (updated form callee c u h) →
       ((js : List Instr) → numbers_in (i ∷ js) ≡ numbers_in js) → plain_instr x.functions.parameters x.constants i span ≡ callee_code callee (suc c) span →
@@ -616,7 +628,7 @@ module _ (x : Setting) (ks : List Known) (tells : Tells x.functions x.callable k
         let o3 = states_rest x kc _ n1 (h + 1 + c) (plain u) (afters_all args u (h + 1)) js (spans_of_all args) _ two after o2 in
         let low : h + 1 ≡ h + 1 + c - c = omega arith in
         let last = segment_one x (kc + length (constants_in args)) 0 n2 (h + 1 + c) (h + 1) (plain u) (plain u) (instr.Send callee c) m.span refl two.leaves two.high
-        (omega arith, subst (λ n. depth_at x.depths (n2 + 1) ≡ Some n) low o3.0.0) ((not_pure, tt), callee_pure callee (suc c) p.1, o3.0.1) o3.0 one.high (λ w1. callee_takes callee c p.1) in
+        (omega arith, subst (λ n. depth_at x.depths (n2 + 1) ≡ Some n) low o3.0.0) ((not_pure, tt), callee_sent callee (suc c) p.1, o3.0.1) o3.0 one.high (λ w1. sent_takes callee c p.1) in
         let inner = segment_join x kc _ _ n1 (h + 1 + c) (h + 1) (plain u) (plain u) _ _ _ _ _ _ _ _ two last in
         let n : length (constants_of cell) + (length (constants_in args) + 0) ≡ length (constants_of cell ++ constants_in args) = omega (arith, length-append (constants_of cell) (constants_in args)) in
         let seen = seen_then x k _ at (h + 1) (plain u) (afters cell u h) is (spans_of cell) (gen cell d base start at) one (λ q. gen_all args d base start q ++ SendOf callee c m.span ∷ []) in

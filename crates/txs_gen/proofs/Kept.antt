@@ -5,7 +5,7 @@ use Rattle.txs_world_protocol.specs.declared.ask.Ask.{Ask}
 use Rattle.txs_world_protocol.specs.declared.ask.Ask.TheVariants as ask
 use Rattle.txs_world_protocol.specs.declared.ask.Reply.{Reply}
 use Rattle.txs_world_protocol.specs.declared.ask.Reply.TheVariants as reply
-use Rattle.txs_frame.specs.Frame.{commuted, set_writes, is_commuted, with_cell}
+use Rattle.txs_frame.specs.Frame.{commuted, set_writes, is_commuted, with_cell, sends_of_commit}
 use Rattle.txs_frame.specs.declared.frame.Commute.{Commute}
 use Rattle.txs_world_protocol.specs.Ask.{with_write}
 use Rattle.txs_value_cell.specs.Cells.{Validators, validator_at}
@@ -27,7 +27,7 @@ use Rattle.txs_tree_meaning.specs.Known.{known}
 use Rattle.txs_tree_meaning.specs.Meaning.{Completion, Completes, Recurs, Faults, Retries, Waits, OutOfTurns, Invalid, bind, closed, Applies, apply, eval, call_at}
 use Rattle.txs_tree_meaning.specs.Sound.{SoundFunctions}
 use Rattle.txs_tree_meaning.specs.Tree.{Tree, PlainFunction}
-use Rattle.txs_code_meaning.specs.ActorState.{ActorState, Reception, Replied, Unreplied, receives, asks, StepResult, Continue, Break, Redo, Await, Malformed, on_step, step_of, Reading, Says, SaysRetry, SaysNothing, read_as, heard, read_point, just_done, value_there, views, commit_verdict, swap_verdict, begun, begin, fail, buffered_or, look, with_first, paired, viewed, view, commit, SwapInHand, close_swap, break_swap, cell_at, read_cell, read, set_own, assign_cell, assign, RefUpdate, Alters, Commutes, update_form, kept_open, open_update, close_own, close_update, send_to, print}
+use Rattle.txs_code_meaning.specs.ActorState.{ActorState, Reception, Replied, Unreplied, receives, asks, StepResult, Continue, Break, Redo, Await, Malformed, on_step, step_of, Reading, Says, SaysRetry, SaysNothing, read_as, heard, read_point, just_done, value_there, views, Verdict, Landed, Outdated, Undone, Denied, held_in, landed, commit_verdict, swap_verdict, begun, begin, fail, buffered_or, look, with_first, paired, viewed, view, commit, SwapInHand, close_swap, break_swap, cell_at, read_cell, read, set_own, assign_cell, assign, RefUpdate, Alters, Commutes, update_form, kept_open, open_update, close_own, close_update, send_to, print}
 use Rattle.txs_theorem_threads.specs.OnReplies.{res, updates, updates_ref, accepts, puts, on_replies}
 use Rattle.txs_theorem_threads.proofs.Accepted.{validated_related}
 use Rattle.txs_theorem_threads.proofs.Callees.{Rules, Keeps, IsPure, pure_callees, function_callees}
@@ -148,9 +148,17 @@ view_asked s =
     let q = ask.View (commuted s.done) in
     then_asked (heard views (asks q s)) (λ x s1. viewed x.0 (paired (commuted s.done) x.1) s1) (heard_asked views (asks q s) views_speak) (λ x s1. viewed_asked x.0 (paired (commuted s.done) x.1) s1)
 
+landed_asked : (d : Verdict) (s : ActorState) → Asked (landed d s)
+landed_asked Landed s = tt
+landed_asked Outdated s = tt
+landed_asked Undone s = tt
+landed_asked Denied s = tt
+
 pub commit_asked : (ws : Writes) (s : ActorState) → Asked (commit ws s)
 unfolding commit
-commit_asked ws s = heard_asked commit_verdict (asks (ask.Commit s.at (set_writes s.done) s.done.ensures s.view ws s.done.sends) s) commit_speaks
+commit_asked ws s =
+    let q = ask.Commit s.at (set_writes s.done) s.done.ensures s.view ws (sends_of_commit (held_in s.acting) s.done.sends) in
+    then_asked (heard commit_verdict (asks q s)) landed (heard_asked commit_verdict (asks q s) commit_speaks) landed_asked
 
 pub close_asked : (w : SwapInHand) (v : Value) (s : ActorState) → Asked (close_swap w v s)
 unfolding close_swap
@@ -358,9 +366,17 @@ module _ (P : Callee → Type 0) where
       let q = ask.View (commuted s.done) in
       then_kept (heard views (asks q s)) (λ x s1. viewed x.0 (paired (commuted s.done) x.1) s1) (ask_kept views q s h) (λ x s1 k. viewed_kept x.0 (paired (commuted s.done) x.1) s1 k)
 
+  landed_kept : (d : Verdict) (s : ActorState) → Kept P s → KeptStep P (landed d s)
+  landed_kept Landed s h = h
+  landed_kept Outdated s h = h
+  landed_kept Undone s h = h
+  landed_kept Denied s h = h
+
   pub commit_kept : (ws : Writes) (s : ActorState) → Kept P s → KeptStep P (commit ws s)
   unfolding commit
-  commit_kept ws s h = ask_kept commit_verdict (ask.Commit s.at (set_writes s.done) s.done.ensures s.view ws s.done.sends) s h
+  commit_kept ws s h =
+      let q = ask.Commit s.at (set_writes s.done) s.done.ensures s.view ws (sends_of_commit (held_in s.acting) s.done.sends) in
+      then_kept (heard commit_verdict (asks q s)) landed (ask_kept commit_verdict q s h) landed_kept
 
   own_kept : (o : Option Value) (s : ActorState) (r : StepResult Value) → Kept P s → KeptStep P r → KeptStep P (buffered_or o s r)
   own_kept (Some v) s r h k = h
@@ -525,7 +541,7 @@ module _ (P : Callee → Type 0) where
         along (λ x. (on_replies validators).update form inside m c callee vs (apply (call inside) m.span) x) s t r
         (λ k. subst (λ b. KeptAfter P (updates validators form b m.span c callee vs (apply (call inside) m.span) s)) (sym i)
         (updates_kept validators form m.span c callee vs (apply (call inside) m.span) s p (λ d ws s1 l. related_kept (apply (call inside) m.span d ws s1) (applied (λ f. tt) d ws s1 s1 (refl, l))) k));
-    send = λ inside m c callee vs s t i p r. along (λ x. (on_replies validators).send inside m c callee vs x) s t r (λ k. subst (λ b. KeptAfter P (res (send_to b m.span c callee vs s))) (sym i) (res_kept (send_to true m.span c callee vs s) (send_kept m.span c callee vs s k)));
+    send = λ inside m c callee vs s t i r. along (λ x. (on_replies validators).send inside m c callee vs x) s t r (λ k. subst (λ b. KeptAfter P (res (send_to b m.span c callee vs s))) (sym i) (res_kept (send_to true m.span c callee vs s) (send_kept m.span c callee vs s k)));
     dosync = λ inside m e env s t i p body applied r.
         subst (λ b. Related link ((on_replies validators).dosync b m e env (λ s1. closed (eval (on_replies validators) call n true e env s1)) (apply (call true) m.span) s) ((on_replies validators).dosync b m e env (λ s1. closed (eval (on_replies validators) call n true e env s1)) (apply (call true) m.span) t)) (sym i)
         (body refl s t r);

@@ -5,29 +5,30 @@ use Rattle.txs_value_base.specs.Places.{nth}
 use Rattle.txs_value_base.specs.declared.fault.Span.{Span}
 use Rattle.txs_value_base.specs.declared.op.Callee.{Callee}
 use Rattle.txs_value_base.specs.declared.op.Callee.TheVariants as callee
+use Rattle.txs_value_data.specs.declared.value.CellId.{CellId}
 use Rattle.txs_tree_meaning.specs.Known.{Known, known_of, known_from, known}
-use Rattle.txs_tree_meaning.specs.Sound.{Zone, in_function, in_thread, in_dosync, SoundCallee, SoundTree, SoundAll, SoundLet, SoundDo, SoundFunctions, SoundThread, SoundThreads}
+use Rattle.txs_tree_meaning.specs.Sound.{Zone, in_function, in_thread, in_dosync, SoundSent, SoundTree, SoundAll, SoundLet, SoundDo, SoundFunctions, SoundThread, SoundThreads}
 use Rattle.txs_tree_meaning.specs.Tree.{Tree, Const, Local, If, Do, Let, Loop, Recur, Core, Call, VectorOf, Println, Dosync, Look, Put, Update, Send, Trees, none, more, count, PlainFunction, PlainThread, PlainProgram}
 use Rattle.txs_tree_build.specs.Everywhere.{Facts, Everywhere, EverywhereIn, InFunction, InThread, InProgram}
-use Rattle.txs_code_meaning.specs.Machine.{PlainInstr, Push, Load, Store, Pop, Jump, JumpFalse, CoreOf, CallOf, Return, MakeVector, PrintOf, TxBegin, TxEnd, LookOf, PutOf, OpenOf, CloseOf, SendOf, Halt, TakeOf, RunOf, FinishOf, ThreadCode, fetch, instr_at}
-use Rattle.txs_code_meaning.specs.PlainCode.{CodeBody, PlainCode, parameters_of, thread_code}
+use Rattle.txs_code_meaning.specs.Machine.{PlainInstr, Push, Load, Store, Pop, Jump, JumpFalse, CoreOf, CallOf, Return, MakeVector, PrintOf, TxBegin, TxEnd, LookOf, PutOf, OpenOf, CloseOf, SendOf, Halt, TakeOf, RunOf, FinishOf, ThreadCode, agent_code, fetch, instr_at}
+use Rattle.txs_code_meaning.specs.PlainCode.{CodeBody, PlainCode, parameters_of, thread_code, library_of}
 use Rattle.txs_theorem_threads.specs.FollowsAll.{source_of}
 use Rattle.txs_theorem_threads.specs.Sends.{CodeSendsSound}
 use Rattle.txs_theorem_threads.proofs.Functions.{known_front}
 use Rattle.txs_gen.specs.Gen.{stores, callee_code, gen, gen_all, gen_let, gen_do, functions_code, generated}
 use Rattle.txs_gen.specs.Generated.{AreFunctionsOf, AreBodiesOf}
 use Rattle.txs_gen.specs.Sends.{sound_sends, SoundProgramSendsSound, CodeOfProgramSendsSound}
-use Rattle.txs_gen.proofs.CodesFollow.{thread_is}
+use Rattle.txs_gen.proofs.CodesFollow.{functions_are, thread_is}
 
 -- where more functions are defined, a callee goes on to be sound
-wider : (ks ls : List Known) → ((f : ℕ) (k : Known) → nth ks f ≡ Some k → nth ls f ≡ Some k) → (f : Callee) (n : ℕ) → SoundCallee ks f n → SoundCallee ls f n
+wider : (ks ls : List Known) → ((f : ℕ) (k : Known) → nth ks f ≡ Some k → nth ls f ≡ Some k) → (f : Callee) (n : ℕ) → SoundSent ks f n → SoundSent ls f n
 wider ks ls grows (callee.Core op) n h = h
-wider ks ls grows (callee.Function f) n h = record { function = h.function; found = grows f h.function h.found; arity = h.arity; pure = h.pure }
+wider ks ls grows (callee.Function f) n h = record { function = h.function; found = grows f h.function h.found; arity = h.arity; zoned = h.zoned }
 
 module _ (ls : List Known) where
   -- a send's callee is sound
   abbrev SendFits : PlainInstr → Type 0
-  SendFits (SendOf f n span) = SoundCallee ls f (suc n)
+  SendFits (SendOf f n span) = SoundSent ls f (suc n)
   SendFits (Push v) = Unit {0}
   SendFits (Load i) = Unit {0}
   SendFits (Store i) = Unit {0}
@@ -129,7 +130,7 @@ module _ (ls : List Known) where
 
   -- ---- sound trees
 
-  module _ (ks : List Known) (wide : (f : Callee) (n : ℕ) → SoundCallee ks f n → SoundCallee ls f n) where
+  module _ (ks : List Known) (wide : (f : Callee) (n : ℕ) → SoundSent ks f n → SoundSent ls f n) where
     mutual
       tree_sends : (e : Tree) (zone : Zone) (d : ℕ) (tail : Option ℕ) → SoundTree ks zone d tail e → Everywhere (sound_sends ls) e
       tree_sends (Const v m) zone d tail h = (tt, tt)
@@ -202,6 +203,18 @@ module _ (functions : List PlainFunction) (p : PlainProgram) (sends : AllByRecur
     threads_send (b ∷ bs) (t ∷ ts) h s zero = subst (CodeSendsSound functions) (sym (thread_is code p b t same_cells made h.0)) (source_sends_sound t s.0)
     threads_send (b ∷ bs) (t ∷ ts) h s (suc i) = threads_send bs ts h.1 s.1 i
 
+    -- the code of agents has no sends but those of the functions
+    agent_fits : (g : CellId) (b at : ℕ) → FitsThere all (fetch (agent_code (library_of code) g) b at)
+    agent_fits g zero at = fits_at all (TakeOf g ∷ RunOf ∷ FinishOf g ∷ []) at (tt, (tt, (tt, tt)))
+    agent_fits g (suc f) at =
+        subst (λ l. FitsThere all (instr_at (nth l f) at)) (sym (functions_are (parameters_of code.functions) code.constants code.functions p.functions made)) (functions_fit all p.functions sends f at)
+
+    agents_send : (g : CellId) → CodeSendsSound functions (agent_code (library_of code) g)
+    agents_send g b at n f span e = subst (FitsThere all) e (agent_fits g b at)
+
 pub code_sends_sound : CodeOfProgramSendsSound
-code_sends_sound code functions p sends made i c e =
-    subst (Sends functions p sends.functions code made.cells made.functions) e (threads_send functions p sends.functions code made.cells made.functions code.threads p.threads made.threads sends.threads i)
+code_sends_sound code functions p sends made =
+    let threads = threads_send functions p sends.functions code made.cells made.functions code.threads p.threads made.threads sends.threads in (
+      λ i c e. subst (Sends functions p sends.functions code made.cells made.functions) e (threads i),
+      agents_send functions p sends.functions code made.cells made.functions,
+    )

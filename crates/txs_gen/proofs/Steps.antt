@@ -1,5 +1,5 @@
 -- What the machine does, for each way in which a part of a tree may end.
-use Rattle.std.proofs.Common.{◌≡◌, ℕ, suc, ◌<◌, ◌≤◌, true, false, List, Option, Some, None, Result, Ok, Err, refl, sym, ap, ◌∙◌, subst, arith}
+use Rattle.std.proofs.Common.{◌≡◌, ℕ, suc, ◌<◌, ◌≤◌, true, false, List, Some, None, Result, Ok, Err, refl, sym, ap, ◌∙◌, subst, arith, ◌⊎◌, inl, inr}
 use Rattle.txs_value_apply.specs.Truth.{choose}
 use Rattle.txs_value_base.specs.declared.fault.Fault.{Fault}
 use Rattle.txs_value_base.specs.declared.fault.FaultKind.{FaultKind}
@@ -7,8 +7,8 @@ use Rattle.txs_value_base.specs.declared.fault.Span.{Span}
 use Rattle.txs_value_data.specs.declared.value.Value.{Value}
 use Rattle.txs_value_data.specs.declared.value.Value.TheVariants.{Nil, Truth, Int, Key, Text, Vector, Cell}
 use Rattle.txs_tree_meaning.specs.Meaning.{Completion, Completes, Recurs, Faults, Retries, Waits, OutOfTurns, Invalid, bind, again, closed, result_of}
-use Rattle.txs_code_meaning.specs.ActorState.{ActorState, InHand, StepResult, Continue, Break, Redo, Await, Malformed, step_of}
-use Rattle.txs_code_meaning.specs.Machine.{PlainInstr, ThreadCode, Destination, Frame, Savepoint, Activity, Outside, Restarting, Running, Applying, Swapping, Configuration, Turned, Failed, Asking, Unfinished, and_then, fetch, act, told, ends_with, raise, rerun, retried, on, exec}
+use Rattle.txs_code_meaning.specs.ActorState.{ActorState, StepResult, Continue, Break, Redo, Await, Malformed, step_of}
+use Rattle.txs_code_meaning.specs.Machine.{PlainInstr, ThreadCode, Destination, Frame, Savepoint, Activity, Outside, Restarting, Running, Applying, Swapping, Configuration, Turned, Failed, Asking, Unfinished, and_then, fetch, act, told, ends_with, fails_with, raise, rerun, retried, on, exec}
 use Rattle.txs_theorem_threads.specs.OnReplies.{res, telling}
 
 -- where the machine is
@@ -40,37 +40,61 @@ pub record Comes (code : ThreadCode) (c : Configuration) (t : Turned Configurati
 abbrev pub Lands : Type 0 → Type 1
 Lands A = A → ActorState → Configuration → Type 0
 
--- what the machine does with a fault in such a state, and where the transaction has to run again
+-- what the machine may do with a fault, and what it does where the transaction has to run again
 pub record Handlers : Type 1 where
-  pub admits : ActorState → Type 0
-  pub raised : Fault → ActorState → Turned Configuration
+  pub raised : Fault → ActorState → Turned Configuration → Type 0
   pub retried : ActorState → Turned Configuration
 
--- outside everything what a fault does depends on the action that is run
-abbrev pub admitted : Option InHand → Activity → ActorState → Type 0
-admitted whose Outside s = s.acting ≡ whose
-admitted whose (Restarting left) s = Unit {0}
-admitted whose (Running left inner from) s = Unit {0}
-admitted whose (Applying left from work values) s = Unit {0}
-admitted whose (Swapping swap from) s = Unit {0}
+-- Outside everything the turn that meets a fault ends the thread or the action. Where the store or an atom was asked of the fault, the turn after
+-- that answer does.
+abbrev pub Raises : Activity → Fault → ActorState → Turned Configuration → Type 0
+Raises Outside f s t = (t ≡ ends_with s.acting f s) ⊎ (t ≡ fails_with s.acting f s)
+Raises (Restarting left) f s t = t ≡ raise (Restarting left) f s
+Raises (Running left inner from) f s t = t ≡ raise (Running left inner from) f s
+Raises (Applying left from work values) f s t = t ≡ raise (Applying left from work values) f s
+Raises (Swapping swap from) f s t = t ≡ raise (Swapping swap from) f s
 
--- what it does while this goes on, in this action or outside of actions
-abbrev pub of : Option InHand → Activity → Handlers
-of whose doing = record { admits = admitted whose doing; raised = raise doing; retried = retried doing }
+-- what it does while this goes on
+abbrev pub of : Activity → Handlers
+of doing = record { raised = Raises doing; retried = retried doing }
 
--- what it does with a try as a whole, which has told of its fault, outside of actions
+-- a fault of which the store or an atom was asked
+abbrev pub HasTold : Fault → ActorState → Turned Configuration → Type 0
+HasTold f s t = t ≡ fails_with s.acting f s
+
+-- what it does with a try as a whole, which has told of its fault
 abbrev pub of_try : ℕ → Savepoint → Handlers
-of_try left from = record { admits = λ s. s.acting ≡ None; raised = λ f s. Failed f s; retried = λ s. rerun left from s }
+of_try left from = record { raised = HasTold; retried = λ s. rerun left from s }
+
+-- what it does with all tries
+abbrev pub of_tries : Handlers
+of_tries = record { raised = HasTold; retried = retried Outside }
 
 -- outside of actions a fault ends the thread
-pub ends_thread : (f : Fault) (s : ActorState) → s.acting ≡ None → raise Outside f s ≡ Failed f s
-ends_thread f s e = ap (λ o. ends_with o f s) e
+pub ends_thread : (f : Fault) (s : ActorState) (t : Turned Configuration) → s.acting ≡ None → Raises Outside f s t → t ≡ Failed f s
+ends_thread f s t e (inl h) = h ∙ ap (λ o. ends_with o f s) e
+ends_thread f s t e (inr h) = h ∙ ap (λ o. fails_with o f s) e
+
+-- it comes to something of this kind
+abbrev pub ComesTo : ThreadCode → Configuration → (Turned Configuration → Type 0) → Type 0
+ComesTo code c P = (t : Turned Configuration) × P t × Comes code c t
+
+-- a turn that raises a fault
+pub raises : (doing : Activity) (f : Fault) (s : ActorState) → Raises doing f s (raise doing f s)
+raises Outside f s = inl refl
+raises (Restarting left) f s = refl
+raises (Running left inner from) f s = refl
+raises (Applying left from work values) f s = refl
+raises (Swapping swap from) f s = refl
+
+pub raised_by : (code : ThreadCode) (doing : Activity) (f : Fault) (s : ActorState) (c : Configuration) → Comes code c (raise doing f s) → ComesTo code c (Raises doing f s)
+raised_by code doing f s c r = (raise doing f s, raises doing f s, r)
 
 -- what the machine does where a part of a tree ends so
 abbrev pub Simulates : {A : Type 0} → ThreadCode → ℕ → Handlers → Lands A → Lands (List Value) → Configuration → Completion ActorState A → Type 0
 Simulates code n h G R c (Completes a s) = (c' : Configuration) × G a s c' × Reaches code c c'
 Simulates code n h G R c (Recurs vs s) = (c' : Configuration) × R vs s c' × Progresses code c c'
-Simulates code n h G R c (Faults f s) = h.admits s → Comes code c (h.raised f s)
+Simulates code n h G R c (Faults f s) = ComesTo code c (h.raised f s)
 Simulates code n h G R c (Retries s) = Comes code c (h.retried s)
 Simulates code n h G R c (Waits s) = (j : ℕ) × (exec code j c ≡ Asking s)
 Simulates code n h G R c (OutOfTurns s) = (j : ℕ) × (n ≤ j) × (exec code j c ≡ Unfinished s)
@@ -124,7 +148,7 @@ module _ (code : ThreadCode) where
   pub before : {A : Type 0} (n : ℕ) (h : Handlers) (G : Lands A) (R : Lands (List Value)) (c c1 : Configuration) (r : Completion ActorState A) → Reaches code c c1 → Simulates code n h G R c1 r → Simulates code n h G R c r
   before n h G R c c1 (Completes a s) p r = (r.0, r.1, to_to c c1 r.0 p r.2)
   before n h G R c c1 (Recurs vs s) p r = (r.0, r.1, to_past c c1 r.0 p r.2)
-  before n h G R c c1 (Faults f s) p r = λ a. to_comes c c1 (h.raised f s) p (r a)
+  before n h G R c c1 (Faults f s) p r = (r.0, r.1, to_comes c c1 r.0 p r.2)
   before n h G R c c1 (Retries s) p r = to_comes c c1 (h.retried s) p r
   before n h G R c c1 (Waits s) p r = let a = p.by r.0 in (a.0, a.2 ∙ r.1)
   before n h G R c c1 (OutOfTurns s) p r = let a = p.by r.0 in (a.0, omega (arith, a.1, r.1), a.2 ∙ r.2)
@@ -158,12 +182,12 @@ module _ (code : ThreadCode) where
   from_configuration n h G R c c1 r e ru = subst (λ x. Simulates code n h G R x r) (sym e) ru
 
   -- an instruction that does a step
-  pub step_simulates : {A : Type 0} (n : ℕ) (whose : Option InHand) (doing : Activity) (G : Lands A) (R : Lands (List Value)) (c : Configuration) (st : StepResult A) (next : A → ActorState → Configuration) → ((k : ℕ) → exec code (suc k) c ≡ and_then (on doing st (λ v s. Unfinished (next v s))) (exec code k)) → ((v : A) (s : ActorState) → G v s (next v s)) → Simulates code n (of whose doing) G R c (res st)
-  step_simulates n whose doing G R c (Continue v s) next e g = (next v s, g v s, one_to c (next v s) e)
-  step_simulates n whose doing G R c (Break f s) next e g = λ a. one_comes c (raise doing f s) e
-  step_simulates n whose doing G R c (Redo s) next e g = one_comes c (retried doing s) e
-  step_simulates n whose doing G R c (Await s) next e g = (1, e 0)
-  step_simulates n whose doing G R c Malformed next e g = tt
+  pub step_simulates : {A : Type 0} (n : ℕ) (doing : Activity) (G : Lands A) (R : Lands (List Value)) (c : Configuration) (st : StepResult A) (next : A → ActorState → Configuration) → ((k : ℕ) → exec code (suc k) c ≡ and_then (on doing st (λ v s. Unfinished (next v s))) (exec code k)) → ((v : A) (s : ActorState) → G v s (next v s)) → Simulates code n (of doing) G R c (res st)
+  step_simulates n doing G R c (Continue v s) next e g = (next v s, g v s, one_to c (next v s) e)
+  step_simulates n doing G R c (Break f s) next e g = raised_by code doing f s c (one_comes c (raise doing f s) e)
+  step_simulates n doing G R c (Redo s) next e g = one_comes c (retried doing s) e
+  step_simulates n doing G R c (Await s) next e g = (1, e 0)
+  step_simulates n doing G R c Malformed next e g = tt
 
   -- the same of one that asks, whatever is done with faults
   pub ask_simulates : {A B : Type 0} (n : ℕ) (doing : Activity) (h : Handlers) (G : Lands B) (R : Lands (List Value)) (c : Configuration) (st : StepResult A) (next : A → ActorState → Turned Configuration) (go : A → ActorState → Completion ActorState B) → Asked st → ((k : ℕ) → exec code (suc k) c ≡ and_then (on doing st next) (exec code k)) → ((v : A) (s : ActorState) → st ≡ Continue v s → Comes code c (next v s) → Simulates code n h G R c (go v s)) → Simulates code n h G R c (bind (res st) go)
@@ -195,18 +219,18 @@ module _ (code : ThreadCode) where
   recast n h G G' R R' c Invalid r g k = tt
 
   -- other handlers, which do the same with what comes
-  pub handled_as : {A : Type 0} (n : ℕ) (h h' : Handlers) (G : Lands A) (R : Lands (List Value)) (c : Configuration) (r : Completion ActorState A) → ((f : Fault) (s : ActorState) → r ≡ Faults f s → h'.admits s → h.admits s × (h.raised f s ≡ h'.raised f s)) → ((s : ActorState) → r ≡ Retries s → h.retried s ≡ h'.retried s) → Simulates code n h G R c r → Simulates code n h' G R c r
+  pub handled_as : {A : Type 0} (n : ℕ) (h h' : Handlers) (G : Lands A) (R : Lands (List Value)) (c : Configuration) (r : Completion ActorState A) → ((f : Fault) (s : ActorState) (t : Turned Configuration) → h.raised f s t → h'.raised f s t) → ((s : ActorState) → r ≡ Retries s → h.retried s ≡ h'.retried s) → Simulates code n h G R c r → Simulates code n h' G R c r
   handled_as n h h' G R c (Completes a s) p q r = r
   handled_as n h h' G R c (Recurs vs s) p q r = r
-  handled_as n h h' G R c (Faults f s) p q r = λ a. let w = p f s refl a in comes_as c (h.raised f s) (h'.raised f s) w.1 (r w.0)
+  handled_as n h h' G R c (Faults f s) p q r = (r.0, p f s r.0 r.1, r.2)
   handled_as n h h' G R c (Retries s) p q r = comes_as c (h.retried s) (h'.retried s) (q s refl) r
   handled_as n h h' G R c (Waits s) p q r = r
   handled_as n h h' G R c (OutOfTurns s) p q r = r
   handled_as n h h' G R c Invalid p q r = tt
 
   -- the ask that a fault makes
-  told_simulates : {B : Type 0} (n : ℕ) (h' : Handlers) (G : Lands B) (R : Lands (List Value)) (c : Configuration) (f : Fault) (x : StepResult (Unit {0})) → Asked x → Comes code c (told x (λ s1. Failed f s1)) → ((s1 : ActorState) → h'.admits s1 → h'.raised f s1 ≡ Failed f s1) → Simulates code n h' G R c (bind (res x) (λ u s1. Faults f s1))
-  told_simulates n h' G R c f (Continue u s1) a r e = λ z. comes_as c (Failed f s1) (h'.raised f s1) (sym (e s1 z)) r
+  told_simulates : {B : Type 0} (n : ℕ) (h' : Handlers) (G : Lands B) (R : Lands (List Value)) (c : Configuration) (f : Fault) (x : StepResult (Unit {0})) → Asked x → Comes code c (told x (λ s1. fails_with s1.acting f s1)) → ((s1 : ActorState) (t : Turned Configuration) → HasTold f s1 t → h'.raised f s1 t) → Simulates code n h' G R c (bind (res x) (λ u s1. Faults f s1))
+  told_simulates n h' G R c f (Continue u s1) a r e = (fails_with s1.acting f s1, e s1 (fails_with s1.acting f s1) refl, r)
   told_simulates n h' G R c f (Break g s1) a r e = absurd a
   told_simulates n h' G R c f (Redo s1) a r e = absurd a
   told_simulates n h' G R c f (Await s1) a r e = let p = r.by 0 in (p.0, p.2)
@@ -214,12 +238,12 @@ module _ (code : ThreadCode) where
 
   -- a part that tells of its faults, and what goes on from where it lands
   pub telling_simulates : {A : Type 0} (n : ℕ) (h h' : Handlers) (G : Lands A) (R' : Lands (List Value)) (G' : Lands Value) (R : Lands (List Value)) (c : Configuration) (ask : ActorState → StepResult (Unit {0})) (r : Completion ActorState A) (go : A → ActorState → Completion ActorState Value) →
-      ((s : ActorState) → Asked (ask s)) → ((f : Fault) (s : ActorState) → h.admits s × (h.raised f s ≡ told (ask s) (λ s1. Failed f s1))) → ((f : Fault) (s : ActorState) → h'.admits s → h'.raised f s ≡ Failed f s) → ((s : ActorState) → r ≡ Retries s → h.retried s ≡ h'.retried s) →
+      ((s : ActorState) → Asked (ask s)) → ((f : Fault) (s : ActorState) (t : Turned Configuration) → h.raised f s t → t ≡ told (ask s) (λ s1. fails_with s1.acting f s1)) → ((f : Fault) (s : ActorState) (t : Turned Configuration) → HasTold f s t → h'.raised f s t) → ((s : ActorState) → r ≡ Retries s → h.retried s ≡ h'.retried s) →
       Simulates code n h G R' c r → ((a : A) (s : ActorState) (c1 : Configuration) → r ≡ Completes a s → G a s c1 → Simulates code n h' G' R c1 (go a s)) → Simulates code n h' G' R c (telling ask r go)
   telling_simulates n h h' G R' G' R c ask (Completes a s) go w p p' q r k = before n h' G' R c r.0 (go a s) r.2 (k a s r.0 refl r.1)
   telling_simulates n h h' G R' G' R c ask (Recurs vs s) go w p p' q r k = tt
   telling_simulates n h h' G R' G' R c ask (Faults f s) go w p p' q r k =
-      told_simulates n h' G' R c f (ask s) (w s) (comes_as c (h.raised f s) (told (ask s) (λ s1. Failed f s1)) (p f s).1 (r (p f s).0)) (p' f)
+      told_simulates n h' G' R c f (ask s) (w s) (comes_as c r.0 (told (ask s) (λ s1. fails_with s1.acting f s1)) (p f s r.0 r.1) r.2) (p' f)
   telling_simulates n h h' G R' G' R c ask (Retries s) go w p p' q r k = comes_as c (h.retried s) (h'.retried s) (q s refl) r
   telling_simulates n h h' G R' G' R c ask (Waits s) go w p p' q r k = r
   telling_simulates n h h' G R' G' R c ask (OutOfTurns s) go w p p' q r k = r
@@ -238,7 +262,7 @@ module _ (code : ThreadCode) where
   pub before_past : {A : Type 0} (n : ℕ) (h : Handlers) (G : Lands A) (R : Lands (List Value)) (c c1 : Configuration) (r : Completion ActorState A) → Progresses code c c1 → Simulates code n h G R c1 r → Simulates code (suc n) h G R c r
   before_past n h G R c c1 (Completes a s) p r = (r.0, r.1, to_of c r.0 (past_to c c1 r.0 p r.2))
   before_past n h G R c c1 (Recurs vs s) p r = (r.0, r.1, to_past c c1 r.0 (to_of c c1 p) r.2)
-  before_past n h G R c c1 (Faults f s) p r = λ a. to_comes c c1 (h.raised f s) (to_of c c1 p) (r a)
+  before_past n h G R c c1 (Faults f s) p r = (r.0, r.1, to_comes c c1 r.0 (to_of c c1 p) r.2)
   before_past n h G R c c1 (Retries s) p r = to_comes c c1 (h.retried s) (to_of c c1 p) r
   before_past n h G R c c1 (Waits s) p r = let a = p.by r.0 in (a.0, a.2 ∙ r.1)
   before_past n h G R c c1 (OutOfTurns s) p r = let a = p.by r.0 in (a.0, omega (arith, a.1, r.1), a.2 ∙ r.2)

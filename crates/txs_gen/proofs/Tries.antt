@@ -1,5 +1,5 @@
 -- A transaction, try by try: its body, the commutes at its end, and the commit. What the body does is a parameter.
-use Rattle.std.proofs.Common.{◌≡◌, ℕ, zero, suc, ◌+◌, Bool, true, List, [], ◌∷◌, ◌++◌, map, Option, Some, None, refl, sym, ap, ◌∙◌, subst}
+use Rattle.std.proofs.Common.{◌≡◌, ℕ, zero, suc, ◌+◌, Bool, true, List, [], ◌∷◌, ◌++◌, map, Option, Some, None, refl, sym, ap, ◌∙◌, subst, inr}
 use Rattle.txs_world_protocol.specs.Ask.{Writes, buffered, with_write}
 use Rattle.txs_frame.specs.Frame.{commuted, set_writes, written, by_ref, phase_work}
 use Rattle.txs_frame.specs.Phase.{to_write, with_validation, validations, tasks_of}
@@ -9,7 +9,7 @@ use Rattle.txs_frame.specs.declared.phase.Task.TheVariants.{Redoes, Validates}
 use Rattle.txs_value_apply.specs.Core.{core}
 use Rattle.txs_value_cell.specs.Cells.{Validators, validator_at}
 use Rattle.txs_value_base.specs.Places.{nth, fault_at}
-use Rattle.txs_value_base.specs.declared.fault.FaultKind.TheVariants.{RetryLimit}
+use Rattle.txs_value_base.specs.declared.fault.FaultKind.TheVariants.{RetryLimit, AgentFailed}
 use Rattle.txs_value_base.specs.declared.fault.Span.{Span}
 use Rattle.txs_value_base.specs.declared.op.Callee.{Callee}
 use Rattle.txs_value_base.specs.declared.op.Callee.TheVariants.{Core as CoreOp, Function}
@@ -19,8 +19,8 @@ use Rattle.txs_value_data.specs.declared.value.Value.TheVariants.{Nil}
 use Rattle.txs_tree_meaning.specs.Known.{Known}
 use Rattle.txs_tree_meaning.specs.Meaning.{Completion, Completes, Recurs, Faults, Retries, Waits, OutOfTurns, Invalid, bind, Applies, apply}
 use Rattle.txs_tree_meaning.specs.Transaction.{value_or, merged, redone, validated, accepted}
-use Rattle.txs_code_meaning.specs.ActorState.{ActorState, InHand, StepResult, Continue, Break, Redo, Await, Malformed, Verdict, Landed, Outdated, Undone, Denied, step_of, begin, fail, view, commit}
-use Rattle.txs_code_meaning.specs.Machine.{PlainInstr, TxBegin, TxEnd, ThreadCode, locals_of, to_commutes, Frame, Savepoint, Activity, Outside, Restarting, Running, Applying, Configuration, Turned, Failed, Unfinished, fetch, act, raise, rerun, try_more, where_accepted, staying, settles, works, lands, decided, applies, starts, value_or_nil, arguments_of}
+use Rattle.txs_code_meaning.specs.ActorState.{ActorState, StepResult, Continue, Break, Redo, Await, Malformed, Verdict, Landed, Outdated, Undone, Denied, step_of, begin, fail, view, commit}
+use Rattle.txs_code_meaning.specs.Machine.{PlainInstr, TxBegin, TxEnd, ThreadCode, locals_of, to_commutes, Frame, Savepoint, Activity, Outside, Restarting, Running, Applying, Configuration, Turned, Unfinished, fetch, act, fails_with, rerun, try_more, where_accepted, staying, settles, works, lands, decided, applies, starts, value_or_nil, arguments_of}
 use Rattle.txs_theorem_threads.specs.OnReplies.{res, telling, Start, Anew, Behind, concludes, lands_on, if_all_accepted, closing, attempt, retrying, tries}
 use Rattle.txs_theorem_threads.proofs.Accepted.{OfValidator, AllValidators, validator_such, accepted_carried}
 use Rattle.txs_theorem_threads.proofs.Callees.{IsPure}
@@ -28,7 +28,7 @@ use Rattle.txs_theorem_threads.proofs.Quiet.{carried, IsQuiet, bind_carried, bin
 use Rattle.txs_gen.proofs.Checks.{Rise, numbers, numbers_in, tasks_written, commuted_rise, Values, values_written, Completed, phase_among, redone_numbers}
 use Rattle.txs_gen.proofs.Kept.{Kept, KeptStep, KeptAfter, ViewsAll, view_all, begin_asked, fail_asked, view_asked, commit_asked, begin_kept, view_kept, commit_kept}
 use Rattle.txs_gen.proofs.Lists.{Holds}
-use Rattle.txs_gen.proofs.Steps.{configuration, frame, savepoint, Comes, Handlers, Lands, of, of_try, ends_thread, Simulates, Asked, res_step, stays, comes_as, comes_to, one_to, before, bind_simulates, lands_as, from_configuration, step_simulates, ask_simulates, handled_as, telling_simulates}
+use Rattle.txs_gen.proofs.Steps.{configuration, frame, savepoint, Comes, Handlers, Lands, of, of_try, of_tries, Simulates, Asked, res_step, stays, comes_to, one_to, before, bind_simulates, lands_as, from_configuration, step_simulates, ask_simulates, handled_as, telling_simulates}
 use Rattle.txs_gen.proofs.Validated.{Clear, AtValue, Never, AtHand, CallSimulates, acts, validated_simulates}
 
 -- tries are no part that has to run again
@@ -158,14 +158,14 @@ value_or_same : (o : Option Value) → value_or_nil o ≡ value_or o Nil
 value_or_same None = refl
 value_or_same (Some v) = refl
 
-module _ (whose : Option InHand) (code : ThreadCode) (n : ℕ) (all : List Known) (call : Bool → ℕ → List Value → ActorState → Completion ActorState Value) (calls : CallSimulates whose code n all call) (b : ℕ) (fr : List Frame) where
+module _ (code : ThreadCode) (n : ℕ) (all : List Known) (call : Bool → ℕ → List Value → ActorState → Completion ActorState Value) (calls : CallSimulates code n all call) (b : ℕ) (fr : List Frame) where
   -- what the instruction at hand comes to
   at_hand : (c : Configuration) (i : PlainInstr) (t : Turned Configuration) → fetch code c.body c.place ≡ Some i → act code (Some i) c ≡ t → AtHand code c t
-  at_hand c i t at e = acts whose code n all call calls b fr c i t at e
+  at_hand c i t at e = acts code n all call calls b fr c i t at e
 
   module _ (span : Span) (pc q : ℕ) (st env L : List Value) (R : Lands (List Value)) (body : ActorState → Completion ActorState Value) (at_begin : fetch code b pc ≡ Some (TxBegin span)) (at_end : fetch code b q ≡ Some TxEnd)
       (quietly : Applies (Unit {0})) (quiet : (c : Callee) (vs : List Value) (s : ActorState) → IsPure all c → (apply (call true) span c vs s ≡ carried s (quietly c vs tt)) × IsQuiet (quietly c vs tt)) (valid : AllValidators (IsPure all) code.validators)
-      (body_simulates : (k : ℕ) (s : ActorState) → s.accepted ≡ None → Simulates code n (of whose (Running k 0 (savepoint span b pc st L fr))) (AtValue whose b q st env fr (Running k 0 (savepoint span b pc st L fr))) Never (configuration b (pc + 1) st L fr (Running k 0 (savepoint span b pc st L fr)) s) (body s))
+      (body_simulates : (k : ℕ) (s : ActorState) → s.accepted ≡ None → Simulates code n (of (Running k 0 (savepoint span b pc st L fr))) (AtValue b q st env fr (Running k 0 (savepoint span b pc st L fr))) Never (configuration b (pc + 1) st L fr (Running k 0 (savepoint span b pc st L fr)) s) (body s))
       (body_kept : (s : ActorState) → Kept (IsPure all) s → KeptAfter (IsPure all) (body s)) where
     -- where the transaction begins
     abbrev start : Savepoint
@@ -177,36 +177,36 @@ module _ (whose : Option InHand) (code : ThreadCode) (n : ℕ) (all : List Known
 
     -- behind the transaction
     abbrev Behind_it : Lands Value
-    Behind_it = AtValue whose b (q + 1) st env fr Outside
+    Behind_it = AtValue b (q + 1) st env fr Outside
 
     abbrev at_once : Applies ActorState
     at_once = apply (call true) span
 
     -- what is done with faults while the tasks of the end are done
     abbrev at_tasks : ℕ → Handlers
-    at_tasks k = of whose (Applying k start [] [])
+    at_tasks k = of (Applying k start [] [])
 
     -- ---- the commutes of the end
 
     -- one commute: an operation at once, a function in turns of its own
     commute_simulates : (k : ℕ) (v : Value) (L1 : List Value) (c : Commute) (work : List Task) (values : Writes) (s : ActorState) (callee : Callee) → IsPure all callee → s.accepted ≡ None →
         AtHand code (ending (Applying k start (Redoes c ∷ work) values) v L1 s) (applies code callee k start c work values (ending (Applying k start (Redoes c ∷ work) values) v L1 s)) →
-        Simulates code n (of whose (Applying k start (Redoes c ∷ work) values)) (λ w s1 c1. c1 ≡ ending (Applying k start work (with_write values c.cell w)) v L1 s1) Never (ending (Applying k start (Redoes c ∷ work) values) v L1 s) (at_once callee (arguments_of c values) s)
+        Simulates code n (of (Applying k start (Redoes c ∷ work) values)) (λ w s1 c1. c1 ≡ ending (Applying k start work (with_write values c.cell w)) v L1 s1) Never (ending (Applying k start (Redoes c ∷ work) values) v L1 s) (at_once callee (arguments_of c values) s)
     commute_simulates k v L1 c work values s (CoreOp op) pure clear go =
         let doing = Applying k start (Redoes c ∷ work) values in
         let here = ending doing v L1 s in
         let G : Lands Value = λ w s1 c1. c1 ≡ ending (Applying k start work (with_write values c.cell w)) v L1 s1 in
-        subst (λ r. Simulates code n (of whose doing) G Never here r) (res_step (core op (arguments_of c values)) span s)
-        (step_simulates code n whose doing G Never here (step_of (core op (arguments_of c values)) span s) (λ w s1. ending (Applying k start work (with_write values c.cell w)) v L1 s1) go (λ w s1. refl))
+        subst (λ r. Simulates code n (of doing) G Never here r) (res_step (core op (arguments_of c values)) span s)
+        (step_simulates code n doing G Never here (step_of (core op (arguments_of c values)) span s) (λ w s1. ending (Applying k start work (with_write values c.cell w)) v L1 s1) go (λ w s1. refl))
     commute_simulates k v L1 c work values s (Function f) pure clear go =
         let doing = Applying k start (Redoes c ∷ work) values in
         let here = ending doing v L1 s in
         let args = arguments_of c values in
         let G : Lands Value = λ w s1 c1. c1 ≡ ending (Applying k start work (with_write values c.cell w)) v L1 s1 in
         let inner = configuration (suc f) 0 [] (locals_of (nth code.functions f) args) (frame b q (v ∷ st) L1 to_commutes ∷ fr) doing s in
-        before code n (of whose doing) G Never here inner (call true f args s) (one_to code here inner go)
-        (lands_as code n (of whose doing) (λ w s1 c1. (c1 ≡ ending (Applying k start work (with_write values c.cell w)) v L1 s1) × Clear whose s1) Never G inner (call true f args s)
-        (calls f args b q (v ∷ st) L1 fr doing to_commutes s pure (λ e. clear)) (λ w s1 c1 g. g.0))
+        before code n (of doing) G Never here inner (call true f args s) (one_to code here inner go)
+        (lands_as code n (of doing) (λ w s1 c1. (c1 ≡ ending (Applying k start work (with_write values c.cell w)) v L1 s1) × Clear s1) Never G inner (call true f args s)
+        (calls f args b q (v ∷ st) L1 fr doing to_commutes s pure clear) (λ w s1 c1 g. g.0))
 
     -- all commutes that are left, before other tasks
     commutes_simulate : (k : ℕ) (v : Value) (L1 : List Value) (checks : List Task) (work : List Commute) (values : Writes) (s : ActorState) → AllCommutes (IsPure all) work → s.accepted ≡ None →
@@ -250,7 +250,7 @@ module _ (whose : Option InHand) (code : ThreadCode) (n : ℕ) (all : List Known
         let go : Configuration → Turned Configuration = λ c1. works code k start work xs (staying (Applying k start work xs) c1.state c1) in
         let here = ending now v L1 s in
         bind_simulates code n h (λ w s1 c1. (w ≡ y) × (s1 ≡ s) × AtHand code c1 (go here)) Never G Never c (validated at_once (Some f) span y s) (λ w s1. next s1)
-        (validated_simulates whose code n all call calls b fr span q (v ∷ st) L1 now quietly quiet (Some f) y s c go pure clear
+        (validated_simulates code n all call calls b fr span q (v ∷ st) L1 now quietly quiet (Some f) y s c go pure clear
         (subst (λ x. AtHand code c (where_accepted code s.accepted f x span here go)) same at)
         (λ answer.
         let there = ending now v L1 (record s { accepted = Some answer }) in
@@ -355,19 +355,19 @@ module _ (whose : Option InHand) (code : ThreadCode) (n : ℕ) (all : List Known
 
     -- where so many tries are left, a try that has to run again is followed by those, and so is one whose commutes alone are redone
     record After (k : ℕ) : Type 0 where
-      anew : (c : Configuration) (s : ActorState) → s.accepted ≡ None → Comes code c (rerun k start s) → Simulates code n (of None Outside) Behind_it R c (tries code.validators k span body at_once Anew s)
-      behind : (c : Configuration) (v : Value) (L1 : List Value) (s : ActorState) → Holds env L1 → Kept (IsPure all) s → Comes code c (try_more k start s (λ j. ending (Running j 0 start) v L1 s)) → Simulates code n (of None Outside) Behind_it R c (tries code.validators k span body at_once (Behind v) s)
+      anew : (c : Configuration) (s : ActorState) → s.accepted ≡ None → Comes code c (rerun k start s) → Simulates code n of_tries Behind_it R c (tries code.validators k span body at_once Anew s)
+      behind : (c : Configuration) (v : Value) (L1 : List Value) (s : ActorState) → Holds env L1 → Kept (IsPure all) s → Comes code c (try_more k start s (λ j. ending (Running j 0 start) v L1 s)) → Simulates code n of_tries Behind_it R c (tries code.validators k span body at_once (Behind v) s)
 
     -- after the commit's answer
     decided_simulates : (k : ℕ) → After k → (c : Configuration) (doing : Activity) (v : Value) (L1 : List Value) (s0 s : ActorState) (d : Verdict) → Holds env L1 → Kept (IsPure all) s → Comes code c (decided d k start (ending doing v L1 s0) s) →
         Simulates code n (of_try k start) Behind_it R c (concludes d span v (tries code.validators k span body at_once) s)
-    decided_simulates k after c doing v L1 s0 s Landed h kept r = (configuration b (q + 1) (v ∷ st) L1 fr Outside s, (L1, h, refl, λ e. kept.2), comes_to code c (configuration b (q + 1) (v ∷ st) L1 fr Outside s) r)
+    decided_simulates k after c doing v L1 s0 s Landed h kept r = (configuration b (q + 1) (v ∷ st) L1 fr Outside s, (L1, h, refl, kept.2), comes_to code c (configuration b (q + 1) (v ∷ st) L1 fr Outside s) r)
     decided_simulates k after c doing v L1 s0 s Outdated h kept r =
-        handled_as code n (of None Outside) (of_try k start) Behind_it R c (tries code.validators k span body at_once (Behind v) s) (λ f s1 e z. (z, ends_thread f s1 z))
+        handled_as code n of_tries (of_try k start) Behind_it R c (tries code.validators k span body at_once (Behind v) s) (λ f s1 t e. e)
         (λ s1 e. absurd (tries_end code.validators k span body at_once (Behind v) s (subst IsRetry (sym e) tt)))
         (after.behind c v L1 s h kept r)
     decided_simulates k after c doing v L1 s0 s Undone h kept r = r
-    decided_simulates k after c doing v L1 s0 s Denied h kept r = λ z. r
+    decided_simulates k after c doing v L1 s0 s Denied h kept r = (fails_with s.acting (fault_at AgentFailed span) s, refl, r)
 
     -- the commit, which the turn here makes
     lands_simulates : (k : ℕ) → After k → (here : Configuration) (doing : Activity) (v : Value) (L1 : List Value) (s : ActorState) (values : Writes) → Holds env L1 → Kept (IsPure all) s → AtHand code here (lands k start values (ending doing v L1 s)) →
@@ -381,7 +381,7 @@ module _ (whose : Option InHand) (code : ThreadCode) (n : ℕ) (all : List Known
         Simulates code n (of_try k start) Behind_it R c (telling fail r (λ xs s1. lands_on span v (tries code.validators k span body at_once) xs s1))
     settled_simulates k after v L1 s h kept c r leaves tasks =
         let land : Writes → ActorState → Completion ActorState Value = λ xs s1. lands_on span v (tries code.validators k span body at_once) xs s1 in
-        telling_simulates code n (at_tasks k) (of_try k start) (AtCommit k v L1 s) Never Behind_it R c fail r land fail_asked (λ f s1. (tt, refl)) (λ f s1 z. refl)
+        telling_simulates code n (at_tasks k) (of_try k start) (AtCommit k v L1 s) Never Behind_it R c fail r land fail_asked (λ f s1 t e. e) (λ f s1 t e. e)
         (λ s1 w. absurd (leaves_ends s r leaves (subst IsRetry (sym w) tt))) tasks
         (λ xs s1 c1 w g. subst (λ t. Simulates code n (of_try k start) Behind_it R c1 (land xs t)) (sym g.0) (lands_simulates k after c1 g.1 v L1 s xs h kept g.2))
 
@@ -407,10 +407,10 @@ module _ (whose : Option InHand) (code : ThreadCode) (n : ℕ) (all : List Known
 
     -- ---- tries
 
-    retrying_simulates : (k : ℕ) → After k → (c : Configuration) (r : Completion ActorState Value) → Again r → Simulates code n (of_try k start) Behind_it R c r → Simulates code n (of None Outside) Behind_it R c (retrying r (tries code.validators k span body at_once Anew))
+    retrying_simulates : (k : ℕ) → After k → (c : Configuration) (r : Completion ActorState Value) → Again r → Simulates code n (of_try k start) Behind_it R c r → Simulates code n of_tries Behind_it R c (retrying r (tries code.validators k span body at_once Anew))
     retrying_simulates k after c (Completes v s) again r = r
     retrying_simulates k after c (Recurs vs s) again r = tt
-    retrying_simulates k after c (Faults f s) again r = λ z. comes_as code c (Failed f s) (raise Outside f s) (sym (ends_thread f s z)) (r z)
+    retrying_simulates k after c (Faults f s) again r = r
     retrying_simulates k after c (Retries s) again r = after.anew c s again r
     retrying_simulates k after c (Waits s) again r = r
     retrying_simulates k after c (OutOfTurns s) again r = r
@@ -418,7 +418,7 @@ module _ (whose : Option InHand) (code : ThreadCode) (n : ℕ) (all : List Known
 
     -- a try from its beginning on
     anew_simulates : (k : ℕ) → After k → (doing : Activity) (s : ActorState) → s.accepted ≡ None → AtHand code (configuration b pc st L fr doing s) (starts k span (configuration b pc st L fr doing s)) →
-        Simulates code n (of None Outside) Behind_it R (configuration b pc st L fr doing s) (tries code.validators (suc k) span body at_once Anew s)
+        Simulates code n of_tries Behind_it R (configuration b pc st L fr doing s) (tries code.validators (suc k) span body at_once Anew s)
     anew_simulates k after doing s clear go =
         let here = configuration b pc st L fr doing s in
         let next : ActorState → Configuration = λ s1. configuration b (pc + 1) st L fr (Running k 0 start) s1 in
@@ -432,7 +432,7 @@ module _ (whose : Option InHand) (code : ThreadCode) (n : ℕ) (all : List Known
         (λ u s1 e r.
         let kept = begun u s1 e in
         before code n (of_try k start) Behind_it R here (next s1) (telling fail (body s1) close) (comes_to code here (next s1) r)
-        (telling_simulates code n (of whose (Running k 0 start)) (of_try k start) (AtValue whose b q st env fr (Running k 0 start)) Never Behind_it R (next s1) fail (body s1) close fail_asked (λ f s2. (tt, refl)) (λ f s2 z. refl) (λ s2 w. refl)
+        (telling_simulates code n (of (Running k 0 start)) (of_try k start) (AtValue b q st env fr (Running k 0 start)) Never Behind_it R (next s1) fail (body s1) close fail_asked (λ f s2 t e. e) (λ f s2 t e. e) (λ s2 w. refl)
         (body_simulates k s1 kept.2)
         (λ v s2 c2 w g.
         let there = ending (Running k 0 start) v g.0 s2 in
@@ -441,7 +441,7 @@ module _ (whose : Option InHand) (code : ThreadCode) (n : ℕ) (all : List Known
 
     -- a try whose commutes alone are redone
     behind_simulates : (k : ℕ) → After k → (v : Value) (L1 : List Value) (s : ActorState) → Holds env L1 → Kept (IsPure all) s →
-        Simulates code n (of None Outside) Behind_it R (ending (Running k 0 start) v L1 s) (tries code.validators (suc k) span body at_once (Behind v) s)
+        Simulates code n of_tries Behind_it R (ending (Running k 0 start) v L1 s) (tries code.validators (suc k) span body at_once (Behind v) s)
     behind_simulates k after v L1 s h kept =
         let here = ending (Running k 0 start) v L1 s in
         retrying_simulates k after here (attempt code.validators (Behind v) span body at_once (tries code.validators k span body at_once) s) (closing_again k (commuted s.done) v s kept)
@@ -449,20 +449,22 @@ module _ (whose : Option InHand) (code : ThreadCode) (n : ℕ) (all : List Known
 
     after_all : (k : ℕ) → After k
     after_all zero = record {
-      anew = λ c s clear r z. comes_as code c (Failed (fault_at RetryLimit span) s) (raise Outside (fault_at RetryLimit span) s) (sym (ends_thread (fault_at RetryLimit span) s z)) r;
-      behind = λ c v L1 s h kept r z. comes_as code c (Failed (fault_at RetryLimit span) s) (raise Outside (fault_at RetryLimit span) s) (sym (ends_thread (fault_at RetryLimit span) s z)) r;
+      anew = λ c s clear r. (fails_with s.acting (fault_at RetryLimit span) s, refl, r);
+      behind = λ c v L1 s h kept r. (fails_with s.acting (fault_at RetryLimit span) s, refl, r);
     }
     after_all (suc k) = record {
       anew = λ c s clear r.
           let here = configuration b pc st L fr (Restarting k) s in
-          before code n (of None Outside) Behind_it R c here (tries code.validators (suc k) span body at_once Anew s) (comes_to code c here r)
+          before code n of_tries Behind_it R c here (tries code.validators (suc k) span body at_once Anew s) (comes_to code c here r)
           (anew_simulates k (after_all k) (Restarting k) s clear (at_hand here (TxBegin span) (starts k span here) at_begin refl));
       behind = λ c v L1 s h kept r.
           let here = ending (Running k 0 start) v L1 s in
-          before code n (of None Outside) Behind_it R c here (tries code.validators (suc k) span body at_once (Behind v) s) (comes_to code c here r) (behind_simulates k (after_all k) v L1 s h kept);
+          before code n of_tries Behind_it R c here (tries code.validators (suc k) span body at_once (Behind v) s) (comes_to code c here r) (behind_simulates k (after_all k) v L1 s h kept);
     }
 
     -- all tries
     pub tries_simulate : (k : ℕ) (s : ActorState) → s.accepted ≡ None → AtHand code (configuration b pc st L fr Outside s) (starts k span (configuration b pc st L fr Outside s)) →
-        Simulates code n (of None Outside) Behind_it R (configuration b pc st L fr Outside s) (tries code.validators (suc k) span body at_once Anew s)
-    tries_simulate k s clear go = anew_simulates k (after_all k) Outside s clear go
+        Simulates code n (of Outside) Behind_it R (configuration b pc st L fr Outside s) (tries code.validators (suc k) span body at_once Anew s)
+    tries_simulate k s clear go =
+        let here = configuration b pc st L fr Outside s in
+        handled_as code n of_tries (of Outside) Behind_it R here (tries code.validators (suc k) span body at_once Anew s) (λ f s1 t e. inr e) (λ s1 e. refl) (anew_simulates k (after_all k) Outside s clear go)

@@ -12,31 +12,23 @@ use Rattle.txs_value_data.specs.declared.value.Value.TheVariants.{Nil, Truth, In
 use Rattle.txs_tree_meaning.specs.Known.{Known, is_pure}
 use Rattle.txs_tree_meaning.specs.Meaning.{Completion, Completes, Recurs, Faults, Retries, Waits, OutOfTurns, Invalid, bind, result_of, Applies, apply}
 use Rattle.txs_tree_meaning.specs.Transaction.{judged, validated}
-use Rattle.txs_code_meaning.specs.ActorState.{ActorState, InHand, step_of}
+use Rattle.txs_code_meaning.specs.ActorState.{ActorState, step_of}
 use Rattle.txs_code_meaning.specs.Machine.{PlainInstr, ThreadCode, locals_of, Destination, to_validation, Frame, Activity, Outside, Restarting, Running, Applying, Swapping, is_inside, Configuration, Turned, Unfinished, and_then, fetch, act, raise, on, answered, validates, where_accepted, where_valid, stack_after, doing_after, state_after, exec}
 use Rattle.txs_theorem_threads.proofs.Accepted.{OfValidator}
 use Rattle.txs_theorem_threads.proofs.Callees.{IsPure}
 use Rattle.txs_theorem_threads.proofs.Quiet.{carried, IsQuiet}
 use Rattle.txs_gen.proofs.Lists.{Holds}
-use Rattle.txs_gen.proofs.Steps.{configuration, frame, Handlers, Lands, of, Simulates, step, stays, one_to, one_comes, before, bind_simulates, from_configuration}
+use Rattle.txs_gen.proofs.Steps.{configuration, frame, Handlers, Lands, of, Simulates, raised_by, step, stays, one_to, one_comes, before, bind_simulates, from_configuration}
 
 -- ---- where parts land
 
--- no answer of a validator is there that wasn't looked at; pure code, which alone an action runs, doesn't ask for that
-abbrev pub Clear : Option InHand → ActorState → Type 0
-Clear whose s = whose ≡ None → s.accepted ≡ None
-
-abbrev IsNone : Option InHand → Type 0
-IsNone None = Unit {0}
-IsNone (Some h) = ⊥
-
--- an action asks for nothing
-pub in_action : (h : InHand) (s : ActorState) → Clear (Some h) s
-in_action h s e = absurd (subst IsNone (sym e) tt)
+-- no answer of a validator is there that wasn't looked at
+abbrev pub Clear : ActorState → Type 0
+Clear s = s.accepted ≡ None
 
 -- a value lies on the stack
-abbrev pub AtValue : Option InHand → ℕ → ℕ → List Value → List Value → List Frame → Activity → Value → ActorState → Configuration → Type 0
-AtValue whose b stop st env fr doing v s c = (L : List Value) × Holds env L × (c ≡ configuration b stop (v ∷ st) L fr doing s) × Clear whose s
+abbrev pub AtValue : ℕ → ℕ → List Value → List Value → List Frame → Activity → Value → ActorState → Configuration → Type 0
+AtValue b stop st env fr doing v s c = (L : List Value) × Holds env L × (c ≡ configuration b stop (v ∷ st) L fr doing s) × Clear s
 
 abbrev pub Never : List Value → ActorState → Configuration → Type 0
 Never vs s c = ⊥
@@ -47,36 +39,27 @@ AtHand code c t = (k : ℕ) → exec code (suc k) c ≡ and_then t (exec code k)
 
 -- ---- what functions' code does
 
--- what is needed in an action
-abbrev pub IfActing : Option InHand → Type 0 → Type 0
-IfActing None P = Unit {0}
-IfActing (Some h) P = P
-
--- what is needed where only pure code is run: in an action, and while commutes or a swap's callee are applied
-abbrev pub IfBound : Option InHand → Activity → Type 0 → Type 0
-IfBound whose Outside P = IfActing whose P
-IfBound whose (Restarting left) P = P
-IfBound whose (Running left inner from) P = IfActing whose P
-IfBound whose (Applying left from work values) P = P
-IfBound whose (Swapping swap from) P = P
-
-acting_of : {A : Type 0} (whose : Option InHand) → A → IfActing whose A
-acting_of None a = tt
-acting_of (Some x) a = a
+-- what is needed where only pure code is run: while commutes or a swap's callee are applied
+abbrev pub IfBound : Activity → Type 0 → Type 0
+IfBound Outside P = Unit {0}
+IfBound (Restarting left) P = P
+IfBound (Running left inner from) P = Unit {0}
+IfBound (Applying left from work values) P = P
+IfBound (Swapping swap from) P = P
 
 -- what is there is there where it is needed
-pub bound_of : {A : Type 0} (whose : Option InHand) (doing : Activity) → A → IfBound whose doing A
-bound_of whose Outside a = acting_of whose a
-bound_of whose (Restarting left) a = a
-bound_of whose (Running left inner from) a = acting_of whose a
-bound_of whose (Applying left from work values) a = a
-bound_of whose (Swapping swap from) a = a
+pub bound_of : {A : Type 0} (doing : Activity) → A → IfBound doing A
+bound_of Outside a = tt
+bound_of (Restarting left) a = a
+bound_of (Running left inner from) a = tt
+bound_of (Applying left from work values) a = a
+bound_of (Swapping swap from) a = a
 
 -- what a function's code does, whatever its value becomes
-abbrev pub CallSimulates : Option InHand → ThreadCode → ℕ → List Known → (Bool → ℕ → List Value → ActorState → Completion ActorState Value) → Type 0
-CallSimulates whose code n all call =
-    (f : ℕ) (vs : List Value) (b pc : ℕ) (st L : List Value) (fr : List Frame) (doing : Activity) (awaits : Destination) (s : ActorState) → IfBound whose doing (is_pure (nth all f) ≡ true) → Clear whose s →
-    Simulates code n (of whose doing) (λ v s1 c1. (c1 ≡ configuration b pc (stack_after awaits v st) L fr (doing_after awaits v doing) (state_after awaits v s1)) × Clear whose s1) Never (configuration (suc f) 0 [] (locals_of (nth code.functions f) vs) (frame b pc st L awaits ∷ fr) doing s) (call (is_inside doing) f vs s)
+abbrev pub CallSimulates : ThreadCode → ℕ → List Known → (Bool → ℕ → List Value → ActorState → Completion ActorState Value) → Type 0
+CallSimulates code n all call =
+    (f : ℕ) (vs : List Value) (b pc : ℕ) (st L : List Value) (fr : List Frame) (doing : Activity) (awaits : Destination) (s : ActorState) → IfBound doing (is_pure (nth all f) ≡ true) → Clear s →
+    Simulates code n (of doing) (λ v s1 c1. (c1 ≡ configuration b pc (stack_after awaits v st) L fr (doing_after awaits v doing) (state_after awaits v s1)) × Clear s1) Never (configuration (suc f) 0 [] (locals_of (nth code.functions f) vs) (frame b pc st L awaits ∷ fr) doing s) (call (is_inside doing) f vs s)
 
 -- ---- pure answers
 
@@ -96,7 +79,7 @@ cleared s e = ap (λ o. record s { accepted = o }) (sym e)
 
 -- ---- a validator
 
-module _ (whose : Option InHand) (code : ThreadCode) (n : ℕ) (all : List Known) (call : Bool → ℕ → List Value → ActorState → Completion ActorState Value) (calls : CallSimulates whose code n all call) (b : ℕ) (fr : List Frame) where
+module _ (code : ThreadCode) (n : ℕ) (all : List Known) (call : Bool → ℕ → List Value → ActorState → Completion ActorState Value) (calls : CallSimulates code n all call) (b : ℕ) (fr : List Frame) where
   -- what the instruction at hand comes to
   pub acts : (c : Configuration) (i : PlainInstr) (t : Turned Configuration) → fetch code c.body c.place ≡ Some i → act code (Some i) c ≡ t → AtHand code c t
   acts c i t at e k = step code c i at k ∙ ap (λ x. and_then x (exec code k)) e
@@ -112,21 +95,22 @@ module _ (whose : Option InHand) (code : ThreadCode) (n : ℕ) (all : List Known
 
     -- a value that is accepted
     yes_simulates : (f : Callee) (v : Value) (s : ActorState) (go : Configuration → Turned Configuration) → s.accepted ≡ None → AtHand code (here (record s { accepted = Some true })) (where_accepted code (Some true) f v span (here (record s { accepted = Some true })) go) →
-        Simulates code n (of whose doing) (AtAccepted go v s) Never (here (record s { accepted = Some true })) (Completes v s)
+        Simulates code n (of doing) (AtAccepted go v s) Never (here (record s { accepted = Some true })) (Completes v s)
     yes_simulates f v s go clear at =
         let there = here (record s { accepted = Some true }) in
         (there, (refl, refl, λ k. at k ∙ ap (λ x. and_then (go (here x)) (exec code k)) (cleared s clear)), stays code there)
 
     -- a value that is refused
     no_simulates : (f : Callee) (v : Value) (s : ActorState) (go : Configuration → Turned Configuration) → s.accepted ≡ None → AtHand code (here (record s { accepted = Some false })) (where_accepted code (Some false) f v span (here (record s { accepted = Some false })) go) →
-        Simulates code n (of whose doing) (AtAccepted go v s) Never (here (record s { accepted = Some false })) (Faults (fault_at InvalidState span) s)
-    no_simulates f v s go clear at admits =
+        Simulates code n (of doing) (AtAccepted go v s) Never (here (record s { accepted = Some false })) (Faults (fault_at InvalidState span) s)
+    no_simulates f v s go clear at =
         let fault = fault_at InvalidState span in
-        one_comes code (here (record s { accepted = Some false })) (raise doing fault s) (λ k. at k ∙ ap (λ x. and_then (raise doing fault x) (exec code k)) (cleared s clear))
+        let there = here (record s { accepted = Some false }) in
+        raised_by code doing fault s there (one_comes code there (raise doing fault s) (λ k. at k ∙ ap (λ x. and_then (raise doing fault x) (exec code k)) (cleared s clear)))
 
     -- the instruction at hand looks at an answer
     judged_simulates : (f : Callee) (v : Value) (s : ActorState) (go : Configuration → Turned Configuration) → s.accepted ≡ None → ((b1 : Bool) → AtHand code (here (record s { accepted = Some b1 })) (where_accepted code (Some b1) f v span (here (record s { accepted = Some b1 })) go)) →
-        (answer : Value) → Simulates code n (of whose doing) (AtAccepted go v s) Never (here (answered answer s)) (judged answer span v s)
+        (answer : Value) → Simulates code n (of doing) (AtAccepted go v s) Never (here (answered answer s)) (judged answer span v s)
     judged_simulates f v s go clear at Nil = no_simulates f v s go clear (at false)
     judged_simulates f v s go clear at (Truth false) = no_simulates f v s go clear (at false)
     judged_simulates f v s go clear at (Truth true) = yes_simulates f v s go clear (at true)
@@ -139,21 +123,21 @@ module _ (whose : Option InHand) (code : ThreadCode) (n : ℕ) (all : List Known
     -- an operation answers at once
     op_simulates : (f : Callee) (v : Value) (s : ActorState) (c : Configuration) (go : Configuration → Turned Configuration) → s.accepted ≡ None → ((b1 : Bool) → AtHand code (here (record s { accepted = Some b1 })) (where_accepted code (Some b1) f v span (here (record s { accepted = Some b1 })) go)) →
         (r : Result Value FaultKind) → AtHand code c (on doing (step_of r span s) (λ answer s1. Unfinished (here (answered answer s1)))) →
-        Simulates code n (of whose doing) (AtAccepted go v s) Never c (bind (result_of r span s) (λ answer s1. judged answer span v s1))
+        Simulates code n (of doing) (AtAccepted go v s) Never c (bind (result_of r span s) (λ answer s1. judged answer span v s1))
     op_simulates f v s c go clear at (Ok answer) first =
-        before code n (of whose doing) (AtAccepted go v s) Never c (here (answered answer s)) (judged answer span v s) (one_to code c (here (answered answer s)) first) (judged_simulates f v s go clear at answer)
-    op_simulates f v s c go clear at (Err k) first = λ admits. one_comes code c (raise doing (fault_at k span) s) first
+        before code n (of doing) (AtAccepted go v s) Never c (here (answered answer s)) (judged answer span v s) (one_to code c (here (answered answer s)) first) (judged_simulates f v s go clear at answer)
+    op_simulates f v s c go clear at (Err k) first = raised_by code doing (fault_at k span) s c (one_comes code c (raise doing (fault_at k span) s) first)
 
     -- a validator on a value, where the turn at c begins it
     validator_simulates : (f : Callee) (v : Value) (s : ActorState) (c : Configuration) (go : Configuration → Turned Configuration) → IsPure all f → s.accepted ≡ None → AtHand code c (validates code f v span (here s)) →
         ((b1 : Bool) → AtHand code (here (record s { accepted = Some b1 })) (where_accepted code (Some b1) f v span (here (record s { accepted = Some b1 })) go)) →
-        Simulates code n (of whose doing) (AtAccepted go v s) Never c (validated (apply (call (is_inside doing)) span) (Some f) span v s)
+        Simulates code n (of doing) (AtAccepted go v s) Never c (validated (apply (call (is_inside doing)) span) (Some f) span v s)
     validator_simulates (CoreOp op) v s c go pure clear first at = op_simulates (CoreOp op) v s c go clear at (core op (v ∷ [])) first
     validator_simulates (Function f) v s c go pure clear first at =
-        let h = of whose doing in
+        let h = of doing in
         let args = v ∷ [] in
         let inner = configuration (suc f) 0 [] (locals_of (nth code.functions f) args) (frame b p st L to_validation ∷ fr) doing s in
-        let G : Lands Value = λ answer s1 c1. (c1 ≡ here (answered answer s1)) × Clear whose s1 in
+        let G : Lands Value = λ answer s1 c1. (c1 ≡ here (answered answer s1)) × Clear s1 in
         let r = call (is_inside doing) f args s in
         let q = quietly (Function f) args tt in
         let law = (quiet (Function f) args s pure).0 in
@@ -161,7 +145,7 @@ module _ (whose : Option InHand) (code : ThreadCode) (n : ℕ) (all : List Known
         before code n h (AtAccepted go v s) Never c inner (bind r judge) (one_to code c inner first)
         (bind_simulates code n h (λ answer s1 c1. (s1 ≡ s) × G answer s1 c1) Never (AtAccepted go v s) Never inner r judge
         (subst (λ x. Simulates code n h (λ answer s1 c1. (s1 ≡ s) × G answer s1 c1) Never inner x) (sym law)
-        (in_place code n h G Never inner s q (subst (λ x. Simulates code n h G Never inner x) law (calls f args b p st L fr doing to_validation s (bound_of whose doing pure) (λ w. clear)))))
+        (in_place code n h G Never inner s q (subst (λ x. Simulates code n h G Never inner x) law (calls f args b p st L fr doing to_validation s (bound_of doing pure) clear))))
         (λ answer s1 c1 g.
         subst (λ x. Simulates code n h (AtAccepted go v s) Never c1 (judge answer x)) (sym g.0)
         (from_configuration code n h (AtAccepted go v s) Never c1 (here (answered answer s)) (judge answer s) (g.1.0 ∙ ap (λ x. here (answered answer x)) g.0) (judged_simulates (Function f) v s go clear at answer))))
@@ -170,7 +154,7 @@ module _ (whose : Option InHand) (code : ThreadCode) (n : ℕ) (all : List Known
     -- continues with the value. The same instruction looks at each answer.
     pub validated_simulates : (o : Option Callee) (v : Value) (s : ActorState) (c : Configuration) (go : Configuration → Turned Configuration) → OfValidator (IsPure all) o → s.accepted ≡ None → AtHand code c (where_valid code o v span (here s) go) →
         ((answer : Bool) → AtHand code (here (record s { accepted = Some answer })) (where_valid code o v span (here (record s { accepted = Some answer })) go)) →
-        Simulates code n (of whose doing) (AtAccepted go v s) Never c (validated (apply (call (is_inside doing)) span) o span v s)
+        Simulates code n (of doing) (AtAccepted go v s) Never c (validated (apply (call (is_inside doing)) span) o span v s)
     validated_simulates None v s c go pure clear first at = (c, (refl, refl, first), stays code c)
     validated_simulates (Some f) v s c go pure clear first at =
         validator_simulates f v s c go pure clear (subst (λ o. AtHand code c (where_accepted code o f v span (here s) go)) clear first) at

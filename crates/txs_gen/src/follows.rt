@@ -11,7 +11,7 @@ pub fn code_of_program_behaves()
     ensures { CodeOfProgramBehaves }
 {}
 
-/// The code of a sound program's functions does what they mean, where actions call them.
+/// The code of a sound program's functions does what an action means that the program may send, on any replies.
 pub fn code_of_actions_behaves()
     ensures { CodeOfActionsBehaves }
 {}
@@ -33,7 +33,7 @@ pub fn code_of_agents_follows()
     sound_follows_agents();
 }
 
-/// Each send of a sound program names a callee that is pure and takes the agent's state and the arguments. Where each send of a
+/// Each send of a sound program names a callee that isn't for transactions alone, and takes the agent's state and the arguments. Where each send of a
 /// program does, by what is known of some functions, so does each send in its code: so what the code sends, a program may send.
 pub fn code_of_program_sends_sound()
     ensures program { SoundProgramSendsSound }

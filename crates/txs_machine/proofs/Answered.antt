@@ -6,12 +6,13 @@ use Rattle.txs_world_protocol.specs.declared.ask.Reply.TheVariants as reply
 use Rattle.txs_world_protocol.specs.declared.event.Outcome.{Outcome}
 use Rattle.txs_world_protocol.specs.declared.event.Outcome.TheVariants as outcome
 use Rattle.txs_frame.specs.Phase.{PlainPhase}
+use Rattle.txs_value_base.specs.declared.fault.Fault.{Fault}
 use Rattle.txs_value_data.specs.declared.value.Value.{Value}
-use Rattle.txs_machine_actor.specs.PlainActor.{PlainActor, MayAnswer, Stops, answered, answered_for, answered_if, asked_for, state_of, run_again, end_again, refuse, views, attends_anew, unanswered}
+use Rattle.txs_machine_actor.specs.PlainActor.{PlainActor, MayAnswer, Stops, answered, answered_for, answered_if, asked_for, state_of, fails_as, run_again, end_again, refuse, views, attends_anew, unanswered}
 use Rattle.txs_machine_transaction.specs.Asks.{applied_in}
 use Rattle.txs_machine_transaction.specs.Transaction.{is_running}
 use Rattle.txs_machine_transaction.specs.declared.state.Pending.{Pending}
-use Rattle.txs_machine_transaction.specs.declared.state.Pending.TheVariants.{Begin, Read, Ensure, Open, View, Reset, Send, Swap, Close, Commit, Fail, Broke, Take, Finish}
+use Rattle.txs_machine_transaction.specs.declared.state.Pending.TheVariants.{Begin, Read, Ensure, Open, View, Reset, Send, Swap, Close, Commit, Hold, Fail, Broke, Take, Finish}
 use Rattle.txs_machine_transaction.specs.declared.state.Transaction.{Transaction}
 use Rattle.txs_machine_transaction.specs.declared.state.Transaction.TheVariants.{Outside, Restarting, Running, Applying, Evaluating, Swapping, Judging, Weighing}
 use Rattle.txs_machine_actor.specs.declared.role.Role.{Role}
@@ -43,12 +44,18 @@ goes a b n s l p o = record { number = n; steps = s; limit = l; printed = p; uns
 ends : (a b : PlainActor) (o : Outcome) → b.number ≡ a.number → b.steps ≡ a.steps → b.limit ≡ a.limit → b.printed ≡ a.printed → b.outcome ≡ Some o → Differs (Some o) → Leaves a b
 ends a b o n s l p e d = record { number = n; steps = s; limit = l; printed = p; unspent = λ x. subst Differs (sym e) d }
 
+-- a fault ends a thread's actor, and not that of an agent
+fails_leaves : (a : PlainActor) (f : Fault) (role : Role) → Leaves a (fails_as a f role)
+fails_leaves a f Thread = ends a _ (outcome.Failed f) refl refl refl refl refl tt
+fails_leaves a f (Attending g o) = ends a _ (outcome.Failed f) refl refl refl refl refl tt
+fails_leaves a f (Acting h judges aside) = goes a _ refl refl refl refl refl
+
 again_leaves : (a : PlainActor) (tx : Transaction) → Leaves a (run_again a tx)
 again_leaves a Outside = goes a _ refl refl refl refl refl
 again_leaves a (Restarting left) = goes a _ refl refl refl refl refl
-again_leaves a (Running zero inner from) = ends a _ (outcome.Failed _) refl refl refl refl refl tt
+again_leaves a (Running zero inner from) = fails_leaves a _ a.role
 again_leaves a (Running (suc left) inner from) = goes a _ refl refl refl refl refl
-again_leaves a (Applying zero from phase) = ends a _ (outcome.Failed _) refl refl refl refl refl tt
+again_leaves a (Applying zero from phase) = fails_leaves a _ a.role
 again_leaves a (Applying (suc left) from phase) = goes a _ refl refl refl refl refl
 again_leaves a (Evaluating left from phase aside) = goes a _ refl refl refl refl refl
 again_leaves a (Swapping c p from) = goes a _ refl refl refl refl refl
@@ -58,9 +65,9 @@ again_leaves a (Weighing c p from aside) = goes a _ refl refl refl refl refl
 end_leaves : (a : PlainActor) (tx : Transaction) → Leaves a (end_again a tx)
 end_leaves a Outside = goes a _ refl refl refl refl refl
 end_leaves a (Restarting left) = goes a _ refl refl refl refl refl
-end_leaves a (Running zero inner from) = ends a _ (outcome.Failed _) refl refl refl refl refl tt
+end_leaves a (Running zero inner from) = fails_leaves a _ a.role
 end_leaves a (Running (suc left) inner from) = goes a _ refl refl refl refl refl
-end_leaves a (Applying zero from phase) = ends a _ (outcome.Failed _) refl refl refl refl refl tt
+end_leaves a (Applying zero from phase) = fails_leaves a _ a.role
 end_leaves a (Applying (suc left) from phase) = goes a _ refl refl refl refl refl
 end_leaves a (Evaluating left from phase aside) = goes a _ refl refl refl refl refl
 end_leaves a (Swapping c p from) = goes a _ refl refl refl refl refl
@@ -70,8 +77,8 @@ end_leaves a (Weighing c p from aside) = goes a _ refl refl refl refl refl
 refuse_leaves : (a : PlainActor) (tx : Transaction) → Leaves a (refuse a tx)
 refuse_leaves a Outside = goes a _ refl refl refl refl refl
 refuse_leaves a (Restarting left) = goes a _ refl refl refl refl refl
-refuse_leaves a (Running left inner from) = ends a _ (outcome.Failed _) refl refl refl refl refl tt
-refuse_leaves a (Applying left from phase) = ends a _ (outcome.Failed _) refl refl refl refl refl tt
+refuse_leaves a (Running left inner from) = fails_leaves a _ a.role
+refuse_leaves a (Applying left from phase) = fails_leaves a _ a.role
 refuse_leaves a (Evaluating left from phase aside) = goes a _ refl refl refl refl refl
 refuse_leaves a (Swapping c p from) = goes a _ refl refl refl refl refl
 refuse_leaves a (Judging aside) = goes a _ refl refl refl refl refl
@@ -103,6 +110,7 @@ full_leaves a (Send x n) = ends a _ outcome.JournalFull refl refl refl refl refl
 full_leaves a (Swap c n from) = ends a _ outcome.JournalFull refl refl refl refl refl tt
 full_leaves a (Close c p v) = ends a _ outcome.JournalFull refl refl refl refl refl tt
 full_leaves a Commit = ends a _ outcome.JournalFull refl refl refl refl refl tt
+full_leaves a (Hold xs) = ends a _ outcome.JournalFull refl refl refl refl refl tt
 full_leaves a (Fail f) = ends a _ outcome.JournalFull refl refl refl refl refl tt
 full_leaves a (Broke c p f) = ends a _ outcome.JournalFull refl refl refl refl refl tt
 full_leaves a (Take g) = ends a _ outcome.JournalFull refl refl refl refl refl tt
@@ -119,6 +127,7 @@ memory_leaves a (Send x n) = ends a _ outcome.Memory refl refl refl refl refl tt
 memory_leaves a (Swap c n from) = ends a _ outcome.Memory refl refl refl refl refl tt
 memory_leaves a (Close c p v) = ends a _ outcome.Memory refl refl refl refl refl tt
 memory_leaves a Commit = ends a _ outcome.Memory refl refl refl refl refl tt
+memory_leaves a (Hold xs) = ends a _ outcome.Memory refl refl refl refl refl tt
 memory_leaves a (Fail f) = ends a _ outcome.Memory refl refl refl refl refl tt
 memory_leaves a (Broke c p f) = ends a _ outcome.Memory refl refl refl refl refl tt
 memory_leaves a (Take g) = ends a _ outcome.Memory refl refl refl refl refl tt
@@ -173,11 +182,16 @@ answer_leaves a q r e m unless = leaves_unless r a (answered a r) unless (go a.p
           commits_again = λ i d. again_leaves a a.tx;
           changed = λ i d. end_leaves a a.tx;
           denied = λ i g. refuse_leaves a a.tx;
-          fails = λ f i. ends a _ (outcome.Failed f) refl refl refl refl refl tt;
-          breaks = λ c k f i. ends a _ (outcome.Failed f) refl refl refl refl refl tt;
+          holds = λ xs i. goes a _ refl refl refl refl refl;
+          holds_again = λ xs i d. again_leaves a a.tx;
+          holds_changed = λ xs i d. end_leaves a a.tx;
+          holds_denied = λ xs i g. refuse_leaves a a.tx;
+          fails = λ f i. fails_leaves a f a.role;
+          breaks = λ c k f i. fails_leaves a f a.role;
           takes = λ g i n x v. goes a _ refl refl refl refl refl;
           idles = λ g i. tt;
           finishes = λ g new i. anew_leaves a a.role;
+          refuses = λ g new i h. anew_leaves a a.role;
           full = λ y i. full_leaves a y;
           memory = λ y i. memory_leaves a y;
         }) p (is_running a.tx) a.at a.view (applied_in a.tx) r (subst (λ x. MayAnswer x r) (sym (some e)) m)
@@ -195,6 +209,7 @@ full_ends a (Send x n) = refl
 full_ends a (Swap c n from) = refl
 full_ends a (Close c p v) = refl
 full_ends a Commit = refl
+full_ends a (Hold xs) = refl
 full_ends a (Fail f) = refl
 full_ends a (Broke c p f) = refl
 full_ends a (Take g) = refl
@@ -211,6 +226,7 @@ memory_ends a (Send x n) = refl
 memory_ends a (Swap c n from) = refl
 memory_ends a (Close c p v) = refl
 memory_ends a Commit = refl
+memory_ends a (Hold xs) = refl
 memory_ends a (Fail f) = refl
 memory_ends a (Broke c p f) = refl
 memory_ends a (Take g) = refl
@@ -279,6 +295,7 @@ full_stays a (Send x n) = refl
 full_stays a (Swap c n from) = refl
 full_stays a (Close c p v) = refl
 full_stays a Commit = refl
+full_stays a (Hold xs) = refl
 full_stays a (Fail f) = refl
 full_stays a (Broke c p f) = refl
 full_stays a (Take g) = refl
@@ -295,6 +312,7 @@ memory_stays a (Send x n) = refl
 memory_stays a (Swap c n from) = refl
 memory_stays a (Close c p v) = refl
 memory_stays a Commit = refl
+memory_stays a (Hold xs) = refl
 memory_stays a (Fail f) = refl
 memory_stays a (Broke c p f) = refl
 memory_stays a (Take g) = refl
@@ -311,6 +329,7 @@ idle_stays a (Send x n) = refl
 idle_stays a (Swap c n from) = refl
 idle_stays a (Close c p v) = refl
 idle_stays a Commit = refl
+idle_stays a (Hold xs) = refl
 idle_stays a (Fail f) = refl
 idle_stays a (Broke c p f) = refl
 idle_stays a (Take g) = refl
@@ -327,6 +346,7 @@ idle_unended a (Send x n) = refl
 idle_unended a (Swap c n from) = refl
 idle_unended a (Close c p v) = refl
 idle_unended a Commit = refl
+idle_unended a (Hold xs) = refl
 idle_unended a (Fail f) = refl
 idle_unended a (Broke c p f) = refl
 idle_unended a (Take g) = refl

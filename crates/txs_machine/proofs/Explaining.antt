@@ -169,13 +169,13 @@ module _ (by : Known) (code : PlainCode) (k : ℕ) (books : ℕ → List Event) 
       → (n : ℕ) × ExplainsSo a.outcome a.printed (thread_meaning p n seen) × SaidOf (undisturbed code.cells books) books (places_of trace) (txs_of (thread_meaning p n seen))
   part_explained commits refusals =
       let xs = map exchange_of h.entries in
-      let fitted : RepliesFit code.cells Out xs seen = subst (RepliesFit code.cells Out xs) past (by.fit code.cells Out xs _ _ (by.fits code.cells (length code.threads) books k h.entries h.stage h.told)) in
+      let fitted : RepliesFit code.cells Out xs seen = subst (RepliesFit code.cells Out xs) past (by.fit code.cells Out xs _ _ (by.fits code.cells (length code.threads) books k h.entries h.stage h.told.hold h.told.staged)) in
       let m = by.explained code xs seen a p h.ran (subst (λ n. Follows (code_of code n) p) (sym h.number) follows) (subst (λ cs. RepliesFit cs Out xs seen) (sym same) fitted) in
       let txs = txs_of (thread_meaning p m.0 seen) in (
         m.0,
         so_explained a a.outcome (thread_meaning p m.0 seen) (subst (λ q. Explained (told a a.outcome q) (thread_meaning p m.0 seen)) free m.2),
         subst (λ ps. SaidOf (undisturbed code.cells books) books ps txs) (sym traced)
-            (entries_undisturbed code.cells books k (length code.threads) h.entries txs h.told.hold commits refusals m.3),
+            (entries_undisturbed None code.cells books k (length code.threads) h.entries txs h.told.hold commits refusals m.3),
       )
 
   abbrev x : Actor

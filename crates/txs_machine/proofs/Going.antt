@@ -22,7 +22,7 @@ use Rattle.txs_machine_actor.proofs.Saying.{turn_says}
 use Rattle.txs_world_book.specs.Served.{Served}
 use Rattle.txs_theorem_runs.specs.Laws.{with_book}
 use Rattle.txs_theorem_runs.specs.Run as run
-use Rattle.txs_theorem_runs.specs.Run.{Stop, Actor, State, Moved, Play, TakesTurn, IsStopped, moved, entry, exchange, comes_to, stop, hears, replied, asked, answered as answered_so, turned as turned_so, turns_from, stops_from, play, placed, plays_from}
+use Rattle.txs_theorem_runs.specs.Run.{Stop, Actor, State, Moved, Play, TakesTurn, IsStopped, moved, entry, stop, hears, replied, asked, turned as turned_so, turns_from, stops_from, play, placed}
 use Rattle.txs_theorem_runs.specs.Shared.{Shared, book_for, serve_on, may_ask, shared_after}
 use Rattle.txs_theorem_runs.specs.Told.{Entry, exchange_of, IsExchanged, AllHold, trace_of}
 use Rattle.txs_theorem_runs.proofs.Growing.{IsFull, Serves, trace_stays}

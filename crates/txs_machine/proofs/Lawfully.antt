@@ -63,7 +63,7 @@ map_append [] e = refl
 map_append (x ∷ xs) e = ap (λ l. exchange_of x ∷ l) (map_append xs e)
 
 module _ (cells : List CellDefinition) (threads : ℕ) (code : ThreadCode) (k : ℕ) (books : ℕ → List Event) (es : List Entry) (st : Stage) (a : PlainActor) (q : Ask) (opened : OpeningIsKnown cells) (known : CodeIsKnown cells code) (t : StandingCode code)
-    (below : nat_lt k threads ≡ true) (told : ToldBy cells threads books k es st) (asked : AskedFrom cells code k books (map exchange_of es) a st q) (law : ToldLawfully cells k books es st) where
+    (below : nat_lt k threads ≡ true) (told : ToldBy cells threads books false k es st) (asked : AskedFrom cells code k books (map exchange_of es) a st q) (law : ToldLawfully cells k books es st) where
   abbrev asks : Asks cells threads code books k es st q
   asks = record {
     turns = asked.turns;
@@ -100,7 +100,7 @@ module _ (cells : List CellDefinition) (threads : ℕ) (code : ThreadCode) (k : 
         go false = law.values o i
 
     -- what is served keeps what makes asks lawful
-    pub heard_lawfully : (n : ℕ) → AsksIn st q → ToldLawfully cells k more (es ++ record { ask = q; reply = r; at = n } ∷ []) (stage_after st q r)
+    pub heard_lawfully : (n : ℕ) → AsksIn false st q → ToldLawfully cells k more (es ++ record { ask = q; reply = r; at = n } ∷ []) (stage_after st q r)
     heard_lawfully n ok = record {
       replies =
           subst (TodoKnown cells) (sym (map_append es (record { ask = q; reply = r; at = n })))
@@ -108,7 +108,7 @@ module _ (cells : List CellDefinition) (threads : ℕ) (code : ThreadCode) (k : 
       values = values_after;
       places =
           subst (λ s. MayName cells more k (stage_after st q s)) (sym answer)
-          (names_same cells k (later cells k books q w) more after (stage_after st q w.reply) (names_after cells k books st q ok law.places));
+          (names_same cells k (later cells k books q w) more after (stage_after st q w.reply) (names_after cells k books false st q ok law.places));
     }
 
     -- an actor that goes on after the answer may view where it is

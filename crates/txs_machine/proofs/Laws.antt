@@ -4,7 +4,9 @@ use Rattle.txs_world.specs.Laws.{ActionStays, RefusedIsUndisturbed, ServeKeeps}
 use Rattle.txs_world.proofs.Actions.{action_stays}
 use Rattle.txs_world_book.proofs.Older.{after_unwritten}
 use Rattle.txs_world.proofs.Serves.{done_is_undisturbed, refused_is_undisturbed, serve_stands}
+use Rattle.txs_theorem_runs.specs.Lawful.{RunAsksLawful}
 use Rattle.txs_theorem_runs.specs.Report.{RunReported, RunTraced}
+use Rattle.txs_theorem_runs.proofs.Lawful.{run_lawful}
 use Rattle.txs_theorem_runs.proofs.Report.{run_reported}
 use Rattle.txs_theorem_runs.proofs.Told.{fresh_stands, told_fits}
 use Rattle.txs_theorem_runs.proofs.Tracing.{run_traced}
@@ -28,3 +30,6 @@ traced = run_traced keeps fresh_stands
 
 pub reported : RunReported
 reported = run_reported (record { stays = after_unwritten; done = done_is_undisturbed; fit = fits_of }) keeps actions_stay refused fresh_stands
+
+pub lawful : RunAsksLawful
+lawful = run_lawful keeps fresh_stands

@@ -1,6 +1,5 @@
 pub mod Answered
 pub mod Attending
-pub mod Doing
 pub mod Explaining
 pub mod Following
 pub mod Lawfully
@@ -10,7 +9,6 @@ pub mod OwnCells
 pub mod Playing
 pub mod RunOver
 pub mod Going
-pub mod Taking
 pub mod Together
 pub mod Played
 pub mod Working

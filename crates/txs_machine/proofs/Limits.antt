@@ -1,5 +1,5 @@
 -- How many steps an actor makes.
-use Rattle.std.proofs.Common.{◌≡◌, ℕ, zero, suc, ◌+◌, ◌-◌, ◌<◌, ◌≤◌, Bool, true, false, nat_lt, Option, Some, None, refl, sym, subst, ◌∙◌, arith}
+use Rattle.std.proofs.Common.{◌≡◌, ℕ, zero, suc, ◌+◌, ◌-◌, ◌<◌, ◌≤◌, Bool, true, false, nat_lt, Option, Some, None, refl, sym, ap, subst, ◌∙◌, arith}
 use Rattle.std.proofs.lemmas.Bool.{ltb-false, ltb-true}
 use Rattle.txs_world_protocol.specs.declared.ask.Reply.{Reply}
 use Rattle.txs_world_protocol.specs.declared.event.Outcome.{Outcome}
@@ -118,6 +118,35 @@ turns_count code (suc n) a b r some goes t = after_turn t.0 t.2 t.3
     after_turn turned.Went u g = omega (arith, turn_counts code a t.1 turned.Went a.outcome tt u, turns_steps code n t.1 b r g)
     after_turn (turned.Asks q) u g = subst (λ (x : PlainActor). a.steps < x.steps) (sym g.1) (turn_counts code a t.1 (turned.Asks q) a.outcome tt u)
     after_turn (turned.Ended o) u g = absurd (subst GoesOn g.0 goes)
+
+-- ---- numbers
+
+step_number : (code : PlainCode) (a b : PlainActor) (r : Turn) → Answers code a r b → b.number ≡ a.number
+step_number code a b turned.Went t = t.1.number
+step_number code a b (turned.Asks q) t = t.1.number
+step_number code a b (turned.Ended outcome.Done) t = t.1.number
+step_number code a b (turned.Ended (outcome.Failed f)) t = t.1.number
+step_number code a b (turned.Ended outcome.StepsSpent) t = absurd t
+step_number code a b (turned.Ended outcome.JournalFull) t = absurd t
+step_number code a b (turned.Ended outcome.Memory) t = t.1.number
+
+move_number : (code : PlainCode) (a b : PlainActor) (r : Turn) (may : Bool) → Moves code a may r b → b.number ≡ a.number
+move_number code a b r true t = step_number code a b r t
+move_number code a b r false t = ap (λ (x : PlainActor). x.number) t.1
+
+turn_number : (code : PlainCode) (a b : PlainActor) (r : Turn) (o : Option Outcome) → TurnsFrom code a o r b → b.number ≡ a.number
+turn_number code a b r None t = move_number code a b r (nat_lt a.steps a.limit) t
+turn_number code a b r (Some o) t = ap (λ (x : PlainActor). x.number) t.1
+
+-- turns leave an actor's number
+pub turns_number : (code : PlainCode) (n : ℕ) (a b : PlainActor) (r : Turn) → TurnsOf code n a r b → b.number ≡ a.number
+turns_number code zero a b r t = ap (λ (x : PlainActor). x.number) t.1
+turns_number code (suc n) a b r t = after_turn (λ g. turns_number code n t.1 b r g) t.0 t.2 t.3
+  where
+    after_turn : (TurnsOf code n t.1 r b → b.number ≡ t.1.number) → (s : Turn) → Turns code a s t.1 → GoesOnAfter s (TurnsOf code n t.1 r b) ((r ≡ s) × (b ≡ t.1)) → b.number ≡ a.number
+    after_turn go turned.Went u g = go g ∙ turn_number code a t.1 turned.Went a.outcome u
+    after_turn go (turned.Asks q) u g = ap (λ (x : PlainActor). x.number) g.1 ∙ turn_number code a t.1 (turned.Asks q) a.outcome u
+    after_turn go (turned.Ended o) u g = ap (λ (x : PlainActor). x.number) g.1 ∙ turn_number code a t.1 (turned.Ended o) a.outcome u
 
 -- how many rounds there may still be: none after the end
 abbrev pub rounds_left : Option Outcome → PlainActor → ℕ

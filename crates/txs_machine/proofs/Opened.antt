@@ -2,15 +2,12 @@
 use Rattle.std.proofs.Common.{◌≡◌, ◌+◌, ℕ, zero, suc, List, [], ◌∷◌, ◌++◌, length, Option, Some, None, refl, sym, ap, subst, ◌∙◌, arith}
 use Rattle.txs_world_protocol.specs.declared.event.Event.{Event}
 use Rattle.txs_value_base.specs.Places.{nth}
-use Rattle.txs_value_cell.specs.declared.cell.CellDefinition.{CellDefinition}
 use Rattle.txs_code_meaning.specs.Machine.{Unfinished}
 use Rattle.txs_code_meaning.specs.Opening.{opening}
 use Rattle.txs_code_meaning.specs.PlainCode.{PlainCode}
 use Rattle.txs_machine_actor.specs.Laws.{ActorsRun}
 use Rattle.txs_machine_actor.specs.PlainActor.{code_of}
 use Rattle.txs_machine_actor.specs.Turns.{IsNew}
-use Rattle.txs_world_book.specs.Served.{cells_of}
-use Rattle.txs_world.specs.Store.{none_taken}
 use Rattle.txs_theorem_runs.specs.Run.{new_actor}
 use Rattle.txs_theorem_runs.specs.Shared.{Shared, untouched}
 use Rattle.txs_world_shared.specs.SharedState.{PlainShared, shared_of}
@@ -65,18 +62,12 @@ opened_run laws code limit s xs gs same threads agents = record {
   agents = λ i x e. (let n = new_at code limit (length code.threads) i (attendants gs) x.player agents (attendant_there gs i x e) in new_player laws code (length code.threads + i) limit (shared_of s).books x.player n.0 n.1);
 }
 
-none_many : (cells : List CellDefinition) → length (none_taken (cells_of cells)) ≡ length cells
-none_many [] = refl
-none_many (d ∷ cells) = ap suc (none_many cells)
-
 -- what holds of all actors before the first play
 pub opened_playing : ActorsRun → (code : PlainCode) (limit k : ℕ) (s : PlainShared) (all : Players) → shared_of s ≡ untouched code.cells → k ≡ length code.threads → length all.threads.items ≡ k → AreBetween code limit (λ n. []) 0 all.threads.items → AreNew code limit 0 all.threads.items
-    → AreAttending code limit (none_taken (cells_of code.cells)) k (agents_of code) all.agents.items → AreNew code limit k (attendants all.agents.items) → ArePlaying code limit s all
+    → AreAttending code limit k (agents_of code) all.agents.items → AreNew code limit k (attendants all.agents.items) → ArePlaying code limit s all
 opened_playing laws code limit k s all same count many between new attending agents = record {
   many = many ∙ count;
-  long = ap (λ (sh : Shared). length sh.taken) same ∙ none_many code.cells;
   threads = subst (λ (sh : Shared). AreBetween code limit sh.books 0 all.threads.items) (sym same) between;
-  agents = subst (λ (sh : Shared). AreAttending code limit sh.taken (length code.threads) (agents_of code) all.agents.items) (sym same)
-      (subst (λ n. AreAttending code limit (none_taken (cells_of code.cells)) n (agents_of code) all.agents.items) count attending);
+  agents = subst (λ n. AreAttending code limit n (agents_of code) all.agents.items) count attending;
   run = opened_run laws code limit s all.threads.items all.agents.items same new (subst (λ n. AreNew code limit n (attendants all.agents.items)) count agents);
 }

@@ -1,5 +1,5 @@
 -- The actors of agents before their first turns.
-use Rattle.std.proofs.Common.{◌≡◌, ◌<◌, ◌≤◌, ◌+◌, ℕ, zero, suc, Bool, true, false, List, [], ◌∷◌, ◌++◌, length, get_or, take, drop, Some, None, Result, Ok, Err, IfOk, refl, sym, ap, subst, ◌∙◌, arith}
+use Rattle.std.proofs.Common.{◌≡◌, ◌<◌, ◌≤◌, ◌+◌, ℕ, zero, suc, true, false, List, [], ◌∷◌, ◌++◌, length, get_or, take, drop, Some, Result, Ok, Err, IfOk, refl, sym, ap, subst, ◌∙◌, arith}
 use Rattle.std.proofs.lemmas.Bool.{false≢true}
 use Rattle.txs_value_cell.specs.Forms.{same_kind}
 use Rattle.txs_value_base.specs.Places.{nth}
@@ -7,19 +7,15 @@ use Rattle.txs_value_cell.specs.declared.cell.CellDefinition.{CellDefinition}
 use Rattle.txs_value_data.specs.declared.value.CellId.{CellId}
 use Rattle.txs_value_data.specs.declared.value.CellKind.{CellKind}
 use Rattle.txs_value_data.specs.declared.value.CellKind.TheVariants.{Ref, Atom, Agent}
-use Rattle.txs_code_meaning.specs.Machine.{Outside, Configuration}
 use Rattle.txs_code_meaning.specs.PlainCode.{PlainCode}
-use Rattle.txs_machine_actor.specs.PlainActor.{Lives, activity_of, acting_of, home_of}
+use Rattle.txs_machine_actor.specs.PlainActor.{Lives}
 use Rattle.txs_value_cell.proofs.AgentsLemmas.{agents_few}
 use Rattle.txs_value_cell.specs.Agents.{agents_from, with_agent}
 use Rattle.txs_machine_actor.specs.Turns.{IsNew}
-use Rattle.txs_world_book.specs.Served.{cells_of}
-use Rattle.txs_world.specs.Store.{none_taken}
-use Rattle.txs_world_book.specs.declared.cell.StoreCell.{StoreCell}
 use Rattle.txs_machine.specs.Agents.{agents_of}
 use Rattle.txs_machine.specs.Playing.{AreNew}
 use Rattle.txs_machine.specs.Plays.{AreOpenedFor}
-use Rattle.txs_machine.specs.Running.{AreAttending, IsAgentAt, IsAgents, IsAttending, attendants, is_acting}
+use Rattle.txs_machine.specs.Running.{AreAttending, IsAgentAt, IsAttending, attendants}
 use Rattle.txs_machine.specs.declared.player.AgentPlayer.{AgentPlayer}
 use Rattle.txs_machine.proofs.Limits.{new_limited}
 use Rattle.txs_machine.proofs.Playing.{nth_read, taken_read}
@@ -30,14 +26,8 @@ pub ok_then : {T E : Type 0} (P Q : T → Type 0) (r : Result T E) → ((x : T) 
 ok_then P Q (Ok x) f h = f x h
 ok_then P Q (Err e) f h = tt
 
--- no agent has an action in hand
-none_in_hand : (cells : List StoreCell) (n : ℕ) → get_or (none_taken cells) n false ≡ false
-none_in_hand [] n = refl
-none_in_hand (x ∷ cells) zero = refl
-none_in_hand (x ∷ cells) (suc n) = none_in_hand cells n
-
 -- the actor of an agent before its first turn
-pub new_attending : (code : PlainCode) (g : CellId) (k limit : ℕ) (x : AgentPlayer) → x.agent ≡ g → IsAgentAt code g k → Lives code x.player.actor → IsNew code k limit x.player.actor → IsAttending code g k limit (none_taken (cells_of code.cells)) x
+pub new_attending : (code : PlainCode) (g : CellId) (k limit : ℕ) (x : AgentPlayer) → x.agent ≡ g → IsAgentAt code g k → Lives code x.player.actor → IsNew code k limit x.player.actor → IsAttending code g k limit x
 new_attending code g k limit x e at lives new = record {
   agent = e;
   at = at;
@@ -45,24 +35,17 @@ new_attending code g k limit x e at lives new = record {
   free = new.unasking;
   number = new.number;
   limited = new_limited limit x.player.actor new.limited new.unended new.unused;
-  synced = λ o. (subst IsAgents (sym outside) tt, none_in_hand (cells_of code.cells) g.number ∙ sym (ap is_acting resting));
 }
-  where
-    outside : activity_of (home_of x.player.actor.role) x.player.actor.tx ≡ Outside
-    outside = ap (λ (c : Configuration). c.doing) new.opens
-
-    resting : acting_of x.player.actor.role ≡ None
-    resting = ap (λ (c : Configuration). c.state.acting) new.opens
 
 -- one more of them
-pub attending_more : (code : PlainCode) (limit : ℕ) (taken : List Bool) (k : ℕ) (gs : List CellId) (xs : List AgentPlayer) (g : CellId) (x : AgentPlayer) → AreAttending code limit taken k gs xs → IsAttending code g (k + length xs) limit taken x
-    → AreAttending code limit taken k (gs ++ g ∷ []) (xs ++ x ∷ [])
-attending_more code limit taken k [] [] g x h a = let e : k + 0 ≡ k = omega arith in (subst (λ n. IsAttending code g n limit taken x) e a, tt)
-attending_more code limit taken k [] (y ∷ xs) g x h a = absurd h
-attending_more code limit taken k (i ∷ gs) [] g x h a = absurd h
-attending_more code limit taken k (i ∷ gs) (y ∷ xs) g x h a =
+pub attending_more : (code : PlainCode) (limit k : ℕ) (gs : List CellId) (xs : List AgentPlayer) (g : CellId) (x : AgentPlayer) → AreAttending code limit k gs xs → IsAttending code g (k + length xs) limit x
+    → AreAttending code limit k (gs ++ g ∷ []) (xs ++ x ∷ [])
+attending_more code limit k [] [] g x h a = let e : k + 0 ≡ k = omega arith in (subst (λ n. IsAttending code g n limit x) e a, tt)
+attending_more code limit k [] (y ∷ xs) g x h a = absurd h
+attending_more code limit k (i ∷ gs) [] g x h a = absurd h
+attending_more code limit k (i ∷ gs) (y ∷ xs) g x h a =
     let e : k + suc (length xs) ≡ suc k + length xs = omega arith in
-    (h.0, attending_more code limit taken (suc k) gs xs g x h.1 (subst (λ n. IsAttending code g n limit taken x) e a))
+    (h.0, attending_more code limit (suc k) gs xs g x h.1 (subst (λ n. IsAttending code g n limit x) e a))
 
 pub new_more : (code : PlainCode) (limit k : ℕ) (xs : List AgentPlayer) (x : AgentPlayer) → AreNew code limit k (attendants xs) → IsNew code (k + length xs) limit x.player.actor → x.player.trace.items ≡ [] → AreNew code limit k (attendants (xs ++ x ∷ []))
 new_more code limit k [] x h new none = let e : k + 0 ≡ k = omega arith in (subst (λ n. IsNew code n limit x.player.actor) e new, none, tt)
@@ -71,10 +54,10 @@ new_more code limit k (y ∷ xs) x h new none =
     (h.0, h.1, new_more code limit (suc k) xs x h.2 (subst (λ n. IsNew code n limit x.player.actor) e new) none)
 
 -- one more of both
-pub one_opened : (code : PlainCode) (limit k : ℕ) (gs : List CellId) (xs : List AgentPlayer) (g : CellId) (x : AgentPlayer) → AreOpenedFor code limit k gs xs → (n : ℕ) → n ≡ length xs → IsAttending code g (k + n) limit (none_taken (cells_of code.cells)) x
+pub one_opened : (code : PlainCode) (limit k : ℕ) (gs : List CellId) (xs : List AgentPlayer) (g : CellId) (x : AgentPlayer) → AreOpenedFor code limit k gs xs → (n : ℕ) → n ≡ length xs → IsAttending code g (k + n) limit x
     → IsNew code (k + n) limit x.player.actor → x.player.trace.items ≡ [] → AreOpenedFor code limit k (gs ++ g ∷ []) (xs ++ x ∷ [])
 one_opened code limit k gs xs g x h n len a new none = record {
-  attending = attending_more code limit (none_taken (cells_of code.cells)) k gs xs g x h.attending (subst (λ m. IsAttending code g (k + m) limit (none_taken (cells_of code.cells)) x) len a);
+  attending = attending_more code limit k gs xs g x h.attending (subst (λ m. IsAttending code g (k + m) limit x) len a);
   opened = new_more code limit k xs x h.opened (subst (λ m. IsNew code (k + m) limit x.player.actor) len new) none;
 }
 
@@ -152,7 +135,7 @@ next_agent code i d e k = agent_at code (length before) (record { kind = Agent; 
 pub agent_placed : (code : PlainCode) (limit k i : ℕ) (xs : List AgentPlayer) (d : CellDefinition) → i < length code.cells → d ≡ get_or code.cells i d → same_kind d.kind Agent ≡ true → k ≡ length code.threads → (n : ℕ) → n ≡ length xs
     → AreOpenedFor code limit k (agents_from 0 (take i code.cells)) xs → IsAgentAt code (record { kind = Agent; number = i }) (k + n)
 agent_placed code limit k i xs d there read kind many n len h =
-    let same = as_attending code limit (none_taken (cells_of code.cells)) k (agents_from 0 (take i code.cells)) xs h.attending in
+    let same = as_attending code limit k (agents_from 0 (take i code.cells)) xs h.attending in
     subst (λ (m : ℕ). IsAgentAt code (record { kind = Agent; number = i }) m) (omega (arith, many, same, len)) (next_agent code i d (nth_read code.cells i d there read) kind)
 
 -- all of a list
@@ -168,9 +151,9 @@ taken_few [] (suc i) = omega arith
 taken_few (x ∷ xs) zero = omega arith
 taken_few (x ∷ xs) (suc i) = let r = taken_few xs i in omega (arith, r)
 
-pub agents_fit : (code : PlainCode) (limit : ℕ) (taken : List Bool) (k i : ℕ) (xs : List AgentPlayer) → AreAttending code limit taken k (agents_from 0 (take i code.cells)) xs → length xs ≤ length code.cells
-agents_fit code limit taken k i xs h =
-    let m = as_attending code limit taken k (agents_from 0 (take i code.cells)) xs h in
+pub agents_fit : (code : PlainCode) (limit k i : ℕ) (xs : List AgentPlayer) → AreAttending code limit k (agents_from 0 (take i code.cells)) xs → length xs ≤ length code.cells
+agents_fit code limit k i xs h =
+    let m = as_attending code limit k (agents_from 0 (take i code.cells)) xs h in
     let a = agents_few 0 (take i code.cells) in
     let b = taken_few code.cells i in
     omega (arith, m, a, b)

@@ -1,20 +1,18 @@
 -- What a play of a thread's or of an agent's actor makes of all actors.
-use Rattle.std.proofs.Common.{◌≡◌, ◌≤◌, ◌<◌, ◌+◌, ℕ, zero, suc, Bool, List, [], ◌∷◌, length, set, Option, Some, None, refl, sym, ap, subst, ◌∙◌, ◌⊎◌, inl, inr, arith}
+use Rattle.std.proofs.Common.{◌≡◌, ◌≤◌, ◌<◌, ◌+◌, ℕ, zero, suc, List, [], ◌∷◌, length, set, Option, Some, None, refl, sym, ap, subst, ◌∙◌, ◌⊎◌, inl, inr, arith}
 use Rattle.txs_world_protocol.specs.declared.event.Event.{Event}
 use Rattle.txs_world_protocol.specs.declared.event.Outcome.{Outcome}
 use Rattle.txs_value_base.specs.Places.{nth}
 use Rattle.txs_value_data.specs.declared.value.CellId.{CellId}
 use Rattle.txs_code_meaning.specs.PlainCode.{PlainCode}
 use Rattle.txs_machine_actor.specs.PlainActor.{PlainActor}
-use Rattle.txs_world_book.specs.Book.{agents_below}
-use Rattle.txs_world_book.specs.Served.{cells_of}
 use Rattle.txs_theorem_runs.specs.Report.{RunTraced}
 use Rattle.txs_theorem_runs.proofs.Growing.{Grown}
 use Rattle.txs_world_shared.specs.SharedState.{PlainShared}
 use Rattle.txs_machine.specs.Agents.{agents_of}
 use Rattle.txs_machine.specs.Playing.{IsBetween, AreBetween, ArePlayedAt}
 use Rattle.txs_machine.specs.RunOver.{IsLimited, books_of}
-use Rattle.txs_machine.specs.Running.{GoesAs, HasWork, IsAttending, AreAttending, IsLive, IsPlayerOf, IsRunOf, LeavesTaken, run_of, ArePlaying, attendants, left_for, left_of, left_all}
+use Rattle.txs_machine.specs.Running.{GoesAs, HasWork, IsAttending, AreAttending, IsLive, IsPlayerOf, IsRunOf, run_of, ArePlaying, attendants, left_for, left_of, left_all}
 use Rattle.txs_machine.specs.declared.player.AgentPlayer.{AgentPlayer}
 use Rattle.txs_machine.specs.declared.player.Player.{Player}
 use Rattle.txs_machine.specs.declared.player.Players.{Players}
@@ -86,7 +84,7 @@ left_set_less (x ∷ xs) (suc i) a b e h = let r = left_set_less xs i a b e h in
 -- ---- a thread's play
 
 module _ (law : RunTraced) (code : PlainCode) (limit : ℕ) (s t : PlainShared) (xs : List Player) (gs : List AgentPlayer) (all next : Players) (old : all.threads.items ≡ xs) (olds : all.agents.items ≡ gs) (h : ArePlaying code limit s all) (k : ℕ) (x y : Player)
-    (there : nth xs k ≡ Some x) (below : k < length xs) (between : IsBetween code k limit (books_of t) y) (grown : Grown k (books_of s) (books_of t)) (same : t.taken ≡ s.taken)
+    (there : nth xs k ≡ Some x) (below : k < length xs) (between : IsBetween code k limit (books_of t) y) (grown : Grown k (books_of s) (books_of t))
     (goes : GoesAs code k s x.actor x.trace.items t y.actor y.trace.items) (new : next.threads.items ≡ set xs k y) (news : next.agents.items ≡ gs) where
   threads_h : AreBetween code limit (books_of s) 0 xs
   threads_h = subst (AreBetween code limit (books_of s) 0) old h.threads
@@ -117,10 +115,8 @@ module _ (law : RunTraced) (code : PlainCode) (limit : ℕ) (s t : PlainShared) 
   pub thread_playing : ArePlaying code limit t next
   thread_playing = record {
     many = ap length new ∙ set_length xs k y ∙ many_h;
-    long = ap length same ∙ h.long;
     threads = subst (AreBetween code limit (books_of t) 0) (sym new) threads_later;
-    agents = subst (λ l. AreAttending code limit t.taken (length code.threads) (agents_of code) l) (sym news)
-        (subst (λ l. AreAttending code limit l (length code.threads) (agents_of code) gs) (sym same) (subst (AreAttending code limit s.taken (length code.threads) (agents_of code)) olds h.agents));
+    agents = subst (AreAttending code limit (length code.threads) (agents_of code)) (sym news) (subst (AreAttending code limit (length code.threads) (agents_of code)) olds h.agents);
     run = subst (λ l. IsRunOf code t l next.agents.items) (sym new) (subst (IsRunOf code t (set xs k y)) (sym news) run_later);
   }
 
@@ -154,45 +150,15 @@ others_between code k limit books later j (x ∷ xs) n g v h = (
 )
 
 -- and the other agents
-others_attend : (code : PlainCode) (limit : ℕ) (g : CellId) (k : ℕ) (taken later : List Bool) (j i : ℕ) (ids : List CellId) (gs : List AgentPlayer) (y : AgentPlayer) → k ≡ j + i → k ≡ length code.threads + agents_below (cells_of code.cells) g.number → LeavesTaken g taken later
-    → IsAttending code g k limit later y → nth ids i ≡ Some g → AreAttending code limit taken j ids gs → AreAttending code limit later j ids (set gs i y)
-others_attend code limit g k taken later j i [] [] y e p l a n h = tt
-others_attend code limit g k taken later j i [] (x ∷ gs) y e p l a n h = absurd h
-others_attend code limit g k taken later j i (d ∷ ids) [] y e p l a n h = absurd h
-others_attend code limit g k taken later j zero (d ∷ ids) (x ∷ gs) y e p l a n h =
-    (subst (λ c. IsAttending code c j limit later y) (sym (ap (or_else d) n)) (subst (λ m. IsAttending code g m limit later y) (omega (arith, e)) a), rest (suc j) ids gs (omega (arith, e)) h.1)
-  where
-    rest : (m : ℕ) (ids : List CellId) (gs : List AgentPlayer) → k < m → AreAttending code limit taken m ids gs → AreAttending code limit later m ids gs
-    rest m [] [] n h = tt
-    rest m [] (x ∷ gs) n h = absurd h
-    rest m (d ∷ ids) [] n h = absurd h
-    rest m (d ∷ ids) (x ∷ gs) n h = (
-      record {
-        agent = h.0.agent;
-        at = h.0.at;
-        lives = h.0.lives;
-        free = h.0.free;
-        number = h.0.number;
-        limited = h.0.limited;
-        synced = λ o. (let w = h.0.synced o in (w.0, l d (λ q. absurd (omega (arith, n, p, h.0.at.place, ap (λ z. length code.threads + agents_below (cells_of code.cells) z) q))) ∙ w.1));
-      },
-      rest (suc m) ids gs (omega (arith, n)) h.1,
-    )
-others_attend code limit g k taken later j (suc i) (d ∷ ids) (x ∷ gs) y e p l a n h = (
-  record {
-    agent = h.0.agent;
-    at = h.0.at;
-    lives = h.0.lives;
-    free = h.0.free;
-    number = h.0.number;
-    limited = h.0.limited;
-    synced = λ o. (let w = h.0.synced o in (w.0, l d (λ q. absurd (omega (arith, e, p, h.0.at.place, ap (λ z. length code.threads + agents_below (cells_of code.cells) z) q))) ∙ w.1));
-  },
-  others_attend code limit g k taken later (suc j) i ids gs y (omega (arith, e)) p l a n h.1,
-)
+others_attend : (code : PlainCode) (limit : ℕ) (g : CellId) (k j i : ℕ) (ids : List CellId) (gs : List AgentPlayer) (y : AgentPlayer) → k ≡ j + i → IsAttending code g k limit y → nth ids i ≡ Some g → AreAttending code limit j ids gs → AreAttending code limit j ids (set gs i y)
+others_attend code limit g k j i [] [] y e a n h = tt
+others_attend code limit g k j i [] (x ∷ gs) y e a n h = absurd h
+others_attend code limit g k j i (d ∷ ids) [] y e a n h = absurd h
+others_attend code limit g k j zero (d ∷ ids) (x ∷ gs) y e a n h = (subst (λ c. IsAttending code c j limit y) (sym (ap (or_else d) n)) (subst (λ m. IsAttending code g m limit y) (omega (arith, e)) a), h.1)
+others_attend code limit g k j (suc i) (d ∷ ids) (x ∷ gs) y e a n h = (h.0, others_attend code limit g k (suc j) i ids gs y (omega (arith, e)) a n h.1)
 
 module _ (law : RunTraced) (code : PlainCode) (limit : ℕ) (s t : PlainShared) (xs : List Player) (gs : List AgentPlayer) (all next : Players) (old : all.threads.items ≡ xs) (olds : all.agents.items ≡ gs) (h : ArePlaying code limit s all) (k i : ℕ) (x y : AgentPlayer)
-    (place : k ≡ length xs + i) (there : nth gs i ≡ Some x) (attends : IsAttending code x.agent k limit t.taken y) (long : length t.taken ≡ length code.cells) (leaves : LeavesTaken x.agent s.taken t.taken) (grown : Grown k (books_of s) (books_of t))
+    (place : k ≡ length xs + i) (there : nth gs i ≡ Some x) (attends : IsAttending code x.agent k limit y) (grown : Grown k (books_of s) (books_of t))
     (goes : GoesAs code k s x.player.actor x.player.trace.items t y.player.actor y.player.trace.items) (new : next.threads.items ≡ xs) (news : next.agents.items ≡ set gs i y) where
   many_a : length xs ≡ length code.threads
   many_a = ap length (sym old) ∙ h.many
@@ -220,15 +186,14 @@ module _ (law : RunTraced) (code : PlainCode) (limit : ℕ) (s t : PlainShared) 
 
   pub agent_playing : ValuesKnown code (books_of t) → ArePlaying code limit t next
   agent_playing known =
-      let a = attending_at code limit s.taken (length code.threads) i (agents_of code) gs x (subst (AreAttending code limit s.taken (length code.threads) (agents_of code)) olds h.agents) there in
+      let a = attending_at code limit (length code.threads) i (agents_of code) gs x (subst (AreAttending code limit (length code.threads) (agents_of code)) olds h.agents) there in
       record {
         many = ap length new ∙ many_a;
-        long = long;
         threads = subst (AreBetween code limit (books_of t) 0) (sym new)
             (others_between code k limit (books_of s) (books_of t) 0 xs (omega (arith, place)) grown known (subst (AreBetween code limit (books_of s) 0) old h.threads));
-        agents = subst (AreAttending code limit t.taken (length code.threads) (agents_of code)) (sym news)
-            (others_attend code limit x.agent k s.taken t.taken (length code.threads) i (agents_of code) gs y here attends.at.place leaves attends (a.1 ∙ ap (λ c. Some c) (sym a.2.agent))
-            (subst (AreAttending code limit s.taken (length code.threads) (agents_of code)) olds h.agents));
+        agents = subst (AreAttending code limit (length code.threads) (agents_of code)) (sym news)
+            (others_attend code limit x.agent k (length code.threads) i (agents_of code) gs y here attends (a.1 ∙ ap (λ c. Some c) (sym a.2.agent))
+            (subst (AreAttending code limit (length code.threads) (agents_of code)) olds h.agents));
         run = subst (λ l. IsRunOf code t l next.agents.items) (sym new) (subst (IsRunOf code t xs) (sym news) run_after);
       }
 

@@ -1,27 +1,32 @@
 -- What a play of one actor makes of it, and of all actors.
-use Rattle.std.proofs.Common.{◌≡◌, ◌<◌, ◌+◌, ℕ, [], length, set, Option, Some, None, refl, sym, ap, subst, ◌∙◌, arith}
+use Rattle.std.proofs.Common.{◌≡◌, ◌<◌, ◌+◌, ℕ, List, [], length, set, Option, Some, None, refl, sym, ap, subst, ◌∙◌, arith}
 use Rattle.std.proofs.lemmas.List.{length-set}
 use Rattle.txs_world_protocol.specs.declared.event.Outcome.{Outcome}
 use Rattle.txs_value_base.specs.Places.{nth}
 use Rattle.txs_code_meaning.specs.OwnCells.{NamesOwnCells}
 use Rattle.txs_code_meaning.specs.PlainCode.{PlainCode}
+use Rattle.txs_code_meaning.specs.WellTyped.{WellTyped}
 use Rattle.txs_machine_actor.specs.PlainActor.{PlainActor}
 use Rattle.txs_world.specs.Laws.{ServeKeeps}
+use Rattle.txs_theorem_runs.specs.Lawful.{RunAsksLawful}
 use Rattle.txs_theorem_runs.specs.Report.{RunTraced}
+use Rattle.txs_theorem_runs.proofs.Typed.{typed_agents_stand}
 use Rattle.txs_world_shared.specs.SharedState.{PlainShared}
 use Rattle.txs_machine.specs.Agents.{agents_of}
 use Rattle.txs_machine.specs.Playing.{AreLater, ArePlayedAt, IsBetween}
 use Rattle.txs_machine.specs.Plays.{IsRound, IsThreadsPlay, IsAgentsPlay, IsPlayAt}
 use Rattle.txs_machine.specs.RunOver.{IsAfter, IsLimited, IsStateOf, books_of}
-use Rattle.txs_machine.specs.Running.{ArePlaying}
+use Rattle.txs_machine.specs.Running.{ArePlaying, IsAttending}
+use Rattle.txs_machine.specs.Turning.{MayGoOn}
 use Rattle.txs_machine.specs.declared.player.AgentPlayer.{AgentPlayer}
 use Rattle.txs_machine.specs.declared.player.Player.{Player}
 use Rattle.txs_machine.specs.declared.player.Players.{Players}
-use Rattle.txs_machine.proofs.Mail.{values_known}
+use Rattle.txs_machine.proofs.Mail.{next_may, values_known}
 use Rattle.txs_machine.proofs.Played.{thread_playing, thread_left, thread_live, run_after, agent_playing, agent_left, agent_live}
 use Rattle.txs_machine.proofs.Playing.{played_at, played_later, later_itself}
 use Rattle.txs_machine.proofs.RunOver.{not_grown}
 use Rattle.txs_machine.proofs.Together.{attending_at}
+use Rattle.txs_machine.proofs.Turning.{agent_asks}
 
 abbrev is_some : {A : Type 0} → Option A → Type 0
 is_some None = ⊥
@@ -35,7 +40,6 @@ thread_rests code k limit s x of h ended = record {
   of = of;
   between = h;
   grown = not_grown k (books_of s);
-  taken = refl;
   goes = λ st same hold p. record { turns = []; own = tt; shared = same; player = p };
   played = λ o. absurd (ended o);
 }
@@ -51,7 +55,6 @@ thread_plays code k limit s x h going o t y r = record {
   of = r.of;
   between = record { lives = r.lives; free = r.free; limited = subst (λ n. IsLimited n y.actor) h.limited.limited r.limited; over = r.over };
   grown = r.grown;
-  taken = r.taken;
   goes = r.goes going;
   played = λ e. (going, r.progress (none_after y.actor o r.after e));
 }
@@ -66,13 +69,13 @@ thread_play_at law code limit k s t all next x y h below there p new news =
     let played = played_at k xs x y there p.played in
     record {
       of = p.of;
-      playing = thread_playing law code limit s t xs gs all next refl refl h k x y there below p.between p.grown p.taken p.goes new news;
+      playing = thread_playing law code limit s t xs gs all next refl refl h k x y there below p.between p.grown p.goes new news;
       many = ap length new ∙ length-set xs k y;
       agents = ap length news;
       played = λ b. subst (ArePlayedAt k xs) (sym new) played;
       later = subst (AreLater xs) (sym new) (played_later k xs (set xs k y) played);
-      left = thread_left law code limit s t xs gs all next refl refl h k x y there below p.between p.grown p.taken p.goes new news played;
-      live = thread_live law code limit s t xs gs all next refl refl h k x y there below p.between p.grown p.taken p.goes new news played;
+      left = thread_left law code limit s t xs gs all next refl refl h k x y there below p.between p.grown p.goes new news played;
+      live = thread_live law code limit s t xs gs all next refl refl h k x y there below p.between p.grown p.goes new news played;
     }
 
 pub agent_play_at : RunTraced → ServeKeeps → (code : PlainCode) (limit k i : ℕ) (s t : PlainShared) (all next : Players) (x y : AgentPlayer) → NamesOwnCells code → ArePlaying code limit s all → k ≡ length all.threads.items + i → nth all.agents.items i ≡ Some x
@@ -80,15 +83,24 @@ pub agent_play_at : RunTraced → ServeKeeps → (code : PlainCode) (limit k i :
 agent_play_at law keeps code limit k i s t all next x y mine h place there p new news =
     let xs = all.threads.items in
     let gs = all.agents.items in
-    let a = attending_at code limit s.taken (length code.threads) i (agents_of code) gs x h.agents there in
-    let after = run_after law code limit s t xs gs all next refl refl h k i x y place there p.attending p.long p.others p.grown p.goes new news in
+    let a = attending_at code limit (length code.threads) i (agents_of code) gs x h.agents there in
+    let after = run_after law code limit s t xs gs all next refl refl h k i x y place there p.attending p.grown p.goes new news in
     record {
       of = p.of;
-      playing = agent_playing law code limit s t xs gs all next refl refl h k i x y place there p.attending p.long p.others p.grown p.goes new news (values_known keeps code mine t xs (set gs i y) after);
+      playing = agent_playing law code limit s t xs gs all next refl refl h k i x y place there p.attending p.grown p.goes new news (values_known keeps code mine t xs (set gs i y) after);
       many = ap length new;
       agents = ap length news ∙ length-set gs i y;
       played = λ below. absurd (omega (arith, place, below));
       later = subst (AreLater xs) (sym new) (later_itself xs);
-      left = agent_left law code limit s t xs gs all next refl refl h k i x y place there p.attending p.long p.others p.grown p.goes new news a.2.limited p.later;
-      live = agent_live law code limit s t xs gs all next refl refl h k i x y place there p.attending p.long p.others p.grown p.goes new news a.2.limited p.later p.progress;
+      left = agent_left law code limit s t xs gs all next refl refl h k i x y place there p.attending p.grown p.goes new news a.2.limited p.later;
+      live = agent_live law code limit s t xs gs all next refl refl h k i x y place there p.attending p.grown p.goes new news a.2.limited p.later p.progress;
     }
+
+-- what an agent's actor comes to ask it may ask
+pub agent_may : RunAsksLawful → ServeKeeps → (code : PlainCode) (function_rooms thread_rooms : List ℕ) → WellTyped code function_rooms thread_rooms → NamesOwnCells code → (limit i n : ℕ) (s : PlainShared) (all : Players) (x : AgentPlayer) → IsStateOf code s
+    → ArePlaying code limit s all → nth all.agents.items i ≡ Some x → x.player.actor.outcome ≡ None → MayGoOn code s n x.player.actor
+agent_may law keeps code function_rooms thread_rooms well mine limit i n s all x of h there going =
+    let a = attending_at code limit (length code.threads) i (agents_of code) all.agents.items x h.agents there in
+    agent_asks code (length code.threads + i) limit s x of (subst (λ g. IsAttending code g (length code.threads + i) limit x) (sym a.2.agent) a.2) n going law
+    (typed_agents_stand code function_rooms thread_rooms x.agent well) mine (record { turns = h.run.turns; shared = h.run.shared; player = h.run.agents i x there })
+    (next_may keeps code function_rooms thread_rooms well s all.threads.items all.agents.items h.run)

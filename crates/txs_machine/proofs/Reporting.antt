@@ -1,7 +1,8 @@
 -- What a report says, where it tells of all actors behind the last play.
 use Rattle.std.proofs.Common.{ℕ, Bool, List, length, map, Result, Ok, Err, IfOk}
-use Rattle.txs_code_meaning.specs.PlainCode.{PlainCode, thread_code}
+use Rattle.txs_code_meaning.specs.PlainCode.{PlainCode, thread_code, library_of}
 use Rattle.txs_theorem_runs.specs.Invariant.{SharedStands}
+use Rattle.txs_theorem_runs.specs.Agents.{AgentsStaged}
 use Rattle.txs_theorem_runs.specs.Report.{CodesStaged}
 use Rattle.txs_world_shared.specs.SharedState.{PlainShared, shared_of}
 use Rattle.txs_machine.specs.Playing.{AreReported}
@@ -17,7 +18,7 @@ use Rattle.txs_machine.proofs.Laws.{known, refused, reported, traced}
 use Rattle.txs_machine.proofs.Together.{agents_done, agents_drained, all_explained_by}
 
 module _ (code : PlainCode) (limit : ℕ) (ys : List Play) (rounds : Bool) (s : PlainShared) (all : Players) (out : ArePlayedOut code limit ys rounds s all) (stands : SharedStands code.cells (length code.threads) (shared_of s))
-    (staged : CodesStaged (map (thread_code code) code.threads)) where
+    (staged : CodesStaged (map (thread_code code) code.threads) × AgentsStaged (library_of code)) where
   says : (report : Entries) → AreReported all.threads.items report.threads.items → AreReported (attendants all.agents.items) report.agents.items → SaysOf code limit ys rounds s report
   says report threads agents =
       let xs = all.threads.items in
@@ -29,9 +30,9 @@ module _ (code : PlainCode) (limit : ℕ) (ys : List Play) (rounds : Bool) (s : 
         played = all_played ys xs ts out.steps threads;
         ended = λ wanted. all_ended xs ts (out.ended wanted) threads;
         explained = explained;
-        agents = agents_done traced code limit s all rs out.playing agents;
-        drained = λ wanted. agents_drained traced code limit s all rs out.playing agents (out.idle wanted);
-        all_explained = all_explained_by traced code limit s all rs out.playing agents reported staged ts explained;
+        agents = agents_done traced known.done code limit s all rs out.playing agents;
+        drained = λ wanted. agents_drained traced known.done code limit s all rs out.playing agents (out.idle wanted);
+        all_explained = all_explained_by traced known.done code limit s all rs out.playing agents reported staged ts explained;
       }
 
   -- so it does, where there is one

@@ -1,5 +1,5 @@
 -- An actor's run over what is shared, step by step.
-use Rattle.std.proofs.Common.{◌≡◌, ◌==◌, ℕ, zero, suc, List, [], ◌∷◌, ◌++◌, length, map, take, get_or, true, false, Bool, ◌&&◌, nat_lt, ◌≤◌, ◌<◌, Option, Some, None, refl, sym, ap, subst, ◌∙◌, ◌+◌, ◌⊎◌, inl, inr, if◌then◌else◌, arith}
+use Rattle.std.proofs.Common.{◌≡◌, ◌==◌, ℕ, zero, suc, List, [], ◌∷◌, ◌++◌, length, map, take, get_or, true, false, Bool, ◌&&◌, nat_lt, ◌≤◌, ◌<◌, Option, Some, None, Result, refl, sym, ap, subst, ◌∙◌, ◌+◌, ◌⊎◌, inl, inr, if◌then◌else◌, arith}
 use Rattle.std.proofs.lemmas.Bool.{false≢true}
 use Rattle.std.proofs.lemmas.Bool.Decides.{nat_tests}
 use Rattle.txs_world_protocol.specs.Ask.{Writes, Exchange}
@@ -16,6 +16,8 @@ use Rattle.txs_value_data.proofs.SameLemmas.{and_both, numbers, number-itself}
 use Rattle.txs_value_cell.specs.Cells.{World, validators_of}
 use Rattle.txs_value_base.specs.Places.{nth}
 use Rattle.txs_value_cell.specs.declared.action.Action.{Action}
+use Rattle.txs_value_base.specs.declared.fault.Fault.{Fault}
+use Rattle.txs_value_base.specs.declared.fault.Span.{Span}
 use Rattle.txs_value_cell.specs.declared.cell.CellDefinition.{CellDefinition}
 use Rattle.txs_value_data.specs.declared.value.CellId.{CellId}
 use Rattle.txs_value_data.specs.declared.value.Value.{Value}
@@ -46,9 +48,9 @@ use Rattle.txs_theorem_runs.specs.Laws.{with_book, ServedIsTold}
 use Rattle.txs_theorem_runs.specs.Run.{entry}
 use Rattle.txs_theorem_runs.specs.Shared.{Shared, is_atom, has_atom, atom_of, serve_atom, book_for, serve_on, may_ask, may_close}
 use Rattle.txs_theorem_runs.specs.Staged.{StagedCode, TurnIsStaged, IsStaged, StagedFrom, stage_of}
-use Rattle.txs_theorem_runs.specs.Stages.{Stage, Idle, AsksIn, stage_after, phase_of}
+use Rattle.txs_theorem_runs.specs.Stages.{Stage, Idle, AsksIn, stage_after}
 use Rattle.txs_theorem_runs.specs.Stages as stages
-use Rattle.txs_theorem_runs.specs.Told.{Entry, exchange_of, IsExchanged, AllHold, served_at, adding, trace_of, TraceHolds, seen_of, ToldBy}
+use Rattle.txs_theorem_runs.specs.Told.{Entry, exchange_of, IsExchanged, AllHold, served_at, adding, trace_of, TraceHolds, ToldBy}
 use Rattle.txs_theorem_runs.specs.Told as told_by
 use Rattle.txs_theorem_runs.proofs.Growing as growing
 use Rattle.txs_theorem_runs.proofs.Growing.{Grown, IsFull, Serves, nothing_grown, trace_stays, told_stays}
@@ -102,27 +104,27 @@ ended_keeps : (a b : PlainActor) (st : Stage) (o : Outcome) (q : Option Ask) →
 ended_keeps a b st o q s = (s.number, as_is b st (Some o) q s.outcome s.unanswered tt)
 
 asked_in : (code : ThreadCode) (c : Configuration) (st : Stage) (b : PlainActor) (q : Ask) (go : Ask → Reply → Turned Configuration)
-    → stage_of c ≡ st → ((r : Reply) → MayAnswer q r → (Stops r → ⊥) → go q r ≡ stands_at (answered b r))
-    → StagedFrom (stage_of c) (Asking (record (state_of b) { wants = Some q })) go → IsIn b st None (Some q)
+    → stage_of false c ≡ st → ((r : Reply) → MayAnswer q r → (Stops r → ⊥) → go q r ≡ stands_at (answered b r))
+    → StagedFrom false (stage_of false c) (Asking (record (state_of b) { wants = Some q })) go → IsIn b st None (Some q)
 asked_in code c st b q go e leads h =
     let same : q ≡ h.0 = ap (ask_in q) h.1 in (
-      subst (λ s. AsksIn s q) e (subst (λ x. AsksIn (stage_of c) x) (sym same) h.2),
-      λ r may on. subst (λ s. IsStaged (stage_after s q r) (stands_at (answered b r))) e
-          (subst (λ (t : Turned Configuration). IsStaged (stage_after (stage_of c) q r) t) (leads r may on)
-          (subst (λ x. IsStaged (stage_after (stage_of c) x r) (go x r)) (sym same) (h.3 r))),
+      subst (λ s. AsksIn false s q) e (subst (λ x. AsksIn false (stage_of false c) x) (sym same) h.2),
+      λ r may on. subst (λ s. IsStaged false (stage_after s q r) (stands_at (answered b r))) e
+          (subst (λ (t : Turned Configuration). IsStaged false (stage_after (stage_of false c) q r) t) (leads r may on)
+          (subst (λ x. IsStaged false (stage_after (stage_of false c) x r) (go x r)) (sym same) (h.3 r))),
     )
 
-step_keeps : (code : PlainCode) (a b : PlainActor) (r : Turn) (st : Stage) → TurnIsStaged (code_of code a.number) (configuration_of a) → Answers code a r b → IsIn a st None None → Keeps a b st
+step_keeps : (code : PlainCode) (a b : PlainActor) (r : Turn) (st : Stage) → TurnIsStaged false (code_of code a.number) (configuration_of a) → Answers code a r b → IsIn a st None None → Keeps a b st
 step_keeps code a b turned.Went st law t here =
     let k = code_of code a.number in
     let c = configuration_of a in
-    let staged = subst (λ (o : Turned Configuration). StagedFrom (stage_of c) o (λ q r. turn k (given (record { ask = q; reply = r } ∷ []) c))) t.0 law in
+    let staged = subst (λ (o : Turned Configuration). StagedFrom false (stage_of false c) o (λ q r. turn k (given (record { ask = q; reply = r } ∷ []) c))) t.0 (law (stage_of false c) refl) in
     (t.1.number, as_is b st None None t.1.outcome t.1.unanswered (staged.1 ∙ here))
 step_keeps code a b (turned.Asks q) st law t here =
     let k = code_of code a.number in
     let c = configuration_of a in
     let go : Ask → Reply → Turned Configuration = λ x r. turn k (given (record { ask = x; reply = r } ∷ []) c) in
-    let staged = subst (λ (o : Turned Configuration). StagedFrom (stage_of c) o go) t.0.asks law in
+    let staged = subst (λ (o : Turned Configuration). StagedFrom false (stage_of false c) o go) t.0.asks (law (stage_of false c) refl) in
     (t.1.number, as_is b st None (Some q) t.1.outcome t.1.unanswered (asked_in k c st b q go here t.0.leads staged))
 step_keeps code a b (turned.Ended outcome.Done) st law t here = ended_keeps a b st outcome.Done None t.1
 step_keeps code a b (turned.Ended (outcome.Failed f)) st law t here = ended_keeps a b st (outcome.Failed f) None t.1
@@ -130,11 +132,11 @@ step_keeps code a b (turned.Ended outcome.StepsSpent) st law t here = absurd t
 step_keeps code a b (turned.Ended outcome.JournalFull) st law t here = absurd t
 step_keeps code a b (turned.Ended outcome.Memory) st law t here = ended_keeps a b st outcome.Memory None t.1
 
-move_keeps : (code : PlainCode) (a b : PlainActor) (r : Turn) (st : Stage) (may : Bool) → TurnIsStaged (code_of code a.number) (configuration_of a) → Moves code a may r b → IsIn a st None None → Keeps a b st
+move_keeps : (code : PlainCode) (a b : PlainActor) (r : Turn) (st : Stage) (may : Bool) → TurnIsStaged false (code_of code a.number) (configuration_of a) → Moves code a may r b → IsIn a st None None → Keeps a b st
 move_keeps code a b r st true law t here = step_keeps code a b r st law t here
 move_keeps code a b r st false law t here = subst (λ x. Keeps a x st) (sym t.1) (refl, tt)
 
-pub turn_keeps : (code : PlainCode) (a b : PlainActor) (r : Turn) (st : Stage) (o : Option Outcome) → (a.outcome ≡ None → TurnIsStaged (code_of code a.number) (configuration_of a)) → a.outcome ≡ o → unanswered a ≡ None → TurnsFrom code a o r b → IsIn a st o None → Keeps a b st
+pub turn_keeps : (code : PlainCode) (a b : PlainActor) (r : Turn) (st : Stage) (o : Option Outcome) → (a.outcome ≡ None → TurnIsStaged false (code_of code a.number) (configuration_of a)) → a.outcome ≡ o → unanswered a ≡ None → TurnsFrom code a o r b → IsIn a st o None → Keeps a b st
 turn_keeps code a b r st None law e f t here = move_keeps code a b r st (nat_lt a.steps a.limit) (law e) t here
 turn_keeps code a b r st (Some o) law e f t here = subst (λ x. Keeps a x st) (sym t.1) (refl, as_is a st (Some o) None e f tt)
 
@@ -182,12 +184,12 @@ module _ (code : PlainCode) (k : ℕ) (books : ℕ → List Event) (xs : List Ex
   stood_known b o q e f h = subst (λ y. Stood b o y) f (subst (λ x. Stood b x (unanswered b)) e h)
 
   -- a step from where it may view
-  step_stood : (a b : PlainActor) (r : Turn) → a.number ≡ k → TurnIsStaged (code_of code k) (configuration_of a) → run (code_of code k) a.steps (opening (code_of code k) xs) ≡ Unfinished (configuration_of a) → stage_of (configuration_of a) ≡ st
+  step_stood : (a b : PlainActor) (r : Turn) → a.number ≡ k → TurnIsStaged false (code_of code k) (configuration_of a) → run (code_of code k) a.steps (opening (code_of code k) xs) ≡ Unfinished (configuration_of a) → stage_of false (configuration_of a) ≡ st
       → MayView code.cells (code_of code k) k books (configuration_of a) → Answers code a r b → Stood b b.outcome (unanswered b)
   step_stood a b turned.Went n law ran here may t =
       let c = code_of code k in
       let went = subst (λ m. turn (code_of code m) (configuration_of a) ≡ Unfinished (configuration_of b)) n t.0 in
-      let staged = subst (λ (o : Turned Configuration). StagedFrom (stage_of (configuration_of a)) o (λ q r. turn c (given (record { ask = q; reply = r } ∷ []) (configuration_of a)))) went law in
+      let staged = subst (λ (o : Turned Configuration). StagedFrom false (stage_of false (configuration_of a)) o (λ q r. turn c (given (record { ask = q; reply = r } ∷ []) (configuration_of a)))) went (law (stage_of false (configuration_of a)) refl) in
       stood_as b None None t.1.outcome t.1.unanswered (went_view code.cells c k books (configuration_of a) (configuration_of b) refl went staged.1 may)
   step_stood a b (turned.Asks q) n law ran here may t =
       stood_as b None (Some q) t.1.outcome t.1.unanswered
@@ -198,12 +200,12 @@ module _ (code : PlainCode) (k : ℕ) (books : ℕ → List Event) (xs : List Ex
   step_stood a b (turned.Ended outcome.JournalFull) n law ran here may t = absurd t
   step_stood a b (turned.Ended outcome.Memory) n law ran here may t = stood_as b (Some outcome.Memory) None t.1.outcome t.1.unanswered tt
 
-  move_stood : (a b : PlainActor) (r : Turn) (more : Bool) → a.number ≡ k → TurnIsStaged (code_of code k) (configuration_of a) → run (code_of code k) a.steps (opening (code_of code k) xs) ≡ Unfinished (configuration_of a) → stage_of (configuration_of a) ≡ st
+  move_stood : (a b : PlainActor) (r : Turn) (more : Bool) → a.number ≡ k → TurnIsStaged false (code_of code k) (configuration_of a) → run (code_of code k) a.steps (opening (code_of code k) xs) ≡ Unfinished (configuration_of a) → stage_of false (configuration_of a) ≡ st
       → MayView code.cells (code_of code k) k books (configuration_of a) → Moves code a more r b → Stood b b.outcome (unanswered b)
   move_stood a b r true n law ran here may t = step_stood a b r n law ran here may t
   move_stood a b r false n law ran here may t = subst (λ (x : PlainActor). Stood x x.outcome (unanswered x)) (sym t.1) tt
 
-  turn_stood : (a b : PlainActor) (r : Turn) (o : Option Outcome) → a.number ≡ k → (o ≡ None → TurnIsStaged (code_of code k) (configuration_of a)) → a.outcome ≡ o → unanswered a ≡ None → HasCome (code_of code k) xs a o None → IsIn a st o None
+  turn_stood : (a b : PlainActor) (r : Turn) (o : Option Outcome) → a.number ≡ k → (o ≡ None → TurnIsStaged false (code_of code k) (configuration_of a)) → a.outcome ≡ o → unanswered a ≡ None → HasCome (code_of code k) xs a o None → IsIn a st o None
       → Stood a o None → TurnsFrom code a o r b → Stood b b.outcome (unanswered b)
   turn_stood a b r None n law e f ran here stood t = move_stood a b r (nat_lt a.steps a.limit) n (law refl) ran here stood t
   turn_stood a b r (Some o) n law e f ran here stood t = subst (λ (x : PlainActor). Stood x x.outcome (unanswered x)) (sym t.1) (stood_as a (Some o) None e f tt)
@@ -222,7 +224,7 @@ standing_of law code function_rooms thread_rooms k well below =
     let b = body_there code.threads k below in subst (λ (o : Option CodeBody). StandingCode (record { functions = function_codes code; validators = validators_of code.cells; main = own_body code k o })) (sym b.1) (law code function_rooms thread_rooms k b.0 well b.1)
 
 -- an actor that goes on stands where its next instruction asks in its stage
-pub stands_staged : (code : PlainCode) (xs : List Exchange) (a : PlainActor) → StagedCode (code_of code a.number) → unanswered a ≡ None → HasRun code xs a → a.outcome ≡ None → TurnIsStaged (code_of code a.number) (configuration_of a)
+pub stands_staged : (code : PlainCode) (xs : List Exchange) (a : PlainActor) → StagedCode (code_of code a.number) → unanswered a ≡ None → HasRun code xs a → a.outcome ≡ None → TurnIsStaged false (code_of code a.number) (configuration_of a)
 stands_staged code xs a known f ran e =
     known a.steps xs (configuration_of a) (subst (λ q. HasCome (code_of code a.number) xs a None q) f (subst (λ o. HasCome (code_of code a.number) xs a o (unanswered a)) e ran)) refl
 
@@ -269,7 +271,7 @@ turn_asked code before a b r (Some o) t w = subst (λ (x : PlainActor). AskedOn 
 turn_over : ActorsRun → (code : PlainCode) (k : ℕ) (books : ℕ → List Event) (tr : List Place) (a b : PlainActor) (r : Turn) → unanswered a ≡ None → Turns code a r b → RunLawfully code k books tr a → RunLawfully code k books tr b
 turn_over laws code k books tr a b r f t w =
     let h = w.over in
-    let known : StagedCode (code_of code k) = standing_staged (code_of code k) w.stands in
+    let known : StagedCode (code_of code k) = standing_staged false (code_of code k) w.stands in
     let staged = stands_staged code (map exchange_of h.entries) a (subst (λ n. StagedCode (code_of code n)) (sym h.number) known) f h.ran in
     let kept = turn_keeps code a b r h.stage a.outcome staged refl f t (as_known a h.stage a.outcome None refl f h.here) in
     record {
@@ -287,7 +289,7 @@ turn_over laws code k books tr a b r f t w =
       traced = w.traced;
       thread = w.thread;
       stands = w.stands;
-      stood = turn_stood code k books (map exchange_of h.entries) h.stage a b r a.outcome h.number (λ e. subst (λ n. TurnIsStaged (code_of code n) (configuration_of a)) h.number (staged e)) refl f
+      stood = turn_stood code k books (map exchange_of h.entries) h.stage a b r a.outcome h.number (λ e. subst (λ n. TurnIsStaged false (code_of code n) (configuration_of a)) h.number (staged e)) refl f
           (subst (λ n. HasCome (code_of code n) (map exchange_of h.entries) a a.outcome None) h.number (subst (λ q. HasCome (code_of code a.number) (map exchange_of h.entries) a a.outcome q) f h.ran))
           (as_known a h.stage a.outcome None refl f h.here) (stood_known code k books (map exchange_of h.entries) h.stage a a.outcome None refl f w.stood) t;
       lawful = w.lawful;
@@ -322,20 +324,20 @@ new_over laws code k limit tr a e there stands n = record {
     stage = Idle;
     ran = laws.begins code k limit a n;
     told = record { hold = tt; staged = refl; traced = λ i. refl };
-    here = as_is a Idle None None n.unended n.unasking (ap stage_of n.opens);
+    here = as_is a Idle None None n.unended n.unasking (ap (stage_of false) n.opens);
     asked = λ before e rest s. absurd (no_entry before e rest s);
     full = λ x. absurd (subst Unfilled x (subst Unfilled (sym n.unended) tt));
   };
   traced = ap places_of e;
   thread = there;
   stands = stands;
-  stood = stood_as code k (λ n. []) [] Idle a None None n.unended n.unasking (idle_view code.cells (code_of code k) k (λ n. []) (configuration_of a) (ap stage_of n.opens));
+  stood = stood_as code k (λ n. []) [] Idle a None None n.unended n.unasking (idle_view code.cells (code_of code k) k (λ n. []) (configuration_of a) (ap (stage_of false) n.opens));
   lawful = record { replies = tt; values = λ opened n. tt; places = tt };
 }
 
 -- ---- answers
 
-pub in_after : (b : PlainActor) (st : Stage) (o : Option Outcome) → IsStaged st (standing o (configuration_of b) (state_of b)) → IsIn b st o None
+pub in_after : (b : PlainActor) (st : Stage) (o : Option Outcome) → IsStaged false st (standing o (configuration_of b) (state_of b)) → IsIn b st o None
 in_after b st None h = h.1
 in_after b st (Some o) h = tt
 
@@ -371,7 +373,7 @@ over_others code k j books later tr a n g v w =
         entries = h.entries;
         stage = h.stage;
         ran = h.ran;
-        told = told_stays code.cells (length code.threads) k j books later g n h.entries h.stage h.told;
+        told = told_stays code.cells (length code.threads) k j books later g n false h.entries h.stage h.told;
         here = h.here;
         asked = h.asked;
         full = λ x. (let m = h.full x in let l = longer k books later g (book_for code.cells m.ask) in record { ask = m.ask; asked = m.asked; full = omega (arith, m.full, l) });
@@ -576,8 +578,8 @@ heard_over laws law code k books taken tr new a q r mine lawful e f free may on 
         entries = h.entries ++ entry q r at ∷ [];
         stage = stage_after h.stage q r;
         ran = subst (λ ys. HasRun code ys (answered a r)) (sym (map_append h.entries (entry q r at))) (laws.answers code (map exchange_of h.entries) a q r e f may on unless h.ran);
-        told = subst (λ y. ToldBy code.cells (length code.threads) more k (h.entries ++ entry q y at ∷ []) (stage_after h.stage q y)) (sym same)
-            (law code.cells (length code.threads) books taken k q h.entries h.stage lawful known.0 h.told (subst IsExchanged same x));
+        told = subst (λ y. ToldBy code.cells (length code.threads) more false k (h.entries ++ entry q y at ∷ []) (stage_after h.stage q y)) (sym same)
+            (law code.cells (length code.threads) books taken false k q h.entries h.stage lawful known.0 h.told (subst IsExchanged same x));
         here = as_is (answered a r) (stage_after h.stage q r) (answered a r).outcome None refl free (in_after (answered a r) (stage_after h.stage q r) (answered a r).outcome (known.1 r may on));
         asked = more_asked (code_of code k) h.entries (entry q r at) a q r leaves
             (subst (λ n. HasAsked (code_of code n) (map exchange_of h.entries) a q) h.number
@@ -625,7 +627,8 @@ memory_over : ActorsRun → (code : PlainCode) (k : ℕ) (books : ℕ → List E
 memory_over laws code k books tr a q e f may w = stopped_over laws code k books tr a q reply.Memory e f may tt (λ xs ran x. absurd (subst Unfilled x (subst Unfilled (sym (memory_stops a q f)) tt))) w
 
 -- a thread's ask isn't answered as an agent's that has nothing to do
-pub idle_never : (st : Stage) (q : Ask) → AsksIn st q → MayAnswer q reply.Idle → ⊥
+pub idle_never : (st : Stage) (q : Ask) → AsksIn false st q → MayAnswer q reply.Idle → ⊥
+idle_never stages.Resting (ask.Take g) ok may = false≢true ok
 idle_never stages.Idle (ask.Take g) ok may = ok
 idle_never (stages.Open at) (ask.Take g) ok may = ok
 idle_never (stages.Viewing at view) (ask.Take g) ok may = ok
@@ -643,7 +646,8 @@ idle_never st (ask.CloseAt c p v) ok may = may
 idle_never st (ask.Broke c p) ok may = may
 
 -- nor is it handed an action
-pub action_never : (st : Stage) (q : Ask) (n : ℕ) (x : Action) (v : Value) → AsksIn st q → MayAnswer q (reply.Action n x v) → ⊥
+pub action_never : (st : Stage) (q : Ask) (n : ℕ) (x : Action) (v : Value) → AsksIn false st q → MayAnswer q (reply.Action n x v) → ⊥
+action_never stages.Resting (ask.Take g) n x v ok may = false≢true ok
 action_never stages.Idle (ask.Take g) n x v ok may = ok
 action_never (stages.Open at) (ask.Take g) n x v ok may = ok
 action_never (stages.Viewing at view) (ask.Take g) n x v ok may = ok
@@ -866,6 +870,10 @@ closed_may a c (Some p) x book = go (swapped_since p book)
     go true = tt
     go false = added_may (ask.CloseAt c (Some p) x) a _ reply.Done book (nat_lt (length book) most_events) tt tt
 
+finished_may : (a : ℕ) (g : CellId) (n : ℕ) (new : Result Value Fault) (sends : List Action) (span : Span) (book : List Event) (o : Option CellId) → MayAnswer (ask.Finish g new sends) (world.finishes o a g n new sends span book).reply
+finished_may a g n new sends span book None = added_may (ask.Finish g new sends) a _ reply.Done book (nat_lt (length book) most_events) tt tt
+finished_may a g n new sends span book (Some h) = added_may (ask.Finish g new sends) a _ (reply.AgentIsFailed h) book (nat_lt (length book) most_events) tt tt
+
 length_map : {A B : Type 0} (f : A → B) (xs : List A) → length (map f xs) ≡ length xs
 length_map f [] = refl
 length_map f (x ∷ xs) = ap suc (length_map f xs)
@@ -881,7 +889,7 @@ serve_may cells a (ask.Fail p q) book = added_may (ask.Fail p q) a _ reply.Done 
 serve_may cells a (ask.Peek c) book = peeked_may cells a c book (is_atom c)
 serve_may cells a (ask.Send x) book = sent_may a x book (is_failed (cells_of cells) book x.agent)
 serve_may cells a (ask.Take g) book = taken_may g _ _ (world.next_action (cells_of cells) book g)
-serve_may cells a (ask.Finish g new sends) book = added_may (ask.Finish g new sends) a _ reply.Done book (nat_lt (length book) most_events) tt tt
+serve_may cells a (ask.Finish g new sends) book = finished_may a g _ new sends _ book (first_failed (cells_of cells) book sends)
 serve_may cells a (ask.OpenAt c) book = tt
 serve_may cells a (ask.CloseAt c p x) book = closed_may a c p x book
 serve_may cells a (ask.Broke c p) book = added_may (ask.Broke c p) a _ reply.Done book (nat_lt (length book) most_events) tt tt
@@ -1002,15 +1010,15 @@ few_for s a (ask.Peek c) h w = go (is_atom c) refl
     go : (b : Bool) → is_atom c ≡ b → length (numbered_book s (if b then suc (atoms_below s.cells c.number) else 0)) ≤ most_events
     go true e =
         subst (λ t. length (numbered_book s (if t then suc (atoms_below s.cells c.number) else 0)) ≤ most_events) e
-        (w.atoms c (joined (is_atom c) (has_cell (cells_of s.cells) c) e (and_both (nat_lt a s.threads) (has_cell (cells_of s.cells) c) h).1)).few
+        (w.atoms c (joined (is_atom c) (has_cell (cells_of s.cells) c) e (and_both (nat_lt a (world_book.actors s.threads (cells_of s.cells))) (has_cell (cells_of s.cells) c) h).1)).few
     go false e = w.store.legal.few
-few_for s a (ask.OpenAt c) h w = (w.atoms c (and_both (nat_lt a s.threads) (has_atom s.cells c) h).1).few
+few_for s a (ask.OpenAt c) h w = (w.atoms c (and_both (nat_lt a (world_book.actors s.threads (cells_of s.cells))) (has_atom s.cells c) h).1).few
 few_for s a (ask.CloseAt c p v) h w =
     let may = may_close (numbered_book s (book_for s.cells (ask.CloseAt c p v))) a p in
-    (w.atoms c (and_both (has_atom s.cells c) may (and_both (nat_lt a s.threads) (has_atom s.cells c && may) h).1).0).few
+    (w.atoms c (and_both (has_atom s.cells c) may (and_both (nat_lt a (world_book.actors s.threads (cells_of s.cells))) (has_atom s.cells c && may) h).1).0).few
 few_for s a (ask.Broke c p) h w =
     let may = world_book.may_name true (numbered_book s (book_for s.cells (ask.Broke c p))) a p in
-    (w.atoms c (and_both (has_atom s.cells c) may (and_both (nat_lt a s.threads) (has_atom s.cells c && may) h).1).0).few
+    (w.atoms c (and_both (has_atom s.cells c) may (and_both (nat_lt a (world_book.actors s.threads (cells_of s.cells))) (has_atom s.cells c && may) h).1).0).few
 
 -- ---- the end
 

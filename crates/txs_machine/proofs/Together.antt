@@ -13,7 +13,6 @@ use Rattle.txs_value_data.specs.declared.value.CellKind.TheVariants.{Ref, Atom, 
 use Rattle.txs_code_meaning.specs.ActorState.{ActorState}
 use Rattle.txs_code_meaning.specs.Machine.{PlainBody, ThreadCode, Configuration, Turned}
 use Rattle.txs_code_meaning.specs.PlainCode.{CodeBody, PlainCode, thread_code, function_codes, library_of}
-use Rattle.txs_theorem_threads.specs.FollowsAgent.{GoesOn}
 use Rattle.txs_machine_actor.specs.PlainActor.{PlainActor, agent_or_none, code_of, own_body}
 use Rattle.txs_value_cell.specs.Agents.{agents_from, with_agent}
 use Rattle.txs_world.proofs.Merging.{joined}
@@ -21,14 +20,15 @@ use Rattle.txs_world_book.specs.Book.{agents_below, is_of_kind, has_agent}
 use Rattle.txs_world_book.specs.Book as world
 use Rattle.txs_world_book.specs.Served.{cells_of}
 use Rattle.txs_world.specs.Store.{next_action}
-use Rattle.txs_theorem_runs.specs.Agents.{AllSound, ActsMean}
-use Rattle.txs_theorem_runs.specs.Explains.{outcome_at}
+use Rattle.txs_theorem_runs.specs.Agents.{AllSound, AgentsStaged, ActsInTurn, HasPrintedJust}
 use Rattle.txs_theorem_runs.specs.Report.{ActorTraced, RunTraced, RunsProgram, ReportExplained, CodesStaged, RunReported}
 use Rattle.txs_theorem_runs.specs.Run as run
 use Rattle.txs_theorem_runs.specs.Run.{Stop, Actor, State, Play, plays}
 use Rattle.txs_theorem_runs.specs.Shared.{Shared, book_for}
 use Rattle.txs_theorem_runs.specs.Told.{AllHold, TraceHolds, trace_of}
 use Rattle.txs_theorem_runs.proofs.Growing.{Grown, differ, trace_stays}
+use Rattle.txs_theorem_runs.proofs.Whole.{all_undisturbed}
+use Rattle.txs_world.specs.Laws.{DoneIsUndisturbed}
 use Rattle.txs_world_shared.specs.SharedState.{PlainShared, shared_of}
 use Rattle.txs_machine.specs.Agents.{agents_of, AgentHasDone, AgentsAreDone, AreExplainedBy, AreDrained}
 use Rattle.txs_machine.specs.Playing.{IsReported, AreReported}
@@ -157,13 +157,13 @@ agent_at code i g e = record {
     minus = omega arith
 
 -- each agent has an actor
-pub agent_acts : (code : PlainCode) (g : CellId) → has_agent (cells_of code.cells) g ≡ true → (i : ℕ) × (nth (agents_of code) i ≡ Some g) × (world.actor_of (length code.threads) (cells_of code.cells) g ≡ length code.threads + i)
-agent_acts code g h =
-    let b = both_of (same_kind g.kind Agent) (is_of_kind g.kind (nth (cells_of code.cells) g.number)) h in
+pub agent_indexed : (cells : List CellDefinition) (threads : ℕ) (g : CellId) → has_agent (cells_of cells) g ≡ true → (i : ℕ) × (nth (agents_from 0 cells) i ≡ Some g) × (world.actor_of threads (cells_of cells) g ≡ threads + i)
+agent_indexed cells threads g h =
+    let b = both_of (same_kind g.kind Agent) (is_of_kind g.kind (nth (cells_of cells) g.number)) h in
     let kind = agent_kind g.kind b.0 in
-    let r = agents_found 0 code.cells g.number (subst (λ k. is_of_kind k (nth (cells_of code.cells) g.number) ≡ true) kind b.1) in
+    let r = agents_found 0 cells g.number (subst (λ k. is_of_kind k (nth (cells_of cells) g.number) ≡ true) kind b.1) in
     let n : r.0.number ≡ g.number = omega (arith, r.3) in
-    (agents_below (cells_of code.cells) g.number, r.1 ∙ ap (λ (c : CellId). Some c) (rw (r.2, n, kind) refl), refl)
+    (agents_below (cells_of cells) g.number, r.1 ∙ ap (λ (c : CellId). Some c) (rw (r.2, n, kind) refl), refl)
   where
     both_of : (a b : Bool) → (a && b) ≡ true → (a ≡ true) × (b ≡ true)
     both_of true true e = (refl, refl)
@@ -186,6 +186,9 @@ agent_acts code g h =
         is_true : Bool → Type 0
         is_true true = ⊥
         is_true false = Unit {0}
+
+pub agent_acts : (code : PlainCode) (g : CellId) → has_agent (cells_of code.cells) g ≡ true → (i : ℕ) × (nth (agents_of code) i ≡ Some g) × (world.actor_of (length code.threads) (cells_of code.cells) g ≡ length code.threads + i)
+agent_acts code g h = agent_indexed code.cells (length code.threads) g h
 
 -- ---- a run goes on
 
@@ -249,20 +252,20 @@ run_goes law code k s t xs ys gs hs a b tr new r p grown goes of_threads of_agen
 -- ---- the agents of a report
 
 -- the actor of an agent by its place
-pub attending_at : (code : PlainCode) (limit : ℕ) (taken : List Bool) (k i : ℕ) (gs : List CellId) (xs : List AgentPlayer) (x : AgentPlayer) → AreAttending code limit taken k gs xs → nth xs i ≡ Some x → (g : CellId) × (nth gs i ≡ Some g) × IsAttending code g (k + i) limit taken x
-attending_at code limit taken k i [] [] x h e = absurd (subst is_some (sym e) tt)
-attending_at code limit taken k i [] (y ∷ xs) x h e = absurd h
-attending_at code limit taken k i (g ∷ gs) [] x h e = absurd h
-attending_at code limit taken k zero (g ∷ gs) (y ∷ xs) x h e = (g, refl, subst (λ n. IsAttending code g n limit taken x) (omega arith) (subst (IsAttending code g k limit taken) (ap (or_else y) e) h.0))
-attending_at code limit taken k (suc i) (g ∷ gs) (y ∷ xs) x h e =
-    let r = attending_at code limit taken (suc k) i gs xs x h.1 e in
-    (r.0, r.1, subst (λ n. IsAttending code r.0 n limit taken x) (omega arith) r.2)
+pub attending_at : (code : PlainCode) (limit k i : ℕ) (gs : List CellId) (xs : List AgentPlayer) (x : AgentPlayer) → AreAttending code limit k gs xs → nth xs i ≡ Some x → (g : CellId) × (nth gs i ≡ Some g) × IsAttending code g (k + i) limit x
+attending_at code limit k i [] [] x h e = absurd (subst is_some (sym e) tt)
+attending_at code limit k i [] (y ∷ xs) x h e = absurd h
+attending_at code limit k i (g ∷ gs) [] x h e = absurd h
+attending_at code limit k zero (g ∷ gs) (y ∷ xs) x h e = (g, refl, subst (λ n. IsAttending code g n limit x) (omega arith) (subst (IsAttending code g k limit) (ap (or_else y) e) h.0))
+attending_at code limit k (suc i) (g ∷ gs) (y ∷ xs) x h e =
+    let r = attending_at code limit (suc k) i gs xs x h.1 e in
+    (r.0, r.1, subst (λ n. IsAttending code r.0 n limit x) (omega arith) r.2)
 
-pub as_attending : (code : PlainCode) (limit : ℕ) (taken : List Bool) (k : ℕ) (gs : List CellId) (xs : List AgentPlayer) → AreAttending code limit taken k gs xs → length xs ≡ length gs
-as_attending code limit taken k [] [] h = refl
-as_attending code limit taken k [] (y ∷ xs) h = absurd h
-as_attending code limit taken k (g ∷ gs) [] h = absurd h
-as_attending code limit taken k (g ∷ gs) (y ∷ xs) h = ap suc (as_attending code limit taken (suc k) gs xs h.1)
+pub as_attending : (code : PlainCode) (limit k : ℕ) (gs : List CellId) (xs : List AgentPlayer) → AreAttending code limit k gs xs → length xs ≡ length gs
+as_attending code limit k [] [] h = refl
+as_attending code limit k [] (y ∷ xs) h = absurd h
+as_attending code limit k (g ∷ gs) [] h = absurd h
+as_attending code limit k (g ∷ gs) (y ∷ xs) h = ap suc (as_attending code limit (suc k) gs xs h.1)
 
 pub attendant_at : (xs : List AgentPlayer) (i : ℕ) (x : Player) → nth (attendants xs) i ≡ Some x → (y : AgentPlayer) × (nth xs i ≡ Some y) × (y.player ≡ x)
 attendant_at [] i x e = absurd (subst is_some (sym e) tt)
@@ -273,7 +276,7 @@ pub attendants_many : (xs : List AgentPlayer) → length (attendants xs) ≡ len
 attendants_many [] = refl
 attendants_many (x ∷ xs) = ap suc (attendants_many xs)
 
-module _ (traced : RunTraced) (code : PlainCode) (limit : ℕ) (s : PlainShared) (all : Players) (rs : List ActorReport) (h : ArePlaying code limit s all) (rep : AreReported (attendants all.agents.items) rs) where
+module _ (traced : RunTraced) (done : DoneIsUndisturbed) (code : PlainCode) (limit : ℕ) (s : PlainShared) (all : Players) (rs : List ActorReport) (h : ArePlaying code limit s all) (rep : AreReported (attendants all.agents.items) rs) where
   -- an entry and its actor
   record IsEntry (i : ℕ) (r : ActorReport) : Type 0 where
     player : AgentPlayer
@@ -281,14 +284,14 @@ module _ (traced : RunTraced) (code : PlainCode) (limit : ℕ) (s : PlainShared)
     reported : IsReported player.player r
     agent : CellId
     named : nth (agents_of code) i ≡ Some agent
-    attends : IsAttending code agent (length code.threads + i) limit s.taken player
+    attends : IsAttending code agent (length code.threads + i) limit player
     of : IsPlayerOf code (length code.threads + i) (books_of s) player.player.actor player.player.trace.items ((run_of code h.run.turns).actors (length code.threads + i))
 
   entry_at : (i : ℕ) (r : ActorReport) → nth rs i ≡ Some r → IsEntry i r
   entry_at i r e =
       let x = reported_at (attendants all.agents.items) rs i r rep e in
       let y = attendant_at all.agents.items i x.0 x.1 in
-      let a = attending_at code limit s.taken (length code.threads) i (agents_of code) all.agents.items y.0 h.agents y.1 in
+      let a = attending_at code limit (length code.threads) i (agents_of code) all.agents.items y.0 h.agents y.1 in
       record {
         player = y.0;
         there = y.1;
@@ -317,12 +320,13 @@ module _ (traced : RunTraced) (code : PlainCode) (limit : ℕ) (s : PlainShared)
         counted = x.reported.counted;
         traced = trace;
         names = subst (TraceHolds (books_of s) (length code.threads + i)) (sym trace) t.traced;
+        undisturbed = all_undisturbed done code.cells (length code.threads) (books_of s) (length code.threads + i) y.entries t.hold;
         full = x.of.full;
       }
 
   pub agents_done : AgentsAreDone code limit (books_of s) rs
   agents_done = record {
-    one_each = as_many (attendants all.agents.items) rs rep ∙ attendants_many all.agents.items ∙ as_attending code limit s.taken (length code.threads) (agents_of code) all.agents.items h.agents;
+    one_each = as_many (attendants all.agents.items) rs rep ∙ attendants_many all.agents.items ∙ as_attending code limit (length code.threads) (agents_of code) all.agents.items h.agents;
     each = λ i r e. agent_done i r (entry_at i r e);
   }
 
@@ -347,22 +351,22 @@ module _ (traced : RunTraced) (code : PlainCode) (limit : ℕ) (s : PlainShared)
 
   -- ---- what a program means of agents
 
-  -- an actor that goes on, or was stopped, where its code has printed nothing
-  silent_so : (a : PlainActor) (o : Option Outcome) (at : Turned Configuration) (why : Option Stop) → IsPlacedAs a o at why → GoesOn (outcome_at at) → NeverEnds o × (a.printed ≡ [])
-  silent_so a None at why p g = (tt, subst (λ (u : Turned Configuration). GoesOn (outcome_at u)) p.0 g)
-  silent_so a (Some outcome.Done) at why p g = absurd (subst (λ (u : Turned Configuration). GoesOn (outcome_at u)) p.0 g)
-  silent_so a (Some (outcome.Failed f)) at why p g = absurd (subst (λ (u : Turned Configuration). GoesOn (outcome_at u)) p.0 g)
-  silent_so a (Some outcome.StepsSpent) at why p g = (tt, subst (λ (u : Turned Configuration). GoesOn (outcome_at u)) p.0 g)
-  silent_so a (Some outcome.JournalFull) at why p g = (tt, ap (λ (u : ActorState). u.printed) (sym p.2) ∙ subst (λ (u : Turned Configuration). GoesOn (outcome_at u)) p.1 g)
-  silent_so a (Some outcome.Memory) at why p g = (tt, ap (λ (u : ActorState). u.printed) (sym p.2) ∙ subst (λ (u : Turned Configuration). GoesOn (outcome_at u)) p.1 g)
+  -- an actor that goes on, or was stopped, has printed what its code has
+  printed_so : (a : PlainActor) (o : Option Outcome) (at : Turned Configuration) (why : Option Stop) (out : List ℕ) → IsPlacedAs a o at why → HasPrintedJust out at → NeverEnds o × (a.printed ≡ out)
+  printed_so a None at why out p g = (tt, subst (HasPrintedJust out) p.0 g)
+  printed_so a (Some outcome.Done) at why out p g = absurd (subst (HasPrintedJust out) p.0 g)
+  printed_so a (Some (outcome.Failed f)) at why out p g = absurd (subst (HasPrintedJust out) p.0 g)
+  printed_so a (Some outcome.StepsSpent) at why out p g = (tt, subst (HasPrintedJust out) p.0 g)
+  printed_so a (Some outcome.JournalFull) at why out p g = (tt, ap (λ (u : ActorState). u.printed) (sym p.2) ∙ subst (HasPrintedJust out) p.1 g)
+  printed_so a (Some outcome.Memory) at why out p g = (tt, ap (λ (u : ActorState). u.printed) (sym p.2) ∙ subst (HasPrintedJust out) p.1 g)
 
-  pub all_explained_by : RunReported → CodesStaged (map (thread_code code) code.threads) → (ts : List ActorReport) → IsExplainedBy code (shared_of s) ts → AreExplainedBy code (shared_of s) ts rs
-  all_explained_by law staged ts by p same follows agents sends = record {
+  pub all_explained_by : RunReported → CodesStaged (map (thread_code code) code.threads) × AgentsStaged (library_of code) → (ts : List ActorReport) → IsExplainedBy code (shared_of s) ts → AreExplainedBy code (shared_of s) ts rs
+  unfolding agent_done
+  all_explained_by law staged ts by p same follows agents sends agents_send = record {
     by_threads = by p same follows;
     one_each = agents_done.one_each ∙ ap (λ cs. length (agents_from 0 cs)) (sym same);
     sends = subst (AllSound p.functions) (sym book) whole.agents.sends;
-    acts = subst (ActsMean p.functions p.cells) (sym book) whole.agents.acts;
-    each = λ i r e. agent_explained i r (entry_at i r e);
+    each = λ i g r named e. agent_explained i g r (entry_at i r e) named;
   }
     where
       threads : length code.threads ≡ length p.threads
@@ -388,16 +392,31 @@ module _ (traced : RunTraced) (code : PlainCode) (limit : ℕ) (s : PlainShared)
       whole : ReportExplained p (library_of code) (run_of code h.run.turns)
       whole =
           subst (ReportExplained p (library_of code)) (ap (λ cs. plays cs (length p.threads) (code_of code) h.run.turns) same ∙ ap (λ n. plays code.cells n (code_of code) h.run.turns) (sym threads))
-          (law p (map (thread_code code) code.threads) (library_of code) (code_of code) h.run.turns follows agents staged sends runs)
+          (law p (map (thread_code code) code.threads) (library_of code) (code_of code) h.run.turns follows agents staged.0 staged.1 sends agents_send runs)
 
-      agent_explained : (i : ℕ) (r : ActorReport) → IsEntry i r → ExplainsAgent (length p.threads + i) (books_of s) r
-      agent_explained i r x =
+      -- the books of the run
+      bs : books_of s ≡ (run_of code h.run.turns).shared.books
+      bs = ap (λ (sh : Shared). sh.books) h.run.shared
+
+      agent_explained : (i : ℕ) (g : CellId) (r : ActorReport) → IsEntry i r → nth (agents_from 0 p.cells) i ≡ Some g → ExplainsAgent p (length p.threads + i) g (books_of s) r
+      agent_explained i g r x named =
           let at = agent_at code i x.agent x.named in
-          let place : length code.threads + i ≡ world.actor_of (length p.threads) (cells_of p.cells) x.agent = at.place ∙ ap (λ n. world.actor_of n (cells_of code.cells) x.agent) threads ∙ ap (λ cs. world.actor_of (length p.threads) (cells_of cs) x.agent) (sym same) in
-          let goes = (whole.agents.agents x.agent (subst (λ cs. has_agent (cells_of cs) x.agent ≡ true) (sym same) at.has)).goes_on in
-          let so = silent_so x.player.player.actor x.player.player.actor.outcome _ _ x.of.placed (subst (λ n. GoesOn (outcome_at ((run_of code h.run.turns).actors n).at)) (sym place) goes) in
+          let is : x.agent ≡ g = ap (or_else g) (sym x.named ∙ ap (λ cs. nth (agents_from 0 cs) i) (sym same) ∙ named) in
+          let k : ℕ = world.actor_of (length p.threads) (cells_of p.cells) x.agent in
+          let y = (run_of code h.run.turns).actors (length code.threads + i) in
+          let place : length code.threads + i ≡ k = at.place ∙ ap (λ n. world.actor_of n (cells_of code.cells) x.agent) threads ∙ ap (λ cs. world.actor_of (length p.threads) (cells_of cs) x.agent) (sym same) in
+          let all = whole.agents.agents x.agent (subst (λ cs. has_agent (cells_of cs) x.agent ≡ true) (sym same) at.has) in
+          let so = printed_so x.player.player.actor x.player.player.actor.outcome _ _ all.printed x.of.placed (subst (λ n. HasPrintedJust all.printed ((run_of code h.run.turns).actors n).at) (sym place) all.goes_on) in
+          let trace : places_of r.trace.items ≡ trace_of p.cells (run_of code h.run.turns).shared.books k ((run_of code h.run.turns).actors k).entries
+          = (agent_done i r x).traced ∙ ap (λ cs. trace_of cs (books_of s) (length code.threads + i) y.entries) (sym same)
+          ∙ ap (λ b. trace_of p.cells b (length code.threads + i) y.entries) bs
+          ∙ ap (λ n. trace_of p.cells (run_of code h.run.turns).shared.books n ((run_of code h.run.turns).actors n).entries) place in
           record {
             traced = subst (λ n. TraceHolds (books_of s) (n + i) (places_of r.trace.items)) threads (agent_done i r x).names;
-            silent = sym x.reported.printed ∙ so.1;
             unended = subst NeverEnds x.reported.ended so.0;
+            did = all.did;
+            acts = subst (λ b. ActsInTurn p.cells p.functions b g (places_of r.trace.items) [] r.printed.items all.did) (sym bs)
+                (subst (λ l. ActsInTurn p.cells p.functions (run_of code h.run.turns).shared.books g (places_of r.trace.items) [] l all.did) (sym so.1 ∙ x.reported.printed)
+                (subst (λ ps. ActsInTurn p.cells p.functions (run_of code h.run.turns).shared.books g ps [] all.printed all.did) (sym trace)
+                (subst (λ j. ActsInTurn p.cells p.functions (run_of code h.run.turns).shared.books j (trace_of p.cells (run_of code h.run.turns).shared.books k ((run_of code h.run.turns).actors k).entries) [] all.printed all.did) is all.acts)));
           }

@@ -41,9 +41,9 @@ none_next cells book g few = go (is_failed cells book g) (mail_after cells book 
     go true (x ∷ xs) n = absurd (omega (arith, n))
     go false (x ∷ xs) n = absurd (omega (arith, n))
 
-pub attends_has : (code : PlainCode) (s : PlainShared) (limit k i : ℕ) (xs : List AgentPlayer) (x : AgentPlayer) → IsStateOf code s → AreAttending code limit s.taken k (agents_of code) xs → nth xs i ≡ Some x → has_agent (cells_of s.cells) x.agent ≡ true
+pub attends_has : (code : PlainCode) (s : PlainShared) (limit k i : ℕ) (xs : List AgentPlayer) (x : AgentPlayer) → IsStateOf code s → AreAttending code limit k (agents_of code) xs → nth xs i ≡ Some x → has_agent (cells_of s.cells) x.agent ≡ true
 attends_has code s limit k i xs x of h e =
-    let a = attending_at code limit s.taken k i (agents_of code) xs x h e in
+    let a = attending_at code limit k i (agents_of code) xs x h e in
     subst (λ cs. has_agent (cells_of cs) x.agent ≡ true) (sym of.cells) (subst (λ g. has_agent (cells_of code.cells) g ≡ true) (sym a.2.agent) a.2.at.has)
 
 pub works_at : (code : PlainCode) (s : PlainShared) (i : ℕ) (xs : List AgentPlayer) (x : AgentPlayer) → IsStateOf code s → nth xs i ≡ Some x → x.player.actor.outcome ≡ None → (y : Action) × (next_action (cells_of s.cells) (numbered_book s 0) x.agent ≡ Some y) → IsWorking code s i xs

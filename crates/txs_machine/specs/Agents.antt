@@ -8,11 +8,12 @@ use Rattle.txs_tree_meaning.specs.Tree.{PlainProgram}
 use Rattle.txs_code_meaning.specs.PlainCode.{PlainCode, thread_code, library_of}
 use Rattle.txs_theorem_threads.specs.FollowsAgent.{FollowsAgents}
 use Rattle.txs_theorem_threads.specs.FollowsAll.{FollowsAll}
-use Rattle.txs_theorem_threads.specs.Sends.{CodesSendSound}
+use Rattle.txs_theorem_threads.specs.Sends.{CodesSendSound, AgentsSendSound}
 use Rattle.txs_machine_actor.specs.PlainActor.{PlainActor, HasRun, code_of, unanswered}
 use Rattle.txs_value_cell.specs.Agents.{agents_from}
 use Rattle.txs_world_book.specs.Served.{cells_of}
 use Rattle.txs_world.specs.Store.{next_action}
+use Rattle.txs_theorem_runs.specs.Explains.{CommitsUndisturbed}
 use Rattle.txs_theorem_runs.specs.Shared.{Shared}
 use Rattle.txs_theorem_runs.specs.Told.{Entry, exchange_of, AllHold, TraceHolds, trace_of}
 use Rattle.txs_machine.specs.RunOver.{IsLimited, AtFullBook, places_of}
@@ -33,7 +34,8 @@ actors_of code = length code.threads + length (agents_of code)
 
 -- An entry of a report says what the k-th actor, an agent's, did over the books: after so many steps, of which it makes no more than its limit, and all
 -- where they were spent, it is where the machine's meaning comes to on what the books answered it; it has printed these bytes, and ended so if it has;
--- the trace has the places of its events, and names no others; and where it was stopped for a full book, the book for its ask is full.
+-- the trace has the places of its events, and names no others; what its commits set or ensured was written by nobody since the read
+-- point; and where it was stopped for a full book, the book for its ask is full.
 pub record AgentHasDone (code : PlainCode) (k limit : ℕ) (books : ℕ → List Event) (ran : ActorReport) : Type 0 where
   pub actor : PlainActor
   pub number : actor.number ≡ k
@@ -47,6 +49,7 @@ pub record AgentHasDone (code : PlainCode) (k limit : ℕ) (books : ℕ → List
   pub counted : actor.steps ≡ ran.steps
   pub traced : places_of ran.trace.items ≡ trace_of code.cells books k entries
   pub names : TraceHolds books k (places_of ran.trace.items)
+  pub undisturbed : CommitsUndisturbed books entries
   pub full : actor.outcome ≡ Some outcome.JournalFull → AtFullBook code.cells (code_of code k) books (map exchange_of entries) actor
 
 -- There is one entry for each agent, in the order of the cells, which says what the agent's actor did.
@@ -62,7 +65,7 @@ abbrev pub AreExplainedBy : PlainCode → Shared → List ActorReport → List A
 AreExplainedBy code sh threads agents =
     (p : PlainProgram)
     → p.cells ≡ code.cells → FollowsAll (map (thread_code code) code.threads) p
-    → FollowsAgents (library_of code) p.functions → CodesSendSound p.functions (map (thread_code code) code.threads)
+    → FollowsAgents (library_of code) p.cells p.functions → CodesSendSound p.functions (map (thread_code code) code.threads) → AgentsSendSound p.functions (library_of code)
     → ExplainsAll p sh threads agents
 
 -- ---- when rounds are over

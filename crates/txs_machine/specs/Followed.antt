@@ -48,4 +48,4 @@ ActorsFollow =
 abbrev pub ActorsExplained : Type 0
 ActorsExplained =
     (code : PlainCode) (xs : List Exchange) (es : List SeenEvent) (a : PlainActor) (p : ThreadSource) → HasRun code xs a → Follows (code_of code a.number) p → RepliesFit p.cells Out xs es
-    → (m : ℕ) × (m ≤ a.steps) × Explained (outcome_of_actor a) (thread_meaning p m es) × AreNoted xs (txs_of (thread_meaning p m es))
+    → (m : ℕ) × (m ≤ a.steps) × Explained (outcome_of_actor a) (thread_meaning p m es) × AreNoted None xs (txs_of (thread_meaning p m es))

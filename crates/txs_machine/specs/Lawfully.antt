@@ -1,5 +1,5 @@
 -- Why an actor's next ask is lawful.
-use Rattle.std.specs.Prelude.{◌≡◌, ◌<◌, ℕ, List, [], length, map, Option, Some, None}
+use Rattle.std.specs.Prelude.{◌≡◌, ◌<◌, ℕ, false, List, [], length, map, Option, Some, None}
 use Rattle.txs_world_protocol.specs.Ask.{Exchange}
 use Rattle.txs_world_protocol.specs.declared.ask.Ask.{Ask}
 use Rattle.txs_world_protocol.specs.declared.event.Event.{Event}
@@ -28,7 +28,7 @@ pub record AskedFrom (cells : List CellDefinition) (code : ThreadCode) (k : ℕ)
   pub before : Configuration
   pub ran : run code turns (opening code xs) ≡ Unfinished before
   pub consumed : before.state.todo ≡ []
-  pub here : stage_of before ≡ st
+  pub here : stage_of false before ≡ st
   pub awaits : Awaits code before a q
   pub views : MayView cells code k books before
 

@@ -4,8 +4,6 @@ use Rattle.txs_world_protocol.specs.declared.event.Outcome.{Outcome}
 use Rattle.txs_value_data.specs.declared.value.CellId.{CellId}
 use Rattle.txs_code_meaning.specs.PlainCode.{PlainCode}
 use Rattle.txs_machine_actor.specs.PlainActor.{PlainActor, Lives, unanswered}
-use Rattle.txs_world_book.specs.Served.{cells_of}
-use Rattle.txs_world.specs.Store.{none_taken}
 use Rattle.txs_theorem_runs.proofs.Growing.{Grown}
 use Rattle.txs_theorem_runs.specs.Shared.{untouched}
 use Rattle.txs_world_shared.specs.SharedState.{PlainShared, shared_of}
@@ -13,7 +11,7 @@ use Rattle.txs_machine.specs.Agents.{agents_of, AgentsAreDone, AreDrained, AreEx
 use Rattle.txs_machine.specs.Lawfully.{RunLawfully}
 use Rattle.txs_machine.specs.Playing.{AllEnded, AreBetween, AreLater, AreNew, ArePlayedAt, HaveSteps, IsBetween, IsPlayed}
 use Rattle.txs_machine.specs.RunOver.{IsAfter, IsLimited, IsStateOf, books_of}
-use Rattle.txs_machine.specs.Running.{AreAttending, AreIdle, ArePlaying, GoesAs, HasWork, IsAttending, IsLive, LeavesTaken, attendants, left_all}
+use Rattle.txs_machine.specs.Running.{AreAttending, AreIdle, ArePlaying, GoesAs, HasWork, IsAttending, IsLive, attendants, left_all}
 use Rattle.txs_machine.specs.Schedule.{AreDone, ArePlayed, HaveEnded, IsExplainedBy}
 use Rattle.txs_machine.specs.declared.player.AgentPlayer.{AgentPlayer}
 use Rattle.txs_world_protocol.specs.declared.event.Place.{Place}
@@ -34,7 +32,6 @@ pub record IsRound (code : PlainCode) (k : ℕ) (s : PlainShared) (a : PlainActo
   pub of : IsStateOf code t
   pub over : RunLawfully code k (books_of t) new z
   pub grown : Grown k (books_of s) (books_of t)
-  pub taken : t.taken ≡ s.taken
   pub goes : a.outcome ≡ None → GoesAs code k s a tr t z new
 
 -- a thread's actor after a play of it
@@ -42,7 +39,6 @@ pub record IsThreadsPlay (code : PlainCode) (k limit : ℕ) (s : PlainShared) (x
   pub of : IsStateOf code t
   pub between : IsBetween code k limit (books_of t) y
   pub grown : Grown k (books_of s) (books_of t)
-  pub taken : t.taken ≡ s.taken
   pub goes : GoesAs code k s x.actor x.trace.items t y.actor y.trace.items
   pub played : IsPlayed x.actor y.actor
 
@@ -50,9 +46,7 @@ pub record IsThreadsPlay (code : PlainCode) (k limit : ℕ) (s : PlainShared) (x
 -- that it may has ended
 pub record IsAgentsPlay (code : PlainCode) (k limit : ℕ) (s : PlainShared) (x : AgentPlayer) (t : PlainShared) (y : AgentPlayer) : Type 0 where
   pub of : IsStateOf code t
-  pub attending : IsAttending code x.agent k limit t.taken y
-  pub long : length t.taken ≡ length code.cells
-  pub others : LeavesTaken x.agent s.taken t.taken
+  pub attending : IsAttending code x.agent k limit y
   pub grown : Grown k (books_of s) (books_of t)
   pub goes : GoesAs code k s x.player.actor x.player.trace.items t y.player.actor y.player.trace.items
   pub later : y.player.actor.outcome ≡ None → (x.player.actor.outcome ≡ None) × (x.player.actor.steps ≤ y.player.actor.steps)
@@ -80,7 +74,7 @@ pub record AreOpened (code : PlainCode) (limit n : ℕ) (xs : List Player) : Typ
 
 -- the actors of these agents, of which the first is the k-th actor
 pub record AreOpenedFor (code : PlainCode) (limit k : ℕ) (gs : List CellId) (xs : List AgentPlayer) : Type 0 where
-  pub attending : AreAttending code limit (none_taken (cells_of code.cells)) k gs xs
+  pub attending : AreAttending code limit k gs xs
   pub opened : AreNew code limit k (attendants xs)
 
 -- all actors, so many of threads and one of each agent, are where nothing was done yet

@@ -1,5 +1,5 @@
 -- What an actor has done over what is shared, and what the source of its thread says of it.
-use Rattle.std.specs.Prelude.{◌≡◌, ◌≤◌, ℕ, List, [], ◌∷◌, ◌++◌, length, map, Option, Some, None}
+use Rattle.std.specs.Prelude.{◌≡◌, ◌≤◌, ℕ, false, List, [], ◌∷◌, ◌++◌, length, map, Option, Some, None}
 use Rattle.txs_world_protocol.specs.Ask.{Exchange}
 use Rattle.txs_world_protocol.specs.declared.ask.Ask.{Ask}
 use Rattle.txs_world_protocol.specs.declared.ask.Reply.{Reply}
@@ -18,7 +18,7 @@ use Rattle.txs_theorem_runs.specs.Stages.{Stage, AsksIn, stage_after}
 use Rattle.txs_theorem_runs.specs.Staged.{IsStaged, stage_of}
 use Rattle.txs_theorem_runs.specs.Shared.{book_for}
 use Rattle.txs_theorem_runs.specs.Told as told_by
-use Rattle.txs_theorem_runs.specs.Told.{Entry, exchange_of, ToldBy, trace_of, TraceHolds, seen_of}
+use Rattle.txs_theorem_runs.specs.Told.{Entry, exchange_of, ToldBy}
 use Rattle.txs_world_shared.specs.SharedState.{PlainShared, shared_of}
 use Rattle.txs_world_protocol.specs.declared.event.Place.{Place}
 
@@ -30,8 +30,8 @@ pub record IsStateOf (code : PlainCode) (s : PlainShared) : Type 0 where
 -- an actor is in this stage; one that asks is in the next stage after each answer
 abbrev pub IsIn : PlainActor → Stage → Option Outcome → Option Ask → Type 0
 IsIn a st (Some o) q = Unit {0}
-IsIn a st None None = stage_of (configuration_of a) ≡ st
-IsIn a st None (Some q) = AsksIn st q × ((r : Reply) → MayAnswer q r → (Stops r → ⊥) → IsStaged (stage_after st q r) (stands_at (answered a r)))
+IsIn a st None None = stage_of false (configuration_of a) ≡ st
+IsIn a st None (Some q) = AsksIn false st q × ((r : Reply) → MayAnswer q r → (Stops r → ⊥) → IsStaged false (stage_after st q r) (stands_at (answered a r)))
 
 -- the books of the state, by number
 abbrev pub books_of : PlainShared → ℕ → List Event
@@ -63,7 +63,7 @@ pub record RunOver (code : PlainCode) (k : ℕ) (books : ℕ → List Event) (a 
   pub entries : List Entry
   pub stage : Stage
   pub ran : HasRun code (map exchange_of entries) a
-  pub told : ToldBy code.cells (length code.threads) books k entries stage
+  pub told : ToldBy code.cells (length code.threads) books false k entries stage
   pub here : IsIn a stage a.outcome (unanswered a)
   pub asked : (before : List Entry) (e : Entry) (rest : List Entry) → entries ≡ before ++ e ∷ rest → AskedOn (code_of code k) before a
   pub full : a.outcome ≡ Some JournalFull → AtFullBook code.cells (code_of code k) books (map exchange_of entries) a

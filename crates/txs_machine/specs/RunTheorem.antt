@@ -7,6 +7,7 @@ use Rattle.txs_world_protocol.specs.declared.event.Outcome.{Outcome}
 use Rattle.txs_world_protocol.specs.declared.event.Outcome.TheVariants as outcome
 use Rattle.txs_world_protocol.specs.declared.event.Place.{Place}
 use Rattle.txs_value_base.specs.Places.{nth}
+use Rattle.txs_value_data.specs.declared.value.CellId.{CellId}
 use Rattle.txs_value_data.specs.declared.value.Value.{Value}
 use Rattle.txs_frame.specs.Frame.{empty_frame}
 use Rattle.txs_tree_meaning.specs.Meaning.{Completion}
@@ -18,7 +19,7 @@ use Rattle.txs_theorem_threads.specs.Noted.{txs_of}
 use Rattle.txs_theorem_threads.specs.RepliesFit.{Explained, halted, HasWaited}
 use Rattle.txs_machine_actor.specs.PlainActor.{PlainActor, unanswered, stating, standing}
 use Rattle.txs_value_cell.specs.Agents.{agents_from}
-use Rattle.txs_theorem_runs.specs.Agents.{ActsMean, AllSound}
+use Rattle.txs_theorem_runs.specs.Agents.{ActionDid, ActsInTurn, AllSound}
 use Rattle.txs_theorem_runs.specs.Explains.{BooksStand, CommitsUndisturbed}
 use Rattle.txs_theorem_runs.specs.Refused.{RefusalsUndisturbed}
 use Rattle.txs_theorem_runs.specs.Shared.{Shared}
@@ -103,14 +104,16 @@ NeverEnds (Some outcome.StepsSpent) = Unit {0}
 NeverEnds (Some outcome.JournalFull) = Unit {0}
 NeverEnds (Some outcome.Memory) = Unit {0}
 
--- The entry of an agent is explained.
-pub record ExplainsAgent (k : ℕ) (books : ℕ → List Event) (ran : ActorReport) : Type 0 where
+-- A program explains the entry of an agent.
+pub record ExplainsAgent (p : PlainProgram) (k : ℕ) (g : CellId) (books : ℕ → List Event) (ran : ActorReport) : Type 0 where
   -- its trace names the agent's events and no others
   pub traced : TraceHolds books k (places_of ran.trace.items)
-  -- it printed nothing
-  pub silent : ran.printed.items ≡ []
   -- it never ended
   pub unended : NeverEnds ran.outcome
+  -- what it did and printed is what its actions mean, one after another: each act what the first action of its mail means on the agent's state, over all that it
+  -- did since the act before; and what it did and printed after the last act what the action means that is first then
+  pub did : List ActionDid
+  pub acts : ActsInTurn p.cells p.functions books g (places_of ran.trace.items) [] ran.printed.items did
 
 -- A program explains a run with its agents.
 pub record ExplainsAll (p : PlainProgram) (sh : Shared) (threads agents : List ActorReport) : Type 0 where
@@ -120,7 +123,5 @@ pub record ExplainsAll (p : PlainProgram) (sh : Shared) (threads agents : List A
   pub one_each : length agents ≡ length (agents_from 0 p.cells)
   -- a program may send what was sent
   pub sends : AllSound p.functions (sh.books 0)
-  -- each result of an action is what its callee means, on the state that the agent found, of the action that was the first in its mail
-  pub acts : ActsMean p.functions p.cells (sh.books 0)
   -- the entry of each agent is explained
-  pub each : (i : ℕ) (ran : ActorReport) → nth agents i ≡ Some ran → ExplainsAgent (length p.threads + i) sh.books ran
+  pub each : (i : ℕ) (g : CellId) (ran : ActorReport) → nth (agents_from 0 p.cells) i ≡ Some g → nth agents i ≡ Some ran → ExplainsAgent p (length p.threads + i) g sh.books ran

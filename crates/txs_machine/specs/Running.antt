@@ -1,9 +1,8 @@
 -- Runs of all threads and agents of a code are those that the laws of runs speak of: which turns they are, and what holds of agents' actors between two
 -- plays.
 use Rattle.std.proofs.Common.{◌⊎◌}
-use Rattle.std.specs.Prelude.{◌≡◌, ◌+◌, ◌-◌, ℕ, suc, Bool, true, false, List, [], ◌∷◌, length, map, Option, Some, None}
+use Rattle.std.specs.Prelude.{◌≡◌, ◌+◌, ◌-◌, ℕ, suc, true, List, [], ◌∷◌, length, map, Option, Some, None}
 use Rattle.txs_world_protocol.specs.declared.ask.Ask.{Ask}
-use Rattle.txs_world_protocol.specs.declared.ask.Ask.TheVariants as ask
 use Rattle.txs_world_protocol.specs.declared.ask.Reply.{Reply}
 use Rattle.txs_world_protocol.specs.declared.event.Event.{Event}
 use Rattle.txs_world_protocol.specs.declared.event.Outcome.{Outcome}
@@ -11,13 +10,12 @@ use Rattle.txs_world_protocol.specs.declared.event.Outcome.TheVariants as outcom
 use Rattle.txs_value_base.specs.Places.{nth}
 use Rattle.txs_value_cell.specs.declared.action.Action.{Action}
 use Rattle.txs_value_data.specs.declared.value.CellId.{CellId}
-use Rattle.txs_code_meaning.specs.ActorState.{InHand}
-use Rattle.txs_code_meaning.specs.Machine.{Activity, Outside, Restarting, Running, Applying, Swapping, Configuration, Turned, Ended, Failed, Unfinished}
+use Rattle.txs_code_meaning.specs.Machine.{Configuration, Turned, Ended, Failed, Unfinished}
 use Rattle.txs_code_meaning.specs.PlainCode.{PlainCode}
 use Rattle.txs_machine_actor.specs.PlainActor.{PlainActor, HasRun, IsActorOf, Lives, MayAnswer, answered, code_of, configuration_of, state_of, unanswered, SameBut}
-use Rattle.txs_world_book.specs.Book.{has_agent, actor_of, is_empty}
+use Rattle.txs_world_book.specs.Book.{has_agent, actor_of}
 use Rattle.txs_world_book.specs.Served.{cells_of}
-use Rattle.txs_world.specs.Store.{is_taken, next_action}
+use Rattle.txs_world.specs.Store.{next_action}
 use Rattle.txs_theorem_runs.specs.Run as run
 use Rattle.txs_theorem_runs.specs.Run.{Stop, JournalFull, Memory, TurnsSpent}
 use Rattle.txs_theorem_runs.specs.Told.{exchange_of, AllHold, trace_of}
@@ -61,6 +59,12 @@ pub record IsPlayerOf (code : PlainCode) (k : ℕ) (books : ℕ → List Event) 
   pub traced : places_of trace ≡ trace_of code.cells books k y.entries
   pub full : a.outcome ≡ Some outcome.JournalFull → AtFullBook code.cells (code_of code k) books (map exchange_of y.entries) a
 
+-- What is shared and the k-th actor, with this trace, are those of a list of turns, whoever made the others.
+pub record IsInRun (code : PlainCode) (k : ℕ) (s : PlainShared) (a : PlainActor) (trace : List Place) : Type 0 where
+  pub turns : List run.Play
+  pub shared : shared_of s ≡ (run_of code turns).shared
+  pub player : IsPlayerOf code k (books_of s) a trace ((run_of code turns).actors k)
+
 -- What is shared and the players, of the threads and behind them of the agents, are those of a list of turns, each with its ask served and answered in
 -- the same step. By this the laws of runs hold of them, whatever the order of the turns.
 pub record IsRunOf (code : PlainCode) (s : PlainShared) (xs : List Player) (gs : List AgentPlayer) : Type 0 where
@@ -97,45 +101,27 @@ pub record IsAnswered (k : ℕ) (s : PlainShared) (a : PlainActor) (trace : List
 
 -- ---- agents between two plays
 
--- an agent runs an action
-abbrev pub is_acting : Option InHand → Bool
-is_acting None = false
-is_acting (Some h) = true
-
--- an agent runs no transaction and no swap
-abbrev pub IsAgents : Activity → Type 0
-IsAgents Outside = Unit {0}
-IsAgents (Restarting left) = ⊥
-IsAgents (Running left inner from) = ⊥
-IsAgents (Applying left from work values) = ⊥
-IsAgents (Swapping swap from) = ⊥
-
--- the store knows whether the agent runs an action
-abbrev pub IsSynced : List Bool → CellId → PlainActor → Type 0
-IsSynced taken g a = a.outcome ≡ None → IsAgents (configuration_of a).doing × (is_taken taken g ≡ is_acting (state_of a).acting)
-
 -- this agent's actor has this number
 pub record IsAgentAt (code : PlainCode) (g : CellId) (k : ℕ) : Type 0 where
   pub has : has_agent (cells_of code.cells) g ≡ true
   pub place : k ≡ actor_of (length code.threads) (cells_of code.cells) g
   pub acts : IsActorOf code k g
 
--- the actor of an agent between two plays: it asks nothing, may take an action where it has none and hand one in where it has one
-pub record IsAttending (code : PlainCode) (g : CellId) (k limit : ℕ) (taken : List Bool) (x : AgentPlayer) : Type 0 where
+-- the actor of an agent between two plays: it asks nothing
+pub record IsAttending (code : PlainCode) (g : CellId) (k limit : ℕ) (x : AgentPlayer) : Type 0 where
   pub agent : x.agent ≡ g
   pub at : IsAgentAt code g k
   pub lives : Lives code x.player.actor
   pub free : unanswered x.player.actor ≡ None
   pub number : x.player.actor.number ≡ k
   pub limited : IsLimited limit x.player.actor
-  pub synced : IsSynced taken g x.player.actor
 
 -- so are the actors of these agents, of which the first is the k-th actor
-abbrev pub AreAttending : PlainCode → ℕ → List Bool → ℕ → List CellId → List AgentPlayer → Type 0
-AreAttending code limit taken k [] [] = Unit {0}
-AreAttending code limit taken k [] (x ∷ xs) = ⊥
-AreAttending code limit taken k (g ∷ gs) [] = ⊥
-AreAttending code limit taken k (g ∷ gs) (x ∷ xs) = IsAttending code g k limit taken x × AreAttending code limit taken (suc k) gs xs
+abbrev pub AreAttending : PlainCode → ℕ → ℕ → List CellId → List AgentPlayer → Type 0
+AreAttending code limit k [] [] = Unit {0}
+AreAttending code limit k [] (x ∷ xs) = ⊥
+AreAttending code limit k (g ∷ gs) [] = ⊥
+AreAttending code limit k (g ∷ gs) (x ∷ xs) = IsAttending code g k limit x × AreAttending code limit (suc k) gs xs
 
 -- the actors of agents alone
 abbrev pub attendants : List AgentPlayer → List Player
@@ -175,20 +161,9 @@ abbrev pub AreIdle : PlainCode → PlainShared → List AgentPlayer → Type 0
 AreIdle code s [] = Unit {0}
 AreIdle code s (x ∷ xs) = (x.player.actor.outcome ≡ None → HasWork code s x.agent → ⊥) × AreIdle code s xs
 
--- another actor's play leaves whether an agent runs an action
-abbrev pub LeavesTaken : CellId → List Bool → List Bool → Type 0
-LeavesTaken g before later = (h : CellId) → (h.number ≡ g.number → ⊥) → is_taken later h ≡ is_taken before h
-
--- an agent asks to take an action where it runs none, and to hand in the one that it runs, which sends nothing
-abbrev pub AsksAsAgent : List Bool → CellId → Ask → Type 0
-AsksAsAgent taken g (ask.Take h) = (h ≡ g) × (is_taken taken g ≡ false)
-AsksAsAgent taken g (ask.Finish h new sends) = (h ≡ g) × (is_taken taken g ≡ true) × (is_empty sends ≡ true)
-AsksAsAgent taken g _ = ⊥
-
 -- what holds of all actors between two plays
 pub record ArePlaying (code : PlainCode) (limit : ℕ) (s : PlainShared) (all : Players) : Type 0 where
   pub many : length all.threads.items ≡ length code.threads
-  pub long : length s.taken ≡ length code.cells
   pub threads : AreBetween code limit (books_of s) 0 all.threads.items
-  pub agents : AreAttending code limit s.taken (length code.threads) (agents_of code) all.agents.items
+  pub agents : AreAttending code limit (length code.threads) (agents_of code) all.agents.items
   pub run : IsRunOf code s all.threads.items all.agents.items

@@ -103,7 +103,7 @@ pub(crate) fn first_working(
     shared: &SharedState,
 ) -> Option<usize>
     requires of { IsStateOf code.now shared.now }
-    requires attending { (limit : ℕ) × (k : ℕ) × AreAttending code.now limit shared.now.taken k (agents_of code.now) agents.now }
+    requires attending { (limit : ℕ) × (k : ℕ) × AreAttending code.now limit k (agents_of code.now) agents.now }
     ensures there { IfSome result (λ i. i < length agents.now) }
     ensures working { IfSome result (λ i. IsWorking code.now shared.now i agents.now) }
     ensures idle { result ≡ None → AreIdle code.now shared.now agents.now }

@@ -1,7 +1,6 @@
 //! Runs of all threads and agents over what they share, by turns that a schedule names.
 
 ghost use Rattle.std.specs.Prelude.{◌≡◌, ◌<◌, ◌≤◌, ◌+◌, ◌++◌, ℕ, List, [], length, replicate, true, false, IfOk, IfErr, IfSome, IsTrue, OnOk, Some, None};
-ghost use Rattle.txs_machine_actor.specs.PlainActor.{MayRun};
 ghost use Rattle.txs_machine.specs.declared.schedule.Play.{Play as AnyPlay};
 ghost use Rattle.txs_machine.specs.declared.schedule.ScheduleError.TheVariants.{Memory};
 ghost use Rattle.txs_machine.specs.ErrorName.{schedule_error_number};
@@ -10,12 +9,10 @@ ghost use Rattle.txs_machine.specs.Agents.{actors_of, AgentsAreDone, AreExplaine
 ghost use Rattle.txs_machine.specs.Running.{ArePlaying, AreIdle, IsAttending, IsLive, attendants, left_all};
 ghost use Rattle.txs_machine.specs.Playing.{IsBetween, AreLater, HaveSteps, AllEnded, IsUnended, IsReported, AreReported};
 ghost use Rattle.txs_machine.specs.Plays.{IsThreadsPlay, IsAgentsPlay, IsPlayAt, AreReady, SaysOf};
+ghost use Rattle.txs_machine.specs.Turning.{MayGoOn};
 ghost use Rattle.txs_machine.specs.Schedule.{player, all_named, spread, AreDone, ArePlayed, HaveEnded, IsExplainedBy, HasNoReport};
 ghost use Rattle.txs_theorem_runs.specs.Shared.{untouched};
 ghost use Rattle.txs_world_shared.specs.SharedState.{shared_of};
-ghost use Rattle.txs_value_cell.specs.declared.action.Action.{Action as AnAction};
-ghost use Rattle.txs_world_book.specs.Served.{cells_of};
-ghost use Rattle.txs_world.specs.Store.{next_action};
 
 use crate::agents::{first_working, is_due, open_next};
 use crate::player::{AgentPlayer, Player, Players};
@@ -240,7 +237,7 @@ fn play_actor<Caller>(
     go_on(player, code, shared, budget);
 }
 
-/// A play of an agent's actor, in the same way. One for which nothing waits isn't asked, unless it has no step left.
+/// A play of an agent's actor, in the same way. One for which nothing waits isn't asked, unless it has no step left. All that it may come to ask it may ask.
 #[inline(never)]
 fn play_agent(
     agent: &mut AgentPlayer,
@@ -252,9 +249,8 @@ fn play_agent(
 )
     requires some { 0 < budget }
     requires of { IsStateOf code.now shared.old }
-    requires attending { IsAttending code.now agent.old.agent k max_steps shared.old.taken agent.old }
-    requires long { length shared.old.taken ≡ length code.now.cells }
-    requires may { (x : AnAction) → next_action (cells_of code.now.cells) (books_of shared.old 0) agent.old.agent ≡ Some x → MayRun code.now x }
+    requires attending { IsAttending code.now agent.old.agent k max_steps agent.old }
+    requires may { agent.old.player.actor.outcome ≡ None → MayGoOn code.now shared.old budget agent.old.player.actor }
     ensures { IsAgentsPlay code.now k max_steps shared.old agent.old shared.new agent.new }
 {
     if !is_due(agent, shared, max_steps) {

@@ -28,7 +28,7 @@ use Rattle.txs_machine_loop.specs.Ready.{Setting, swaps_of, Ready}
 use Rattle.txs_machine_loop.specs.Values.{last_of, put_under}
 use Rattle.txs_machine_loop.proofs.Lists.{nth_index}
 use Rattle.txs_machine_loop.proofs.Ready.{here_of}
-use Rattle.txs_machine_actor.specs.PlainActor.{PlainActor, home_of, stops_as, asked_for, unanswered, MayAnswer, MayAnswerIf, begins_again, run_again, ends_again, opens_again, end_again, refuse, views, answered_for, answered_if, answered, functions_of, setting_of, Began, BeganAnew, BeganWell, swaps_in, NoneAside, AllApply, AllCanDo, WaitsAs, open_of, GoesOn, AsksWell, CanGoOn, Runs, attends_anew, ActsFor, attending_at, waits, AttendsOn, Attends, Lives, OpenApplies}
+use Rattle.txs_machine_actor.specs.PlainActor.{PlainActor, home_of, stops_as, asked_for, unanswered, MayAnswer, MayAnswerIf, begins_again, run_again, ends_again, opens_again, end_again, refuse, views, fails_as, holds_all, ServesWell, IsFirst, has_failed, answered_for, answered_if, answered, functions_of, setting_of, Began, BeganAnew, BeganWell, swaps_in, NoneAside, AllApply, AllCanDo, WaitsAs, open_of, GoesOn, AsksWell, CanGoOn, Runs, attends_anew, ActsFor, attending_at, waits, AttendsOn, Attends, Lives, OpenApplies}
 use Rattle.txs_machine_transaction.specs.Asks.{applied_in, ask_for}
 use Rattle.txs_machine_transaction.specs.Transaction.{is_running, depth_in, IsSwapping}
 use Rattle.txs_code_meaning.specs.Validating.{has_validator}
@@ -43,7 +43,10 @@ use Rattle.txs_machine_actor.specs.declared.role.Role.{Role}
 use Rattle.txs_machine_actor.specs.declared.role.Role.TheVariants.{Thread, Attending, Acting}
 use Rattle.txs_machine_actor.proofs.Applying.{AllLook, tasks_do, typed_look, length_blank, well_behind, callers_none, began_none, swap_none, swapless}
 use Rattle.txs_machine_actor.proofs.Landing.{look_ready, begin_ready, end_ready, no_own_swap, open_stands, open_ready, put_stands, put_ready, send_stands, send_ready, close_stands, close_ready}
+use Rattle.txs_machine_actor.proofs.Effects.{home_all}
 use Rattle.txs_machine_actor.proofs.Replies.{by_reply}
+use Rattle.txs_value_base.specs.declared.fault.Fault.{Fault}
+use Rattle.txs_value_cell.specs.declared.action.Action.{Action}
 
 -- the actor can go on, in whatever body, as the actor of the same thread
 pub record Going (d : PlainCode) (kinds : List FunctionKind) (k : ℕ) (x : PlainActor) : Type 0 where
@@ -90,8 +93,37 @@ module _ (d : PlainCode) (kinds : List FunctionKind) (b : CodeBody) (a : PlainAc
       goes_so (record a { pending = None }) refl e refl refl
       (record { own = g.own; base = g.base; ready = g.ready; enters = g.enters; callers = g.callers; is_first = g.is_first; counted = g.counted; swaps = g.swaps; began = g.began; shallow = g.shallow; commutes = g.commutes; opened = g.opened; serves = g.serves; applies = g.applies })
 
+  -- the fault of an action is handed in next, by its agent's own body
+  fails_goes : (f : Fault) → a.outcome ≡ None → AllApply (functions_of d kinds) a.done.commutes → OpenApplies (functions_of d kinds) a.commuting → (r : Role) → ServesWell d kinds a.number r → After (fails_as a f r)
+  fails_goes f e all can Thread w = ends_so (outcome.Failed f)
+  fails_goes f e all can (Attending h o) w = absurd w
+  fails_goes f e all can (Acting h judges aside) w =
+      let typed = w.0.typed.typed in
+      let same : kinds ≡ typed.kinds = sym w.0.typed.same in
+      inr
+      (record {
+        function_rooms = w.0.typed.function_rooms;
+        thread_rooms = w.0.typed.thread_rooms;
+        typed = typed;
+        agent = h.agent;
+        acting = Some (record h { fault = Some f });
+        here = refl;
+        actor = w.0.actor;
+        roomy = w.0.roomy;
+        commutes = subst (λ (y : List FunctionKind). AllApply (functions_of d y) a.done.commutes) same all;
+        opened = subst (λ (y : List FunctionKind). OpenApplies (functions_of d y) a.commuting) same can;
+        attends = subst (λ (o : Option Outcome). AttendsOn d h.agent (fails_as a f (Acting h judges aside)) o None) (sym e) (has_failed (record h { fault = Some f }) f (stood_so judges w.0.is) refl refl);
+      })
+    where
+      Stood : Bool → PlainStack → Type 0
+      Stood j y = fails_as a f (Acting h j y) ≡ attending_at (fails_as a f (Acting h j y)) h.agent (Some (record h { fault = Some f })) 2 []
+
+      stood_so : (j : Bool) → WaitsAs j aside → Stood j aside
+      stood_so false q = subst (λ (y : PlainStack). Stood false y) (sym q) refl
+      stood_so true q = subst (λ (y : PlainStack). Stood true y) (sym q.1) refl
+
   begins_goes : (left : ℕ) (from : Savepoint) → a.outcome ≡ None → GoesOn d kinds b a → BeganAnew d kinds a.number home from → After (begins_again a left from)
-  begins_goes zero from e g w = ends_so (outcome.Failed (fault_at RetryLimit from.span))
+  begins_goes zero from e g w = fails_goes (fault_at RetryLimit from.span) e g.commutes g.opened a.role g.serves
   begins_goes (suc left) from e g w =
       let x = begins_again a (suc left) from in
       let v = w.0 in
@@ -128,7 +160,7 @@ module _ (d : PlainCode) (kinds : List FunctionKind) (b : CodeBody) (a : PlainAc
   again_goes (Weighing c p from aside) e g w = stays_so e g
 
   ends_goes : (left : ℕ) (from : Savepoint) → a.outcome ≡ None → (g : GoesOn d kinds b a) → NoneAside a.tx → g.base.0 + g.own.0 ≡ 1 → g.base.1 + g.own.1 ≡ 0 → 1 ≤ a.steps → BeganAnew d kinds a.number home from → After (ends_again a left from)
-  ends_goes zero from e g u c z le w = ends_so (outcome.Failed (fault_at RetryLimit from.span))
+  ends_goes zero from e g u c z le w = fails_goes (fault_at RetryLimit from.span) e g.commutes g.opened a.role g.serves
   ends_goes (suc left) from e g u c z le w =
       goes_so (ends_again a (suc left) from) refl e refl refl
       (record { own = g.own; base = g.base; ready = g.ready; enters = g.enters; callers = callers_none d kinds a.number a.tx a.frames g.base u g.callers; is_first = began_none kinds home a.tx a.frames a.body u g.is_first; counted = c; swaps = z; began = w; shallow = le; commutes = g.commutes; opened = g.opened; serves = g.serves; applies = tt })
@@ -146,8 +178,8 @@ module _ (d : PlainCode) (kinds : List FunctionKind) (b : CodeBody) (a : PlainAc
   refuse_goes : (t : Transaction) → a.outcome ≡ None → GoesOn d kinds b a → After (refuse a t)
   refuse_goes Outside e g = stays_so e g
   refuse_goes (Restarting left) e g = stays_so e g
-  refuse_goes (Running left inner from) e g = ends_so (outcome.Failed (fault_at AgentFailed from.span))
-  refuse_goes (Applying left from phase) e g = ends_so (outcome.Failed (fault_at AgentFailed from.span))
+  refuse_goes (Running left inner from) e g = fails_goes (fault_at AgentFailed from.span) e g.commutes g.opened a.role g.serves
+  refuse_goes (Applying left from phase) e g = fails_goes (fault_at AgentFailed from.span) e g.commutes g.opened a.role g.serves
   refuse_goes (Evaluating left from phase aside) e g = stays_so e g
   refuse_goes (Swapping c p from) e g = stays_so e g
   refuse_goes (Judging aside) e g = stays_so e g
@@ -179,6 +211,7 @@ module _ (d : PlainCode) (kinds : List FunctionKind) (b : CodeBody) (a : PlainAc
   full_ends (pending.Swap c n from) = ends_so outcome.JournalFull
   full_ends (pending.Close c p v) = ends_so outcome.JournalFull
   full_ends pending.Commit = ends_so outcome.JournalFull
+  full_ends (pending.Hold xs) = ends_so outcome.JournalFull
   full_ends (pending.Fail f) = ends_so outcome.JournalFull
   full_ends (pending.Broke c p f) = ends_so outcome.JournalFull
   full_ends (pending.Take ag) = ends_so outcome.JournalFull
@@ -195,6 +228,7 @@ module _ (d : PlainCode) (kinds : List FunctionKind) (b : CodeBody) (a : PlainAc
   memory_ends (pending.Swap c n from) = ends_so outcome.Memory
   memory_ends (pending.Close c p v) = ends_so outcome.Memory
   memory_ends pending.Commit = ends_so outcome.Memory
+  memory_ends (pending.Hold xs) = ends_so outcome.Memory
   memory_ends (pending.Fail f) = ends_so outcome.Memory
   memory_ends (pending.Broke c p f) = ends_so outcome.Memory
   memory_ends (pending.Take ag) = ends_so outcome.Memory
@@ -211,6 +245,7 @@ module _ (d : PlainCode) (kinds : List FunctionKind) (b : CodeBody) (a : PlainAc
   full_taken (pending.Swap c n from) = tt
   full_taken (pending.Close c p v) = tt
   full_taken pending.Commit = tt
+  full_taken (pending.Hold xs) = tt
   full_taken (pending.Fail f) = tt
   full_taken (pending.Broke c p f) = tt
   full_taken (pending.Take ag) = tt
@@ -227,16 +262,17 @@ module _ (d : PlainCode) (kinds : List FunctionKind) (b : CodeBody) (a : PlainAc
   memory_taken (pending.Swap c n from) = tt
   memory_taken (pending.Close c p v) = tt
   memory_taken pending.Commit = tt
+  memory_taken (pending.Hold xs) = tt
   memory_taken (pending.Fail f) = tt
   memory_taken (pending.Broke c p f) = tt
   memory_taken (pending.Take ag) = tt
   memory_taken (pending.Finish ag new) = tt
 
   -- an agent is at the beginning of its own body again
-  goes_home : (ag : CellId) → a.outcome ≡ None → AllApply (functions_of d kinds) a.done.commutes → OpenApplies (functions_of d kinds) a.commuting → a.tx ≡ Outside → (r : Role) → ActsFor d kinds a.number ag r → Attends d (attends_anew a r)
-  goes_home ag e all can out Thread w = absurd w
-  goes_home ag e all can out (Attending h o) w = absurd w
-  goes_home ag e all can out (Acting h judges aside) w =
+  goes_home : (ag : CellId) → a.outcome ≡ None → AllApply (functions_of d kinds) a.done.commutes → OpenApplies (functions_of d kinds) a.commuting → (r : Role) → ActsFor d kinds a.number ag r → Attends d (attends_anew a r)
+  goes_home ag e all can Thread w = absurd w
+  goes_home ag e all can (Attending h o) w = absurd w
+  goes_home ag e all can (Acting h judges aside) w =
       let typed = w.1.typed.typed in
       let same : kinds ≡ typed.kinds = sym w.1.typed.same in
       record {
@@ -250,22 +286,28 @@ module _ (d : PlainCode) (kinds : List FunctionKind) (b : CodeBody) (a : PlainAc
         roomy = w.1.roomy;
         commutes = subst (λ (y : List FunctionKind). AllApply (functions_of d y) a.done.commutes) same all;
         opened = subst (λ (y : List FunctionKind). OpenApplies (functions_of d y) a.commuting) same can;
-        attends = subst (λ (o : Option Outcome). AttendsOn d h.agent (there judges aside a.tx) o None) (sym e) (waits (stood_so judges w.1.is));
+        attends = subst (λ (o : Option Outcome). AttendsOn d h.agent (attends_anew a (Acting h judges aside)) o None) (sym e) (waits (stood_so judges w.1.is));
       }
     where
-      there : Bool → PlainStack → Transaction → PlainActor
-      there j y t = record (attends_anew a (Acting h j y)) { tx = t }
+      Stood : Bool → PlainStack → Type 0
+      Stood j y = attends_anew a (Acting h j y) ≡ attending_at (attends_anew a (Acting h j y)) h.agent None 0 []
 
-      Stood : Bool → PlainStack → Transaction → Type 0
-      Stood j y t = there j y t ≡ attending_at (there j y t) h.agent None 0 []
+      stood_so : (j : Bool) → WaitsAs j aside → Stood j aside
+      stood_so false q = subst (λ (y : PlainStack). Stood false y) (sym q) refl
+      stood_so true q = subst (λ (y : PlainStack). Stood true y) (sym q.1) refl
 
-      -- an agent's own body with these values
-      own : List Value → PlainStack
-      own vs = record { body = 0; locals = 0; place = 2; values = vs; room = aside.room; frames = [] }
+  -- the value that an agent's validator looks at is there while its function runs
+  serves_judged : (r : Role) → ServesWell d kinds a.number r → HasJudged r
+  serves_judged Thread w = tt
+  serves_judged (Attending h o) w = tt
+  serves_judged (Acting h false aside) w = tt
+  serves_judged (Acting h true aside) w = subst (λ (y : PlainStack). 0 < length y.values) (sym w.0.is.1) (omega arith)
 
-      stood_so : (j : Bool) → WaitsAs j aside → Stood j aside a.tx
-      stood_so false q = subst (λ (y : PlainStack). Stood false y a.tx) (sym q) (subst (λ (t : Transaction). Stood false (own []) t) (sym out) refl)
-      stood_so true q = subst (λ (y : PlainStack). Stood true y a.tx) (sym q.1) (subst (λ (t : Transaction). Stood true (own (q.0 ∷ [])) t) (sym out) refl)
+  -- an actor serves as well where the action holds these sends
+  holds_serves : (xs : List Action) (r : Role) → ServesWell d kinds a.number r → ServesWell d kinds a.number (holds_all xs r)
+  holds_serves xs Thread w = tt
+  holds_serves xs (Attending h o) w = absurd w
+  holds_serves xs (Acting h judges aside) w = w
 
   -- the value that an agent's validator looked at is there
   judged_by : (ag : CellId) (r : Role) → ActsFor d kinds a.number ag r → HasJudged r
@@ -282,15 +324,15 @@ module _ (d : PlainCode) (kinds : List FunctionKind) (b : CodeBody) (a : PlainAc
         reads = λ c i v k.
             let l = look_ready set d.constants b a.locals a.place a.values a.room k.0.own k.0.ready Deref k.1 v in
             (within (instr.Look Deref) k.1, omega (arith, l.0), deep_enough k.0.own k.0.ready);
-        reads_again = λ c x k. tt;
+        reads_again = λ c x k. serves_judged a.role k.0.serves;
         ensures = λ c es i v k.
             let l = look_ready set d.constants b a.locals a.place a.values a.room k.0.own k.0.ready Ensure k.1.0 v in
             (within (instr.Look Ensure) k.1.0, omega (arith, l.0), deep_enough k.0.own k.0.ready, k.1.1);
-        ensures_again = λ c es i x k. tt;
+        ensures_again = λ c es i x k. serves_judged a.role k.0.serves;
         opens = λ c n kept i v k.
             let l = open_stands set d.constants b a.locals a.place a.values a.room k.0.own k.0.ready (open_of kept) n k.1.0 in
             (within (instr.Open (open_of kept) n) k.1.0, omega (arith, l.0), l.2);
-        opens_again = λ c n kept i x k. tt;
+        opens_again = λ c n kept i x k. serves_judged a.role k.0.serves;
         views = λ phase i q vs e k. e ∙ sym (ap (λ (x : PlainPhase). length x.values) k.1.2 ∙ length_blank (commuted a.done));
         resets = λ c v i k.
             let l = put_stands set d.constants b a.locals a.place a.values a.room k.0.own k.0.ready Reset k.1 in
@@ -305,16 +347,21 @@ module _ (d : PlainCode) (kinds : List FunctionKind) (b : CodeBody) (a : PlainAc
         closes_atom = λ c p v i k.
             let l = close_stands set d.constants b a.locals a.place a.values a.room k.0.own k.0.ready update.Swap k.1.0 in
             (within (instr.Close update.Swap) k.1.0, omega (arith, l.0), deep_enough k.0.own k.0.ready);
-        swaps_again = λ c p v i x k. tt;
+        swaps_again = λ c p v i x k. serves_judged a.role k.0.serves;
         commits = λ i k. within instr.TxEnd k.1.0;
-        commits_again = λ i x k. tt;
-        changed = λ i x k. tt;
-        denied = λ i x k. tt;
-        fails = λ f i k. tt;
-        breaks = λ c p f i k. tt;
+        commits_again = λ i x k. serves_judged a.role k.0.serves;
+        changed = λ i x k. serves_judged a.role k.0.serves;
+        denied = λ i x k. serves_judged a.role k.0.serves;
+        holds = λ xs i k. within instr.TxEnd k.1.0;
+        holds_again = λ xs i x k. serves_judged a.role k.0.serves;
+        holds_changed = λ xs i x k. serves_judged a.role k.0.serves;
+        holds_denied = λ xs i x k. serves_judged a.role k.0.serves;
+        fails = λ f i k. serves_judged a.role k.1;
+        breaks = λ c p f i k. serves_judged a.role k.1;
         takes = λ ag i n x v k. absurd k.1;
         idles = λ ag i k. absurd k.1;
         finishes = λ ag new i k. judged_by ag a.role k.0;
+        refuses = λ ag new i h k. judged_by ag a.role k.0;
         full = λ q i k. full_taken q;
         memory = λ q i k. memory_taken q;
       }) p inside at view ws r m w
@@ -375,6 +422,12 @@ module _ (d : PlainCode) (kinds : List FunctionKind) (b : CodeBody) (a : PlainAc
             let c = g.counted in
             goes_so (answered_for a pending.Commit Done) refl e refl refl
             (record { own = (g.own.0 - 1, g.own.1); base = g.base; ready = t.1; enters = g.enters; callers = callers_none d kinds a.number a.tx a.frames g.base k.1.2 g.callers; is_first = began_none kinds home a.tx a.frames a.body k.1.2 g.is_first; counted = omega (arith, c, t.0, k.1.1); swaps = g.swaps ∙ unswapped k.1.1; began = tt; shallow = omega arith; commutes = g.commutes; opened = g.opened; serves = g.serves; applies = tt });
+        holds = λ xs i k.
+            let g = k.0 in
+            let t = end_ready set d.constants b a.locals a.place a.values a.room g.own g.ready k.1.0 in
+            let c = g.counted in
+            goes_so (answered_for a (pending.Hold xs) Done) refl e refl refl
+            (record { own = (g.own.0 - 1, g.own.1); base = g.base; ready = t.1; enters = g.enters; callers = callers_none d kinds a.number a.tx a.frames g.base k.1.2 g.callers; is_first = subst (λ (y : List Frame). IsFirst kinds y a.frames a.body) (sym (home_all xs a.role)) (began_none kinds home a.tx a.frames a.body k.1.2 g.is_first); counted = omega (arith, c, t.0, k.1.1); swaps = g.swaps ∙ unswapped k.1.1; began = tt; shallow = omega arith; commutes = g.commutes; opened = g.opened; serves = holds_serves xs a.role g.serves; applies = tt });
         opens_atom = λ c n from i p v k.
             let g = k.0 in
             let f = k.1.0.0 in
@@ -395,11 +448,15 @@ module _ (d : PlainCode) (kinds : List FunctionKind) (b : CodeBody) (a : PlainAc
         commits_again = λ i x k. again_goes a.tx e k.0 k.0.began;
         changed = λ i x k. end_again_goes a.tx e k.0 k.1.2 (k.0.counted ∙ k.1.1) (k.0.swaps ∙ unswapped k.1.1) (let le = k.0.shallow in omega (arith, le, k.1.1)) k.0.began;
         denied = λ i x k. refuse_goes a.tx e k.0;
-        fails = λ f i k. ends_so (outcome.Failed f);
-        breaks = λ c p f i k. ends_so (outcome.Failed f);
+        holds_again = λ xs i x k. again_goes a.tx e k.0 k.0.began;
+        holds_changed = λ xs i x k. end_again_goes a.tx e k.0 k.1.2 (k.0.counted ∙ k.1.1) (k.0.swaps ∙ unswapped k.1.1) (let le = k.0.shallow in omega (arith, le, k.1.1)) k.0.began;
+        holds_denied = λ xs i x k. refuse_goes a.tx e k.0;
+        fails = λ f i k. fails_goes f e k.2 k.3 a.role k.1;
+        breaks = λ c p f i k. fails_goes f e k.2 k.3 a.role k.1;
         takes = λ ag i n x v k. absurd k.1;
         idles = λ ag i k. absurd k.1;
-        finishes = λ ag new i k. inr (goes_home ag e k.2 k.3 k.1 a.role k.0);
+        finishes = λ ag new i k. inr (goes_home ag e k.1 k.2 a.role k.0);
+        refuses = λ ag new i h k. inr (goes_home ag e k.1 k.2 a.role k.0);
         full = λ q i k. full_ends q;
         memory = λ q i k. memory_ends q;
       }) p inside at view ws r m w

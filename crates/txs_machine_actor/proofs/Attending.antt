@@ -25,20 +25,20 @@ use Rattle.txs_value_base.specs.declared.op.Op.{Op}
 use Rattle.txs_value_data.specs.declared.value.CellId.{CellId}
 use Rattle.txs_value_data.specs.declared.value.Value.{Value}
 use Rattle.txs_code_meaning.specs.ActorState.{InHand, StepResult, step_of, Taken, finish}
-use Rattle.txs_code_meaning.specs.Machine.{PlainInstr, PlainBody, ThreadCode, fetch, Frame, to_stack, to_validation, locals_of, nils, agent_code, Configuration, Turned, Asking, Unfinished, turn, on, started, told, first_place, rested, runs_callee, where_accepted, where_valid}
+use Rattle.txs_code_meaning.specs.Machine.{PlainInstr, PlainBody, ThreadCode, fetch, Frame, to_stack, to_validation, locals_of, nils, agent_code, Configuration, Turned, Asking, Unfinished, turn, on, started, told, first_place, hands_in, rested, runs_callee, where_accepted, where_valid}
 use Rattle.txs_code_meaning.specs.Machine as machine
 use Rattle.txs_code_meaning.specs.PlainCode.{PlainCode, CodeBody, parameters_of, library_of}
-use Rattle.txs_code_meaning.specs.WellTyped.{FunctionKind, plain, a_function, IsTable, IsStaging, IsPureFunction, WellTypedFunctions, WellTyped}
+use Rattle.txs_code_meaning.specs.WellTyped.{FunctionKind, plain, a_function, IsTable, IsStaging, IsPureFunction, MayBeSent, WellTypedFunctions, WellTyped}
 use Rattle.txs_machine_stack.specs.Calls.{begun}
 use Rattle.txs_machine_stack.specs.PlainFrame.{PlainStack}
 use Rattle.txs_machine_loop.specs.Ready.{Ready}
 use Rattle.txs_machine_loop.specs.Values.{stack_in}
 use Rattle.txs_machine_loop.proofs.Lists.{length_nils}
 use Rattle.txs_machine_actor.specs.Paces.{MayStep, IsOver}
-use Rattle.txs_machine_actor.specs.PlainActor.{PlainActor, state_of, configuration_of, code_of, IsActorOf, ServesWell, in_hand, asked_for, unanswered, MayAnswerIf, stops_as, stands_at, answered, answered_if, answered_for, attends_anew, kind_or_pure, owner_of, functions_of, setting_of, CalledIn, IsPureBody, CanApply, AllApply, OpenApplies, ActsFor, AsksWell, GoesOn, CanGoOn, Runs, attending_at, MayRun, HandsOut, MayBreak, BreaksAt, AttendsAt, waits, has_taken, has_value, AttendsFor, AttendsOn, Attends, Lives, Awaits}
+use Rattle.txs_machine_actor.specs.PlainActor.{PlainActor, state_of, configuration_of, code_of, IsActorOf, ServesWell, in_hand, asked_for, unanswered, MayAnswerIf, stops_as, stands_at, answered, answered_if, answered_for, attends_anew, kind_or_pure, owner_of, functions_of, setting_of, CalledIn, IsPureBody, CanApply, AllApply, OpenApplies, ActsFor, AsksWell, GoesOn, CanGoOn, Runs, attending_at, MayRun, CanSend, has_failed, HandsOut, MayBreak, BreaksAt, AttendsAt, waits, has_taken, has_value, AttendsFor, AttendsOn, Attends, Lives, Awaits}
 use Rattle.txs_machine_transaction.specs.Asks.{ask_for, applied_in}
 use Rattle.txs_machine_transaction.specs.Transaction.{is_running}
-use Rattle.txs_machine_actor.specs.Turns.{IsNew, OneStep, Answers, Moves, TurnsFrom, Turns, AsksFor, TakesAnswer, IsAttending, OperatedAs, Operates, begins_acting, BeginsActing, CanApplyFor, AppliesFor, CanAttend, AttendsSo, CanCheck, CanJudge, check_of, verdict, AnsweredFor, begins_judging, BeginsJudging, JudgesFor, HandedBy, Hands, HasJudged}
+use Rattle.txs_machine_actor.specs.Turns.{IsNew, OneStep, Answers, Moves, TurnsFrom, Turns, AsksFor, TakesAnswer, IsAttending, OperatedAs, Operates, begins_acting, BeginsActing, CanApplyFor, AppliesFor, CanAttend, AttendsSo, CanCheck, CanJudge, check_of, verdict, AnsweredFor, begins_judging, BeginsJudging, JudgesFor, HandedBy, Hands, CanHandIn, HandsInBy, HasJudged}
 use Rattle.txs_machine_actor.specs.declared.outcome.Turn.{Turn}
 use Rattle.txs_machine_actor.specs.declared.outcome.Turn.TheVariants as turned
 use Rattle.txs_machine_transaction.specs.declared.state.Pending.{Pending}
@@ -48,13 +48,18 @@ use Rattle.txs_machine_actor.specs.declared.role.Role.{Role}
 use Rattle.txs_machine_actor.specs.declared.role.Role.TheVariants.{Thread, Attending, Acting}
 use Rattle.txs_machine_actor.proofs.Applying.{typed_look}
 use Rattle.txs_machine_actor.proofs.Calling.{parameters_at, parameters_from, function_at, kind_at, table_too}
-use Rattle.txs_machine_actor.proofs.Effects.{finishes, takes as takes_so, it}
+use Rattle.txs_machine_actor.proofs.Effects.{finishes, takes as takes_so, it, new_of, sends_of}
 use Rattle.txs_machine_actor.proofs.Meaning.{stated, configuration, body_in}
 use Rattle.txs_machine_actor.proofs.Replies.{take_replies, finish_replies}
 use Rattle.txs_machine_actor.proofs.Striding.{none_asked}
 
 some : {A : Type 0} {x y : A} → Some x ≡ Some y → x ≡ y
 some e = cc
+
+-- what is asked for, where an action is handed in
+finish_asks : (g : CellId) (new : Result (Value × List Action) Fault) (p seen : ℕ) (done : PlainTxFrame) → ask_for (pending.Finish g new) false p seen [] done ≡ ask.Finish g (new_of new) (sends_of new)
+finish_asks g (Ok x) p seen done = refl
+finish_asks g (Err f) p seen done = refl
 
 -- ---- functions that begin
 
@@ -91,8 +96,11 @@ module _ (d : PlainCode) (kinds : List FunctionKind) (rooms : List ℕ) (functio
       let lawful = kind_at (functions_of d kinds) 0 d.constants d.functions kinds rooms f p.0 functions p.1 p.2 in
       subst (λ (x : FunctionKind). CalledIn (a_function x) (0, 0)) (sym kind) (record { inside = λ e. let x = sym lawful.0 ∙ e in cc; outside = λ e. refl; swapping = λ lt. p.2 })
 
-  pure_body : (f : ℕ) → IsPureFunction kinds f → IsPureBody kinds (suc f)
-  pure_body f p = ap (λ (x : FunctionKind). x.pure) (ap kind_or_pure p.1) ∙ p.2
+  -- and so can one that may be sent
+  sent_enters : (f : ℕ) → MayBeSent kinds (callee.Function f) → CalledIn (owner_of kinds (suc f)) (0, 0)
+  sent_enters f p =
+      let kind : kind_or_pure (nth kinds f) ≡ p.0 = ap kind_or_pure p.1 in
+      subst (λ (x : FunctionKind). CalledIn (a_function x) (0, 0)) (sym kind) (record { inside = λ e. let x = sym p.2 ∙ e in cc; outside = λ e. refl; swapping = λ lt. absurd (omega (arith, lt)) })
 
 -- a turn of an actor that may make one more step
 moves_so : (d : PlainCode) (a c : PlainActor) (r : Turn) → a.outcome ≡ None → a.steps < a.limit → Answers d a r c → Turns d a r c
@@ -207,35 +215,38 @@ module _ (d : PlainCode) (function_rooms thread_rooms : List ℕ) (typed : WellT
         )
 
     -- it hands in what an action came to
-    hands_one : (at : ℕ) (x : InHand) (v : Value) (new : Result Value Fault) (acc1 : Option Bool) → Breaks at
-        → ((xs : List Exchange) → turn ac (at_own at (Some x) (v ∷ []) xs) ≡ told (finish g new (stated xs was p seen done kept (Some x) acc1)) (λ s1. Unfinished (first_place [] (rested s1))))
-        → (r : Turn) (c : PlainActor) → AsksFor (own_as acc1 at (Some x) [] (s + 1) None) (pending.Finish g new) r c → Comes at (Some x) (v ∷ []) r c
-    hands_one at x v new acc1 breaks w turned.Went c h = absurd h
-    hands_one at x v new acc1 breaks w (turned.Ended y) c h = no_memory at (Some x) (v ∷ []) [] acc1 breaks y c h.1 h.2
-    hands_one at x v new acc1 breaks w (turned.Asks q) c h =
+    hands_one : (at : ℕ) (x : InHand) (vs : List Value) (new : Result (Value × List Action) Fault) (acc1 : Option Bool) → Breaks at
+        → ((xs : List Exchange) → given xs (configuration_of (own at (Some x) vs s None)) ≡ at_own at (Some x) vs xs)
+        → ((xs : List Exchange) → turn ac (at_own at (Some x) vs xs) ≡ told (finish g (new_of new) (sends_of new) (stated xs was p seen done kept (Some x) acc1)) (λ s1. Unfinished (first_place [] (rested s1))))
+        → (r : Turn) (c : PlainActor) → AsksFor (own_as acc1 at (Some x) [] (s + 1) None) (pending.Finish g new) r c → Comes at (Some x) vs r c
+    hands_one at x vs new acc1 breaks there w turned.Went c h = absurd h
+    hands_one at x vs new acc1 breaks there w (turned.Ended y) c h = no_memory at (Some x) vs [] acc1 breaks y c h.1 h.2
+    hands_one at x vs new acc1 breaks there w (turned.Asks q) c h =
+        let y = ask.Finish g (new_of new) (sends_of new) in
         let b = own_as acc1 at (Some x) [] (s + 1) (Some (pending.Finish g new)) in
+        let same : ask_for (pending.Finish g new) false p seen [] done ≡ y = finish_asks g new p seen done in
         let k = finishes n (Attending g (Some x)) 0 [] 0 at [] was p seen done kept acc1 (s + 1) limit room g new Outside refl in
-        let awaits : Awaits (code_of d n) (configuration_of (own at (Some x) (v ∷ []) s None)) b (ask.Finish g new []) = record {
+        let awaits : Awaits (code_of d n) (configuration_of (own at (Some x) vs s None)) b y = record {
           here = refl;
-          asks = turned_so (configuration_of (own at (Some x) (v ∷ []) s None)) (Asking (record (state_of b) { wants = Some (ask.Finish g new []) })) (w [] ∙ k.now);
-          leads = λ y m st. turned_so (given (record { ask = ask.Finish g new []; reply = y } ∷ []) (configuration_of (own at (Some x) (v ∷ []) s None))) (stands_at (answered b y)) (w (record { ask = ask.Finish g new []; reply = y } ∷ []) ∙ k.leads y m st);
+          asks = turned_so (configuration_of (own at (Some x) vs s None)) (Asking (record (state_of b) { wants = Some y })) (ap (λ (z : Configuration). turn ac z) (there []) ∙ w [] ∙ k.now);
+          leads = λ z m st. turned_so (given (record { ask = y; reply = z } ∷ []) (configuration_of (own at (Some x) vs s None))) (stands_at (answered b z)) (ap (λ (u : Configuration). turn ac u) (there (record { ask = y; reply = z } ∷ [])) ∙ w (record { ask = y; reply = z } ∷ []) ∙ k.leads z m st);
           rests = λ m. absurd m;
         } in
-        let t : Turns d (own at (Some x) (v ∷ []) s None) (turned.Asks (ask.Finish g new [])) b = moves_so d (own at (Some x) (v ∷ []) s None) b (turned.Asks (ask.Finish g new [])) refl lt (awaits, record { number = refl; outcome = refl; unanswered = refl; counted = refl; limited = refl }) in (
-          subst (λ (y : Ask). Turns d (own at (Some x) (v ∷ []) s None) (turned.Asks y) c) (sym h.0) (subst (λ (y : PlainActor). Turns d (own at (Some x) (v ∷ []) s None) (turned.Asks (ask.Finish g new [])) y) (sym h.1) t),
-          subst (λ (y : PlainActor). Lives d y) (sym h.1) (inr (attends_by acc1 at (Some x) [] (s + 1) (Some (pending.Finish g new)) (refl, x, refl))),
+        let t : Turns d (own at (Some x) vs s None) (turned.Asks y) b = moves_so d (own at (Some x) vs s None) b (turned.Asks y) refl lt (awaits, record { number = refl; outcome = refl; unanswered = ap Some same; counted = refl; limited = refl }) in (
+          subst (λ (z : Ask). Turns d (own at (Some x) vs s None) (turned.Asks z) c) (sym (h.0 ∙ same)) (subst (λ (z : PlainActor). Turns d (own at (Some x) vs s None) (turned.Asks y) z) (sym h.1) t),
+          subst (λ (z : PlainActor). Lives d z) (sym h.1) (inr (attends_by acc1 at (Some x) [] (s + 1) (Some (pending.Finish g new)) (refl, x, refl))),
         )
 
     -- ---- the value of an action
 
-    module _ (x : InHand) (v : Value) where
+    module _ (x : InHand) (v : Value) (unfailed : x.fault ≡ None) where
       -- the validator of the agent that the action was sent to
       abbrev judge_of : Option Callee
       judge_of = validator_at (validators_of d.cells) x.action.agent.number
 
       -- what is done with a value that may be handed in
       abbrev hands_on : Configuration → Turned Configuration
-      hands_on c1 = told (finish g (Ok v) c1.state) (λ s1. Unfinished (first_place [] (rested s1)))
+      hands_on c1 = told (finish g (Ok v) x.sends c1.state) (λ s1. Unfinished (first_place [] (rested s1)))
 
       -- what the machine does, by that validator
       abbrev finishes_by : Option Callee → List Exchange → Turned Configuration
@@ -246,18 +257,22 @@ module _ (d : PlainCode) (function_rooms thread_rooms : List ℕ) (typed : WellT
       accepted_by f xs o = where_accepted ac o f v x.action.span (at_own 2 (Some x) (v ∷ []) xs) hands_on
 
       -- what is handed in
-      abbrev handing : CellId → Result Value Fault → Option Bool → List Exchange → Turned Configuration
-      handing h new acc1 xs = told (finish h new (stated xs was p seen done kept (Some x) acc1)) (λ s1. Unfinished (first_place [] (rested s1)))
+      abbrev handing : CellId → Result (Value × List Action) Fault → Option Bool → List Exchange → Turned Configuration
+      handing h new acc1 xs = told (finish h (new_of new) (sends_of new) (stated xs was p seen done kept (Some x) acc1)) (λ s1. Unfinished (first_place [] (rested s1)))
+
+      -- with no fault of the action, the machine looks at the value
+      looks_so : (xs : List Exchange) → turn ac (at_own 2 (Some x) (v ∷ []) xs) ≡ finishes_by judge_of xs
+      looks_so xs = ap (λ (o : Option Fault). hands_in ac g (Some x) o (at_own 2 (Some x) (v ∷ []) xs)) unfailed
 
       -- it is handed in, where there is no validator, or the validator has accepted it
-      gives_one : (acc1 : Option Bool) → ((xs : List Exchange) → finishes_by judge_of xs ≡ handing g (Ok v) acc1 xs) → (r : Turn) (c : PlainActor) → AsksFor (own_as acc1 2 (Some x) [] (s + 1) None) (pending.Finish g (Ok v)) r c → Comes 2 (Some x) (v ∷ []) r c
-      gives_one acc1 w r c h = hands_one 2 x v (Ok v) acc1 (machine.FinishOf g, refl, tt) w r c h
+      gives_one : (acc1 : Option Bool) → ((xs : List Exchange) → finishes_by judge_of xs ≡ handing g (Ok (v, x.sends)) acc1 xs) → (r : Turn) (c : PlainActor) → AsksFor (own_as acc1 2 (Some x) [] (s + 1) None) (pending.Finish g (Ok (v, x.sends))) r c → Comes 2 (Some x) (v ∷ []) r c
+      gives_one acc1 w r c h = hands_one 2 x (v ∷ []) (Ok (v, x.sends)) acc1 (machine.FinishOf g, refl, tt) (λ xs. refl) (λ xs. looks_so xs ∙ w xs) r c h
 
       -- a fault of the validator, or that it refuses the value, is handed in
       faults_one : (mine : x.agent ≡ g) (f : Fault) (acc1 : Option Bool) → ((xs : List Exchange) → finishes_by judge_of xs ≡ handing x.agent (Err f) acc1 xs) → (r : Turn) (c : PlainActor) → AsksFor (own_as acc1 2 (Some x) [] (s + 1) None) (pending.Finish x.agent (Err f)) r c
           → Comes 2 (Some x) (v ∷ []) r c
       faults_one mine f acc1 w r c h =
-          hands_one 2 x v (Err f) acc1 (machine.FinishOf g, refl, tt) (λ xs. w xs ∙ ap (λ (y : CellId). handing y (Err f) acc1 xs) mine) r c
+          hands_one 2 x (v ∷ []) (Err f) acc1 (machine.FinishOf g, refl, tt) (λ xs. refl) (λ xs. looks_so xs ∙ w xs ∙ ap (λ (y : CellId). handing y (Err f) acc1 xs) mine) r c
           (subst (λ (y : CellId). AsksFor (own_as acc1 2 (Some x) [] (s + 1) None) (pending.Finish y (Err f)) r c) mine h)
 
       -- a validator of this code takes one value, and is pure
@@ -292,8 +307,8 @@ module _ (d : PlainCode) (function_rooms thread_rooms : List ℕ) (typed : WellT
 
           by_answer : (z : Answer) → ((xs : List Exchange) → finishes_by judge_of xs ≡ does z xs) → AnsweredFor (own 2 (Some x) (v ∷ []) (s + 1) None) x.action.span z r c → Comes 2 (Some x) (v ∷ []) r c
           by_answer (Ok w) k m =
-              went_so 2 (Some x) (v ∷ []) r c (own_as (verdict w) 2 (Some x) (v ∷ []) (s + 1) None) m.0 m.1 (k [])
-              (record { number = refl; outcome = refl; unanswered = refl; counted = refl; limited = refl }) (inr (attends_by (verdict w) 2 (Some x) (v ∷ []) (s + 1) None (has_value x v refl mine)))
+              went_so 2 (Some x) (v ∷ []) r c (own_as (verdict w) 2 (Some x) (v ∷ []) (s + 1) None) m.0 m.1 (looks_so [] ∙ k [])
+              (record { number = refl; outcome = refl; unanswered = refl; counted = refl; limited = refl }) (inr (attends_by (verdict w) 2 (Some x) (v ∷ []) (s + 1) None (has_value x v refl mine unfailed)))
           by_answer (Err k1) k m = faults_one mine (fault_at k1 x.action.span) acc k r c m
 
       -- a validator that is a function
@@ -326,14 +341,14 @@ module _ (d : PlainCode) (function_rooms thread_rooms : List ℕ) (typed : WellT
             ready = begun_ready d typed.kinds function_rooms typed.functions f b1 most (b1.locals + most) (judge_vals b1) is_b1 needs (omega arith) many_vals;
             enters = pure_enters d typed.kinds function_rooms typed.functions f pure;
             callers = refl;
-            is_first = (tt, pure_body d typed.kinds function_rooms typed.functions f pure);
+            is_first = tt;
             counted = refl;
             swaps = refl;
             began = tt;
             shallow = omega arith;
             commutes = commutes;
             opened = opened;
-            serves = record { typed = record { function_rooms = function_rooms; thread_rooms = thread_rooms; typed = typed; same = refl }; actor = subst (λ (y : CellId). IsActorOf d n y) (sym mine) actor; is = (v, refl); roomy = roomy };
+            serves = (record { typed = record { function_rooms = function_rooms; thread_rooms = thread_rooms; typed = typed; same = refl }; actor = subst (λ (y : CellId). IsActorOf d n y) (sym mine) actor; is = (v, refl); roomy = roomy }, unfailed);
             applies = tt;
           }
 
@@ -345,7 +360,7 @@ module _ (d : PlainCode) (function_rooms thread_rooms : List ℕ) (typed : WellT
           let many : 1 ≡ b1.parameters = some (sym can.1 ∙ parameters_at d.functions f b1 i.2) in
           let within = (function_at (functions_of d typed.kinds) 0 d.constants d.functions typed.kinds function_rooms f b1 typed.functions i.2).typed.parameters in
           let c0 = judging_at (begun f b1 (v ∷ []) (b1.locals + i.1)) in
-          went_so 2 (Some x) (v ∷ []) turned.Went c c0 refl (h.2 ∙ ap judging_at i.4) (judging_means f free e b1 i.2 within many (b1.locals + i.1))
+          went_so 2 (Some x) (v ∷ []) turned.Went c c0 refl (h.2 ∙ ap judging_at i.4) (looks_so [] ∙ judging_means f free e b1 i.2 within many (b1.locals + i.1))
           (record { number = refl; outcome = refl; unanswered = refl; counted = refl; limited = refl })
           (inl (record { kinds = typed.kinds; rooms = function_rooms; functions = typed.functions; validators = typed.validators; body = b1; is = i.2; goes = judging_goes mine f can.0 b1 i.2 within many i.1 i.3 }))
       judging_one mine f free e (turned.Asks q) c h = absurd h
@@ -372,10 +387,21 @@ module _ (d : PlainCode) (function_rooms thread_rooms : List ℕ) (typed : WellT
       hands_by mine (Some f) e r c h = handed_one mine f e acc refl r c h
 
       value_one : (mine : x.agent ≡ g) (r : Turn) (c : PlainActor) → AttendsSo d (own 2 (Some x) (v ∷ []) (s + 1) None) 2 r c → Comes 2 (Some x) (v ∷ []) r c
-      value_one mine r c h = hands_by mine judge_of refl r c h
+      value_one mine r c h = hands_by mine judge_of refl r c (subst (λ (o : Option Fault). HandsInBy d (own 2 (Some x) (v ∷ []) (s + 1) None) o r c) unfailed h)
 
       can_value : CanAttend d (own 2 (Some x) (v ∷ []) (s + 1) None) 2
-      can_value = (omega arith, (g, refl), can_check judge_of refl)
+      can_value = ((g, refl), subst (λ (o : Option Fault). CanHandIn d (own 2 (Some x) (v ∷ []) (s + 1) None) o) (sym unfailed) (omega arith, can_check judge_of refl))
+
+    -- ---- the fault of an action
+
+    -- it is handed in, and what the action held is dropped
+    fault_one : (x : InHand) (f : Fault) → x.fault ≡ Some f → (r : Turn) (c : PlainActor) → AttendsSo d (own 2 (Some x) [] (s + 1) None) 2 r c → Comes 2 (Some x) [] r c
+    fault_one x f failed r c h =
+        hands_one 2 x [] (Err f) acc (machine.FinishOf g, refl, tt) (λ xs. refl) (λ xs. ap (λ (o : Option Fault). hands_in ac g (Some x) o (at_own 2 (Some x) [] xs)) failed) r c
+        (subst (λ (o : Option Fault). HandsInBy d (own 2 (Some x) [] (s + 1) None) o r c) failed h)
+
+    can_fault : (x : InHand) (f : Fault) → x.fault ≡ Some f → CanAttend d (own 2 (Some x) [] (s + 1) None) 2
+    can_fault x f failed = ((g, refl), subst (λ (o : Option Fault). CanHandIn d (own 2 (Some x) [] (s + 1) None) o) (sym failed) tt)
 
     -- ---- an action that is run
 
@@ -392,9 +418,9 @@ module _ (d : PlainCode) (function_rooms thread_rooms : List ℕ) (typed : WellT
       operated op e (Ok w) q r c h =
           went_so 1 (Some hand) (v ∷ []) r c (own 2 (Some hand) (w ∷ []) (s + 1) None) h.0 h.1
           (runs_it (callee.Core op) e [] ∙ ap (λ (y : Answer). machine.gives (at_own 1 (Some hand) (v ∷ []) []) [] (step_of y x.span (stated [] was p seen done kept (Some hand) acc))) q)
-          (record { number = refl; outcome = refl; unanswered = refl; counted = refl; limited = refl }) (inr (attends_by acc 2 (Some hand) (w ∷ []) (s + 1) None (has_value hand w refl refl)))
+          (record { number = refl; outcome = refl; unanswered = refl; counted = refl; limited = refl }) (inr (attends_by acc 2 (Some hand) (w ∷ []) (s + 1) None (has_value hand w refl refl refl)))
       operated op e (Err k) q r c h =
-          hands_one 1 hand v (Err (fault_at k x.span)) acc (machine.RunOf, refl, tt)
+          hands_one 1 hand (v ∷ []) (Err (fault_at k x.span)) acc (machine.RunOf, refl, tt) (λ xs. refl)
           (λ xs. runs_it (callee.Core op) e xs ∙ ap (λ (y : Answer). machine.gives (at_own 1 (Some hand) (v ∷ []) xs) [] (step_of y x.span (stated xs was p seen done kept (Some hand) acc))) q) r c h
 
       operates : (op : Op) → x.callee ≡ callee.Core op → (r : Turn) (c : PlainActor) → Operates (own 1 (Some hand) (v ∷ []) (s + 1) None) op r c → Comes 1 (Some hand) (v ∷ []) r c
@@ -404,8 +430,8 @@ module _ (d : PlainCode) (function_rooms thread_rooms : List ℕ) (typed : WellT
           (subst (λ (y : Turn). Turns d (own 1 (Some hand) (v ∷ []) s None) y c) (sym h.0) m.0, m.1)
 
       -- the function of the action
-      can_apply : (f : Callee) → x.callee ≡ f → CanApply (functions_of d typed.kinds) f (length x.args)
-      can_apply f e = subst (λ (y : Callee). CanApply (functions_of d typed.kinds) y (length x.args)) e (may function_rooms thread_rooms typed)
+      can_apply : (f : Callee) → x.callee ≡ f → CanSend (functions_of d typed.kinds) f (length x.args)
+      can_apply f e = subst (λ (y : Callee). CanSend (functions_of d typed.kinds) y (length x.args)) e (may function_rooms thread_rooms typed)
 
       abbrev vals : CodeBody → List Value
       vals b1 = (v ∷ x.args) ++ nils (b1.locals - b1.parameters)
@@ -425,24 +451,24 @@ module _ (d : PlainCode) (function_rooms thread_rooms : List ℕ) (typed : WellT
           ∙ ap (λ (y : List Value). at_this y (vals b1)) (sym (ap reverse (drop_all b1.locals (vals b1) (omega (arith, many_vals)))))
           ∙ ap (λ (y : List Value). at_this (stack_in b1.locals (vals b1)) y) (sym (take_all b1.locals (vals b1) (omega (arith, many_vals))))
 
-      begins_goes : (f : ℕ) → IsPureFunction typed.kinds f → (b1 : CodeBody) → nth d.functions f ≡ Some b1 → b1.parameters ≤ b1.locals → suc (length x.args) ≡ b1.parameters → (most : ℕ) → Needs d f most
+      begins_goes : (f : ℕ) → MayBeSent typed.kinds (callee.Function f) → (b1 : CodeBody) → nth d.functions f ≡ Some b1 → b1.parameters ≤ b1.locals → suc (length x.args) ≡ b1.parameters → (most : ℕ) → Needs d f most
           → GoesOn d typed.kinds b1 (began_at (begun f b1 (v ∷ x.args) (b1.locals + most)))
-      begins_goes f pure b1 is_b1 within many most needs =
+      begins_goes f sent b1 is_b1 within many most needs =
           let many_vals : length (vals b1) ≡ b1.locals = length-append (v ∷ x.args) (nils (b1.locals - b1.parameters)) ∙ omega (arith, many, length_nils (b1.locals - b1.parameters), within) in
           record {
             own = (0, 0);
             base = (0, 0);
             ready = begun_ready d typed.kinds function_rooms typed.functions f b1 most (b1.locals + most) (vals b1) is_b1 needs (omega arith) many_vals;
-            enters = pure_enters d typed.kinds function_rooms typed.functions f pure;
+            enters = sent_enters d typed.kinds function_rooms typed.functions f sent;
             callers = refl;
-            is_first = (tt, pure_body d typed.kinds function_rooms typed.functions f pure);
+            is_first = tt;
             counted = refl;
             swaps = refl;
             began = tt;
             shallow = omega arith;
             commutes = commutes;
             opened = opened;
-            serves = record { typed = record { function_rooms = function_rooms; thread_rooms = thread_rooms; typed = typed; same = refl }; actor = actor; is = refl; roomy = roomy };
+            serves = (record { typed = record { function_rooms = function_rooms; thread_rooms = thread_rooms; typed = typed; same = refl }; actor = actor; is = refl; roomy = roomy }, refl);
             applies = tt;
           }
 
@@ -506,11 +532,17 @@ module _ (d : PlainCode) (a : PlainActor) (h : Attends d a) (lt : a.steps < a.li
         can = can_one d h.function_rooms h.thread_rooms h.typed a.number a.printed a.at a.view a.done a.commuting a.limit a.room g here_actor h.roomy h.commutes h.opened a.accepted a.steps lt x v may x.callee refl;
         so = λ r c k. runs_one d h.function_rooms h.thread_rooms h.typed a.number a.printed a.at a.view a.done a.commuting a.limit a.room g here_actor h.roomy h.commutes h.opened a.accepted a.steps lt x v may x.callee refl r c k;
       })
-  attends_here (has_value x v is mine) e f =
+  attends_here (has_value x v is mine unfailed) e f =
       subst (λ (y : PlainActor). AttendsHere d y) (plainly 2 (Some x) (v ∷ []) e f is)
       (record {
-        can = can_value d h.function_rooms h.thread_rooms h.typed a.number a.printed a.at a.view a.done a.commuting a.limit a.room g here_actor h.roomy h.commutes h.opened a.accepted a.steps lt x v;
-        so = λ r c k. value_one d h.function_rooms h.thread_rooms h.typed a.number a.printed a.at a.view a.done a.commuting a.limit a.room g here_actor h.roomy h.commutes h.opened a.accepted a.steps lt x v mine r c k;
+        can = can_value d h.function_rooms h.thread_rooms h.typed a.number a.printed a.at a.view a.done a.commuting a.limit a.room g here_actor h.roomy h.commutes h.opened a.accepted a.steps lt x v unfailed;
+        so = λ r c k. value_one d h.function_rooms h.thread_rooms h.typed a.number a.printed a.at a.view a.done a.commuting a.limit a.room g here_actor h.roomy h.commutes h.opened a.accepted a.steps lt x v unfailed mine r c k;
+      })
+  attends_here (has_failed x x_fault is mine failed) e f =
+      subst (λ (y : PlainActor). AttendsHere d y) (plainly 2 (Some x) [] e f is)
+      (record {
+        can = can_fault d h.function_rooms h.thread_rooms h.typed a.number a.printed a.at a.view a.done a.commuting a.limit a.room g here_actor h.roomy h.commutes h.opened a.accepted a.steps lt x x_fault failed;
+        so = λ r c k. fault_one d h.function_rooms h.thread_rooms h.typed a.number a.printed a.at a.view a.done a.commuting a.limit a.room g here_actor h.roomy h.commutes h.opened a.accepted a.steps lt x x_fault failed r c k;
       })
 
 -- ---- actors that run a body aren't in an agent's own
@@ -534,6 +566,7 @@ not_asking d kinds b a (pending.Reset c v) i w = not_served d kinds a.number a.r
 not_asking d kinds b a (pending.Send x n) i w = not_served d kinds a.number a.role i w.0.serves
 not_asking d kinds b a (pending.View phase) i w = not_served d kinds a.number a.role i w.0.serves
 not_asking d kinds b a pending.Commit i w = not_served d kinds a.number a.role i w.0.serves
+not_asking d kinds b a (pending.Hold xs) i w = not_served d kinds a.number a.role i w.0.serves
 not_asking d kinds b a (pending.Swap c n from) i w = not_served d kinds a.number a.role i w.0.serves
 not_asking d kinds b a (pending.Close c p v) i w = not_served d kinds a.number a.role i w.0.serves
 not_asking d kinds b a (pending.Fail f) i w = not_served d kinds a.number a.role i w.1
@@ -610,7 +643,13 @@ takes_for : (d : PlainCode) (g : CellId) (a : PlainActor) (o : Option Outcome) (
 takes_for d g a o None r roomy w m = absurd m
 takes_for d g a (Some x) (Some q) r roomy w m = absurd w
 takes_for d g a None (Some (pending.Take h)) r roomy w m = take_replies (λ x. TakesAnswer a 0 (Some (pending.Take h)) x) h (λ i x v. (ap (λ (y : PlainActor). y.values) w.1, roomy)) w.2 tt r m
-takes_for d g a None (Some (pending.Finish h new)) r roomy w m = finish_replies (λ x. TakesAnswer a 0 (Some (pending.Finish h new)) x) h new (subst HasJudged (sym (ap (λ (y : PlainActor). y.role) w.2)) tt) tt tt r m
+takes_for d g a None (Some (pending.Finish h (Ok z))) r roomy w m =
+    let judged = subst HasJudged (sym (ap (λ (y : PlainActor). y.role) w.2)) tt in
+    finish_replies (λ x. TakesAnswer a 0 (Some (pending.Finish h (Ok z))) x) h (Ok z.0) z.1 judged (λ f. judged) tt tt r m
+takes_for d g a None (Some (pending.Finish h (Err f))) r roomy w m =
+    let judged = subst HasJudged (sym (ap (λ (y : PlainActor). y.role) w.2)) tt in
+    finish_replies (λ x. TakesAnswer a 0 (Some (pending.Finish h (Err f))) x) h (Err f) [] judged (λ k. judged) tt tt r m
+takes_for d g a None (Some (pending.Hold xs)) r roomy w m = absurd w
 takes_for d g a None (Some (pending.Begin left from)) r roomy w m = absurd w
 takes_for d g a None (Some (pending.Read c)) r roomy w m = absurd w
 takes_for d g a None (Some (pending.Ensure c es)) r roomy w m = absurd w
@@ -665,6 +704,14 @@ module _ (d : PlainCode) (a : PlainActor) (h : Attends d a) (e : a.outcome ≡ N
   ends_so : (x : Outcome) → Attends d (stops_as a x)
   ends_so x = again (stops_as a x) h.agent h.acting h.here refl refl h.roomy refl refl tt
 
+  -- it is at the beginning of its own body again
+  home_anew : (x : InHand) → a ≡ attending_at a h.agent (Some x) a.place [] → Attends d (attends_anew a a.role)
+  home_anew x is =
+      let b : PlainActor = attending_at a h.agent (Some x) a.place [] in
+      let there = attends_anew b b.role in
+      let home : Attends d there = again there h.agent None refl refl refl h.roomy refl refl (subst (λ (o : Option Outcome). AttendsOn d h.agent there o None) (sym e) (waits refl)) in
+      subst (λ (y : PlainActor). Attends d (attends_anew y y.role)) (sym is) home
+
   lands_for : (q : Pending) (r : Reply) → AttendsFor d h.agent a (Some q) → HandsOut d r → MayAnswerIf (Some (ask_for q (is_running a.tx) a.at a.view (applied_in a.tx) a.done)) r → Attends d (answered_for a q r)
   lands_for (pending.Take g) r w out m =
       take_replies (λ (x : Reply). HandsOut d x → Attends d (answered_for a (pending.Take g) x)) g
@@ -678,14 +725,13 @@ module _ (d : PlainCode) (a : PlainActor) (h : Attends d a) (e : a.outcome ≡ N
       let here_so : a.role ≡ Attending g None = ap (λ (y : PlainActor). y.role) w.1 ∙ ap (λ (y : CellId). Attending y None) (sym w.0) in
       again (there a) g None here_so refl w.0 h.roomy refl refl (subst (λ (o : Option Outcome). AttendsOn d g (there a) o None) (sym e) (waits stood)))
       (λ may. ends_so outcome.Memory) r m out
-  lands_for (pending.Finish g new) r w out m =
-      finish_replies (λ (x : Reply). HandsOut d x → Attends d (answered_for a (pending.Finish g new) x)) g new
-      (λ may.
-      let b : PlainActor = attending_at a h.agent (Some w.1) a.place [] in
-      let there = attends_anew b b.role in
-      let home : Attends d there = again there h.agent None refl refl refl h.roomy refl refl (subst (λ (o : Option Outcome). AttendsOn d h.agent there o None) (sym e) (waits refl)) in
-      subst (λ (y : PlainActor). Attends d (attends_anew y y.role)) (sym w.2) home)
-      (λ may. ends_so outcome.JournalFull) (λ may. ends_so outcome.Memory) r m out
+  lands_for (pending.Finish g (Ok z)) r w out m =
+      finish_replies (λ (x : Reply). HandsOut d x → Attends d (answered_for a (pending.Finish g (Ok z)) x)) g (Ok z.0) z.1
+      (λ may. home_anew w.1 w.2) (λ f may. home_anew w.1 w.2) (λ may. ends_so outcome.JournalFull) (λ may. ends_so outcome.Memory) r m out
+  lands_for (pending.Finish g (Err f)) r w out m =
+      finish_replies (λ (x : Reply). HandsOut d x → Attends d (answered_for a (pending.Finish g (Err f)) x)) g (Err f) []
+      (λ may. home_anew w.1 w.2) (λ k may. home_anew w.1 w.2) (λ may. ends_so outcome.JournalFull) (λ may. ends_so outcome.Memory) r m out
+  lands_for (pending.Hold xs) r w out m = absurd w
   lands_for (pending.Begin left from) r w out m = absurd w
   lands_for (pending.Read c) r w out m = absurd w
   lands_for (pending.Ensure c es) r w out m = absurd w

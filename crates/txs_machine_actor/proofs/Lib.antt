@@ -7,6 +7,7 @@ pub mod Dispatching
 pub mod Effects
 pub mod Following
 pub mod Handing
+pub mod Holding
 pub mod Judging
 pub mod Landing
 pub mod Looking

@@ -1,5 +1,5 @@
 -- The replies that asks may have, one by one.
-use Rattle.std.proofs.Common.{[], ◌≡◌, ℕ, Bool, true, false, List, length, Option, Some, None, Result}
+use Rattle.std.proofs.Common.{[], ◌≡◌, ℕ, Bool, true, false, List, length, Option, Some, None, Result, Ok, Err}
 use Rattle.txs_world_protocol.specs.Ask.{Writes}
 use Rattle.txs_world_protocol.specs.declared.ask.Ask.TheVariants as ask
 use Rattle.txs_world_protocol.specs.declared.ask.Reply.{Reply}
@@ -117,19 +117,19 @@ module _ (P : Reply → Type 0) where
   take_replies g action idle memory (Opened n v) m = absurd m
   take_replies g action idle memory Full m = absurd m
 
-  pub finish_replies : (g : CellId) (new : Result Value Fault) → P Done → P Full → P Memory → (r : Reply) → MayAnswer (ask.Finish g new []) r → P r
-  finish_replies g new done full memory Done m = done
-  finish_replies g new done full memory Full m = full
-  finish_replies g new done full memory Memory m = memory
-  finish_replies g new done full memory (At n) m = absurd m
-  finish_replies g new done full memory (Is v) m = absurd m
-  finish_replies g new done full memory (Views n vs) m = absurd m
-  finish_replies g new done full memory (Retry d) m = absurd m
-  finish_replies g new done full memory (Changed d) m = absurd m
-  finish_replies g new done full memory (AgentIsFailed h) m = absurd m
-  finish_replies g new done full memory (Action n x v) m = absurd m
-  finish_replies g new done full memory Idle m = absurd m
-  finish_replies g new done full memory (Opened n v) m = absurd m
+  pub finish_replies : (g : CellId) (new : Result Value Fault) (xs : List AnAction) → P Done → ((h : CellId) → P (AgentIsFailed h)) → P Full → P Memory → (r : Reply) → MayAnswer (ask.Finish g new xs) r → P r
+  finish_replies g new xs done denied full memory Done m = done
+  finish_replies g new xs done denied full memory Full m = full
+  finish_replies g new xs done denied full memory Memory m = memory
+  finish_replies g new xs done denied full memory (At n) m = absurd m
+  finish_replies g new xs done denied full memory (Is v) m = absurd m
+  finish_replies g new xs done denied full memory (Views n vs) m = absurd m
+  finish_replies g new xs done denied full memory (Retry d) m = absurd m
+  finish_replies g new xs done denied full memory (Changed d) m = absurd m
+  finish_replies g new xs done denied full memory (AgentIsFailed h) m = denied h
+  finish_replies g new xs done denied full memory (Action n x v) m = absurd m
+  finish_replies g new xs done denied full memory Idle m = absurd m
+  finish_replies g new xs done denied full memory (Opened n v) m = absurd m
 
   pub reset_replies : (c : CellId) (v : Value) → P Done → P Full → P Memory → (r : Reply) → MayAnswer (ask.CloseAt c None v) r → P r
   reset_replies c v done full memory (At n) m = absurd m
@@ -221,11 +221,16 @@ pub record Cases (P : Pending → Bool → Reply → Type 0) (w : PlainTxFrame) 
   pub commits_again : (i : Bool) (d : CellId) → P pending.Commit i (Retry d)
   pub changed : (i : Bool) (d : CellId) → P pending.Commit i (Changed d)
   pub denied : (i : Bool) (g : CellId) → P pending.Commit i (AgentIsFailed g)
+  pub holds : (xs : List AnAction) (i : Bool) → P (pending.Hold xs) i Done
+  pub holds_again : (xs : List AnAction) (i : Bool) (d : CellId) → P (pending.Hold xs) i (Retry d)
+  pub holds_changed : (xs : List AnAction) (i : Bool) (d : CellId) → P (pending.Hold xs) i (Changed d)
+  pub holds_denied : (xs : List AnAction) (i : Bool) (g : CellId) → P (pending.Hold xs) i (AgentIsFailed g)
   pub fails : (f : Fault) (i : Bool) → P (pending.Fail f) i Done
   pub breaks : (c : CellId) (p : ℕ) (f : Fault) (i : Bool) → P (pending.Broke c p f) i Done
   pub takes : (g : CellId) (i : Bool) (n : ℕ) (x : AnAction) (v : Value) → P (pending.Take g) i (Action n x v)
   pub idles : (g : CellId) (i : Bool) → P (pending.Take g) i Idle
-  pub finishes : (g : CellId) (new : Result Value Fault) (i : Bool) → P (pending.Finish g new) i Done
+  pub finishes : (g : CellId) (new : Result (Value × List AnAction) Fault) (i : Bool) → P (pending.Finish g new) i Done
+  pub refuses : (g : CellId) (new : Result (Value × List AnAction) Fault) (i : Bool) (h : CellId) → P (pending.Finish g new) i (AgentIsFailed h)
   pub full : (p : Pending) (i : Bool) → P p i Full
   pub memory : (p : Pending) (i : Bool) → P p i Memory
 
@@ -241,7 +246,9 @@ by_reply P w k (pending.Send x n) i at view ws r m = send_replies (P (pending.Se
 by_reply P w k (pending.Swap c n from) i at view ws r m = open_replies (P (pending.Swap c n from) i) c (k.opens_atom c n from i) (k.memory (pending.Swap c n from) i) r m
 by_reply P w k (pending.Close c p v) i at view ws r m = close_replies (P (pending.Close c p v) i) c p v (k.closes_atom c p v i) (k.swaps_again c p v i) (k.full (pending.Close c p v) i) (k.memory (pending.Close c p v) i) r m
 by_reply P w k pending.Commit i at view ws r m = commit_replies (P pending.Commit i) at (set_writes w) w.ensures view ws w.sends (k.commits i) (k.commits_again i) (k.changed i) (k.denied i) (k.full pending.Commit i) (k.memory pending.Commit i) r m
+by_reply P w k (pending.Hold xs) i at view ws r m = commit_replies (P (pending.Hold xs) i) at (set_writes w) w.ensures view ws [] (k.holds xs i) (k.holds_again xs i) (k.holds_changed xs i) (k.holds_denied xs i) (k.full (pending.Hold xs) i) (k.memory (pending.Hold xs) i) r m
 by_reply P w k (pending.Fail f) i at view ws r m = fail_replies (P (pending.Fail f) i) at view (k.fails f i) (k.full (pending.Fail f) i) (k.memory (pending.Fail f) i) r m
 by_reply P w k (pending.Broke c p f) i at view ws r m = broke_replies (P (pending.Broke c p f) i) c p (k.breaks c p f i) (k.full (pending.Broke c p f) i) (k.memory (pending.Broke c p f) i) r m
 by_reply P w k (pending.Take g) i at view ws r m = take_replies (P (pending.Take g) i) g (k.takes g i) (k.idles g i) (k.memory (pending.Take g) i) r m
-by_reply P w k (pending.Finish g new) i at view ws r m = finish_replies (P (pending.Finish g new) i) g new (k.finishes g new i) (k.full (pending.Finish g new) i) (k.memory (pending.Finish g new) i) r m
+by_reply P w k (pending.Finish g (Ok x)) i at view ws r m = finish_replies (P (pending.Finish g (Ok x)) i) g (Ok x.0) x.1 (k.finishes g (Ok x) i) (k.refuses g (Ok x) i) (k.full (pending.Finish g (Ok x)) i) (k.memory (pending.Finish g (Ok x)) i) r m
+by_reply P w k (pending.Finish g (Err f)) i at view ws r m = finish_replies (P (pending.Finish g (Err f)) i) g (Err f) [] (k.finishes g (Err f) i) (k.refuses g (Err f) i) (k.full (pending.Finish g (Err f)) i) (k.memory (pending.Finish g (Err f)) i) r m

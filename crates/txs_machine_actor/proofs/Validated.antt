@@ -56,11 +56,6 @@ none_some e = cc
 cons_none : {A B : Type 0} {x : A} {xs : List A} → x ∷ xs ≡ [] → B
 cons_none e = cc
 
--- an impure body was first called by no action
-first_home : (kinds : List FunctionKind) (home : List Frame) (fs : List PlainFrame) (bn : ℕ) → IsFirst kinds home fs bn → IsImpure (owner_of kinds bn) → home ≡ []
-first_home kinds [] fs bn i im = refl
-first_home kinds (x ∷ home) fs bn i im = absurd (pure_impure kinds bn i.1 im)
-
 -- the next task is a validator's
 validates_so : (xs : List Task) (ws : Writes) (w : PlainTxFrame) (span : Span) (x : Check) → task_check xs ws w span ≡ Some x → validates_next xs ≡ true
 validates_so [] ws w span x e = none_some e
@@ -169,7 +164,8 @@ module _ (d : PlainCode) (kinds : List FunctionKind) (rooms : List ℕ) (functio
             step.transacted_by d kinds rooms functions validators b n role bn fs l p seen done kept None tx limit room is many at mid was s (with_answer tx acc None g) lt tx acc (record own { validators = [] }) i w.stands w.accepted
             (λ xs. began xs ∙ subst (λ (a : Option Bool). does i own (here a tx xs) ≡ does i (record own { validators = [] }) (here None tx xs)) e ((w.looks x q).accepts xs)) r c (w.bare_too (after_step None tx) r c k)
         by_answer (Some false) e k =
-            step.raised d kinds rooms functions validators b n role bn fs l p seen done kept None tx limit room is many at mid was s (with_answer tx acc None g) lt tx acc (λ xs. does i own (here acc tx xs)) began mid (fault_at InvalidState x.span) tx refl r c k
+            step.raised d kinds rooms functions validators b n role bn fs l p seen done kept None tx limit room is many at mid was s (with_answer tx acc None g) lt tx acc (λ xs. does i own (here acc tx xs)) began mid (fault_at InvalidState x.span) tx refl
+            (step.judges_quiet d kinds rooms functions validators b n role bn fs l p seen done kept acc tx limit room is many at mid was s g lt tx (w.judges x q)) r c k
             (λ xs. subst (λ (a : Option Bool). does i own (here a tx xs) ≡ raise (activity_of home tx) (fault_at InvalidState x.span) (here None tx xs).state) e ((w.looks x q).refuses xs))
 
     -- what has to be looked at can be
@@ -207,7 +203,7 @@ module _ (d : PlainCode) (kinds : List FunctionKind) (rooms : List ℕ) (functio
         outside_judges : machine.is_inside (activity_of home tx) ≡ false → IsImpure (owner_of kinds bn) → step.JudgesHere d kinds rooms functions validators b n role bn fs l p seen done kept acc tx limit room is many at mid was s g lt tx
         outside_judges out im =
             subst (λ (t : Transaction). step.JudgesHere d kinds rooms functions validators b n role bn fs l p seen done kept acc tx limit room is many at mid was s g lt t) (sym (step.reset_outside d kinds rooms functions validators b n role bn fs l p seen done kept acc tx limit room is many at mid was s g lt e))
-            (e, first_home kinds home fs bn (step.reset_first d kinds rooms functions validators b n role bn fs l p seen done kept acc tx limit room is many at mid was s g lt e) im)
+            e
 
     reset_judged : nth b.instrs at ≡ Some (instr.Put Reset) → Judged (instr.Put Reset)
     reset_judged e =
@@ -336,7 +332,8 @@ module _ (d : PlainCode) (kinds : List FunctionKind) (rooms : List ℕ) (functio
               (step.wants_at d kinds rooms functions validators b n role bn fs l p seen done kept acc tx limit room is many at mid was s g lt instr.TxEnd e tt) (check_judges k.acc2 k.tx2 k.goes x q) x.callee x.value x.span (check_can k.tx2 x q (with_answer k.tx2 k.acc2 acc k.goes))
               (λ xs. subst (λ (a : Option Bool). ends_in a k.tx2 xs ≡ machine.validates own x.callee x.value x.span (here a k.tx2 xs)) f (looks.looks xs)) r c v
           by_answer (Some false) f v =
-              step.raised d kinds rooms functions validators b n role bn fs l p seen done kept None k.tx2 limit room is many at mid was s (with_answer k.tx2 k.acc2 None k.goes) lt tx acc (λ xs. ends_in k.acc2 k.tx2 xs) began mid (fault_at InvalidState x.span) k.tx2 refl r c v
+              step.raised d kinds rooms functions validators b n role bn fs l p seen done kept None k.tx2 limit room is many at mid was s (with_answer k.tx2 k.acc2 None k.goes) lt tx acc (λ xs. ends_in k.acc2 k.tx2 xs) began mid (fault_at InvalidState x.span) k.tx2 refl
+              (step.judges_quiet d kinds rooms functions validators b n role bn fs l p seen done kept k.acc2 k.tx2 limit room is many at mid was s k.goes lt k.tx2 (check_judges k.acc2 k.tx2 k.goes x q)) r c v
               (λ xs. subst (λ (a : Option Bool). ends_in a k.tx2 xs ≡ raise (activity_of home k.tx2) (fault_at InvalidState x.span) (here None k.tx2 xs).state) f (looks.refuses xs))
 
       task_can : (y : PlainActor) (k : AtTask y) (o : Option Check) → end_check k.tx2 done ≡ o → CanTask d (after_step k.acc2 k.tx2) o

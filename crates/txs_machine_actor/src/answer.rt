@@ -28,7 +28,10 @@ pub fn may_answer(ask: &Ask, reply: &Reply) -> bool
         ),
         Reply::Retry(_) => matches!(ask, Ask::Look { .. } | Ask::Commit { .. }),
         Reply::Changed(_) => matches!(ask, Ask::Commit { .. } | Ask::CloseAt { at: Some(_), .. }),
-        Reply::AgentIsFailed(_) => matches!(ask, Ask::Commit { .. } | Ask::Send { .. }),
+        Reply::AgentIsFailed(_) => matches!(
+            ask,
+            Ask::Commit { .. } | Ask::Send { .. } | Ask::Finish { .. }
+        ),
         Reply::Action { .. } | Reply::Idle => matches!(ask, Ask::Take { .. }),
         Reply::Opened(_, _) => matches!(ask, Ask::OpenAt { .. }),
         Reply::Full => ask.may_add_event(),

@@ -1,8 +1,9 @@
 //! Turns of an agent in its own body: it takes an action, runs it, and hands in its value.
 
 ghost use Rattle.std.specs.Prelude.{◌≡◌, ◌<◌, ◌∷◌, [], true, length, Some, None};
-ghost use Rattle.txs_machine_actor.specs.PlainActor.{Lives, unanswered};
-ghost use Rattle.txs_machine_actor.specs.Turns.{Turns, IsAttending, AnswersForAtOnce, BeginsJudging, CanAttend, AttendsSo, CanBegin, CanCheck, CanJudge, GivesFor, HandedBy, Hands, IsLook, JudgesFor, Raises, agent_in, begins_judging, finish_check, taken, without_last};
+ghost use Rattle.txs_code_meaning.specs.Machine.{fault_in};
+ghost use Rattle.txs_machine_actor.specs.PlainActor.{Lives, acting_of, unanswered};
+ghost use Rattle.txs_machine_actor.specs.Turns.{Turns, IsAttending, AnswersForAtOnce, BeginsJudging, CanAttend, AttendsSo, CanBegin, CanCheck, CanHandIn, CanJudge, GivesFault, GivesFor, HandedBy, Hands, HandsInBy, IsLook, JudgesFor, Raises, agent_in, begins_judging, finish_check, taken, without_last};
 ghost use Rattle.txs_machine_actor.specs.declared.outcome.Turn.TheVariants as turned;
 ghost use Rattle.txs_machine_loop.specs.Values.{last_of};
 ghost use Rattle.txs_value_apply.specs.Core.{core, takes};
@@ -65,7 +66,33 @@ impl Actor {
             }
             return;
         }
-        self.hand_value(code, turn);
+        self.hand_action(code, turn);
+    }
+
+    /// The action is over: the fault that it met is handed in, or else its value.
+    #[tactic(auto, using(crate::proofs::Holding::hands_value, crate::proofs::Holding::checks_value, crate::proofs::Holding::value_handed, crate::proofs::Holding::fault_handed))]
+    fn hand_action(&mut self, code: &Verified, turn: &mut Turn)
+        requires attending { (g : ACell) × (agent_in self.old.role ≡ Some g) }
+        requires can { CanHandIn code.now self.old (fault_in (acting_of self.old.role)) }
+        requires went { turn.old ≡ turned.Went }
+        ensures { HandsInBy code.now self.old (fault_in (acting_of self.old.role)) turn.new self.new }
+    {
+        match self.role.fault() {
+            Some(fault) => self.give_fault(fault, turn),
+            None => self.hand_value(code, turn),
+        }
+    }
+
+    /// The fault that the action is over with is handed in. What the action held is dropped.
+    fn give_fault(&mut self, fault: Fault, turn: &mut Turn)
+        requires attending { (g : ACell) × (agent_in self.old.role ≡ Some g) }
+        requires went { turn.old ≡ turned.Went }
+        ensures { GivesFault self.old fault (agent_in self.old.role) turn.new self.new }
+    {
+        match self.agent_in() {
+            Some(agent) => self.ask(Pending::Finish(agent, Err(fault)), turn),
+            None => unreachable!(),
+        }
     }
 
     /// The agent's new value is handed in, where its validator accepts it, if it has one.
@@ -125,17 +152,23 @@ impl Actor {
         }
     }
 
-    /// The value at the top is handed in.
+    /// The value at the top is handed in, with the sends that the action holds.
     fn give(&mut self, turn: &mut Turn)
         requires value { 0 < length self.old.values }
         requires attending { (g : ACell) × (agent_in self.old.role ≡ Some g) }
         requires went { turn.old ≡ turned.Went }
         ensures { GivesFor self.old (agent_in self.old.role) turn.new self.new }
     {
+        let Some(agent) = self.agent_in() else {
+            unreachable!();
+        };
         let value = self.stack.take_last();
-        match self.agent_in() {
-            Some(agent) => self.ask(Pending::Finish(agent, Ok(value)), turn),
-            None => unreachable!(),
+        match self.role.copy_held(self.alloc) {
+            Ok(sends) => self.ask(Pending::Finish(agent, Ok((value, sends))), turn),
+            Err(_) => {
+                drop(value);
+                self.end(Outcome::Memory, turn);
+            }
         }
     }
 

@@ -1,9 +1,12 @@
 //! What an actor asks the shared state, by what it waits for.
 
-ghost use Rattle.std.specs.Prelude.{◌≡◌, IfErr, IfOk};
+ghost use Rattle.std.specs.Prelude.{◌≡◌, ◌++◌, IfErr, IfOk, List};
 ghost use Rattle.txs_machine_transaction.specs.Asks.{applied_in, ask_of_read, ask_for, AskWantsMemory};
 ghost use Rattle.txs_machine_transaction.specs.Transaction.{is_running};
-ghost use Rattle.txs_machine_transaction.specs.declared.state.Pending.TheVariants.{Commit};
+ghost use Rattle.txs_world_protocol.specs.declared.ask.Ask.TheVariants as ask;
+ghost use Rattle.txs_frame.specs.Frame.{set_writes};
+ghost use Rattle.txs_value_cell.specs.declared.action.Action.{Action as AnAction};
+ghost use Rattle.txs_machine_transaction.specs.declared.state.Pending.TheVariants.{Commit, Hold};
 
 use crate::instructions::runs;
 use crate::kept::KeptTransaction;
@@ -27,7 +30,7 @@ fn copy_cells(alloc: Global, cells: &[CellId]) -> Result<Listed<CellId>, AllocEr
 
 /// The same actions in a list of its own: mostly there are none.
 #[inline(always)]
-fn copy_sends(alloc: Global, sends: &[Action]) -> Result<Listed<Action>, AllocError>
+pub fn copy_sends(alloc: Global, sends: &[Action]) -> Result<Listed<Action>, AllocError>
     ensures { IfOk result (λ c. c ≡ sends.now) }
 {
     if sends.is_empty() {
@@ -45,6 +48,20 @@ fn copy_actions(alloc: Global, sends: &[Action]) -> Result<Listed<Action>, Alloc
         copies.push_reserved(copy_action(alloc, send)?);
     }
     Ok(Listed::from_vec(copies))
+}
+
+/// The same actions as in two lists, one behind the other, in a list of its own.
+pub fn join_sends(
+    alloc: Global,
+    first: &[Action],
+    more: &[Action],
+) -> Result<Listed<Action>, AllocError>
+    ensures { IfOk result (λ all. all ≡ first.now ++ more.now) }
+{
+    let mut all = copy_sends(alloc, first)?.into_vec();
+    let mut behind = copy_sends(alloc, more)?.into_vec();
+    all.append(&mut behind)?;
+    Ok(Listed::from_vec(all))
 }
 
 /// The values so far of the refs whose commutes are applied.
@@ -69,20 +86,20 @@ pub fn ask_of_read(cell: CellId, tx: &KeptTransaction, at: u32) -> Ask
     Ask::Peek { cell }
 }
 
-/// What is asked for the end of a transaction with this read point, this last view and this frame. An error comes where there
-/// was no memory for the lists of what it commits.
+/// What is asked for the end of a transaction with this read point, this last view and this frame, which sends these actions. An
+/// error comes where there was no memory for the lists of what it commits.
 #[inline(always)]
-pub fn ask_of_commit(
+fn commit_with(
     tx: &KeptTransaction,
     at: u32,
     view: u32,
     frame: &TxFrame,
+    sends: Listed<Action>,
 ) -> Result<Ask, AllocError>
-    ensures { IfOk result (λ q. q ≡ ask_for Commit (is_running tx.now) at view (applied_in tx.now) frame.now) }
+    ensures { IfOk result (λ q. q ≡ ask.Commit at (set_writes frame.now) frame.now.ensures view (applied_in tx.now) sends) }
 {
     let commuted = applied_in(tx)?;
     let ensured = copy_cells(tx.alloc(), frame.ensured())?;
-    let sends = copy_sends(tx.alloc(), frame.sends())?;
     let sets = Listed::from_vec(frame.writes()?);
     Ok(Ask::Commit {
         at,
@@ -92,6 +109,28 @@ pub fn ask_of_commit(
         commuted,
         sends,
     })
+}
+
+/// The same, which sends what its frame holds.
+#[inline(always)]
+pub fn ask_of_commit(
+    tx: &KeptTransaction,
+    at: u32,
+    view: u32,
+    frame: &TxFrame,
+) -> Result<Ask, AllocError>
+    ensures { IfOk result (λ q. q ≡ ask_for Commit (is_running tx.now) at view (applied_in tx.now) frame.now) }
+{
+    let sends = copy_sends(tx.alloc(), frame.sends())?;
+    commit_with(tx, at, view, frame, sends)
+}
+
+/// The same, whose sends an action holds: it sends nothing.
+fn ask_to_hold(tx: &KeptTransaction, at: u32, view: u32, frame: &TxFrame) -> Result<Ask, AllocError>
+    ensures { IfOk result (λ q. (xs : List AnAction) → q ≡ ask_for (Hold xs) (is_running tx.now) at view (applied_in tx.now) frame.now) }
+{
+    let sends = Listed::from_vec(Vec::new(tx.alloc()));
+    commit_with(tx, at, view, frame, sends)
 }
 
 /// What is asked for this, where the transaction has this read point, this last view and this frame. An error comes where there
@@ -129,16 +168,17 @@ pub fn ask_for(
             action: copy_action(tx.alloc(), action)?,
         }),
         Pending::Commit => ask_of_commit(tx, at, view, frame),
+        Pending::Hold(_) => ask_to_hold(tx, at, view, frame),
         Pending::Fail(_) => Ok(Ask::Fail { at, view }),
         Pending::Broke(cell, at, _) => Ok(Ask::Broke {
             cell: *cell,
             at: *at,
         }),
         Pending::Take(agent) => Ok(Ask::Take { agent: *agent }),
-        Pending::Finish(agent, Ok(value)) => Ok(Ask::Finish {
+        Pending::Finish(agent, Ok((value, sends))) => Ok(Ask::Finish {
             agent: *agent,
             new: Ok(copy_value(value)?),
-            sends: Listed::from_vec(Vec::new(tx.alloc())),
+            sends: copy_sends(tx.alloc(), sends.as_slice())?,
         }),
         Pending::Finish(agent, Err(fault)) => Ok(Ask::Finish {
             agent: *agent,

@@ -87,12 +87,14 @@ pub enum Pending {
     Close(CellId, u32, Value),
     /// A transaction ends.
     Commit,
+    /// A transaction of an action ends, whose sends the action holds up to its end: it holds these then, and no others.
+    Hold(Listed<Action>),
     /// A transaction has ended with a fault.
     Fail(Fault),
     /// A swap of this atom, which was opened at this place, has ended with a fault.
     Broke(CellId, u32, Fault),
     /// An agent takes the first action of its mailbox.
     Take(CellId),
-    /// An agent's action is over, with the agent's new state or with a fault.
-    Finish(CellId, Result<Value, Fault>),
+    /// An agent's action is over, with the agent's new state and the action's sends, or with a fault.
+    Finish(CellId, Result<(Value, Listed<Action>), Fault>),
 }

@@ -4,7 +4,7 @@ ghost use Rattle.std.specs.Borrow.{sem};
 ghost use Rattle.std.specs.Io.BufRead.{Rests};
 ghost use Rattle.std.specs.Option.{option_copied};
 ghost use Rattle.std.specs.Prelude.{◌≡◌, ◌+◌, ◌<◌, ◌≤◌, false, length, true, OnErr, OnOk};
-ghost use Rattle.txs_mail.specs.Mailbox.{IsMailbox, empty, finish, give_back, next, put, take, with_room};
+ghost use Rattle.txs_mail.specs.Mailbox.{IsMailbox, empty, finish, first, give_back, next, put, take, with_room};
 ghost use Rattle.txs_mail.specs.contracts.mailbox.Mailbox.{the_row};
 
 use std::alloc::{AllocError, Global};
@@ -122,6 +122,13 @@ impl Mailbox {
     {
         // The action never left the front.
         self.is_taken = false;
+    }
+
+    /// The first action, whether it is taken or not, and whether the agent has failed or not.
+    pub fn first(&self) -> Option<&Action>
+        ensures { option_copied result ≡ first self.now.plain.actions }
+    {
+        self.actions.get(0)
     }
 
     /// How many actions there are, with the one that is taken.

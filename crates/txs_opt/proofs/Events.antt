@@ -1,5 +1,6 @@
 -- What a thread on its events makes of the forms on cells is alike, where callees are and the transactions' bodies mean the same.
 use Rattle.std.proofs.Common.{◌≡◌, ℕ, zero, suc, Bool, true, false, ◌&&◌, ◌==◌, List, [], ◌∷◌, ◌++◌, map, if◌then◌else◌, Option, Some, None, refl, sym, ap, ◌∙◌, subst}
+use Rattle.txs_frame.specs.Frame.{sends_of_commit}
 use Rattle.txs_world_protocol.specs.Ask.{same_writes, same_cell, same_value, same_action, same_actions}
 use Rattle.txs_world_protocol.specs.SeenEvent.{SeenEvent, home}
 use Rattle.txs_world_protocol.specs.declared.event.EventKind.{EventKind}
@@ -196,6 +197,13 @@ module _ (loose : Type 0) where
   holds_like a span None s t r = eats_like 0 (λ e t1. sends a span e.kind t1) (λ e t1. sends a span e.kind t1) (λ e. sends_like a span e.kind) s t r
   holds_like a span (Some l) s t r = (refl, ap {A = ThreadState} (λ u. holding (a ∷ []) u) r)
 
+  -- a run that is noted where its writes are such, and its sends are those that a commit makes
+  landed_like : (w : Bool) (made sent : List Action) (v : Value) (x y : TxRun) → observed_run x ≡ observed_run y → (s t : ThreadState) → observed s ≡ observed t
+      → Like K (meant (w && same_actions (sends_of_commit s.held made) sent) v (holding made (with_tx x s))) (meant (w && same_actions (sends_of_commit t.held made) sent) v (holding made (with_tx y t)))
+  landed_like w made sent v x y e s t r =
+      subst (λ o. Like K (meant (w && same_actions (sends_of_commit s.held made) sent) v (holding made (with_tx x s))) (meant (w && same_actions (sends_of_commit o made) sent) v (holding made (with_tx y t)))) (ap (λ (u : ThreadState). u.held) r)
+      (meant_like (w && same_actions (sends_of_commit s.held made) sent) v (holding made (with_tx x s)) (holding made (with_tx y t)) (ap {A = ThreadState} (λ u. holding made u) (with_same x y s t e r)))
+
   over_like : (May : Kind) (x y : Completion TxState Value) (s t : ThreadState) → observed s ≡ observed t → Like (fine_states May loose) x y → (go go1 : Value → TxState → Completion ThreadState Value) (broke broke1 : Fault → Completion ThreadState Value)
       → ((v : Value) (u : TxState) → AllFine May u.done.commutes → Like K (go v u) (go1 v u)) → ((f : Fault) → Like K (broke f) (broke1 f)) → Like K (over s x go broke) (over t y go1 broke1)
   over_like May (Completes a x) (Completes b y) s t r h go go1 broke broke1 hg hb = subst (λ v. Like K (go a x) (go1 v y)) h.0 (subst (λ u. Like K (go a x) (go1 a u)) h.1.0 (hg a x h.1.1))
@@ -230,12 +238,12 @@ module _ (loose : Type 0) where
     ends_like (Read d) R Q C s t r = tt
     ends_like (Commit at view writes sent) R Q C s t r =
         over_like May (on R) (on1 R) s t r (same R)
-        (λ v x. faultless (final_writes f va m.span x.done C s) (λ ws t1. meant (same_writes ws writes && same_actions x.done.sends sent) v (with_tx (run_of First v x) t1)))
-        (λ v x. faultless (final_writes g va m.span x.done C t) (λ ws t1. meant (same_writes ws writes && same_actions x.done.sends sent) v (with_tx (run_of Second v x) t1))) (λ x. Invalid) (λ x. Invalid)
+        (λ v x. faultless (final_writes f va m.span x.done C s) (λ ws t1. meant (same_writes ws writes && same_actions (sends_of_commit t1.held x.done.sends) sent) v (holding x.done.sends (with_tx (run_of First v x) t1))))
+        (λ v x. faultless (final_writes g va m.span x.done C t) (λ ws t1. meant (same_writes ws writes && same_actions (sends_of_commit t1.held x.done.sends) sent) v (holding x.done.sends (with_tx (run_of Second v x) t1)))) (λ x. Invalid) (λ x. Invalid)
         (λ v x fine. faultless_like (final_writes f va m.span x.done C s) (final_writes g va m.span x.done C t)
-        (λ ws t1. meant (same_writes ws writes && same_actions x.done.sends sent) v (with_tx (run_of First v x) t1)) (λ ws t1. meant (same_writes ws writes && same_actions x.done.sends sent) v (with_tx (run_of Second v x) t1))
+        (λ ws t1. meant (same_writes ws writes && same_actions (sends_of_commit t1.held x.done.sends) sent) v (holding x.done.sends (with_tx (run_of First v x) t1))) (λ ws t1. meant (same_writes ws writes && same_actions (sends_of_commit t1.held x.done.sends) sent) v (holding x.done.sends (with_tx (run_of Second v x) t1)))
         (final_like ThreadState K May f g h va valid m.span x.done C fine s t r)
-        (λ ws s1 t1 r1. meant_like (same_writes ws writes && same_actions x.done.sends sent) v (with_tx (run_of First v x) s1) (with_tx (run_of Second v x) t1) (with_same (run_of First v x) (run_of Second v x) s1 t1 refl r1)))
+        (λ ws s1 t1 r1. landed_like (same_writes ws writes) x.done.sends sent v (run_of First v x) (run_of Second v x) refl s1 t1 r1))
         (λ x. tt)
     ends_like (Retry since d commute) R Q C s t r = tt
     ends_like (Fail at view) R Q C s t r =

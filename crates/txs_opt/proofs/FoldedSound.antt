@@ -12,7 +12,7 @@ use Rattle.txs_value_data.specs.declared.value.Value.{Value}
 use Rattle.txs_value_data.specs.declared.value.Value.TheVariants.{Nil, Truth, Int, Key, Text, Vector, Cell}
 use Rattle.txs_tree_meaning.proofs.Callable.{both}
 use Rattle.txs_tree_meaning.specs.Known.{Known, inside_in, outside_in, pure_in, levels, known_of, known_from, known}
-use Rattle.txs_tree_meaning.specs.Sound.{SoundValidator, SoundCells, Sound, Zone, in_function, in_thread, in_dosync, MayCall, SoundCall, PureCall, SoundCallee, SoundTree, SoundAll, SoundLet, SoundDo, SoundFunctions, SoundThreads, nodes, nodes_in, nodes_of_functions, nodes_of_all}
+use Rattle.txs_tree_meaning.specs.Sound.{SoundValidator, SoundCells, Sound, Zone, in_function, in_thread, in_dosync, MayCall, SoundCall, PureCall, SoundCallee, SoundSent, SoundTree, SoundAll, SoundLet, SoundDo, SoundFunctions, SoundThreads, nodes, nodes_in, nodes_of_functions, nodes_of_all}
 use Rattle.txs_tree_meaning.specs.Tree.{Mark, Tree, Const, Local, If, Do, Let, Loop, Recur, Core, Call, VectorOf, Println, Dosync, Look, Put, Update, Send, Trees, none, more, count, PlainFunction, PlainThread, PlainProgram}
 use Rattle.txs_opt.specs.Fold.{value_of, constants, settled, settled_on, settled_core, settled_vector, chosen, before, seen_items, whole, folded, folded_all, folded_function, folded_functions, folded_threads, folded_program}
 use Rattle.txs_opt.proofs.FoldedProgram.{length_folded}
@@ -49,6 +49,13 @@ module _ (ks ls : List Known) (all : AllEase ks ls) where
   pub callee_sound : (c : Callee) (n : ℕ) → SoundCallee ks c n → SoundCallee ls c n
   callee_sound (CoreOp op) n h = h
   callee_sound (Function f) n h = pure_call_sound f n h
+
+  -- what may be sent
+  pub sent_sound : (c : Callee) (n : ℕ) → SoundSent ks c n → SoundSent ls c n
+  sent_sound (CoreOp op) n h = h
+  sent_sound (Function f) n h =
+      let there = call_sound in_thread f n (record { function = h.function; found = h.found; arity = h.arity; zoned = h.zoned }) in
+      record { function = there.function; found = there.found; arity = there.arity; zoned = there.zoned }
 
   -- ---- what is known of a folded body
 
@@ -207,7 +214,7 @@ module _ (ks ls : List Known) (all : AllEase ks ls) where
     folded_sound (Update form cell callee es m) zone d tail h =
         (h.0, folded_sound cell zone d None h.1, subst (λ n. SoundCallee ls callee (suc n)) (sym (count_folded es)) (callee_sound callee (suc (count es)) h.2), all_sound es zone d h.3)
     folded_sound (Send cell callee es m) zone d tail h =
-        (folded_sound cell zone d None h.0, subst (λ n. SoundCallee ls callee (suc n)) (sym (count_folded es)) (callee_sound callee (suc (count es)) h.1), all_sound es zone d h.2)
+        (folded_sound cell zone d None h.0, subst (λ n. SoundSent ls callee (suc n)) (sym (count_folded es)) (sent_sound callee (suc (count es)) h.1), all_sound es zone d h.2)
 
     all_sound : (es : Trees) (zone : Zone) (d : ℕ) → SoundAll ks zone d es → SoundAll ls zone d (folded_all es)
     all_sound none zone d h = tt

@@ -6,12 +6,12 @@ use Rattle.txs_value_base.specs.Places.{nth}
 use Rattle.txs_value_data.specs.Limits.{most_locals, most_nodes}
 use Rattle.txs_tree_meaning.proofs.Callable.{both, same_some, nth-take, function_at, tree-widened, tree-outside, tree-inside}
 use Rattle.txs_tree_meaning.specs.Known.{Known, is_inside, is_outside, is_pure, levels_of, inside_in, any_inside, outside_in, any_outside, pure_in, all_pure, known_of, known_from, known}
-use Rattle.txs_tree_meaning.specs.Sound.{Sound, Zone, in_function, in_thread, in_dosync, MayCall, SoundCall, SoundCallee, SoundTree, SoundAll, SoundLet, SoundDo, SoundFunction, SoundFunctions, SoundThreads, nodes, nodes_in, nodes_of_functions, nodes_of_all}
+use Rattle.txs_tree_meaning.specs.Sound.{Sound, Zone, in_function, in_thread, in_dosync, MayCall, SoundCall, SoundCallee, SoundSent, SoundTree, SoundAll, SoundLet, SoundDo, SoundFunction, SoundFunctions, SoundThreads, nodes, nodes_in, nodes_of_functions, nodes_of_all}
 use Rattle.txs_tree_meaning.specs.Tree.{Mark, Tree, Const, Local, If, Do, Let, Loop, Recur, Core, Call, VectorOf, Println, Dosync, Look, Put, Update, Send, Trees, none, more, count, PlainFunction, PlainThread, PlainProgram}
 use Rattle.txs_tree_build.specs.Locals.{reach, reach_let}
 use Rattle.txs_tree_build.specs.Shift.{shifted}
 use Rattle.txs_opt.specs.Inline.{bound, may_inline, opened, called, inlined, all_inlined, let_inlined, functions_inlined, threads_inlined, budget_of, inlined_program}
-use Rattle.txs_opt.proofs.FoldedSound.{call_sound, callee_sound, cells_sound}
+use Rattle.txs_opt.proofs.FoldedSound.{call_sound, callee_sound, sent_sound, cells_sound}
 use Rattle.txs_opt.proofs.InlinedFunctions.{with_inlined, length_inlined}
 use Rattle.txs_opt.proofs.Inlining.{count_inlined, count_let_inlined, Opens, opens_of}
 use Rattle.txs_opt.proofs.Keeping.{neither, nor, also, Eases, AllEase, eases_at, all_ease_push, callee_at, inside_at, outside_at, pure_at, levels_at, Kept, AllKept, all_kept_trans, none_kept, more_kept, const_kept, local_kept, if_kept, do_kept, recur_kept, core_kept, vector_kept, println_kept, dosync_kept, call_kept, let_kept, loop_kept, look_kept, put_kept, update_kept, send_kept}
@@ -140,7 +140,7 @@ module _ (done : List PlainFunction) (sound : SoundFunctions [] done) where
           (h.0, inlined_sound cell zone d None budget h.1, subst (λ n. SoundCallee L callee (suc n)) (sym (count_inlined done d x.budget es)) (callee_sound ks L all callee (suc (count es)) h.2), all_inlined_sound es zone d x.budget h.3)
       inlined_sound (Send cell callee es m) zone d tail budget h =
           let x = inlined done d budget cell in
-          (inlined_sound cell zone d None budget h.0, subst (λ n. SoundCallee L callee (suc n)) (sym (count_inlined done d x.budget es)) (callee_sound ks L all callee (suc (count es)) h.1), all_inlined_sound es zone d x.budget h.2)
+          (inlined_sound cell zone d None budget h.0, subst (λ n. SoundSent L callee (suc n)) (sym (count_inlined done d x.budget es)) (sent_sound ks L all callee (suc (count es)) h.1), all_inlined_sound es zone d x.budget h.2)
 
       pub all_inlined_sound : (es : Trees) (zone : Zone) (d budget : ℕ) → SoundAll ks zone d es → SoundAll L zone d (all_inlined done d budget es).trees
       all_inlined_sound none zone d budget h = tt

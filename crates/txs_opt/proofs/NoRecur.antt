@@ -4,7 +4,7 @@ use Rattle.txs_world_protocol.specs.Ask.{same_writes, same_cell, same_value, sam
 use Rattle.txs_world_protocol.specs.SeenEvent.{SeenEvent, home}
 use Rattle.txs_world_protocol.specs.declared.event.EventKind.{EventKind}
 use Rattle.txs_world_protocol.specs.declared.event.EventKind.TheVariants.{Read, Commit, Retry, Fail, Refused, Send as Sent, SendRefused, Act, Swap as Swapped, Broke}
-use Rattle.txs_frame.specs.Frame.{PlainTxFrame, set_ref, commute_ref}
+use Rattle.txs_frame.specs.Frame.{PlainTxFrame, set_ref, commute_ref, sends_of_commit}
 use Rattle.txs_value_cell.specs.Cells.{World, validators_of}
 use Rattle.txs_value_cell.specs.Forms.{rule, cell_of, may_stand}
 use Rattle.txs_value_cell.specs.declared.action.Action.{Action}
@@ -27,7 +27,7 @@ use Rattle.txs_value_data.specs.declared.value.Value.{Value}
 use Rattle.txs_value_data.specs.declared.value.Value.TheVariants.{Cell}
 use Rattle.txs_tree_meaning.specs.Meaning.{Completion, Completes, Recurs, Faults, Retries, Waits, OutOfTurns, Invalid, bind, result_of, allowed, Applies}
 use Rattle.txs_tree_meaning.specs.Pure.{no_effects}
-use Rattle.txs_tree_meaning.specs.Thread.{ThreadState, with_tx, sends_or_holds, uneaten, eats, meant, reads, resets, faulted, faultless, swaps, sends, over, Transacting, run_of, ends_tx, is_retry, eats_tx, Surroundings, accepts, thread_look, thread_put, thread_update, on_events}
+use Rattle.txs_tree_meaning.specs.Thread.{ThreadState, with_tx, holding, sends_or_holds, uneaten, eats, meant, reads, resets, faulted, faultless, swaps, sends, over, Transacting, run_of, ends_tx, is_retry, eats_tx, Surroundings, accepts, thread_look, thread_put, thread_update, on_events}
 use Rattle.txs_tree_meaning.specs.Transaction.{TxState, taken, done_as, on_cell, current, tx_look, tx_put, tx_update, in_transaction, tx_meaning, final_writes}
 use Rattle.txs_tree_meaning.specs.Tree.{Mark}
 use Rattle.txs_opt.proofs.Recurring.{IsEnd, FormsEnd, CalleesEnd, bind_end}
@@ -187,8 +187,8 @@ holds_end (Some l) a span t = tt
 ends_end : (d : Transacting) (f : Applies ThreadState) (e : EventKind) (R Q C : World) (t : ThreadState) → IsEnd (ends_tx d f e R Q C t)
 ends_end d f (Read c) R Q C t = tt
 ends_end d f (Commit at view writes sent) R Q C t =
-    over_end t (d.on R) (λ v x. faultless (final_writes f d.validators d.mark.span x.done C t) (λ ws t1. meant (same_writes ws writes && same_actions x.done.sends sent) v (with_tx (run_of d v x) t1))) (λ g. Invalid)
-    (λ v x. faultless_end (final_writes f d.validators d.mark.span x.done C t) (λ ws t1. meant (same_writes ws writes && same_actions x.done.sends sent) v (with_tx (run_of d v x) t1)) (λ ws t1. meant_end (same_writes ws writes && same_actions x.done.sends sent) v (with_tx (run_of d v x) t1)))
+    over_end t (d.on R) (λ v x. faultless (final_writes f d.validators d.mark.span x.done C t) (λ ws t1. meant (same_writes ws writes && same_actions (sends_of_commit t1.held x.done.sends) sent) v (holding x.done.sends (with_tx (run_of d v x) t1)))) (λ g. Invalid)
+    (λ v x. faultless_end (final_writes f d.validators d.mark.span x.done C t) (λ ws t1. meant (same_writes ws writes && same_actions (sends_of_commit t1.held x.done.sends) sent) v (holding x.done.sends (with_tx (run_of d v x) t1))) (λ ws t1. meant_end (same_writes ws writes && same_actions (sends_of_commit t1.held x.done.sends) sent) v (holding x.done.sends (with_tx (run_of d v x) t1))))
     (λ g. tt)
 ends_end d f (Retry since c commute) R Q C t = tt
 ends_end d f (Fail at view) R Q C t =

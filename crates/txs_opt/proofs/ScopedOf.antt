@@ -8,7 +8,7 @@ use Rattle.txs_value_base.specs.declared.op.Callee.TheVariants.{Core as CoreOp, 
 use Rattle.txs_tree_meaning.proofs.Callable.{missing, nth-length, length-known}
 use Rattle.txs_tree_meaning.specs.Known.{Known, known_of, known_from, known}
 use Rattle.txs_tree_meaning.specs.Scoped.{Scoped, ScopedTree, ScopedAll, ScopedLet, ScopedCallee, ScopedFunctions, ScopedThreads, ScopedValidator, ScopedCells}
-use Rattle.txs_tree_meaning.specs.Sound.{Zone, in_function, in_thread, in_dosync, SoundTree, SoundAll, SoundLet, SoundDo, SoundCallee, SoundFunctions, SoundThreads, SoundValidator, SoundCells}
+use Rattle.txs_tree_meaning.specs.Sound.{Zone, in_function, in_thread, in_dosync, SoundTree, SoundAll, SoundLet, SoundDo, SoundCallee, SoundSent, SoundFunctions, SoundThreads, SoundValidator, SoundCells}
 use Rattle.txs_tree_meaning.specs.Tree.{Tree, Const, Local, If, Do, Let, Loop, Recur, Core, Call, VectorOf, Println, Dosync, Look, Put, Update, Send, Trees, none, more, count, PlainFunction, PlainThread, PlainProgram}
 use Rattle.txs_opt.proofs.Below.{Lower, Below, wider_below, Defined, scoped_below}
 use Rattle.txs_opt.proofs.InlinedFunctions.{Under}
@@ -36,6 +36,10 @@ module _ (ks : List Known) (few : AllFew ks) where
   callee_scoped (CoreOp op) n h = (tt, omega (arith, h.1))
   callee_scoped (Function f) n h = (nth-length ks f h.function h.found, omega (arith, h.arity, few_at ks f h.function few h.found))
 
+  sent_scoped : (c : Callee) (n : ℕ) → SoundSent ks c (suc n) → ScopedCallee ks c × (n < most_items)
+  sent_scoped (CoreOp op) n h = (tt, omega (arith, h.1))
+  sent_scoped (Function f) n h = (nth-length ks f h.function h.found, omega (arith, h.arity, few_at ks f h.function few h.found))
+
   mutual
     pub tree_scoped : (e : Tree) (zone : Zone) (d : ℕ) (tail : Option ℕ) → SoundTree ks zone d tail e → ScopedTree ks d e
     tree_scoped (Const v m) zone d tail h = tt
@@ -56,7 +60,7 @@ module _ (ks : List Known) (few : AllFew ks) where
         let c = callee_scoped callee (count args) h.2 in
         (tree_scoped cell zone d None h.1, c.0, c.1, all_scoped args zone d h.3)
     tree_scoped (Send cell callee args m) zone d tail h =
-        let c = callee_scoped callee (count args) h.1 in
+        let c = sent_scoped callee (count args) h.1 in
         (tree_scoped cell zone d None h.0, c.0, c.1, all_scoped args zone d h.2)
 
     all_scoped : (es : Trees) (zone : Zone) (d : ℕ) → SoundAll ks zone d es → ScopedAll ks d es

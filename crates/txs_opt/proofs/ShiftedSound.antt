@@ -7,7 +7,7 @@ use Rattle.txs_value_data.specs.Limits.{most_locals}
 use Rattle.txs_value_base.specs.declared.op.Callee.{Callee}
 use Rattle.txs_value_base.specs.declared.op.Callee.TheVariants.{Core as CoreOp, Function}
 use Rattle.txs_tree_meaning.specs.Known.{Known, callee_levels, levels_of}
-use Rattle.txs_tree_meaning.specs.Sound.{Zone, in_dosync, SoundCall, SoundCallee, SoundTree, SoundAll, SoundLet, SoundDo, nodes, nodes_in}
+use Rattle.txs_tree_meaning.specs.Sound.{Zone, in_dosync, SoundCall, SoundCallee, SoundSent, SoundTree, SoundAll, SoundLet, SoundDo, nodes, nodes_in}
 use Rattle.txs_tree_meaning.specs.Tree.{Tree, Const, Local, If, Do, Let, Loop, Recur, Core, Call, VectorOf, Println, Dosync, Look, Put, Update, Send, Trees, none, more, count}
 use Rattle.txs_tree_build.specs.Locals.{reach, reach_all, reach_let}
 use Rattle.txs_tree_build.specs.Shift.{moved, shifted, all_shifted}
@@ -74,7 +74,7 @@ module _ (c k : ℕ) (ks : List Known) where
     shifted_sound (Send cell callee es m) zone d tail le h few =
         let x = reach (d + k) (shifted c k cell) in
         let y = reach_all (d + k) (all_shifted c k es) in
-        (shifted_sound cell zone d None le h.0 (left_max x y most_locals few), subst (λ n. SoundCallee ks callee (suc n)) (sym (count_shifted c k es)) h.1, all_shifted_sound es zone d le h.2 (right_max x y most_locals few))
+        (shifted_sound cell zone d None le h.0 (left_max x y most_locals few), subst (λ n. SoundSent ks callee (suc n)) (sym (count_shifted c k es)) h.1, all_shifted_sound es zone d le h.2 (right_max x y most_locals few))
 
     all_shifted_sound : (es : Trees) (zone : Zone) (d : ℕ) → c ≤ d → SoundAll ks zone d es → reach_all (d + k) (all_shifted c k es) ≤ most_locals → SoundAll ks zone (d + k) (all_shifted c k es)
     all_shifted_sound none zone d le h few = tt
@@ -165,6 +165,10 @@ module _ (c k : ℕ) (ks ls : List Known) (grows : (f : ℕ) (known : Known) →
   callee_found (CoreOp op) n h = omega arith
   callee_found (Function f) n h = omega (arith, ap levels_of h.found, ap levels_of (grows f h.function h.found))
 
+  sent_found : (callee : Callee) (n : ℕ) → SoundSent ks callee n → callee_levels ls callee ≤ callee_levels ks callee
+  sent_found (CoreOp op) n h = omega arith
+  sent_found (Function f) n h = omega (arith, ap levels_of h.found, ap levels_of (grows f h.function h.found))
+
   mutual
     pub shifted_kept : (e : Tree) (zone : Zone) (d : ℕ) (tail : Option ℕ) → SoundTree ks zone d tail e → Kept ks ls e (shifted c k e)
     shifted_kept (Const v m) zone d tail h = const_kept ks ls m m v
@@ -182,7 +186,7 @@ module _ (c k : ℕ) (ks ls : List Known) (grows : (f : ℕ) (known : Known) →
     shifted_kept (Look form cell m) zone d tail h = look_kept ks ls m m form cell (shifted c k cell) (shifted_kept cell zone d None h.1)
     shifted_kept (Put form cell value m) zone d tail h = put_kept ks ls m m form cell value (shifted c k cell) (shifted c k value) (shifted_kept cell zone d None h.1) (shifted_kept value zone d None h.2)
     shifted_kept (Update form cell callee es m) zone d tail h = update_kept ks ls m m form cell (shifted c k cell) callee es (all_shifted c k es) (callee_found callee (suc (count es)) h.2) (shifted_kept cell zone d None h.1) (all_shifted_kept es zone d h.3)
-    shifted_kept (Send cell callee es m) zone d tail h = send_kept ks ls m m cell (shifted c k cell) callee es (all_shifted c k es) (callee_found callee (suc (count es)) h.1) (shifted_kept cell zone d None h.0) (all_shifted_kept es zone d h.2)
+    shifted_kept (Send cell callee es m) zone d tail h = send_kept ks ls m m cell (shifted c k cell) callee es (all_shifted c k es) (sent_found callee (suc (count es)) h.1) (shifted_kept cell zone d None h.0) (all_shifted_kept es zone d h.2)
 
     all_shifted_kept : (es : Trees) (zone : Zone) (d : ℕ) → SoundAll ks zone d es → AllKept ks ls es (all_shifted c k es)
     all_shifted_kept none zone d h = none_kept ks ls

@@ -5,7 +5,6 @@ use Rattle.txs_cli.specs.Audited.{AuditedTells, IsUnworked, StreamAuditedTells, 
 use Rattle.txs_cli.specs.Audited as audited
 use Rattle.txs_cli.specs.CodeWorkersTold.{StreamWorkedCodeTells, WorkedCodeTells}
 use Rattle.txs_cli.specs.CodeWorkersTold as code
-use Rattle.txs_cli.specs.Runner.{HasFailed}
 use Rattle.txs_cli.specs.Telling.{WorkAuditTells, WorkOfInputTells, WorkTells, WorkedRequestTells}
 use Rattle.txs_cli.specs.WorkersTold.{StreamWorkedTells, WorkedTells}
 use Rattle.txs_cli.specs.WorkersTold as script

@@ -33,30 +33,35 @@ fn open_state(alloc: Global, code: &Verified) -> Result<SharedState, AllocError>
     SharedState::open(alloc, code.cells(), code.threads().len() as u16)
 }
 
-/// The report of a run by these plays, and then in rounds.
-fn reported(alloc: Global, code: &Verified, plays: &[Play]) -> Option<Report>
+/// The report of a run by these plays, and then in rounds, where each actor makes at most so many steps.
+fn reported(alloc: Global, code: &Verified, plays: &[Play], steps: u64) -> Option<Report>
     requires few { length code.now.threads + length code.now.cells ≤ 65535 }
 {
     let Ok(mut shared) = open_state(alloc, code) else {
         return None;
     };
-    let Ok(entries) = run_schedule(alloc, code, plays, 100_000, true, &mut shared) else {
+    let Ok(entries) = run_schedule(alloc, code, plays, steps, true, &mut shared) else {
         return None;
     };
     entries.into_report(alloc, shared).ok()
 }
 
-/// The case of a script and these plays.
-pub fn case_of(alloc: Global, script: &str, plays: &[Play]) -> Option<Case> {
+/// The case of a script and these plays, where each actor makes at most so many steps.
+pub fn case_within(alloc: Global, script: &str, plays: &[Play], steps: u64) -> Option<Case> {
     let Ok((program, code)) = compile(alloc, script.as_bytes()) else {
         return None;
     };
-    let report = reported(alloc, &code, plays);
+    let report = reported(alloc, &code, plays, steps);
     drop(code);
     match report {
         Some(report) => Some(Case { program, report }),
         None => None,
     }
+}
+
+/// The case of a script and these plays, with steps enough.
+pub fn case_of(alloc: Global, script: &str, plays: &[Play]) -> Option<Case> {
+    case_within(alloc, script, plays, 100_000)
 }
 
 /// The report of the first script's run, with the program of the second.

@@ -1,15 +1,15 @@
 // Scripts read, resolved and checked, and what their trees mean.
 use crate::values::is_text;
 use std::alloc::Global;
-use txs_check::{check, is_pure_callee};
+use txs_check::{check, is_pure_callee, is_sent_callee};
 use txs_frame::TxFrame;
 use txs_reader::read_script;
 use txs_resolve::resolve;
 use txs_tree::{
-    Callee, History, Needs, NodeKind, Program, RefView, ThreadMeaning, TxMeaning, eval_pure,
-    eval_thread, eval_tx,
+    ActionMeaning, Callee, History, Needs, NodeKind, Program, RefView, ThreadMeaning, TxMeaning,
+    eval_action, eval_pure, eval_thread, eval_tx,
 };
-use txs_value::{Outcome, Value};
+use txs_value::{Outcome, Span, Value};
 
 /// The program of a script that has so many forms; none where one of its layers refuses it.
 pub fn program_of(alloc: Global, script: &str, forms: usize) -> Option<Program> {
@@ -76,6 +76,42 @@ fn a_thread_and_a_callee_mean_this(rt: HostRuntime) {
                     b"[4 3]",
                 )
         }
+        None => false,
+    };
+    assert!(rt; is);
+}
+
+// Whether an action without events gives 6, prints 5 and holds one send.
+fn has_acted(meaning: &ActionMeaning) -> bool {
+    meaning.needs == Needs::Nothing
+        && matches!(meaning.result, Some(Ok(Value::Int(6))))
+        && meaning.printed.as_slice() == b"5\n".as_slice()
+        && meaning.sends.as_slice().len() == 1
+        && meaning.eaten == 0
+        && meaning.txs.as_slice().is_empty()
+}
+
+// Whether a callee may be sent to these values, and does that as an action.
+fn acts(alloc: Global, program: &Program, callee: Callee, values: &[Value]) -> bool {
+    if !matches!(
+        is_sent_callee(alloc, program, callee, values.len()),
+        Ok(true)
+    ) {
+        return false;
+    }
+    let span = Span { from: 0, to: 0 };
+    match eval_action(alloc, program, callee, span, values, &[], 10) {
+        Ok(meaning) => has_acted(&meaning),
+        Err(_) => false,
+    }
+}
+
+#[test]
+fn an_action_means_this(rt: HostRuntime) {
+    let alloc = rt.alloc();
+    let script = "(def g (agent 0)) (defn work [s] (println s) (send g inc) (inc s))";
+    let is = match program_of(alloc, script, 2) {
+        Some(program) => acts(alloc, &program, Callee::Function(0), &[Value::Int(5)]),
         None => false,
     };
     assert!(rt; is);

@@ -1,4 +1,5 @@
 // What a thread means on events, what a transaction means on a world, and what else rows say of a script.
+use crate::acting::acts;
 use crate::checks::are_told;
 use crate::trees::all_give;
 use std::alloc::Global;
@@ -47,7 +48,7 @@ fn history(alloc: Global, values: &str) -> History {
 }
 
 /// The values of cells, one for each place, with `;` between one cell and the next.
-fn histories(alloc: Global, values: &str) -> Vec<History> {
+pub fn histories(alloc: Global, values: &str) -> Vec<History> {
     let mut cells = Vec::new(alloc);
     for one in values.split(';') {
         if cells.push(history(alloc, one)).is_err() {
@@ -119,7 +120,7 @@ fn kind_of(alloc: Global, cell: CellId, event: &str) -> EventKind {
 }
 
 /// The kinds of events, with `;` between one event and the next.
-fn kinds_of(alloc: Global, cell: CellId, events: &str) -> Vec<EventKind> {
+pub fn kinds_of(alloc: Global, cell: CellId, events: &str) -> Vec<EventKind> {
     let mut kinds = Vec::new(alloc);
     for event in events.split(';') {
         if kinds.push(kind_of(alloc, cell, event)).is_err() {
@@ -139,7 +140,7 @@ fn view_of(cells: &[History], place: u32) -> RefView<'_> {
 }
 
 /// The events of such a cell, with the cells' values. An atom's swaps and reads stand in its own book, the first behind the store's.
-fn all_seen<'a>(
+pub fn all_seen<'a>(
     alloc: Global,
     cell: CellKind,
     kinds: &'a [EventKind],
@@ -266,6 +267,7 @@ fn holds_of(alloc: Global, program: &Program, rooms: (&[u32], &[u32]), rest: &st
                 && is_room(rooms.1, words.next().unwrap_or(""))
         }
         "transaction" => transacts(alloc, program, more),
+        "action" => acts(alloc, program, more),
         "pure" => are_told(alloc, program),
         "gives" => all_give(alloc, program),
         values => means(alloc, program, values, more),
@@ -285,6 +287,7 @@ fn holds(alloc: Global, row: &str) -> bool {
 /// - the values of its cells, one for each place; the events of its first thread, each with its places; and what that means;
 /// - `rooms`, and the room that the stacks of its function and of its thread need;
 /// - `transaction`, and the values of the cells on which the transaction that is its first thread does what `is_done_so` says;
+/// - `action`, and what its first function means as an action, as `acting.rt` says;
 /// - `pure`, where its callees are told as the table of `checks.rt` says; or `gives`, where they give what `trees.rt` says.
 ///
 /// First transactions, then such that commute, and give what they computed where they began: a commute is made again on the newest value;
@@ -297,6 +300,9 @@ fn holds(alloc: Global, row: &str) -> bool {
 /// committed. Then events that aren't those of the script's first thread: a commuted ref gets what was computed where the transaction began; a ref that was
 /// set is commuted again; a ref that was commuted isn't written; a transaction is refused whose commute faults on what was viewed; a swap
 /// stands where a read has to.
+///
+/// Then actions: one holds what it sends, also in its transaction, whose commit sends nothing; what a try held that ran again is dropped; one
+/// that isn't over, or faults, has no sends; and no send is an event of an action.
 const ROWS: &str = "\
 (def r (ref 0)) (future (println (dosync (alter r inc))))
 0
@@ -445,6 +451,39 @@ swap 0 0 0 = 4;swap 1 1 1 = 9
 1 wrong
 7
 4
+#(def r (ref 0)) (def h (agent 0)) (defn work [s] (println s) (dosync (alter r inc) (send h + 7)) (send h inc) (inc s))
+action
+5
+0
+commit 0 0 0 = 1
+1 6 2
+5
+#(def r (ref 0)) (def h (agent 0)) (defn work [s] (dosync (send h + @r) (alter r inc)) (inc s))
+action
+5
+0 5
+retry 0 0 1;commit 1 1 1 = 6
+2 6 1
+#(def r (ref 0)) (def h (agent 0)) (defn work [s] (dosync (send h + @r) (alter r inc)) (inc s))
+action
+5
+0 5
+retry 0 0 1
+1 event 0
+#(def r (ref 0)) (def h (agent 0)) (defn work [s] (println 7) (send h inc) (dosync (alter r inc)) (quot 1 s))
+action
+0
+0
+commit 0 0 0 = 1
+1 DivideByZero 0
+7
+#(def h (agent 0)) (defn work [s] (println 7) (send h inc) @h)
+action
+0
+0
+send-refused 0 0 0
+0 wrong 0
+7
 #(future (println (+ 1 2)))
 rooms
 - 1

@@ -145,6 +145,32 @@ const OF_TWO: [(&str, &[&str]); 12] = [
     ),
 ];
 
+/// Scripts of a thread and an agent, and all ends that their runs may have.
+const WITH_AGENT: [(&str, &[&str]); 3] = [
+    (
+        "(def r (ref 1)) (def g (agent 0)) (defn work [s] (dosync (alter r * 10)) (inc s)) (future (send g work) (dosync (alter r inc)))",
+        &["r 20\ng 1\n", "r 11\ng 1\n"],
+    ),
+    (
+        "(def r (ref 0)) (def g (agent 0)) (defn work [s] (println @r) (+ s @r)) (future (send g work) (dosync (ref-set r 7)))",
+        &["0\nr 7\ng 0\n", "0\nr 7\ng 7\n", "7\nr 7\ng 7\n"],
+    ),
+    (
+        "(def n (atom 1)) (def g (agent 0)) (defn work [s] (swap! n * 10)) (future (send g work) (swap! n inc))",
+        &["n 20\ng 20\n", "n 11\ng 10\n"],
+    ),
+];
+
+/// An action that sends to an agent which another action makes fail, before or behind it.
+const OF_AGENTS: (&str, &[&str]) = (
+    "(def h (agent 1)) (def g (agent 0)) (defn tell [s] (send h inc) (inc s)) (future (send g tell) (send h quot 0))",
+    &[
+        "h 1\ng 0\nagent h failed: DivideByZero at 95..110\nagent g failed: AgentFailed at 81..94\n",
+        "h 1\ng 1\nagent h failed: DivideByZero at 95..110\n",
+        "h 2\ng 1\nagent h failed: DivideByZero at 95..110\n",
+    ],
+);
+
 /// Scripts of three threads, and all ends that their runs may have: those of their six orders.
 const OF_THREE: [(&str, &[&str]); 2] = [
     (
@@ -167,6 +193,14 @@ const OF_THREE: [(&str, &[&str]); 2] = [
 #[test]
 fn two_threads(rt: HostRuntime) {
     let other = first_other(rt.alloc(), &OF_TWO, TWO, 511);
+    assert!(rt; other.is_empty(), "{other}");
+}
+
+#[test]
+fn a_thread_and_actions(rt: HostRuntime) {
+    let other = first_other(rt.alloc(), &WITH_AGENT, TWO, 511);
+    assert!(rt; other.is_empty(), "{other}");
+    let other = first_other(rt.alloc(), &[OF_AGENTS], THREE, 121);
     assert!(rt; other.is_empty(), "{other}");
 }
 

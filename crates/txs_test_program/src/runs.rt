@@ -135,6 +135,23 @@ fn wakes_by_four(rt: HostRuntime) {
     assert!(rt; always_leaves(&rt, rt.alloc(), WAKER, 4, "done done idle 7 "));
 }
 
+/// A chain of agents: the action of one sends to the next, and the last one commits. No thread sends behind it.
+const CHAIN: &str = "(def r (ref 0)) (def c (agent 0)) (def b (agent 0)) (def a (agent 0))
+(defn end [s x] (dosync (alter r + x)) (+ s x)) (defn middle [s x] (send c end (inc x)) (+ s x)) (defn start [s x] (send b middle (inc x)) (+ s x))
+(future (send a start 1)) (future (send a start 10))";
+
+#[test]
+fn actions_wake_by_two(rt: HostRuntime) {
+    let left = "done done idle idle idle 15 15 13 11 ";
+    assert!(rt; always_leaves(&rt, rt.alloc(), CHAIN, 2, left));
+}
+
+#[test]
+fn actions_wake_by_four(rt: HostRuntime) {
+    let left = "done done idle idle idle 15 15 13 11 ";
+    assert!(rt; always_leaves(&rt, rt.alloc(), CHAIN, 4, left));
+}
+
 /// Whether two runs of one thread are alike.
 fn run_alike(one: &Gathered, other: &Gathered) -> bool {
     match (

@@ -6,9 +6,16 @@ use txs_value_cell::Action;
 use txs_value_data::{CellId, CellKind, Listed, Value};
 use txs_world_protocol::Ask;
 
-const AGENT: CellId = CellId {
+/// The agent `g`.
+pub const AGENT: CellId = CellId {
     kind: CellKind::Agent,
     number: 2,
+};
+
+/// The agent `h`.
+pub const OTHER_AGENT: CellId = CellId {
+    kind: CellKind::Agent,
+    number: 3,
 };
 
 const SPAN: Span = Span { from: 0, to: 1 };
@@ -36,10 +43,11 @@ pub fn short_of(word: &str) -> u16 {
     u16::try_from(number_of(word)).unwrap_or(u16::MAX)
 }
 
-// A cell: a ref by its number, the agent `g`, the atoms `a` and `b`, or `other`, which is of another kind than its number.
+// A cell: a ref by its number, the agents `g` and `h`, the atoms `a` and `b`, or `other`, which is of another kind than its number.
 fn cell_of(word: &str) -> CellId {
     let (kind, number) = match word {
         "g" => (CellKind::Agent, 2),
+        "h" => (CellKind::Agent, 3),
         "a" => (CellKind::Atom, 1),
         "b" => (CellKind::Atom, 3),
         "other" => (CellKind::Agent, 0),
@@ -48,12 +56,16 @@ fn cell_of(word: &str) -> CellId {
     CellId { kind, number }
 }
 
-// The action of `(send g + N)`.
+// The action of `(send g + N)` for a word `N`, of `(send h + N)` for a word `hN`.
 fn action_of(alloc: Global, word: &str) -> Action {
+    let (agent, number) = match word.strip_prefix('h') {
+        Some(number) => (OTHER_AGENT, number),
+        None => (AGENT, word),
+    };
     let mut args = Vec::new(alloc);
-    let _pushed = args.push(Value::Int(i64::from(number_of(word))));
+    let _pushed = args.push(Value::Int(i64::from(number_of(number))));
     Action {
-        agent: AGENT,
+        agent,
         callee: Callee::Core(Op::Add),
         args: Listed::from_vec(args),
         span: SPAN,
@@ -86,25 +98,48 @@ fn cells_of(alloc: Global, list: &str) -> Listed<CellId> {
     Listed::from_vec(cells)
 }
 
-// A commit by its read point, its view, and the lists of what it sets, ensures, commutes and sends, which is at most one action.
+// The actions of a list such as `5,h6`, or `-` for none.
+fn actions_of(alloc: Global, list: &str) -> Listed<Action> {
+    let mut actions = Vec::new(alloc);
+    for word in list.split(',') {
+        if word == "-" || actions.push(action_of(alloc, word)).is_err() {
+            break;
+        }
+    }
+    Listed::from_vec(actions)
+}
+
+// The end of an agent's action by its new state, or `fault`, and the list of what it sends.
+fn finish_of(alloc: Global, agent: CellId, words: &mut SplitWhitespace<'_>) -> Ask {
+    let new = match next_word(words) {
+        "fault" => Err(Fault {
+            kind: FaultKind::Overflow,
+            span: SPAN,
+        }),
+        word => Ok(Value::Int(i64::from(number_of(word)))),
+    };
+    Ask::Finish {
+        agent,
+        new,
+        sends: actions_of(alloc, next_word(words)),
+    }
+}
+
+// A commit by its read point, its view, and the lists of what it sets, ensures, commutes and sends.
 fn commit_of(alloc: Global, words: &mut SplitWhitespace<'_>) -> Ask {
     let at = number_of(next_word(words));
     let view = number_of(next_word(words));
     let sets = writes_of(alloc, next_word(words));
     let ensured = cells_of(alloc, next_word(words));
     let commuted = writes_of(alloc, next_word(words));
-    let mut sends = Vec::new(alloc);
-    let sent = next_word(words);
-    if sent != "-" {
-        let _pushed = sends.push(action_of(alloc, sent));
-    }
+    let sends = actions_of(alloc, next_word(words));
     Ask::Commit {
         at,
         sets,
         ensured,
         view,
         commuted,
-        sends: Listed::from_vec(sends),
+        sends,
     }
 }
 
@@ -128,11 +163,11 @@ fn ask_of_cell(name: &str, cell: CellId, words: &mut SplitWhitespace<'_>) -> Ask
     }
 }
 
-/// An ask by its words, of which the first is its name.
-pub fn ask_of(alloc: Global, words: &mut SplitWhitespace<'_>) -> Ask {
+/// An ask by its words, of which the first is its name. To take and to finish is of this agent.
+pub fn ask_of(alloc: Global, agent: CellId, words: &mut SplitWhitespace<'_>) -> Ask {
     match next_word(words) {
         "begin" => Ask::Begin,
-        "take" => Ask::Take { agent: AGENT },
+        "take" => Ask::Take { agent },
         "fail" => {
             let at = number_of(next_word(words));
             Ask::Fail { at, view: at }
@@ -144,17 +179,7 @@ pub fn ask_of(alloc: Global, words: &mut SplitWhitespace<'_>) -> Ask {
         "send" => Ask::Send {
             action: action_of(alloc, next_word(words)),
         },
-        "finish" => Ask::Finish {
-            agent: AGENT,
-            new: match next_word(words) {
-                "fault" => Err(Fault {
-                    kind: FaultKind::Overflow,
-                    span: SPAN,
-                }),
-                word => Ok(Value::Int(i64::from(number_of(word)))),
-            },
-            sends: Listed::from_vec(Vec::new(alloc)),
-        },
+        "finish" => finish_of(alloc, agent, words),
         name => ask_of_cell(name, cell_of(next_word(words)), words),
     }
 }

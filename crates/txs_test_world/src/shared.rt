@@ -1,5 +1,5 @@
 // What no clause says: that the calls of the store, and of the state that it and the atoms are, succeed with ample memory.
-use crate::asks::{ask_of, next_word, number_of, short_of};
+use crate::asks::{AGENT, OTHER_AGENT, ask_of, next_word, number_of, short_of};
 use crate::replies::{are_events, is_reply};
 use std::alloc::Global;
 use std::str::SplitWhitespace;
@@ -8,9 +8,9 @@ use txs_value_data::{CellId, CellKind};
 use txs_world_protocol::{Ask, Reply};
 use txs_world_shared::SharedState;
 
-// The code of `(def a (ref 1)) (def b (ref 2)) (def g (agent 10))`.
+// The code of `(def a (ref 1)) (def b (ref 2)) (def g (agent 10)) (def h (agent 20))`.
 const STORE: &[u8] =
-    b"TXS1\0\x03\0\0\x01a\x03\0\0\0\0\0\0\0\x01\0\0\x01b\x03\0\0\0\0\0\0\0\x02\x02\0\x01g\x03\0\0\0\0\0\0\0\x0a\0\0\0\0\0\0\0\0";
+    b"TXS1\0\x04\0\0\x01a\x03\0\0\0\0\0\0\0\x01\0\0\x01b\x03\0\0\0\0\0\0\0\x02\x02\0\x01g\x03\0\0\0\0\0\0\0\x0a\x02\0\x01h\x03\0\0\0\0\0\0\0\x14\0\0\0\0\0\0\0\0";
 // The code of `(def r (ref 1)) (def a (atom 5)) (def g (agent 3)) (def b (atom 7))`.
 const ATOMS: &[u8] =
     b"TXS1\0\x04\0\0\x01r\x03\0\0\0\0\0\0\0\x01\x01\0\x01a\x03\0\0\0\0\0\0\0\x05\x02\0\x01g\x03\0\0\0\0\0\0\0\x03\x01\0\x01b\x03\0\0\0\0\0\0\0\x07\0\0\0\0\0\0\0\0";
@@ -27,8 +27,8 @@ const ATOM: CellId = CellId {
     number: 3,
 };
 
-// What a new store answers four threads and an agent, `#` between one store and the next. Behind `commit` stand its read point
-// and its view, and the lists of what it sets, ensures, commutes and sends; `book 0` has the store's events. The last is read until its
+// What a new store answers four threads, the agent `g`, which is actor 4, and the agent `h`, which is actor 5, `#` between one store and the next. Behind `commit` stand its read point
+// and its view, and the lists of what it sets, ensures, commutes and sends, behind `finish` the new state and the list of what it sends; `book 0` has the store's events. The last is read until its
 // book is full.
 const OF_STORE: &str = "\
 0 begin => at 0
@@ -91,18 +91,41 @@ book 0 => 0 commit 1 retry 1 commit
 1 commit 1 1 - - - 6 => done
 4 take => action 1 10
 4 take => unlawful
-0 finish 15 => unlawful
-4 finish 15 => done
+0 finish 15 - => unlawful
+4 finish 15 - => done
 4 take => action 2 15
 0 peek g => is 15
 book 0 => 0 send 1 commit 4 act 0 read
 #0 send 5 => done
 4 take => action 1 10
-4 finish fault => done
+4 finish fault - => done
 1 send 6 => failed 2
 1 commit 3 3 0=9 - - 6 => failed 2
 4 take => idle
 book 0 => 0 send 4 act 1 send-refused 1 refused
+#0 send 5 => done
+4 take => action 1 10
+4 begin => at 1
+4 commit 1 1 0=9 - - - => done
+4 peek 0 => is 9
+4 send 6 => unlawful
+4 commit 3 3 0=8 - - 6 => unlawful
+4 finish fault 6 => unlawful
+5 finish 15 - => unlawful
+4 finish 15 7,h8 => done
+5 take => action 1 20
+4 take => action 2 15
+book 0 => 0 send 4 commit 4 read 4 act
+#0 send h5 => done
+5 take => action 1 20
+0 send 6 => done
+4 take => action 1 10
+4 finish fault - => done
+5 finish 25 h7,8 => failed 2
+5 take => idle
+0 send h9 => failed 3
+0 peek h => is 20
+book 0 => 0 send 0 send 4 act 5 act 0 send-refused 0 read
 #0 peek 2 => unlawful
 0 peek other => unlawful
 0 fail 1 => unlawful
@@ -110,7 +133,8 @@ book 0 => 0 send 4 act 1 send-refused 1 refused
 0 commit 0 0 1=0,0=0 - - - => unlawful
 0 commit 0 0 1=0 - 1=0 - => unlawful
 0 look g 0 => unlawful
-4 begin => unlawful
+5 begin => at 0
+6 begin => unlawful
 0 commit 0 0 0=0,1=0 - - - => done
 #reads 1000000
 0 peek 0 => full
@@ -122,7 +146,7 @@ book 0 => 0 send 4 act 1 send-refused 1 refused
 1 look 0 0 => is 1
 1 view 1 => views 1000000 2";
 
-// What the state with two atoms answers two threads: `book 1` has the events of `a`, `book 2` those of `b`.
+// What the state with two atoms answers two threads and an agent, which is actor 2: `book 1` has the events of `a`, `book 2` those of `b`.
 const OF_ATOMS: &str = "\
 0 peek 0 => is 1
 0 peek a => is 5
@@ -133,11 +157,14 @@ const OF_ATOMS: &str = "\
 0 peek a => is 6
 0 broke b 1 => done
 0 broke b 1 => unlawful
-2 peek a => unlawful
+2 peek a => is 6
+2 open a => opened 4 6
+2 close a 8 4 => done
+3 peek a => unlawful
 0 open 0 => unlawful
 0 peek g => is 3
 book 0 => 0 read 0 read
-book 1 => 0 read 1 swap 0 read
+book 1 => 0 read 1 swap 0 read 2 read 2 swap
 book 2 => 0 read 0 broke
 book 3 => 
 itself";
@@ -195,7 +222,8 @@ fn holds(state: &mut SharedState, alloc: Global, row: &str) -> bool {
         "reads" => is_read(state, number_of(next_word(&mut words))),
         "itself" => is_itself(state),
         actor => {
-            let ask = ask_of(alloc, &mut words);
+            let agent = if actor == "5" { OTHER_AGENT } else { AGENT };
+            let ask = ask_of(alloc, agent, &mut words);
             is_answered(state, short_of(actor), ask, &mut words)
         }
     }

@@ -1,10 +1,10 @@
 -- A program explains a report on which an audit agrees.
-use Rattle.std.proofs.Common.{◌≡◌, ◌<◌, ◌≤◌, ℕ, zero, suc, ◌+◌, ◌==◌, ◌&&◌, ◌||◌, Bool, true, false, List, [], ◌∷◌, ◌++◌, length, length-append, take, Option, Some, None, Result, Ok, Err, refl, sym, ap, ◌∙◌, subst, arith, ⊎_elim, if◌then◌else◌}
-use Rattle.std.specs.Prelude.{not, nat_lt, ◌-◌}
-use Rattle.std.proofs.lemmas.Bool.{eqb-true, false≢true, cases_lt}
+use Rattle.std.proofs.Common.{◌≡◌, ◌<◌, ◌≤◌, ℕ, zero, suc, ◌+◌, ◌==◌, ◌&&◌, ◌||◌, Bool, true, false, List, [], ◌∷◌, ◌++◌, length, length-append, take, Option, Some, None, Result, Ok, Err, refl, sym, ap, ◌∙◌, subst, arith, ⊎_elim, ◌⊎◌, if◌then◌else◌, drop, append_assoc, inl, inr}
+use Rattle.std.specs.Prelude.{not, nat_lt, ◌-◌, nat_le}
+use Rattle.std.proofs.lemmas.Bool.{eqb-true, false≢true, eq-eqb, leb-true, cases_lt}
 use Rattle.std.proofs.lemmas.Bool.Decides.{nat_tests}
 use Rattle.std.proofs.lemmas.List.{append-nil}
-use Rattle.txs_value_base.specs.Places.{nth}
+use Rattle.txs_value_base.specs.Places.{nth, fault_at}
 use Rattle.txs_value_base.specs.declared.fault.Fault.{Fault}
 use Rattle.txs_value_base.specs.declared.op.Callee.{Callee}
 use Rattle.txs_value_base.specs.declared.op.Callee.TheVariants.{Core as CoreOp, Function}
@@ -13,12 +13,12 @@ use Rattle.txs_value_cell.specs.Cells.{Validators, validators_of}
 use Rattle.txs_value_cell.specs.Forms.{same_kind}
 use Rattle.txs_value_cell.specs.declared.action.Action.{Action}
 use Rattle.txs_value_cell.specs.declared.cell.CellDefinition.{CellDefinition}
-use Rattle.txs_value_data.specs.Limits.{most_events}
+use Rattle.txs_value_data.specs.Limits.{most_events, most_items}
 use Rattle.txs_value_data.specs.declared.value.CellId.{CellId}
 use Rattle.txs_value_data.specs.declared.value.CellKind.TheVariants.{Atom}
 use Rattle.txs_value_data.specs.declared.value.Value.{Value}
-use Rattle.txs_world_protocol.proofs.AskLemmas.{same_value-sound, same_cell-sound, same_ask-sound}
-use Rattle.txs_world_protocol.specs.Ask.{same_value, same_fault, same_new}
+use Rattle.txs_world_protocol.proofs.AskLemmas.{same_value-sound, same_cell-sound, same_ask-sound, same_actions-sound}
+use Rattle.txs_world_protocol.specs.Ask.{same_value, same_fault, same_new, same_actions}
 use Rattle.txs_world_protocol.specs.SeenEvent.{SeenEvent, home}
 use Rattle.txs_world_protocol.specs.declared.ask.Ask.{Ask}
 use Rattle.txs_world_protocol.specs.declared.ask.Ask.TheVariants as ask
@@ -28,7 +28,7 @@ use Rattle.txs_world_protocol.specs.declared.event.EventKind.TheVariants.{Read, 
 use Rattle.txs_world_protocol.specs.declared.event.Outcome.{Outcome}
 use Rattle.txs_world_protocol.specs.declared.event.Outcome.TheVariants.{Done, Failed, StepsSpent, JournalFull, Memory}
 use Rattle.txs_world_book.specs.Atom.{LegalAtomKind, atom_after}
-use Rattle.txs_world_book.specs.Book.{Each, Legal, LegalKind, Untouched, has_ref, has_agent, are_refs, are_sends, cells_in, may_end, may_name, first_failed, is_failed, is_there, is_empty, mail_after, waits, makes, actor_of, agents_below, newest, opening, written}
+use Rattle.txs_world_book.specs.Book.{Each, Legal, LegalKind, Untouched, has_ref, has_agent, are_refs, are_sends, cells_in, may_end, may_name, first_failed, is_failed, is_there, is_empty, mail_after, waits, makes, newest, opening, written, actors, may_send}
 use Rattle.txs_world_book.specs.Served.{cells_of}
 use Rattle.txs_world_book.specs.declared.cell.StoreCell.{StoreCell}
 use Rattle.txs_world.specs.Store.{next_action}
@@ -36,27 +36,33 @@ use Rattle.txs_tree_meaning.proofs.Callable.{both}
 use Rattle.txs_tree_meaning.specs.Known.{Known, known}
 use Rattle.txs_tree_meaning.specs.Marked.{Marked, MarkedThreads, MarkedProgram}
 use Rattle.txs_tree_meaning.specs.Meaning.{Completion, Completes, Recurs, Faults, Retries, Waits, OutOfTurns, Invalid}
-use Rattle.txs_tree_meaning.specs.Pure.{PureCallee}
-use Rattle.txs_tree_meaning.specs.Right.{is_wrong, eats_right, right_meaning}
-use Rattle.txs_tree_meaning.specs.Sound.{PureCall, Sound, SoundThread, SoundThreads}
+use Rattle.txs_tree_meaning.specs.Right.{is_wrong, eats_right, right_meaning, right_events}
+use Rattle.txs_tree_meaning.specs.Sound.{Sound, SoundThread, SoundThreads, SoundSent, SentCall}
 use Rattle.txs_tree_meaning.specs.Thread.{TxRun, ThreadState}
-use Rattle.txs_tree_meaning.specs.Tree.{PlainFunction, PlainProgram, PlainThread, ThreadSource}
-use Rattle.txs_theorem_threads.specs.FollowsAgent.{action_meaning, new_of, new_state}
+use Rattle.txs_tree_meaning.specs.Tree.{PlainFunction, PlainProgram, PlainThread, ThreadSource, Const}
+use Rattle.txs_theorem_threads.specs.FollowsAgent.{SoundAction, IsHandedIn}
+use Rattle.txs_theorem_threads.proofs.Account.{begin_of}
 use Rattle.txs_theorem_threads.specs.FollowsAll.{source_of}
 use Rattle.txs_theorem_threads.specs.Noted.{txs_of}
-use Rattle.txs_theorem_threads.specs.RepliesFit.{HasEatenAll}
-use Rattle.txs_theorem_runs.specs.Agents.{ActMeans, ActsMean}
+use Rattle.txs_theorem_threads.specs.RepliesFit.{HasEatenAll, HasWaited, halted}
+use Rattle.txs_theorem_runs.specs.Agents.{ActionDid, meaning_after, IsBooked, ActMeans, StillMeans, EventMeans, OfEvent, ActsInTurn}
 use Rattle.txs_theorem_runs.specs.Shared.{seen_in}
 use Rattle.txs_theorem_runs.specs.Told.{Place, TraceHolds, places_in, places_by, seen_before, seen_of}
 use Rattle.txs_theorem_runs.specs.Transactions.{SaidAt, SaidIf, SaidOf, undisturbed}
-use Rattle.txs_theorem_serial.proofs.Noting.{threads_note}
+use Rattle.txs_theorem_serial.proofs.Noting.{threads_note, actions_note, action_holds, action_waits}
 use Rattle.txs_theorem_serial.specs.Serial.{RunOf, RunsOf, Noted, EndsNoted}
+use Rattle.txs_value_apply.specs.Core.{takes}
+use Rattle.txs_value_base.specs.declared.fault.FaultKind.TheVariants.{AgentFailed}
+use Rattle.txs_value_base.specs.declared.fault.Span.{Span}
+use Rattle.txs_value_data.specs.declared.value.Value.TheVariants.{Nil}
 use Rattle.txs_theorem_audit.specs.Audited.{PlainActorReport, PlainReport, book_or_none, books_of, entry_of, Finding, Fine, Off, Short, and_then, check}
-use Rattle.txs_theorem_audit.specs.Explained.{Sized, Begins, Stopped, EndsAs, events_of, meaning_of, AtomExplained, ActPure, ActsPure, AgentExplained}
+use Rattle.txs_theorem_audit.specs.Explained.{Sized, Begins, Stopped, EndsAs, events_of, meaning_of, AtomExplained, AgentExplained}
 use Rattle.txs_theorem_audit.specs.Laws.{AgreesIsExplained}
-use Rattle.txs_theorem_audit.specs.Verdict.{atoms_from, fits_sizes, begins, same_numbers, runs_right, names_all, in_books, trace_found, traces_found, is_legal_kind, is_legal_swap, book_found, has_values, same_failure, has_failed, store_found, atom_found, atoms_found, is_value, length_if, index_if, is_untouched, is_first_failed, is_calm, is_end, with_run, calm_at, calm_found, is_stopped, is_done, has_faulted, least_printed, printed_part, end_found, noted_by, thread_found, threads_found, is_pure_known, is_pure_call, act_means, act_found, act_kind, act_at, acts_found, agents_found, are_serial, found}
+use Rattle.txs_theorem_audit.specs.Verdict.{atoms_from, fits_sizes, begins, same_numbers, runs_right, names_all, in_books, trace_found, traces_found, is_legal_kind, is_legal_swap, book_found, has_values, same_failure, has_failed, store_found, atom_found, atoms_found, is_value, length_if, index_if, is_untouched, is_first_failed, is_calm, is_end, with_run, calm_at, calm_found, is_stopped, is_done, has_faulted, least_printed, printed_part, end_found, noted_by, thread_found, threads_found, acts_found, agents_found, are_serial, found, printed_by, but_last, action_after, is_sent_known, is_sent_call, sends_if, held_by, noted_in, is_booked, act_ends, action_found, action_prints, least_of, part_printed, still_ends, still_found, rest_found, agent_end, kind_found, event_found, agents_serial}
 use Rattle.txs_theorem_audit.proofs.Findings.{answer_fine, and_fine, check_fine, off_fine, short_fine, not_true, none_there, not_there, empty, same_numbers_sound, begins_sound, nth_beyond}
-use Rattle.txs_theorem_audit.proofs.Listing.{there_is, behind, all_each, each_one, atom_listed, agent_within, among, among_own}
+use Rattle.txs_theorem_audit.proofs.Beginning.{action_cut}
+use Rattle.txs_theorem_audit.proofs.Waiting.{HasEatenUp, eaten_up, waits_front}
+use Rattle.txs_theorem_audit.proofs.Listing.{behind, atom_listed, among}
 
 -- ---- traces
 
@@ -130,12 +136,16 @@ legal_of cells done a (Send x) h =
     (y.0, not_true (is_failed cells done x.agent) y.1)
 legal_of cells done a (SendRefused g) h = both (has_agent cells g) (is_failed cells done g) h
 legal_of cells done a (Act g n new sends) h =
-    let last = n == suc (mail_after cells done g.number).acts && is_empty sends in
+    let none = not (is_there (first_failed cells done sends)) in
+    let sent = may_send new sends && (are_sends cells sends && none) in
+    let last = n == suc (mail_after cells done g.number).acts && sent in
     let x = both (has_agent cells g) (not (is_failed cells done g) && (waits (mail_after cells done g.number).actions && last)) h in
     let y = both (not (is_failed cells done g)) (waits (mail_after cells done g.number).actions && last) x.1 in
     let z = both (waits (mail_after cells done g.number).actions) last y.1 in
-    let w = both (n == suc (mail_after cells done g.number).acts) (is_empty sends) z.1 in
-    (x.0, not_true (is_failed cells done g) y.0, z.0, eqb-true n (suc (mail_after cells done g.number).acts) w.0, w.1)
+    let w = both (n == suc (mail_after cells done g.number).acts) sent z.1 in
+    let u = both (may_send new sends) (are_sends cells sends && none) w.1 in
+    let t = both (are_sends cells sends) none u.1 in
+    (x.0, not_true (is_failed cells done g) y.0, z.0, eqb-true n (suc (mail_after cells done g.number).acts) w.0, u.0, t.0, none_there (first_failed cells done sends) t.1)
 legal_of cells done a (Swap new) h = absurd (false≢true h)
 legal_of cells done a (Broke at) h = absurd (false≢true h)
 
@@ -189,7 +199,7 @@ value_is v (Some w) h = ap Some (sym (same_value-sound v w h))
 
 atom_means : (p : PlainProgram) (r : PlainReport) (c : CellId) → atom_found p r c ≡ Fine → AtomExplained p r c
 atom_means p r c h =
-    let test : List Event → Event → Bool = λ done e. nat_lt e.actor (length p.threads) && is_legal_swap c done e.actor e.kind in
+    let test : List Event → Event → Bool = λ done e. nat_lt e.actor (actors (length p.threads) (cells_of p.cells)) && is_legal_swap c done e.actor e.kind in
     let index : ℕ → ℕ → ℕ = λ a k. index_if (home p.cells c) k (entry_of r a) in
     let book = books_of r (home p.cells c) in
     let ends_at = atom_after (opening (cells_of p.cells) c.number) book (length book) in
@@ -198,14 +208,14 @@ atom_means p r c h =
     let few = book_few test index [] book (omega arith) x.0 in record {
       legal = record {
         few = omega (arith, few);
-        each = book_each test index (λ done e. LegalAtomKind c done e.actor e.kind) (λ done e t. legal_swap c done e.actor e.kind (both (nat_lt e.actor (length p.threads)) (is_legal_swap c done e.actor e.kind) t).1) [] book x.0;
+        each = book_each test index (λ done e. LegalAtomKind c done e.actor e.kind) (λ done e t. legal_swap c done e.actor e.kind (both (nat_lt e.actor (actors (length p.threads) (cells_of p.cells))) (is_legal_swap c done e.actor e.kind) t).1) [] book x.0;
       };
-      by_threads = book_each test index (λ done e. e.actor < length p.threads)
-          (λ done e t. let lt : nat_lt e.actor (length p.threads) ≡ true = (both (nat_lt e.actor (length p.threads)) (is_legal_swap c done e.actor e.kind) t).0 in grind (arith, nat_tests, lt)) [] book x.0;
+      by_actors = book_each test index (λ done e. e.actor < actors (length p.threads) (cells_of p.cells))
+          (λ done e t. let lt : nat_lt e.actor (actors (length p.threads) (cells_of p.cells)) ≡ true = (both (nat_lt e.actor (actors (length p.threads) (cells_of p.cells))) (is_legal_swap c done e.actor e.kind) t).0 in grind (arith, nat_tests, lt)) [] book x.0;
       value = value_is ends_at (nth r.cells c.number) (check_fine (is_value ends_at (nth r.cells c.number)) 0 (length_if (entry_of r 0)) x.1);
     }
 
-atoms_mean : (p : PlainProgram) (r : PlainReport) (cs : List CellId) → atoms_found p r cs ≡ Fine → (i : ℕ) (c : CellId) → nth cs i ≡ Some c → AtomExplained p r c
+pub atoms_mean : (p : PlainProgram) (r : PlainReport) (cs : List CellId) → atoms_found p r cs ≡ Fine → (i : ℕ) (c : CellId) → nth cs i ≡ Some c → AtomExplained p r c
 atoms_mean p r [] h i c there = not_there there
 atoms_mean p r (d ∷ ds) h zero c there =
     let x = and_fine (atom_found p r d) (atoms_found p r ds) h in
@@ -228,6 +238,12 @@ values_are all r n (c ∷ cs) (v ∷ vs) h (suc k) d there kind =
     let x = both (same_kind c.kind Atom || same_value (newest (opening (cells_of all)) r.book n) v) (has_values all r (suc n) cs vs) h in
     let z : suc n + k ≡ n + suc k = omega arith in
     subst (λ j. nth vs k ≡ Some (newest (opening (cells_of all)) r.book j)) z (values_are all r (suc n) cs vs x.1 k d there kind)
+
+-- ---- transactions
+
+-- all events are eaten, so each commit and refusal has its transaction
+pub runs_whole : (functions : List PlainFunction) (vs : Validators) (held : Option (List Action)) (n : ℕ) (es todo : List SeenEvent) (txs : List TxRun) → Noted functions vs held n es todo txs → todo ≡ [] → RunsOf functions vs held n es txs
+runs_whole functions vs held n es todo txs h e = subst (λ l. RunsOf functions vs held n l txs) (sym (h.split ∙ ap (λ l. h.eaten ++ l) e ∙ append-nil h.eaten)) h.runs
 
 -- ---- threads
 
@@ -295,8 +311,8 @@ module _ (p : ThreadSource) (n a : ℕ) (es : List SeenEvent) (ran : PlainActorR
   stops m whole k (Some Memory) h = let x = prints whole h in (x.0.0, k (ran.printed ++ x.0.0) x.0.1)
 
   -- it has printed no less than this
-  least_of : (whole : List ℕ) (o : Option Outcome) → (is_stopped o && part whole) ≡ true → Begins ran.printed (least_printed p n es)
-  least_of whole o h = (prints whole (both (is_stopped o) (part whole) h).1).1
+  least_part : (whole : List ℕ) (o : Option Outcome) → (is_stopped o && part whole) ≡ true → Begins ran.printed (least_printed p n es)
+  least_part whole o h = (prints whole (both (is_stopped o) (part whole) h).1).1
 
   -- the whole of a thread that is done, or part of one that was stopped
   abbrev done_test : Option Outcome → List ℕ → Bool
@@ -311,12 +327,12 @@ module _ (p : ThreadSource) (n a : ℕ) (es : List SeenEvent) (ran : PlainActorR
   done_as v t e (Some Memory) h = stops (Completes v t) t.printed (λ l q. (e, q)) (Some Memory) h
 
   done_least : (whole : List ℕ) (o : Option Outcome) → done_test o whole ≡ true → Stopped o → Begins ran.printed (least_printed p n es)
-  done_least whole None h s = least_of whole None h
+  done_least whole None h s = least_part whole None h
   done_least whole (Some Done) h s = absurd s
   done_least whole (Some (Failed f)) h s = absurd s
-  done_least whole (Some StepsSpent) h s = least_of whole (Some StepsSpent) h
-  done_least whole (Some JournalFull) h s = least_of whole (Some JournalFull) h
-  done_least whole (Some Memory) h s = least_of whole (Some Memory) h
+  done_least whole (Some StepsSpent) h s = least_part whole (Some StepsSpent) h
+  done_least whole (Some JournalFull) h s = least_part whole (Some JournalFull) h
+  done_least whole (Some Memory) h s = least_part whole (Some Memory) h
 
   -- the whole of a thread that has faulted so, or part of one that was stopped
   abbrev fault_test : Fault → Option Outcome → List ℕ → Bool
@@ -335,12 +351,12 @@ module _ (p : ThreadSource) (n a : ℕ) (es : List SeenEvent) (ran : PlainActorR
   faulted_as f t e (Some Memory) h = stops (Faults f t) t.printed (λ l q. (e, q)) (Some Memory) h
 
   fault_least : (f : Fault) (whole : List ℕ) (o : Option Outcome) → fault_test f o whole ≡ true → Stopped o → Begins ran.printed (least_printed p n es)
-  fault_least f whole None h s = least_of whole None h
+  fault_least f whole None h s = least_part whole None h
   fault_least f whole (Some Done) h s = absurd s
   fault_least f whole (Some (Failed g)) h s = absurd s
-  fault_least f whole (Some StepsSpent) h s = least_of whole (Some StepsSpent) h
-  fault_least f whole (Some JournalFull) h s = least_of whole (Some JournalFull) h
-  fault_least f whole (Some Memory) h s = least_of whole (Some Memory) h
+  fault_least f whole (Some StepsSpent) h s = least_part whole (Some StepsSpent) h
+  fault_least f whole (Some JournalFull) h s = least_part whole (Some JournalFull) h
+  fault_least f whole (Some Memory) h s = least_part whole (Some Memory) h
 
   -- what is tested where turns don't suffice
   short_test : (t : ThreadState) → end_found p n a es ran (OutOfTurns t) ≡ Fine → (t.todo ≡ []) × ((is_stopped ran.outcome && part t.printed) ≡ true)
@@ -372,8 +388,8 @@ module _ (p : ThreadSource) (n a : ℕ) (es : List SeenEvent) (ran : PlainActorR
   least_so (Recurs vs t) h s = off_fine a (eats_right p n [] es) h
   least_so (Faults f t) h s = fault_least f t.printed ran.outcome (two_tests t (fault_test f ran.outcome t.printed) h).1 s
   least_so (Retries t) h s = off_fine a (eats_right p n [] es) h
-  least_so (Waits t) h s = least_of t.printed ran.outcome (two_tests t (is_stopped ran.outcome && part t.printed) h).1
-  least_so (OutOfTurns t) h s = least_of t.printed ran.outcome (short_test t h).1
+  least_so (Waits t) h s = least_part t.printed ran.outcome (two_tests t (is_stopped ran.outcome && part t.printed) h).1
+  least_so (OutOfTurns t) h s = least_part t.printed ran.outcome (short_test t h).1
   least_so Invalid h s = off_fine a (eats_right p n [] es) h
 
   not_wrong : (m : Completion ThreadState Value) → end_found p n a es ran m ≡ Fine → is_wrong m ≡ false
@@ -386,10 +402,10 @@ module _ (p : ThreadSource) (n a : ℕ) (es : List SeenEvent) (ran : PlainActorR
   not_wrong Invalid h = off_fine a (eats_right p n [] es) h
 
   -- all events are eaten, so each commit and refusal has its transaction
-  noted_all : (vs : Validators) (todo : List SeenEvent) (txs : List TxRun) → Noted p.functions vs n es todo txs → todo ≡ [] → RunsOf p.functions vs n es txs
-  noted_all vs todo txs h e = subst (λ l. RunsOf p.functions vs n l txs) (sym (h.split ∙ ap (λ l. h.eaten ++ l) e ∙ append-nil h.eaten)) h.runs
+  noted_all : (vs : Validators) (todo : List SeenEvent) (txs : List TxRun) → Noted p.functions vs None n es todo txs → todo ≡ [] → RunsOf p.functions vs None n es txs
+  noted_all vs todo txs h e = runs_whole p.functions vs None n es todo txs h e
 
-  runs_so : (vs : Validators) (m : Completion ThreadState Value) → end_found p n a es ran m ≡ Fine → EndsNoted p.functions vs n es m → RunsOf p.functions vs n es (txs_of m)
+  runs_so : (vs : Validators) (m : Completion ThreadState Value) → end_found p n a es ran m ≡ Fine → EndsNoted p.functions vs None n es m → RunsOf p.functions vs None n es (txs_of m)
   runs_so vs (Completes v t) h k = noted_all vs t.todo t.txs k (two_tests t (done_test ran.outcome t.printed) h).0
   runs_so vs (Recurs us t) h k = off_fine a (eats_right p n [] es) h
   runs_so vs (Faults f t) h k = noted_all vs t.todo t.txs k (two_tests t (fault_test f ran.outcome t.printed) h).0
@@ -408,9 +424,9 @@ first_of : (o : Option CellId) (g : CellId) → is_first_failed o g ≡ true →
 first_of None g h = absurd (false≢true h)
 first_of (Some c) g h = ap Some (same_cell-sound c g h)
 
-module _ (functions : List PlainFunction) (n : ℕ) (cells : List CellDefinition) (books : ℕ → List Event) (a : ℕ) where
+module _ (functions : List PlainFunction) (held : Option (List Action)) (n : ℕ) (cells : List CellDefinition) (books : ℕ → List Event) (a : ℕ) where
   abbrev Runs : List Place → List TxRun → Type 0
-  Runs ps xs = RunsOf functions (validators_of cells) n (seen_of cells books ps) xs
+  Runs ps xs = RunsOf functions (validators_of cells) held n (seen_of cells books ps) xs
 
   abbrev Calm : List Place → List TxRun → Type 0
   Calm ps xs = SaidOf (undisturbed cells books) books ps xs
@@ -423,7 +439,7 @@ module _ (functions : List PlainFunction) (n : ℕ) (cells : List CellDefinition
   found_here i p ps d xs = if is_end d then with_run xs (λ x ys. and_then (check (is_calm (cells_of cells) (take p.at (books p.book)) d x) a i) (found_on (suc i) ps ys)) else found_on (suc i) ps xs
 
   calm_step : (i : ℕ) (p : Place) (ps : List Place) (d : EventKind) (R Q C : ℕ → Value) → ((ys : List TxRun) → Runs ps ys → found_on (suc i) ps ys ≡ Fine → Calm ps ys) → (xs : List TxRun)
-      → RunOf functions (validators_of cells) n d R Q C (λ ys. Runs ps ys) xs → found_here i p ps d xs ≡ Fine → SaidAt (undisturbed cells books) p d (λ ys. Calm ps ys) xs
+      → RunOf functions (validators_of cells) held n d R Q C (λ ys. Runs ps ys) xs → found_here i p ps d xs ≡ Fine → SaidAt (undisturbed cells books) p d (λ ys. Calm ps ys) xs
   calm_step i p ps (Read c) R Q C next xs r u = next xs r u
   calm_step i p ps (Commit at view ws sends) R Q C next [] r u = absurd r
   calm_step i p ps (Commit at view ws sends) R Q C next (x ∷ xs) r u =
@@ -449,11 +465,11 @@ module _ (functions : List PlainFunction) (n : ℕ) (cells : List CellDefinition
   calm_step i p ps (Swap new) R Q C next xs r u = next xs r u
   calm_step i p ps (Broke at) R Q C next xs r u = next xs r u
 
-  calm_said : (i : ℕ) (ps : List Place) (xs : List TxRun) → Runs ps xs → found_on i ps xs ≡ Fine → Calm ps xs
+  pub calm_said : (i : ℕ) (ps : List Place) (xs : List TxRun) → Runs ps xs → found_on i ps xs ≡ Fine → Calm ps xs
   calm_said i [] xs r u = r
   calm_said i (p ∷ ps) xs r u = go (nth (books p.book) p.at) r u (λ ys s v. calm_said (suc i) ps ys s v)
     where
-      go : (o : Option Event) → RunsOf functions (validators_of cells) n (seen_before cells books p o (seen_of cells books ps)) xs → calm_at (cells_of cells) books a i p o (λ ys. found_on (suc i) ps ys) xs ≡ Fine
+      go : (o : Option Event) → RunsOf functions (validators_of cells) held n (seen_before cells books p o (seen_of cells books ps)) xs → calm_at (cells_of cells) books a i p o (λ ys. found_on (suc i) ps ys) xs ≡ Fine
           → ((ys : List TxRun) → Runs ps ys → found_on (suc i) ps ys ≡ Fine → Calm ps ys) → SaidIf (undisturbed cells books) p o (λ ys. Calm ps ys) xs
       go None s v next = next xs s v
       go (Some e) s v next = calm_step i p ps e.kind (seen_in cells p.book (books p.book) p.at e.kind).R (seen_in cells p.book (books p.book) p.at e.kind).Q (seen_in cells p.book (books p.book) p.at e.kind).C next xs s v
@@ -472,7 +488,7 @@ marked_thread (u ∷ ts) (suc i) t h there = marked_thread ts i t h.1 there
 pub record ThreadParts (p : PlainProgram) (r : PlainReport) (n : ℕ) (t : PlainThread) (ran : PlainActorReport) : Type 0 where
   pub ends : EndsAs ran.outcome ran.printed (meaning_of p r t ran n)
   pub least : Stopped ran.outcome → Begins ran.printed (least_printed (source_of p t) n (events_of p r ran))
-  pub runs : RunsOf p.functions (validators_of p.cells) n (events_of p r ran) (txs_of (meaning_of p r t ran n))
+  pub runs : RunsOf p.functions (validators_of p.cells) None n (events_of p r ran) (txs_of (meaning_of p r t ran n))
   pub calm : SaidOf (undisturbed p.cells (books_of r)) (books_of r) ran.trace (txs_of (meaning_of p r t ran n))
 
 pub thread_parts : (p : PlainProgram) (r : PlainReport) → Sound p → MarkedProgram p → (n a i : ℕ) (t : PlainThread) (ran : PlainActorReport) → nth p.threads i ≡ Some t → thread_found p r n a t ran ≡ Fine → ThreadParts p r n t ran
@@ -489,7 +505,7 @@ thread_parts p r sound marks n a i t ran there h =
       ends = ends_so s n a es ran m x.1;
       least = least_so s n a es ran m x.1;
       runs = runs;
-      calm = calm_said p.functions n p.cells (books_of r) a 0 ran.trace (txs_of m) runs (subst (λ xs. calm_found (cells_of p.cells) (books_of r) a 0 ran.trace xs ≡ Fine) same x.0);
+      calm = calm_said p.functions None n p.cells (books_of r) a 0 ran.trace (txs_of m) runs (subst (λ xs. calm_found (cells_of p.cells) (books_of r) a 0 ran.trace xs ≡ Fine) same x.0);
     }
 
 -- so it is of each thread
@@ -506,137 +522,426 @@ each_fine p r n a (u ∷ ts) (x ∷ xs) h (suc i) t ran there here =
 
 -- ---- agents
 
-pure_of : (ks : List Known) (c : Callee) (n : ℕ) → is_pure_call ks c n ≡ true → PureCallee ks c n
-pure_of ks (CoreOp op) n h = h
-pure_of ks (Function f) n h = go (nth ks f) refl h
+pub sent_of : (ks : List Known) (c : Callee) (n : ℕ) → is_sent_call ks c n ≡ true → SoundSent ks c n
+sent_of ks (CoreOp op) n h = let x = both (takes op n) (nat_le n most_items) h in (x.0, leb-true n most_items x.1)
+sent_of ks (Function f) n h = go (nth ks f) refl h
   where
-    go : (o : Option Known) → nth ks f ≡ o → is_pure_known o n ≡ true → PureCall ks f n
+    go : (o : Option Known) → nth ks f ≡ o → is_sent_known o n ≡ true → SentCall ks f n
     go None e g = absurd (false≢true g)
-    go (Some k) e g = let x = both (k.parameters == n) k.pure g in record { function = k; found = e; arity = eqb-true k.parameters n x.0; pure = x.1 }
+    go (Some k) e g = let x = both (k.parameters == n) (not k.inside) g in record { function = k; found = e; arity = eqb-true k.parameters n x.0; zoned = not_true k.inside x.1 }
 
-module _ (p : PlainProgram) (n a : ℕ) where
-  -- what is tested of the first action in the mail
-  tested : (i : ℕ) (done : List Event) (g : CellId) (new : Result Value Fault) (x : Action) → act_found p n a i done g new (Some x) ≡ Fine
-      → (is_pure_call (known p.functions) x.callee (suc (length x.args)) ≡ true) × (act_means a i new (new_state n p.functions (validators_of p.cells) x (newest (opening (cells_of p.cells)) done g.number)) ≡ Fine)
-  tested i done g new x h = go (is_pure_call (known p.functions) x.callee (suc (length x.args))) h
+-- ---- how an action ends
+
+no_sends : (xs : List Action) → is_empty xs ≡ true → xs ≡ []
+no_sends [] h = refl
+no_sends (x ∷ xs) h = absurd (false≢true h)
+
+booked_of : (o : Option CellId) (span : Span) (v : Value) (held : List Action) (new : Result Value Fault) (sends : List Action) → is_booked o span v held new sends ≡ true → IsBooked o span (Ok v) held new sends
+booked_of None span v held new sends h =
+    let x = both (same_new (Ok v) new) (same_actions held sends) h in
+    (sym (new_same (Ok v) new x.0), sym (same_actions-sound held sends x.1))
+booked_of (Some g) span v held new sends h =
+    let x = both (same_new (Err (fault_at AgentFailed span)) new) (is_empty sends) h in
+    (sym (new_same (Err (fault_at AgentFailed span)) new x.0), no_sends sends x.1)
+
+-- it holds sends, so it holds these
+some_held : (o : Option (List Action)) → begin_of o ≡ Some [] → o ≡ Some (sends_if o)
+some_held None h = not_there h
+some_held (Some sends) h = refl
+
+-- what an action's meaning hands in, and how that is booked
+record HandsIn (cells : List StoreCell) (done : List Event) (span : Span) (new : Result Value Fault) (sends : List Action) (m : Completion ThreadState Value) : Type 0 where
+  result : Result Value Fault
+  held : List Action
+  handed : IsHandedIn result held (printed_by m) m
+  booked : IsBooked (first_failed cells done held) span result held new sends
+
+-- it isn't wrong, and has eaten all
+record HasEnded (m : Completion ThreadState Value) : Type 0 where
+  right : is_wrong m ≡ false
+  eaten : (functions : List PlainFunction) (vs : Validators) (held : Option (List Action)) (n : ℕ) (es : List SeenEvent) → EndsNoted functions vs held n es m → RunsOf functions vs held n es (txs_of m)
+
+two_checks : (a i k : ℕ) (todo : List SeenEvent) (b : Bool) → and_then (check (length todo == 0) a i) (check b a k) ≡ Fine → (todo ≡ []) × (b ≡ true)
+two_checks a i k todo b h =
+    let x = and_fine (check (length todo == 0) a i) (check b a k) h in
+    (empty todo (check_fine (length todo == 0) a i x.0), check_fine b a k x.1)
+
+module _ (cells : List StoreCell) (done : List Event) (span : Span) (a i k : ℕ) (m : List SeenEvent → Completion ThreadState Value) (es : List SeenEvent) (new : Result Value Fault) (sends : List Action) where
+  abbrev ends_found : Completion ThreadState Value → Finding
+  ends_found c = act_ends cells done span a i k m es new sends c
+
+  act_hands : (c : Completion ThreadState Value) → ((v : Value) (t : ThreadState) → c ≡ Completes v t → begin_of t.held ≡ Some []) → ends_found c ≡ Fine → HandsIn cells done span new sends c
+  act_hands (Completes v t) holds h =
+      let x = two_checks a (i + (length es - length t.todo)) k t.todo (is_booked (first_failed cells done (held_by t)) span v (held_by t) new sends) h in
+      record { result = Ok v; held = held_by t; handed = (t, refl, x.0, refl, some_held t.held (holds v t refl)); booked = booked_of (first_failed cells done (held_by t)) span v (held_by t) new sends x.1 }
+  act_hands (Recurs vs t) holds h = off_fine a (i + right_events m [] es) h
+  act_hands (Faults f t) holds h =
+      let x = two_checks a (i + (length es - length t.todo)) k t.todo (same_new (Err f) new && is_empty sends) h in
+      let y = both (same_new (Err f) new) (is_empty sends) x.1 in
+      record { result = Err f; held = []; handed = (t, refl, x.0, refl, refl); booked = (sym (new_same (Err f) new y.0), no_sends sends y.1) }
+  act_hands (Retries t) holds h = off_fine a (i + right_events m [] es) h
+  act_hands (Waits t) holds h = off_fine a k h
+  act_hands (OutOfTurns t) holds h = short_fine a (i + (length es - length t.todo)) h
+  act_hands Invalid holds h = off_fine a (i + right_events m [] es) h
+
+  act_ended : (c : Completion ThreadState Value) → ends_found c ≡ Fine → HasEnded c
+  act_ended (Completes v t) h =
+      let x = two_checks a (i + (length es - length t.todo)) k t.todo (is_booked (first_failed cells done (held_by t)) span v (held_by t) new sends) h in
+      record { right = refl; eaten = λ fs vs held n l g. runs_whole fs vs held n l t.todo t.txs g x.0 }
+  act_ended (Recurs vs t) h = off_fine a (i + right_events m [] es) h
+  act_ended (Faults f t) h =
+      let x = two_checks a (i + (length es - length t.todo)) k t.todo (same_new (Err f) new && is_empty sends) h in
+      record { right = refl; eaten = λ fs vs held n l g. runs_whole fs vs held n l t.todo t.txs g x.0 }
+  act_ended (Retries t) h = off_fine a (i + right_events m [] es) h
+  act_ended (Waits t) h = off_fine a k h
+  act_ended (OutOfTurns t) h = short_fine a (i + (length es - length t.todo)) h
+  act_ended Invalid h = off_fine a (i + right_events m [] es) h
+
+-- what an action that isn't over has printed of what its meaning prints
+record IsPart (m : List SeenEvent → Completion ThreadState Value) (es : List SeenEvent) (out : List ℕ) (c : Completion ThreadState Value) : Type 0 where
+  rest : List ℕ
+  eats : HasEatenAll (out ++ rest) c
+  least : Begins out (least_of m es)
+
+module _ (a i k : ℕ) (m : List SeenEvent → Completion ThreadState Value) (es : List SeenEvent) (out : List ℕ) where
+  part_made : (c : Completion ThreadState Value) (whole : List ℕ) → ((l : List ℕ) → whole ≡ l → HasEatenAll l c) → part_printed m es out whole ≡ true → IsPart m es out c
+  part_made c whole made h =
+      let x = both (begins out whole) (begins (least_of m es) out) h in
+      let y = begins_sound out whole x.0 in
+      record { rest = y.0; eats = made (out ++ y.0) y.1; least = begins_sound (least_of m es) out x.1 }
+
+  -- what is tested where turns don't suffice
+  short_part : (t : ThreadState) → still_ends a i k m es out (OutOfTurns t) ≡ Fine → (t.todo ≡ []) × (part_printed m es out t.printed ≡ true)
+  short_part t h =
+      let x = both (length t.todo == 0) (part_printed m es out t.printed) (test (length t.todo == 0 && part_printed m es out t.printed) h) in
+      (empty t.todo x.0, x.1)
     where
-      go : (b : Bool) → (if b then act_means a i new (new_state n p.functions (validators_of p.cells) x (newest (opening (cells_of p.cells)) done g.number)) else Off a i) ≡ Fine
-          → (b ≡ true) × (act_means a i new (new_state n p.functions (validators_of p.cells) x (newest (opening (cells_of p.cells)) done g.number)) ≡ Fine)
-      go true f = (refl, f)
-      go false f = off_fine a i f
+      test : (b : Bool) → (if b then Fine else Short a (i + (length es - length t.todo))) ≡ Fine → b ≡ true
+      test true g = refl
+      test false g = short_fine a (i + (length es - length t.todo)) g
 
-  act_is : (i : ℕ) (done : List Event) (d : EventKind) → act_kind p n a i done d ≡ Fine → ActMeans p.functions p.cells done d
-  act_is i done (Act g k new sends) h = go (next_action (cells_of p.cells) done g) refl h
-    where
-      go : (o : Option Action) → next_action (cells_of p.cells) done g ≡ o → act_found p n a i done g new o ≡ Fine
-          → (x : Action) × (next_action (cells_of p.cells) done g ≡ Some x) × (j : ℕ) × (action_meaning j p.functions (validators_of p.cells) x (newest (opening (cells_of p.cells)) done g.number) ≡ Some new)
-      go None e f = off_fine a i f
-      go (Some x) e f = (x, e, n, means (new_state n p.functions (validators_of p.cells) x (newest (opening (cells_of p.cells)) done g.number)) (tested i done g new x f).1)
-        where
-          means : (m : Completion (Unit {0}) Value) → act_means a i new m ≡ Fine → new_of m ≡ Some new
-          means (Completes v u) q = ap Some (new_same (Ok v) new (check_fine (same_new (Ok v) new) a i q))
-          means (Recurs vs u) q = off_fine a i q
-          means (Faults y u) q = ap Some (new_same (Err y) new (check_fine (same_new (Err y) new) a i q))
-          means (Retries u) q = off_fine a i q
-          means (Waits u) q = off_fine a i q
-          means (OutOfTurns u) q = short_fine a i q
-          means Invalid q = off_fine a i q
-  act_is i done _ h = tt
+  still_part : (c : Completion ThreadState Value) → still_ends a i k m es out c ≡ Fine → IsPart m es out c
+  still_part (Completes v t) h = let x = two_checks a (i + (length es - length t.todo)) k t.todo (part_printed m es out t.printed) h in part_made (Completes v t) t.printed (λ l e. (x.0, e)) x.1
+  still_part (Recurs vs t) h = off_fine a (i + right_events m [] es) h
+  still_part (Faults f t) h = let x = two_checks a (i + (length es - length t.todo)) k t.todo (part_printed m es out t.printed) h in part_made (Faults f t) t.printed (λ l e. (x.0, e)) x.1
+  still_part (Retries t) h = off_fine a (i + right_events m [] es) h
+  still_part (Waits t) h = let x = two_checks a (i + (length es - length t.todo)) k t.todo (part_printed m es out t.printed) h in part_made (Waits t) t.printed (λ l e. (x.0, e)) x.1
+  still_part (OutOfTurns t) h = let x = short_part t h in part_made (OutOfTurns t) t.printed (λ l e. (x.0, e)) x.1
+  still_part Invalid h = off_fine a (i + right_events m [] es) h
 
-  act_pure : (i : ℕ) (done : List Event) (d : EventKind) → act_kind p n a i done d ≡ Fine → ActPure p done d
-  act_pure i done (Act g k new sends) h = λ x e. pure_of (known p.functions) x.callee (suc (length x.args)) (tested i done g new x (subst (λ o. act_found p n a i done g new o ≡ Fine) e h)).0
-  act_pure i done _ h = tt
+-- a meaning that has eaten all isn't wrong, and each commit and refusal has its transaction
+eaten_ended : (out : List ℕ) (c : Completion ThreadState Value) → HasEatenAll out c → HasEnded c
+eaten_ended out (Completes v t) h = record { right = refl; eaten = λ fs vs held n l g. runs_whole fs vs held n l t.todo t.txs g h.0 }
+eaten_ended out (Recurs vs t) h = absurd h
+eaten_ended out (Faults f t) h = record { right = refl; eaten = λ fs vs held n l g. runs_whole fs vs held n l t.todo t.txs g h.0 }
+eaten_ended out (Retries t) h = absurd h
+eaten_ended out (Waits t) h = record { right = refl; eaten = λ fs vs held n l g. runs_whole fs vs held n l t.todo t.txs g h.0 }
+eaten_ended out (OutOfTurns t) h = record { right = refl; eaten = λ fs vs held n l g. runs_whole fs vs held n l t.todo t.txs g h.0 }
+eaten_ended out Invalid h = absurd h
 
-  -- an event of the store's book is looked at
-  abbrev Looked : PlainReport → ℕ → Type 0
-  Looked r k = (j : ℕ) × (act_at p n a j (take k r.book) (nth r.book k) ≡ Fine)
+-- ---- entries that name an event
 
-  -- so is one that is named
-  acts_are : (r : PlainReport) (k i : ℕ) (qs : List Place) → acts_found p r n a i qs ≡ Fine → among k (places_in 0 qs) ≡ true → Looked r k
-  acts_are r k i [] h named = absurd (false≢true named)
-  acts_are r k i (q ∷ qs) h named =
-      let x = and_fine (act_at p n a i (take q.at (books_of r q.book)) (nth (books_of r q.book) q.at)) (acts_found p r n a (suc i) qs) h in
-      home_book (q.book == 0) refl x.0 named (λ l. acts_are r k (suc i) qs x.1 l)
-    where
-      here : q.book ≡ 0 → q.at ≡ k → act_at p n a i (take q.at (books_of r q.book)) (nth (books_of r q.book) q.at) ≡ Fine → Looked r k
-      here e f h = (i, subst (λ m. act_at p n a i (take m r.book) (nth r.book m) ≡ Fine) f (subst (λ b. act_at p n a i (take q.at (books_of r b)) (nth (books_of r b) q.at) ≡ Fine) e h))
+abbrev pub IsNamed : (ℕ → List Event) → Place → Type 0
+IsNamed books q = (e : Event) × (nth (books q.book) q.at ≡ Some e)
 
-      this : (b : Bool) → (q.at == k) ≡ b → q.book ≡ 0 → act_at p n a i (take q.at (books_of r q.book)) (nth (books_of r q.book) q.at) ≡ Fine → (b || among k (places_in 0 qs)) ≡ true → (among k (places_in 0 qs) ≡ true → Looked r k) → Looked r k
-      this true f e h l rest = here e (eqb-true q.at k f) h
-      this false f e h l rest = rest l
+abbrev pub AreNamed : (ℕ → List Event) → List Place → Type 0
+AreNamed books [] = Unit {0}
+AreNamed books (q ∷ qs) = IsNamed books q × AreNamed books qs
 
-      home_book : (b : Bool) → (q.book == 0) ≡ b → act_at p n a i (take q.at (books_of r q.book)) (nth (books_of r q.book) q.at) ≡ Fine → among k (if b then q.at ∷ places_in 0 qs else places_in 0 qs) ≡ true → (among k (places_in 0 qs) ≡ true → Looked r k) → Looked r k
-      home_book true e h l rest = this (q.at == k) refl (eqb-true q.book 0 e) h l rest
-      home_book false e h l rest = rest l
+pub named_both : (books : ℕ → List Event) (ps qs : List Place) → AreNamed books ps → AreNamed books qs → AreNamed books (ps ++ qs)
+named_both books [] qs h k = k
+named_both books (p ∷ ps) qs h k = (h.0, named_both books ps qs h.1 k)
+
+-- an index among an actor's events is that of an event
+among_there : (a from : ℕ) (es : List Event) (k : ℕ) → among k (places_by a from es) ≡ true → (j : ℕ) × (k ≡ from + j) × ((e : Event) × (nth es j ≡ Some e))
+among_there a from [] k h = absurd (false≢true h)
+among_there a from (d ∷ es) k h = go (d.actor == a) h (λ l. later (among_there a (suc from) es k l))
+  where
+    later : ((j : ℕ) × (k ≡ suc from + j) × ((e : Event) × (nth es j ≡ Some e))) → (j : ℕ) × (k ≡ from + j) × ((e : Event) × (nth (d ∷ es) j ≡ Some e))
+    later r = let z = r.1 in let w : k ≡ from + suc r.0 = omega (arith, z) in (suc r.0, w, r.2)
+
+    here : (b : Bool) → (from == k) ≡ b → (b || among k (places_by a (suc from) es)) ≡ true → (among k (places_by a (suc from) es) ≡ true → (j : ℕ) × (k ≡ from + j) × ((e : Event) × (nth (d ∷ es) j ≡ Some e)))
+        → (j : ℕ) × (k ≡ from + j) × ((e : Event) × (nth (d ∷ es) j ≡ Some e))
+    here true e l rest = let same = eqb-true from k e in let w : k ≡ from + 0 = omega (arith, same) in (0, w, (d, refl))
+    here false e l rest = rest l
+
+    go : (b : Bool) → among k (if b then from ∷ places_by a (suc from) es else places_by a (suc from) es) ≡ true → (among k (places_by a (suc from) es) ≡ true → (j : ℕ) × (k ≡ from + j) × ((e : Event) × (nth (d ∷ es) j ≡ Some e)))
+        → (j : ℕ) × (k ≡ from + j) × ((e : Event) × (nth (d ∷ es) j ≡ Some e))
+    go true l rest = here (from == k) refl l rest
+    go false l rest = rest l
+
+-- an entry of a trace is among those of its book
+pub among_more : (k b : ℕ) (q : Place) (qs : List Place) → among k (places_in b qs) ≡ true → among k (places_in b (q ∷ qs)) ≡ true
+among_more k b q qs h = go (q.book == b)
+  where
+    go : (c : Bool) → among k (if c then q.at ∷ places_in b qs else places_in b qs) ≡ true
+    go true = ap (λ d. q.at == k || d) h ∙ or_one (q.at == k)
+      where
+        or_one : (d : Bool) → (d || true) ≡ true
+        or_one true = refl
+        or_one false = refl
+    go false = h
+
+pub among_first : (q : Place) (qs : List Place) → among q.at (places_in q.book (q ∷ qs)) ≡ true
+among_first q qs = ap (λ c. among q.at (if c then q.at ∷ places_in q.book qs else places_in q.book qs)) (eq-eqb q.book q.book refl) ∙ ap (λ c. c || among q.at (places_in q.book qs)) (eq-eqb q.at q.at refl)
+
+-- each entry of a trace that names an actor's events names an event
+pub trace_named : (books : ℕ → List Event) (a : ℕ) (trace : List Place) → TraceHolds books a trace → AreNamed books trace
+trace_named books a trace holds = go trace (λ q k. k)
+  where
+    one : (q : Place) → among q.at (places_in q.book trace) ≡ true → IsNamed books q
+    one q h =
+        let r = among_there a 0 (books q.book) q.at (subst (λ l. among q.at l ≡ true) (holds q.book) h) in
+        let z = r.1 in
+        let w : q.at ≡ r.0 = omega (arith, z) in
+        (r.2.0, ap (nth (books q.book)) w ∙ r.2.1)
+
+    go : (qs : List Place) → ((q : Place) → among q.at (places_in q.book qs) ≡ true → among q.at (places_in q.book trace) ≡ true) → AreNamed books qs
+    go [] h = tt
+    go (q ∷ qs) h = (one q (h q (among_first q qs)), go qs (λ p k. h p (among_more p.at p.book q qs k)))
+
+-- ---- what came before the last event
+
+-- the events of entries, each of which names one
+pub seen_both : (cells : List CellDefinition) (books : ℕ → List Event) (ps qs : List Place) → seen_of cells books (ps ++ qs) ≡ seen_of cells books ps ++ seen_of cells books qs
+seen_both cells books [] qs = refl
+seen_both cells books (p ∷ ps) qs = go (nth (books p.book) p.at) (seen_both cells books ps qs)
+  where
+    go : (o : Option Event) → seen_of cells books (ps ++ qs) ≡ seen_of cells books ps ++ seen_of cells books qs → seen_before cells books p o (seen_of cells books (ps ++ qs)) ≡ seen_before cells books p o (seen_of cells books ps) ++ seen_of cells books qs
+    go None h = h
+    go (Some e) h = ap (λ l. seen_in cells p.book (books p.book) p.at e.kind ∷ l) h
+
+pub seen_last : (cells : List CellDefinition) (books : ℕ → List Event) (q : Place) → IsNamed books q → (f : SeenEvent) × (seen_of cells books (q ∷ []) ≡ f ∷ [])
+seen_last cells books q h = (seen_in cells q.book (books q.book) q.at h.0.kind, ap (λ o. seen_before cells books q o []) h.1)
+
+-- all but the last
+pub last_place : (q : Place) (qs : List Place) → (hs : List Place) × (p : Place) × (q ∷ qs ≡ hs ++ p ∷ [])
+last_place q [] = ([], q, refl)
+last_place q (p ∷ ps) = let r = last_place p ps in (q ∷ r.0, r.1, ap (λ l. q ∷ l) r.2)
+
+pub named_part : (books : ℕ → List Event) (ps qs : List Place) → AreNamed books (ps ++ qs) → AreNamed books qs
+named_part books [] qs h = h
+named_part books (p ∷ ps) qs h = named_part books ps qs h.1
+
+pub but_last_of : (es : List SeenEvent) (f : SeenEvent) → but_last (es ++ f ∷ []) ≡ es
+but_last_of [] f = refl
+but_last_of (e ∷ []) f = refl
+but_last_of (e ∷ d ∷ es) f = ap (λ l. e ∷ l) (but_last_of (d ∷ es) f)
+
+pub least_last : (m : List SeenEvent → Completion ThreadState Value) (es : List SeenEvent) (f : SeenEvent) → least_of m (es ++ f ∷ []) ≡ printed_by (m (but_last (es ++ f ∷ [])))
+least_last m [] f = refl
+least_last m (e ∷ es) f = refl
+
+-- so many turns were allowed for each of these actions
+abbrev pub EachTurns : ℕ → List ActionDid → Type 0
+EachTurns n [] = Unit {0}
+EachTurns n (d ∷ ds) = (d.turns ≡ n) × EachTurns n ds
+
+-- ---- an agent's trace
+
+module _ (p : PlainProgram) (r : PlainReport) (n a : ℕ) (sound : Sound p) (marks : MarkedProgram p) (g : CellId) where
+  abbrev seen : List Place → List SeenEvent
+  seen ps = seen_of p.cells (books_of r) ps
+
+  -- a callee that may be sent is tested before the rest
+  sent_first : (b : Bool) (f : Finding) (i : ℕ) → (if b then f else Off a i) ≡ Fine → (b ≡ true) × (f ≡ Fine)
+  sent_first true f i h = (refl, h)
+  sent_first false f i h = off_fine a i h
+
+  -- the transactions that are looked at are those of all events
+  noted_same : (m : List SeenEvent → Completion ThreadState Value) (es : List SeenEvent) → is_wrong (m es) ≡ false → noted_in m es ≡ txs_of (m es)
+  noted_same m es right = ap (λ b. txs_of (if b then m (take (right_events m [] es) es) else m es)) right
+
+  -- an action of which nothing is found, after these events of the store's book
+  module _ (done : List Event) (x : Action) (since : List Place) (fits : SoundAction p.functions x) where
+    abbrev state : Value
+    state = newest (opening (cells_of p.cells)) done g.number
+
+    abbrev means : List SeenEvent → Completion ThreadState Value
+    means es = action_after p n done g x es
+
+    abbrev did : ActionDid
+    did = record { turns = n; trace = since; txs = txs_of (means (seen since)) }
+
+    calm_of : (i : ℕ) → HasEnded (means (seen since)) → calm_found (cells_of p.cells) (books_of r) a i since (noted_in means (seen since)) ≡ Fine → SaidOf (undisturbed p.cells (books_of r)) (books_of r) since (txs_of (means (seen since)))
+    calm_of i e h =
+        let noted = actions_note p.cells p.functions n x state (seen since) sound.functions sound.cells marks.functions fits in
+        let runs = e.eaten p.functions (validators_of p.cells) (Some []) n (seen since) noted in
+        calm_said p.functions (Some []) n p.cells (books_of r) a i since (txs_of (means (seen since))) runs (subst (λ xs. calm_found (cells_of p.cells) (books_of r) a i since xs ≡ Fine) (noted_same means (seen since) e.right) h)
+
+    act_means : (i k : ℕ) (new : Result Value Fault) (sends : List Action) → next_action (cells_of p.cells) done g ≡ Some x
+        → and_then (calm_found (cells_of p.cells) (books_of r) a i since (noted_in means (seen since))) (act_ends (cells_of p.cells) done x.span a i k means (seen since) new sends (means (seen since))) ≡ Fine
+        → ActMeans p.cells p.functions (books_of r) done g did (printed_by (means (seen since))) new sends
+    act_means i k new sends next h =
+        let y = and_fine (calm_found (cells_of p.cells) (books_of r) a i since (noted_in means (seen since))) (act_ends (cells_of p.cells) done x.span a i k means (seen since) new sends (means (seen since))) h in
+        let holds = λ (v : Value) (t : ThreadState) (e : means (seen since) ≡ Completes v t). action_holds p.cells p.functions n x state (seen since) sound.functions sound.cells marks.functions v t e in
+        let z = act_hands (cells_of p.cells) done x.span a i k means (seen since) new sends (means (seen since)) holds y.1 in
+        record { action = x; next = next; sound = fits; result = z.result; held = z.held; means = z.handed; booked = z.booked; noted = refl; calm = calm_of i (act_ended (cells_of p.cells) done x.span a i k means (seen since) new sends (means (seen since)) y.1) y.0 }
+
+    -- before the last event it waits, and has printed the least
+    least_means : (out : List ℕ) → AreNamed (books_of r) since → HasEatenUp (means (seen since)) → Begins out (least_of means (seen since))
+        → (since ≡ []) ⊎ ((hs : List Place) × (q : Place) × (since ≡ hs ++ q ∷ []) × (m : ℕ) × (part : List ℕ) × HasWaited part (halted (meaning_after p.cells p.functions (books_of r) done g m x hs)) × (more : List ℕ) × (out ≡ part ++ more))
+    least_means out named up least = go since refl named up least
+      where
+        go : (l : List Place) → since ≡ l → AreNamed (books_of r) l → HasEatenUp (means (seen l)) → Begins out (least_of means (seen l))
+            → (since ≡ []) ⊎ ((hs : List Place) × (q : Place) × (since ≡ hs ++ q ∷ []) × (m : ℕ) × (part : List ℕ) × HasWaited part (halted (meaning_after p.cells p.functions (books_of r) done g m x hs)) × (more : List ℕ) × (out ≡ part ++ more))
+        go [] e named up least = inl e
+        go (q ∷ qs) e named up least =
+            let b = last_place q qs in
+            let hs = b.0 in
+            let last = seen_last p.cells (books_of r) b.1 (named_part (books_of r) hs (b.1 ∷ []) (subst (AreNamed (books_of r)) b.2 named)).0 in
+            let all : seen (q ∷ qs) ≡ seen hs ++ last.0 ∷ [] = ap seen b.2 ∙ seen_both p.cells (books_of r) hs (b.1 ∷ []) ∙ ap (λ l. seen hs ++ l) last.1 in
+            let source : ThreadSource = record { functions = p.functions; cells = p.cells; main = Const Nil (record { span = x.span; wanted = false }) } in
+            let cut = action_cut (last.0 ∷ []) source n sound.functions x state (seen hs) in
+            let w = waits_front last.0 (means (seen hs)) (means (seen hs ++ last.0 ∷ [])) cut (subst (λ l. HasEatenUp (means l)) all up) in
+            let todo = action_waits p.cells p.functions n x state (seen hs) sound.functions sound.cells marks.functions w.0 w.1 in
+            let waited : HasWaited w.0.printed (halted (means (seen hs))) = subst (λ c. HasWaited w.0.printed (halted c)) (sym w.1) (todo, refl) in
+            let printed : least_of means (seen (q ∷ qs)) ≡ w.0.printed = ap (least_of means) all ∙ least_last means (seen hs) last.0 ∙ ap (λ l. printed_by (means l)) (but_last_of (seen hs) last.0) ∙ ap printed_by w.1 in
+            inr (hs, b.1, e ∙ b.2, n, w.0.printed, waited, least.0, least.1 ∙ ap (λ l. l ++ least.0) printed)
+
+  still_means : (i k : ℕ) (x : Action) (since : List Place) (out : List ℕ) → SoundAction p.functions x → next_action (cells_of p.cells) r.book g ≡ Some x → AreNamed (books_of r) since
+      → and_then (calm_found (cells_of p.cells) (books_of r) a i since (noted_in (action_after p n r.book g x) (seen since))) (still_ends a i k (action_after p n r.book g x) (seen since) out (action_after p n r.book g x (seen since))) ≡ Fine
+      → (d : ActionDid) × (d.trace ≡ since) × (d.turns ≡ n) × StillMeans p.cells p.functions (books_of r) g d out
+  still_means i k x since out fits next named h =
+      let m = action_after p n r.book g x in
+      let y = and_fine (calm_found (cells_of p.cells) (books_of r) a i since (noted_in m (seen since))) (still_ends a i k m (seen since) out (m (seen since))) h in
+      let z = still_part a i k m (seen since) out (m (seen since)) y.1 in
+      let ended = eaten_ended (out ++ z.rest) (m (seen since)) z.eats in (
+        did r.book x since fits,
+        refl,
+        refl,
+        record {
+          action = x;
+          next = next;
+          sound = fits;
+          rest = z.rest;
+          means = z.eats;
+          least = least_means r.book x since fits out named (eaten_up (out ++ z.rest) (m (seen since)) z.eats) z.least;
+          noted = refl;
+          calm = calm_of r.book x since fits i ended y.0;
+        },
+      )
+
+  -- what an agent's trace from some entry on means
+  abbrev Means : PlainActorReport → List ℕ → (List ℕ → List ActionDid → Type 0) → Type 0
+  Means ran outs P = Stopped ran.outcome × (out : List ℕ) × (ran.printed ≡ outs ++ out) × (ds : List ActionDid) × P out ds × EachTurns n ds
+
+  abbrev InTurn : List Place → List Place → List ℕ → List ActionDid → Type 0
+  InTurn qs since out ds = ActsInTurn p.cells p.functions (books_of r) g qs since out ds
+
+  dropped : (outs rest : List ℕ) → drop (length outs) (outs ++ rest) ≡ rest
+  dropped [] rest = refl
+  dropped (x ∷ xs) rest = dropped xs rest
+
+  stopped_of : (o : Option Outcome) → is_stopped o ≡ true → Stopped o
+  stopped_of None h = tt
+  stopped_of (Some Done) h = absurd (false≢true h)
+  stopped_of (Some (Failed f)) h = absurd (false≢true h)
+  stopped_of (Some StepsSpent) h = tt
+  stopped_of (Some JournalFull) h = tt
+  stopped_of (Some Memory) h = tt
+
+  -- what comes after the last act, where there is something
+  still_turn : (i k : ℕ) (since : List Place) (out : List ℕ) → AreNamed (books_of r) since → (o : Option Action) → next_action (cells_of p.cells) r.book g ≡ o → still_found p r n a i k g since out o ≡ Fine → (ds : List ActionDid) × InTurn [] since out ds × EachTurns n ds
+  still_turn i k since out named None e h = off_fine a i h
+  still_turn i k since out named (Some x) e h =
+      let m = action_after p n r.book g x in
+      let rest : Finding = and_then (calm_found (cells_of p.cells) (books_of r) a i since (noted_in m (seen since))) (still_ends a i k m (seen since) out (m (seen since))) in
+      let f = sent_first (is_sent_call (known p.functions) x.callee (suc (length x.args))) rest i h in
+      let d = still_means i k x since out (sent_of (known p.functions) x.callee (suc (length x.args)) f.0) e named f.1 in
+      (d.0 ∷ [], (d.1, d.3), (d.2, tt))
+
+  rest_means : (i k : ℕ) (since : List Place) (out : List ℕ) → AreNamed (books_of r) since → rest_found p r n a i k g since out ≡ Fine → (ds : List ActionDid) × InTurn [] since out ds × EachTurns n ds
+  rest_means i k [] [] named h = ([], (refl, refl), tt)
+  rest_means i k [] (o ∷ os) named h = still_turn i k [] (o ∷ os) named (next_action (cells_of p.cells) r.book g) refl h
+  rest_means i k (q ∷ qs) out named h = still_turn i k (q ∷ qs) out named (next_action (cells_of p.cells) r.book g) refl h
+
+  end_means : (since : List Place) (outs : List ℕ) (ran : PlainActorReport) → AreNamed (books_of r) since → agent_end p r n a g since outs ran ≡ Fine → Means ran outs (λ out ds. InTurn [] since out ds)
+  end_means since outs ran named h =
+      let k = length ran.trace in
+      let b = is_stopped ran.outcome && begins outs ran.printed in
+      let x = and_fine (check b a k) (rest_found p r n a (k - length since) k g since (drop (length outs) ran.printed)) h in
+      let y = both (is_stopped ran.outcome) (begins outs ran.printed) (check_fine b a k x.0) in
+      let z = begins_sound outs ran.printed y.1 in
+      let left : drop (length outs) ran.printed ≡ z.0 = ap (drop (length outs)) z.1 ∙ dropped outs z.0 in
+      let d = rest_means (k - length since) k since z.0 named (subst (λ l. rest_found p r n a (k - length since) k g since l ≡ Fine) left x.1) in
+      (stopped_of ran.outcome y.0, z.0, z.1, d.0, d.1, d.2)
+
+  -- an act, by the action that was next
+  acted_means : (i k : ℕ) (done : List Event) (since : List Place) (new : Result Value Fault) (sends : List Action) (o : Option Action) → next_action (cells_of p.cells) done g ≡ o → action_found p r n a i k done g since new sends o ≡ Fine
+      → (d : ActionDid) × (d.trace ≡ since) × (d.turns ≡ n) × ActMeans p.cells p.functions (books_of r) done g d (action_prints p r n done g since o) new sends
+  acted_means i k done since new sends None e h = off_fine a k h
+  acted_means i k done since new sends (Some x) e h =
+      let m = action_after p n done g x in
+      let rest : Finding = and_then (calm_found (cells_of p.cells) (books_of r) a i since (noted_in m (seen since))) (act_ends (cells_of p.cells) done x.span a i k m (seen since) new sends (m (seen since))) in
+      let f = sent_first (is_sent_call (known p.functions) x.callee (suc (length x.args))) rest k h in
+      let fits = sent_of (known p.functions) x.callee (suc (length x.args)) f.0 in
+      let prints : action_prints p r n done g since (Some x) ≡ printed_by (m (seen since)) = ap (λ b. if b then printed_by (m (seen since)) else []) f.0 in (
+        did done x since fits,
+        refl,
+        refl,
+        subst (λ out. ActMeans p.cells p.functions (books_of r) done g (did done x since fits) out new sends) (sym prints) (act_means done x since fits i k new sends e f.1),
+      )
+
+  -- an event of this kind
+  module _ (k : ℕ) (q : Place) (qs since : List Place) (outs : List ℕ) (ran : PlainActorReport) (named : IsNamed (books_of r) q) (front : AreNamed (books_of r) since) where
+    abbrev go_on : List Place → List ℕ → Finding
+    go_on since1 outs1 = acts_found p r n a (suc k) g since1 outs1 qs ran
+
+    abbrev Next : Type 0
+    Next = (since1 : List Place) (outs1 : List ℕ) → AreNamed (books_of r) since1 → go_on since1 outs1 ≡ Fine → Means ran outs1 (λ out ds. InTurn qs since1 out ds)
+
+    abbrev Here : EventKind → List ℕ → List ActionDid → Type 0
+    Here d out ds = EventMeans p.cells p.functions (books_of r) g q d since out ds (λ since1 out1 ds1. InTurn qs since1 out1 ds1)
+
+    with_it : AreNamed (books_of r) (since ++ q ∷ [])
+    with_it = named_both (books_of r) since (q ∷ []) front (named, tt)
+
+    kind_means : (d : EventKind) → Next → kind_found p r n a k q g since outs d go_on ≡ Fine → Means ran outs (λ out ds. Here d out ds)
+    kind_means (Act h number new sends) next f =
+        let done = take q.at (books_of r q.book) in
+        let o = next_action (cells_of p.cells) done g in
+        let prints = action_prints p r n done g since o in
+        let x = and_fine (action_found p r n a (k - length since) k done g since new sends o) (go_on [] (outs ++ prints)) f in
+        let d = acted_means (k - length since) k done since new sends o refl x.0 in
+        let y = next [] (outs ++ prints) tt x.1 in
+        (y.0, prints ++ y.1, y.2 ∙ append_assoc outs prints y.1, d.0 ∷ y.3, (d.1, prints, y.1, refl, d.3, y.4), (d.2, y.5))
+    kind_means (Read c) next f = next (since ++ q ∷ []) outs with_it f
+    kind_means (Commit at view ws sends) next f = next (since ++ q ∷ []) outs with_it f
+    kind_means (Retry from c commute) next f = next (since ++ q ∷ []) outs with_it f
+    kind_means (Fail at view) next f = next (since ++ q ∷ []) outs with_it f
+    kind_means (Refused at view h) next f = next (since ++ q ∷ []) outs with_it f
+    kind_means (Send x) next f = next (since ++ q ∷ []) outs with_it f
+    kind_means (SendRefused h) next f = next (since ++ q ∷ []) outs with_it f
+    kind_means (Swap new) next f = next (since ++ q ∷ []) outs with_it f
+    kind_means (Broke at) next f = next (since ++ q ∷ []) outs with_it f
+
+  pub acts_mean : (k : ℕ) (qs since : List Place) (outs : List ℕ) (ran : PlainActorReport) → AreNamed (books_of r) qs → AreNamed (books_of r) since → acts_found p r n a k g since outs qs ran ≡ Fine → Means ran outs (λ out ds. InTurn qs since out ds)
+  acts_mean k [] since outs ran named front h = end_means since outs ran front h
+  acts_mean k (q ∷ qs) since outs ran named front h =
+      let e = named.0.0 in
+      let there = named.0.1 in
+      let found : kind_found p r n a k q g since outs e.kind (λ since1 outs1. acts_found p r n a (suc k) g since1 outs1 qs ran) ≡ Fine = subst (λ o. event_found p r n a k q g since outs o (λ since1 outs1. acts_found p r n a (suc k) g since1 outs1 qs ran) ≡ Fine) there h in
+      let y = kind_means k q qs since outs ran named.0 front e.kind (λ since1 outs1 front1 g1. acts_mean (suc k) qs since1 outs1 ran named.1 front1 g1) found in
+      (y.0, y.1, y.2, y.3, subst (λ o. OfEvent o (λ d. EventMeans p.cells p.functions (books_of r) g q d.kind since y.1 y.3 (λ since1 out1 ds1. InTurn qs since1 out1 ds1))) (sym there) y.4, y.5)
+
+agent_means : (p : PlainProgram) (r : PlainReport) → Sound p → MarkedProgram p → (n a : ℕ) (g : CellId) (ran : PlainActorReport) → AreNamed (books_of r) ran.trace → acts_found p r n a 0 g [] [] ran.trace ran ≡ Fine → AgentExplained p r g ran
+agent_means p r sound marks n a g ran named h =
+    let y = acts_mean p r n a sound marks g 0 ran.trace [] [] ran named tt h in
+    record { unended = y.0; did = y.3; acts = subst (λ l. ActsInTurn p.cells p.functions (books_of r) g ran.trace [] l y.3) (sym y.2) y.4 }
 
 -- what is found of an agent's entry
-record AgentFine (p : PlainProgram) (r : PlainReport) (n : ℕ) (ran : PlainActorReport) : Type 0 where
-  actor : ℕ
-  acts : acts_found p r n actor 0 ran.trace ≡ Fine
-  last : (is_stopped ran.outcome && length ran.printed == 0) ≡ true
-
-agents_fine : (p : PlainProgram) (r : PlainReport) (n a : ℕ) (rans : List PlainActorReport) → agents_found p r n a rans ≡ Fine → (i : ℕ) (ran : PlainActorReport) → nth rans i ≡ Some ran → AgentFine p r n ran
-agents_fine p r n a [] h i ran there = not_there there
-agents_fine p r n a (x ∷ xs) h zero ran there =
-    let last = is_stopped x.outcome && length x.printed == 0 in
-    let y = and_fine (acts_found p r n a 0 x.trace) (and_then (check last a (length x.trace)) (agents_found p r n (suc a) xs)) h in
-    let z = and_fine (check last a (length x.trace)) (agents_found p r n (suc a) xs) y.1 in
-    let same : x ≡ ran = cc in
-    let fine : AgentFine p r n x = record { actor = a; acts = y.0; last = check_fine last a (length x.trace) z.0 } in
-    subst (AgentFine p r n) same fine
-agents_fine p r n a (x ∷ xs) h (suc i) ran there =
-    let last = is_stopped x.outcome && length x.printed == 0 in
-    let y = and_fine (acts_found p r n a 0 x.trace) (and_then (check last a (length x.trace)) (agents_found p r n (suc a) xs)) h in
-    agents_fine p r n (suc a) xs (and_fine (check last a (length x.trace)) (agents_found p r n (suc a) xs) y.1).1 i ran there
-
-stopped_of : (o : Option Outcome) → is_stopped o ≡ true → Stopped o
-stopped_of None h = tt
-stopped_of (Some Done) h = absurd (false≢true h)
-stopped_of (Some (Failed f)) h = absurd (false≢true h)
-stopped_of (Some StepsSpent) h = tt
-stopped_of (Some JournalFull) h = tt
-stopped_of (Some Memory) h = tt
-
-agent_means : (p : PlainProgram) (r : PlainReport) (n : ℕ) (ran : PlainActorReport) → AgentFine p r n ran → AgentExplained ran
-agent_means p r n ran f = let w = both (is_stopped ran.outcome) (length ran.printed == 0) f.last in record { silent = empty ran.printed w.1; unended = stopped_of ran.outcome w.0 }
-
--- each action of the book is looked at, since its agent's trace names it
-module _ (p : PlainProgram) (r : PlainReport) (n : ℕ) (sized : Sized p r) (legal : Legal (cells_of p.cells) (length p.threads) r.book)
-    (traced : (a : ℕ) (ran : PlainActorReport) → nth (r.threads ++ r.agents) a ≡ Some ran → TraceHolds (books_of r) a ran.trace)
-    (fine : (i : ℕ) (ran : PlainActorReport) → nth r.agents i ≡ Some ran → AgentFine p r n ran) where
-  -- so nothing is found of it
-  act_fine : (k : ℕ) (e : Event) → nth r.book k ≡ Some e → (g : CellId) (m : ℕ) (new : Result Value Fault) (sends : List Action) → e.kind ≡ Act g m new sends → (b j : ℕ) × (act_kind p n b j (take k r.book) (Act g m new sends) ≡ Fine)
-  act_fine k e there g m new sends is =
-      let cells = cells_of p.cells in
-      let made = each_one (λ done d. makes cells (length p.threads) d.actor d.kind ≡ true) [] r.book legal.made k e there in
-      let l = each_one (λ done d. LegalKind cells done d.actor d.kind) [] r.book legal.each k e there in
-      let own : e.actor ≡ length p.threads + agents_below cells g.number = eqb-true e.actor (actor_of (length p.threads) cells g) (subst (λ d. makes cells (length p.threads) e.actor d ≡ true) is made) in
-      let has : has_agent cells g ≡ true = (subst (λ d. LegalKind cells (take k r.book) e.actor d) is l).0 in
-      let below = agent_within p.cells g has in
-      let many = sized.agents in
-      let a = there_is r.agents (agents_below cells g.number) (omega (arith, below, many)) in
-      let many_threads = sized.threads in
-      let at : length r.threads + agents_below cells g.number ≡ e.actor = omega (arith, own, many_threads) in
-      let entry : nth (r.threads ++ r.agents) e.actor ≡ Some a.0 = subst (λ j. nth (r.threads ++ r.agents) j ≡ Some a.0) at (behind r.threads r.agents (agents_below cells g.number) ∙ a.1) in
-      let z : 0 + k ≡ k = omega arith in
-      let named : among k (places_in 0 a.0.trace) ≡ true = ap (among k) (traced e.actor a.0 entry 0) ∙ subst (λ j. among j (places_by e.actor 0 r.book) ≡ true) z (among_own e.actor 0 r.book k e there refl) in
-      let f = fine (agents_below cells g.number) a.0 a.1 in
-      let x = acts_are p n f.actor r k 0 a.0.trace f.acts named in
-      (f.actor, x.0, subst (λ d. act_kind p n f.actor x.0 (take k r.book) d ≡ Fine) is (subst (λ o. act_at p n f.actor x.0 (take k r.book) o ≡ Fine) there x.1))
-
-  act_at_place : (k : ℕ) (e : Event) → nth r.book k ≡ Some e → (d : EventKind) → e.kind ≡ d → ActMeans p.functions p.cells (take k r.book) d
-  act_at_place k e there (Act g m new sends) is = let x = act_fine k e there g m new sends is in act_is p n x.0 x.1 (take k r.book) (Act g m new sends) x.2
-  act_at_place k e there _ is = tt
-
-  pure_at_place : (k : ℕ) (e : Event) → nth r.book k ≡ Some e → (d : EventKind) → e.kind ≡ d → ActPure p (take k r.book) d
-  pure_at_place k e there (Act g m new sends) is = let x = act_fine k e there g m new sends is in act_pure p n x.0 x.1 (take k r.book) (Act g m new sends) x.2
-  pure_at_place k e there _ is = tt
-
-  acts_mean : ActsMean p.functions p.cells r.book
-  acts_mean = all_each (λ done e. ActMeans p.functions p.cells done e.kind) [] r.book (λ k e there. act_at_place k e there e.kind refl)
-
-  acts_pure : ActsPure p r.book
-  acts_pure = all_each (λ done e. ActPure p done e.kind) [] r.book (λ k e there. pure_at_place k e there e.kind refl)
+pub agents_fine : (p : PlainProgram) (r : PlainReport) (n a : ℕ) (gs : List CellId) (rans : List PlainActorReport) → agents_found p r n a gs rans ≡ Fine → (i : ℕ) (g : CellId) (ran : PlainActorReport) → nth gs i ≡ Some g → nth rans i ≡ Some ran
+    → (b : ℕ) × (acts_found p r n b 0 g [] [] ran.trace ran ≡ Fine)
+agents_fine p r n a [] rans h i g ran there here = not_there there
+agents_fine p r n a (f ∷ fs) [] h i g ran there here = not_there here
+agents_fine p r n a (f ∷ fs) (x ∷ xs) h zero g ran there here =
+    let y = and_fine (acts_found p r n a 0 f [] [] x.trace x) (agents_found p r n (suc a) fs xs) h in
+    let one : f ≡ g = cc in
+    let two : x ≡ ran = cc in
+    (a, subst (λ (z : PlainActorReport). acts_found p r n a 0 g [] [] z.trace z ≡ Fine) two (subst (λ (z : CellId). acts_found p r n a 0 z [] [] x.trace x ≡ Fine) one y.0))
+agents_fine p r n a (f ∷ fs) (x ∷ xs) h (suc i) g ran there here =
+    agents_fine p r n (suc a) fs xs (and_fine (acts_found p r n a 0 f [] [] x.trace x) (agents_found p r n (suc a) fs xs) h).1 i g ran there here
 
 -- ---- all
 
@@ -662,13 +967,13 @@ sized_of p r h =
 
 pub agrees_is_explained : AgreesIsExplained
 agrees_is_explained p r n serial sound marks h =
-    let all = (answer_fine (found p r n) (are_serial p r n p.threads r.threads) serial h).0 in
+    let all = (answer_fine (found p r n) (are_serial p r n p.threads r.threads && agents_serial p r n (agents_from 0 p.cells) r.agents) serial h).0 in
     let sizes = check (fits_sizes p r) 0 0 in
     let traces = traces_found (books_of r) (suc (length r.atom_books)) 0 (r.threads ++ r.agents) in
     let store = store_found p r in
     let atoms = atoms_found p r (atoms_from 0 p.cells) in
     let threads = threads_found p r n 0 p.threads r.threads in
-    let agents = agents_found p r n (length p.threads) r.agents in
+    let agents = agents_found p r n (length p.threads) (agents_from 0 p.cells) r.agents in
     let x = and_fine sizes (and_then traces (and_then store (and_then atoms (and_then threads agents)))) all in
     let y = and_fine traces (and_then store (and_then atoms (and_then threads agents))) x.1 in
     let z = and_fine store (and_then atoms (and_then threads agents)) y.1 in
@@ -678,7 +983,6 @@ agrees_is_explained p r n serial sound marks h =
     let traced : (a : ℕ) (ran : PlainActorReport) → nth (r.threads ++ r.agents) a ≡ Some ran → TraceHolds (books_of r) a ran.trace =
     λ a ran there. (let q : 0 + a ≡ a = omega arith in subst (λ b. TraceHolds (books_of r) b ran.trace) q (traces_hold r 0 (r.threads ++ r.agents) y.0 a ran there)) in
     let legal = store_legal p r z.0 in
-    let fine : (i : ℕ) (ran : PlainActorReport) → nth r.agents i ≡ Some ran → AgentFine p r n ran = λ i ran there. agents_fine p r n (length p.threads) r.agents v.1 i ran there in
     record {
       sized = sized;
       traced = traced;
@@ -690,7 +994,8 @@ agrees_is_explained p r n serial sound marks h =
           (let f = each_fine p r n 0 p.threads r.threads v.0 a t ran there here in
           let parts = thread_parts p r sound marks n f.0 a t ran there f.1 in
           record { turns = n; ends = parts.ends; least = parts.least; calm = parts.calm });
-      acts = acts_mean p r n sized legal traced fine;
-      pure = acts_pure p r n sized legal traced fine;
-      agents = λ i ran there. agent_means p r n ran (fine i ran there);
+      agents = λ i g ran there here.
+          (let f = agents_fine p r n (length p.threads) (agents_from 0 p.cells) r.agents v.1 i g ran there here in
+          let entry : nth (r.threads ++ r.agents) (length r.threads + i) ≡ Some ran = behind r.threads r.agents i ∙ here in
+          agent_means p r sound marks n f.0 g ran (trace_named (books_of r) (length r.threads + i) ran.trace (traced (length r.threads + i) ran entry)) f.1);
     }

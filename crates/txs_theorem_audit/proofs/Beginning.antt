@@ -15,7 +15,7 @@ use Rattle.txs_value_cell.specs.declared.form.PutForm.{PutForm}
 use Rattle.txs_value_cell.specs.declared.form.PutForm.TheVariants.{RefSet, Reset}
 use Rattle.txs_value_cell.specs.declared.form.UpdateForm.{UpdateForm}
 use Rattle.txs_value_cell.specs.declared.form.UpdateForm.TheVariants.{Alter, Commute, Swap}
-use Rattle.txs_frame.specs.Frame.{PlainTxFrame, commuted, phase_work, set_writes}
+use Rattle.txs_frame.specs.Frame.{PlainTxFrame, commuted, phase_work, set_writes, sends_of_commit}
 use Rattle.txs_frame.specs.declared.frame.Commute.{Commute as CommuteOf}
 use Rattle.txs_value_base.specs.Places.{fault_at}
 use Rattle.txs_value_base.specs.declared.fault.Fault.{Fault}
@@ -30,15 +30,15 @@ use Rattle.txs_value_data.specs.declared.value.Value.{Value}
 use Rattle.txs_value_data.specs.declared.value.Value.TheVariants.{Nil, Cell}
 use Rattle.txs_tree_meaning.specs.Known.{known}
 use Rattle.txs_tree_meaning.specs.Meaning.{Completion, Completes, Recurs, Faults, Retries, Waits, OutOfTurns, Invalid, bind, allowed, result_of, Applies, apply, eval, call_at}
-use Rattle.txs_tree_meaning.specs.Sound.{in_thread, SoundSource}
-use Rattle.txs_tree_meaning.specs.Thread.{ThreadState, with_tx, uneaten, eats, meant, reads, resets, faulted, faultless, swaps, sends, sends_or_holds, over, Transacting, run_of, ends_tx, is_retry, eats_tx, Surroundings, thread_look, thread_put, thread_update, on_events, around, thread_meaning, accepts}
+use Rattle.txs_tree_meaning.specs.Sound.{in_thread, SoundFunctions, SoundSource}
+use Rattle.txs_tree_meaning.specs.Thread.{ThreadState, from_events, applies_in, action_meaning, holding, with_tx, uneaten, eats, meant, reads, resets, faulted, faultless, swaps, sends, sends_or_holds, over, Transacting, run_of, ends_tx, is_retry, eats_tx, Surroundings, thread_look, thread_put, thread_update, on_events, around, thread_meaning, accepts}
 use Rattle.txs_tree_meaning.specs.Transaction.{TxState, value_or, valued, merged, redone, if_accepted, commute_writes, final_writes, tx_meaning}
-use Rattle.txs_tree_meaning.specs.Tree.{ThreadSource}
+use Rattle.txs_tree_meaning.specs.Tree.{Const, ThreadSource}
 use Rattle.txs_theorem_threads.proofs.Accepted.{validated_related, if_accepted_related}
 use Rattle.txs_theorem_threads.proofs.Callees.{pure_callees, callees_in, function_callees}
-use Rattle.txs_theorem_threads.proofs.Related.{Link, Related, bind_related, closed_related, Applied, Alike, eval_related, calls_related}
+use Rattle.txs_theorem_threads.proofs.Related.{Link, Related, bind_related, closed_related, Applied, Alike, CallsAlike, apply_related, eval_related, calls_related}
 use Rattle.txs_theorem_threads.specs.RepliesFit.{Halt, Going, Stopped, Short, Rerun}
-use Rattle.txs_theorem_audit.specs.Laws.{WrongStays}
+use Rattle.txs_theorem_audit.specs.Laws.{WrongStays, WrongStaysInActions}
 use Rattle.txs_tree_meaning.specs.Right.{is_wrong}
 
 module _ (fs : List SeenEvent) where
@@ -157,7 +157,7 @@ module _ (fs : List SeenEvent) where
       ends_cut : (e : EventKind) (R Q C : World) (s : ThreadState) → Related k (ends_tx d f e R Q C s) (ends_tx d g e R Q C (longer s))
       ends_cut (event.Commit at view writes sent) R Q C s =
           over_cut s (d.on R) _ _ (λ e. Invalid) (λ e. Invalid)
-          (λ v z. faultless_cut (final_writes f d.validators d.mark.span z.done C s) (final_writes g d.validators d.mark.span z.done C (longer s)) _ _ (final_cut d.validators d.mark.span z.done C s) (λ ws t1. meant_cut (same_writes ws writes && same_actions z.done.sends sent) v (with_tx (run_of d v z) t1))) (λ e. refl)
+          (λ v z. faultless_cut (final_writes f d.validators d.mark.span z.done C s) (final_writes g d.validators d.mark.span z.done C (longer s)) _ _ (final_cut d.validators d.mark.span z.done C s) (λ ws t1. meant_cut (same_writes ws writes && same_actions (sends_of_commit t1.held z.done.sends) sent) v (holding z.done.sends (with_tx (run_of d v z) t1)))) (λ e. refl)
       ends_cut (event.Fail at view) R Q C s =
           over_cut s (d.on R) _ _ (λ e. Faults e s) (λ e. Faults e (longer s)) (λ v z. faulted_cut (final_writes f d.validators d.mark.span z.done Q s) (final_writes g d.validators d.mark.span z.done Q (longer s)) (final_cut d.validators d.mark.span z.done Q s)) (λ e. (refl, refl))
       ends_cut (event.Refused at view agent) R Q C s =
@@ -261,7 +261,7 @@ module _ (fs : List SeenEvent) where
           from ((on_events x d).update form inside m c callee vs f s) (λ u. (on_events x d).update form inside m c callee vs f u) s t r
           (allowed_cut (may_stand (rule (form_of.Update form)).stands false) _ _
           (on_cut (cell_of (rule (form_of.Update form)) false c) m.span (λ z u. thread_update x form m.span z callee vs f u) (λ z u. thread_update x form m.span z callee vs f u) s (λ z. update_cut form m.span z callee vs f f (a (λ g. tt)) s)));
-      send = λ inside m c callee vs s t i pure r. from ((on_events x d).send inside m c callee vs s) (λ u. (on_events x d).send inside m c callee vs u) s t r
+      send = λ inside m c callee vs s t i r. from ((on_events x d).send inside m c callee vs s) (λ u. (on_events x d).send inside m c callee vs u) s t r
           (on_cut (cell_of (rule form_of.Send) false c) m.span _ _ s
           (λ z. sends_cut_or_held s.held (record { agent = z; callee = callee; args = vs; span = m.span }) m.span s));
       dosync = λ inside m e env s t i pure b a r.
@@ -269,6 +269,24 @@ module _ (fs : List SeenEvent) where
           let tx : Transacting = record { mark = m; body = e; locals = env; on = tx_meaning n p.functions d e env; validators = validators_of p.cells } in
           from (eats_tx (suc reruns) tx f s.todo s) (λ u. eats_tx (suc reruns) tx f u.todo u) s t r (eats_tx_cut f f (a (λ g. tt) tt) tx (suc reruns) s.todo s);
     }
+
+    -- a callee, outside every transaction
+    calls_cut : SoundFunctions [] p.functions → (d : ℕ) → CallsAlike ThreadState ThreadState k (call_at (on_events x) n p.functions d) (call_at (on_events x) n p.functions d) (λ i. Unit {0}) (λ i f. Unit {0})
+    calls_cut sound d = calls_related ThreadState ThreadState k (on_events x) (on_events x) n n p.functions (λ i. Unit {0}) (pure_callees (known p.functions)) (inl refl) events_cut (function_callees p.functions sound) d
+
+    applied_cut : SoundFunctions [] p.functions → (span : Span) → Applied ThreadState ThreadState k (applies_in x span) (applies_in x span)
+    applied_cut sound span c vs s t r =
+        let call = call_at (on_events x) n p.functions (length p.functions) false in
+        apply_related ThreadState ThreadState k call call (λ f ws s1 t1 r1. calls_cut sound (length p.functions) false f ws s1 t1 tt tt r1) span c vs s t r
+
+    -- an action
+    pub action_cut : SoundFunctions [] p.functions → (a : Action) (v : Value) (es : List SeenEvent) → Related k (action_meaning p.cells p.functions n a v es) (action_meaning p.cells p.functions n a v (es ++ fs))
+    action_cut sound a v es =
+        let f : Applies ThreadState = applies_in x a.span in
+        let s0 = from_events (Some []) es in
+        let t0 = from_events (Some []) (es ++ fs) in
+        bind_related ThreadState ThreadState k (f a.callee (v ∷ a.args) s0) (f a.callee (v ∷ a.args) t0) (λ w t. accepts x f a.agent a.span w t) (λ w t. accepts x f a.agent a.span w t) (applied_cut sound a.span a.callee (v ∷ a.args) s0 t0 refl)
+        (λ w s1 t1 r1. validated_related ThreadState ThreadState k f f (applied_cut sound a.span) (validator_at (validators_of p.cells) a.agent.number) a.span w s1 t1 r1)
 
     pub cut : SoundSource p → (es : List SeenEvent) → Related k (thread_meaning p n es) (thread_meaning p n (es ++ fs))
     cut sound es =
@@ -296,3 +314,8 @@ module _ (fs : List SeenEvent) where
 
 pub wrong_stays : WrongStays
 wrong_stays p sound n es fs h = wrong_too fs (thread_meaning p n es) (thread_meaning p n (es ++ fs)) (cut fs p n sound es) h
+
+pub wrong_stays_in_actions : WrongStaysInActions
+wrong_stays_in_actions p a v sound fits n es fs h =
+    let q : ThreadSource = record { functions = p.functions; cells = p.cells; main = Const Nil (record { span = a.span; wanted = false }) } in
+    wrong_too fs (action_meaning p.cells p.functions n a v es) (action_meaning p.cells p.functions n a v (es ++ fs)) (action_cut fs q n sound.functions a v es) h

@@ -1,23 +1,22 @@
 -- An audit differs on no report that a sound program explains.
-use Rattle.std.proofs.Common.{◌≡◌, ◌<◌, ◌≤◌, ℕ, zero, suc, ◌+◌, ◌==◌, ◌&&◌, ◌||◌, Bool, true, false, List, [], ◌∷◌, ◌++◌, length, length-append, take, Option, Some, None, Result, Ok, Err, refl, sym, ap, ◌∙◌, subst, arith, append_assoc, ⊎_elim, inl, inr, ◌⊎◌, if◌then◌else◌}
-use Rattle.std.specs.Prelude.{not, nat_lt, ◌-◌}
-use Rattle.std.proofs.lemmas.Bool.{eq-eqb, false≢true, cases_lt}
+use Rattle.std.proofs.Common.{◌≡◌, ◌<◌, ◌≤◌, ℕ, zero, suc, ◌+◌, ◌==◌, ◌&&◌, ◌||◌, Bool, true, false, List, [], ◌∷◌, ◌++◌, length, length-append, take, Option, Some, None, Result, Ok, Err, refl, sym, ap, ◌∙◌, subst, arith, append_assoc, ⊎_elim, inl, inr, ◌⊎◌, if◌then◌else◌, drop}
+use Rattle.std.specs.Prelude.{not, nat_lt, ◌-◌, nat_le}
+use Rattle.std.proofs.lemmas.Bool.{eq-eqb, false≢true, cases_lt, le-leb}
 use Rattle.std.proofs.lemmas.Bool.Decides.{nat_tests}
-use Rattle.txs_value_base.specs.Places.{nth}
+use Rattle.txs_value_base.specs.Places.{nth, fault_at}
 use Rattle.txs_value_base.specs.declared.fault.Fault.{Fault}
 use Rattle.txs_value_base.specs.declared.op.Callee.{Callee}
 use Rattle.txs_value_base.specs.declared.op.Callee.TheVariants.{Core as CoreOp, Function}
 use Rattle.txs_value_cell.specs.Agents.{agents_from}
-use Rattle.txs_value_cell.specs.Cells.{validators_of, validator_at}
 use Rattle.txs_value_cell.specs.declared.action.Action.{Action}
 use Rattle.txs_value_cell.specs.Forms.{same_kind}
 use Rattle.txs_value_cell.specs.declared.cell.CellDefinition.{CellDefinition}
-use Rattle.txs_value_data.specs.Limits.{most_events}
+use Rattle.txs_value_data.specs.Limits.{most_events, most_items}
 use Rattle.txs_value_data.specs.declared.value.CellId.{CellId}
 use Rattle.txs_value_data.specs.declared.value.CellKind.TheVariants.{Atom}
 use Rattle.txs_value_data.specs.declared.value.Value.{Value}
-use Rattle.txs_world_protocol.proofs.AskLemmas.{same_value-itself}
-use Rattle.txs_world_protocol.specs.Ask.{same_cell, same_value, same_fault, same_new}
+use Rattle.txs_world_protocol.proofs.AskLemmas.{same_value-itself, same_actions-itself}
+use Rattle.txs_world_protocol.specs.Ask.{same_cell, same_value, same_fault, same_new, same_actions}
 use Rattle.txs_world_protocol.specs.SeenEvent.{SeenEvent, home}
 use Rattle.txs_world_protocol.specs.declared.event.Event.{Event}
 use Rattle.txs_world_protocol.specs.declared.event.EventKind.{EventKind}
@@ -25,40 +24,40 @@ use Rattle.txs_world_protocol.specs.declared.event.EventKind.TheVariants.{Read, 
 use Rattle.txs_world_protocol.specs.declared.event.Outcome.{Outcome}
 use Rattle.txs_world_protocol.specs.declared.event.Outcome.TheVariants.{Done, Failed, StepsSpent, JournalFull, Memory}
 use Rattle.txs_world_book.specs.Atom.{LegalAtomKind, atom_after}
-use Rattle.txs_world_book.specs.Book.{Each, LegalKind, Untouched, has_ref, has_agent, are_refs, are_sends, cells_in, may_end, may_name, first_failed, is_failed, is_there, is_empty, mail_after, waits, makes, newest, opening, written}
+use Rattle.txs_world_book.specs.Book.{Each, LegalKind, Untouched, has_ref, has_agent, are_refs, are_sends, cells_in, may_end, may_name, first_failed, is_failed, is_there, is_empty, mail_after, waits, makes, newest, opening, written, actors, may_send}
 use Rattle.txs_world_book.specs.Served.{cells_of}
 use Rattle.txs_world_book.specs.declared.cell.StoreCell.{StoreCell}
 use Rattle.txs_tree_meaning.specs.Known.{Known, known}
-use Rattle.txs_tree_meaning.specs.Pure.{PureCallee}
-use Rattle.txs_tree_meaning.specs.Meaning.{Completion, Completes, Recurs, Faults, Retries, Waits, OutOfTurns, Invalid, Applies}
-use Rattle.txs_tree_meaning.specs.Right.{is_wrong, right_meaning}
-use Rattle.txs_tree_meaning.specs.Sound.{Sound, SoundSource, SoundFunctions}
-use Rattle.txs_tree_meaning.specs.Thread.{TxRun, ThreadState, thread_meaning}
-use Rattle.txs_tree_meaning.specs.Transaction.{validated}
-use Rattle.txs_tree_meaning.specs.Tree.{PlainProgram, PlainThread, ThreadSource}
-use Rattle.txs_theorem_threads.proofs.Accepted.{validated_related}
+use Rattle.txs_tree_meaning.specs.Meaning.{Completion, Completes, Recurs, Faults, Retries, Waits, OutOfTurns, Invalid}
+use Rattle.txs_tree_meaning.specs.Right.{is_wrong, right_meaning, right_events}
+use Rattle.txs_tree_meaning.specs.Sound.{Sound, SoundSource, SoundSent}
+use Rattle.txs_tree_meaning.specs.Thread.{TxRun, ThreadState, thread_meaning, action_meaning}
+use Rattle.txs_tree_meaning.specs.Tree.{PlainProgram, PlainThread, ThreadSource, Const}
 use Rattle.txs_theorem_threads.proofs.Meant.{Any, none_some}
 use Rattle.txs_theorem_threads.proofs.MoreEvents.{settled_same}
-use Rattle.txs_theorem_threads.proofs.Quiet.{quietly}
-use Rattle.txs_theorem_threads.proofs.Related.{Related, bind_related}
-use Rattle.txs_theorem_threads.proofs.Same.{same_link, same_long}
 use Rattle.txs_theorem_threads.specs.EndsSo.{HasSettled}
-use Rattle.txs_theorem_threads.specs.FollowsAgent.{new_of, new_state}
+use Rattle.txs_theorem_threads.specs.FollowsAgent.{SoundAction, IsHandedIn}
 use Rattle.txs_theorem_threads.specs.FollowsAll.{source_of}
 use Rattle.txs_theorem_threads.specs.Noted.{txs_of}
-use Rattle.txs_theorem_threads.specs.RepliesFit.{HasEatenAll}
-use Rattle.txs_theorem_runs.specs.Agents.{ActMeans}
-use Rattle.txs_theorem_runs.specs.Told.{Place, TraceHolds, places_in, places_by}
+use Rattle.txs_theorem_threads.specs.RepliesFit.{HasEatenAll, HasWaited, halted}
+use Rattle.txs_theorem_runs.specs.Agents.{ActMeans, ActionDid, IsBooked, StillMeans, EventMeans, OfEvent, ActsInTurn}
+use Rattle.txs_theorem_runs.specs.Told.{Place, TraceHolds, places_in, places_by, seen_of}
 use Rattle.txs_theorem_runs.specs.Transactions.{SaidAt, SaidIf, SaidOf, undisturbed}
+use Rattle.txs_value_apply.specs.Core.{takes}
+use Rattle.txs_value_base.specs.declared.fault.FaultKind.TheVariants.{AgentFailed}
+use Rattle.txs_value_base.specs.declared.fault.Span.{Span}
+use Rattle.txs_value_data.specs.declared.value.Value.TheVariants.{Nil}
+use Rattle.txs_world.specs.Store.{next_action}
 use Rattle.txs_theorem_audit.specs.Audited.{PlainActorReport, PlainReport, book_or_none, books_of, entry_of, Verdict, Agrees, Differs, Undecided, Finding, Fine, Off, Short, and_then, check, answer}
-use Rattle.txs_theorem_audit.specs.Explained.{Sized, Begins, Stopped, EndsAs, events_of, meaning_of, ThreadExplained, AtomExplained, ActPure, AgentExplained, IsExplained}
+use Rattle.txs_theorem_audit.specs.Explained.{Sized, Begins, Stopped, EndsAs, events_of, meaning_of, ThreadExplained, AtomExplained, AgentExplained, IsExplained}
 use Rattle.txs_theorem_audit.specs.Laws.{DiffersIsNotExplained}
-use Rattle.txs_theorem_audit.specs.Verdict.{atoms_from, fits_sizes, begins, same_numbers, runs_right, names_all, in_books, trace_found, traces_found, is_legal_kind, is_legal_swap, book_found, has_values, same_failure, has_failed, store_found, atom_found, atoms_found, is_value, length_if, index_if, printed_by, but_last, is_untouched, is_first_failed, is_calm, is_end, with_run, calm_at, calm_found, is_stopped, is_done, has_faulted, least_printed, printed_part, end_found, noted_by, thread_found, threads_found, is_pure_known, is_pure_call, act_means, act_found, act_kind, act_at, acts_found, agents_found, are_serial, found}
-use Rattle.txs_theorem_audit.proofs.Agreeing.{sound_thread}
-use Rattle.txs_theorem_audit.proofs.Beginning.{k, longer, cut}
-use Rattle.txs_theorem_audit.proofs.Findings.{not_there, nth_beyond}
-use Rattle.txs_theorem_audit.proofs.Listing.{there_is, within, each_one, listed_atom, listed_home}
-use Rattle.txs_theorem_audit.proofs.Onward.{Onward, From, Step, none_later, pure_more, thread_leads}
+use Rattle.txs_theorem_audit.specs.Verdict.{agents_serial, atoms_from, fits_sizes, begins, same_numbers, runs_right, names_all, in_books, trace_found, traces_found, is_legal_kind, is_legal_swap, book_found, has_values, same_failure, has_failed, store_found, atom_found, atoms_found, is_value, length_if, index_if, printed_by, but_last, is_untouched, is_first_failed, is_calm, is_end, with_run, calm_at, calm_found, is_stopped, is_done, has_faulted, least_printed, printed_part, end_found, noted_by, thread_found, threads_found, acts_found, agents_found, are_serial, found, action_after, is_sent_known, is_sent_call, sends_if, held_by, noted_in, is_booked, act_ends, action_found, action_prints, least_of, part_printed, still_ends, still_found, rest_found, agent_end, kind_found, event_found}
+use Rattle.txs_theorem_audit.proofs.Agreeing.{sound_thread, IsNamed, AreNamed, named_both, named_part, seen_both, seen_last, but_last_of, least_last}
+use Rattle.txs_theorem_audit.proofs.Beginning.{k, cut, action_cut}
+use Rattle.txs_theorem_audit.proofs.Findings.{nth_beyond, and_fine, short_fine}
+use Rattle.txs_theorem_audit.proofs.Listing.{listed_atom}
+use Rattle.txs_theorem_audit.proofs.Waiting.{HasEatenUp, eaten_up, ends_up, waits_front}
+use Rattle.txs_theorem_audit.proofs.Onward.{Onward, From, Step, none_later, thread_leads, action_leads}
 
 -- ---- findings
 
@@ -199,7 +198,9 @@ legal_true cells done a (SendRefused g) h = and_true (has_agent cells g) (is_fai
 legal_true cells done a (Act g n new sends) h =
     and_true (has_agent cells g) _ h.0
     (and_true (not (is_failed cells done g)) _ (not_false (is_failed cells done g) h.1)
-    (and_true (waits (mail_after cells done g.number).actions) _ h.2 (and_true (n == suc (mail_after cells done g.number).acts) (is_empty sends) (eq-eqb n (suc (mail_after cells done g.number).acts) h.3) h.4)))
+    (and_true (waits (mail_after cells done g.number).actions) _ h.2
+    (and_true (n == suc (mail_after cells done g.number).acts) _ (eq-eqb n (suc (mail_after cells done g.number).acts) h.3)
+    (and_true (may_send new sends) _ h.4 (and_true (are_sends cells sends) (not (is_there (first_failed cells done sends))) h.5 (ap (λ o. not (is_there o)) h.6))))))
 legal_true cells done a (Swap new) h = absurd h
 legal_true cells done a (Broke at) h = absurd h
 
@@ -276,15 +277,15 @@ value_true v o h = subst (λ c. is_value v c ≡ true) (sym h) (same_value-itsel
 
 atom_not : (p : PlainProgram) (r : PlainReport) (c : CellId) → AtomExplained p r c → NotOff (atom_found p r c)
 atom_not p r c x =
-    let test : List Event → Event → Bool = λ done e. nat_lt e.actor (length p.threads) && is_legal_swap c done e.actor e.kind in
+    let test : List Event → Event → Bool = λ done e. nat_lt e.actor (actors (length p.threads) (cells_of p.cells)) && is_legal_swap c done e.actor e.kind in
     let index : ℕ → ℕ → ℕ = λ a j. index_if (home p.cells c) j (entry_of r a) in
     let book = books_of r (home p.cells c) in
     let ends_at = atom_after (opening (cells_of p.cells) c.number) book (length book) in
     let few = x.legal.few in
     let room : 0 + length book ≤ most_events = omega (arith, few) in
     and_not (book_found test index [] book) (check (is_value ends_at (nth r.cells c.number)) 0 (length_if (entry_of r 0)))
-    (book_not test index (λ done e. e.actor < length p.threads) (λ done e. LegalAtomKind c done e.actor e.kind)
-    (λ done e m l. and_true (nat_lt e.actor (length p.threads)) (is_legal_swap c done e.actor e.kind) (grind (arith, nat_tests, m)) (swap_true c done e.actor e.kind l)) [] book room x.by_threads x.legal.each)
+    (book_not test index (λ done e. e.actor < actors (length p.threads) (cells_of p.cells)) (λ done e. LegalAtomKind c done e.actor e.kind)
+    (λ done e m l. and_true (nat_lt e.actor (actors (length p.threads) (cells_of p.cells))) (is_legal_swap c done e.actor e.kind) (grind (arith, nat_tests, m)) (swap_true c done e.actor e.kind l)) [] book room x.by_actors x.legal.each)
     (check_not (is_value ends_at (nth r.cells c.number)) 0 (length_if (entry_of r 0)) (value_true ends_at (nth r.cells c.number) x.value))
 
 atoms_not : (p : PlainProgram) (r : PlainReport) (cs : List CellId) → ((i : ℕ) (c : CellId) → nth cs i ≡ Some c → AtomExplained p r c) → NotOff (atoms_found p r cs)
@@ -363,33 +364,6 @@ module _ (cells : List CellDefinition) (books : ℕ → List Event) (a : ℕ) wh
       go (Some e) v next = calm_step i q ps e.kind next xs zs v f
 
 -- ---- the end of a thread
-
--- all events are eaten
-abbrev pub HasEatenUp : Completion ThreadState Value → Type 0
-HasEatenUp (Completes v t) = t.todo ≡ []
-HasEatenUp (Recurs vs t) = ⊥
-HasEatenUp (Faults f t) = t.todo ≡ []
-HasEatenUp (Retries t) = ⊥
-HasEatenUp (Waits t) = t.todo ≡ []
-HasEatenUp (OutOfTurns t) = t.todo ≡ []
-HasEatenUp Invalid = ⊥
-
-eaten_up : (out : List ℕ) (m : Completion ThreadState Value) → HasEatenAll out m → HasEatenUp m
-eaten_up out (Completes v t) h = h.0
-eaten_up out (Recurs vs t) h = absurd h
-eaten_up out (Faults f t) h = h.0
-eaten_up out (Retries t) h = absurd h
-eaten_up out (Waits t) h = h.0
-eaten_up out (OutOfTurns t) h = h.0
-eaten_up out Invalid h = absurd h
-
-pub ends_up : (o : Option Outcome) (out : List ℕ) (m : Completion ThreadState Value) → EndsAs o out m → HasEatenUp m
-ends_up None out m h = eaten_up (out ++ h.0) m h.1
-ends_up (Some Done) out m h = subst HasEatenUp (sym h.2) h.3
-ends_up (Some (Failed f)) out m h = subst HasEatenUp (sym h.1) h.2
-ends_up (Some StepsSpent) out m h = eaten_up (out ++ h.0) m h.1
-ends_up (Some JournalFull) out m h = eaten_up (out ++ h.0) m h.1
-ends_up (Some Memory) out m h = eaten_up (out ++ h.0) m h.1
 
 -- which kind of end it is
 abbrev IsValue : Completion ThreadState Value → Type 0
@@ -516,27 +490,6 @@ last_of : (e : SeenEvent) (es : List SeenEvent) → (f : SeenEvent) × (e ∷ es
 last_of e [] = (e, refl)
 last_of e (d ∷ es) = let r = last_of d es in (r.0, ap (λ l. e ∷ l) r.1)
 
-ends_some : {A : Type 0} (f : SeenEvent) (l : List SeenEvent) → l ++ f ∷ [] ≡ [] → A
-ends_some f l h = let n : length l + 1 ≡ 0 = sym (length-append l (f ∷ [])) ∙ ap length h in absurd (omega (arith, n))
-
-longer_some : {A : Type 0} (f : SeenEvent) (t u : ThreadState) → t ≡ longer (f ∷ []) u → t.todo ≡ [] → A
-longer_some f t u h e = ends_some f u.todo (sym (ap (λ (z : ThreadState). z.todo) h) ∙ e)
-
-pub waits_front : (f : SeenEvent) (y z : Completion ThreadState Value) → Related (k (f ∷ [])) y z → HasEatenUp z → (u : ThreadState) × (y ≡ Waits u)
-waits_front f (Completes v u) (Completes w t) h e = longer_some f t u h.1 e
-waits_front f (Completes v u) _ h e = absurd h
-waits_front f (Recurs vs u) (Recurs ws t) h e = absurd e
-waits_front f (Recurs vs u) _ h e = absurd h
-waits_front f (Faults g u) (Faults d t) h e = longer_some f t u h.1 e
-waits_front f (Faults g u) _ h e = absurd h
-waits_front f (Retries u) (Retries t) h e = absurd e
-waits_front f (Retries u) _ h e = absurd h
-waits_front f (Waits u) z h e = (u, refl)
-waits_front f (OutOfTurns u) (OutOfTurns t) h e = longer_some f t u h e
-waits_front f (OutOfTurns u) _ h e = absurd h
-waits_front f Invalid Invalid h e = absurd e
-waits_front f Invalid _ h e = absurd (false≢true h)
-
 module _ (s : ThreadSource) (sound : SoundSource s) where
   -- before the last event that is eaten the thread waits
   waits_before : (n : ℕ) (e : SeenEvent) (es : List SeenEvent) → HasEatenUp (thread_meaning s n (e ∷ es)) → (u : ThreadState) × (thread_meaning s n (but_last (e ∷ es)) ≡ Waits u)
@@ -656,106 +609,155 @@ threads_not p r n a (t ∷ ts) (x ∷ xs) h = and_not (thread_found p r n a t x)
 
 -- ---- agents
 
-pure_true : (ks : List Known) (c : Callee) (n : ℕ) → PureCallee ks c n → is_pure_call ks c n ≡ true
-pure_true ks (CoreOp op) n h = h
-pure_true ks (Function f) n h = subst (λ o. is_pure_known o n ≡ true) (sym h.found) (and_true (h.function.parameters == n) h.function.pure (eq-eqb h.function.parameters n h.arity) h.pure)
+sent_true : (ks : List Known) (c : Callee) (n : ℕ) → SoundSent ks c n → is_sent_call ks c n ≡ true
+sent_true ks (CoreOp op) n h = and_true (takes op n) (nat_le n most_items) h.0 (le-leb n most_items h.1)
+sent_true ks (Function f) n h = subst (λ o. is_sent_known o n ≡ true) (sym h.found) (and_true (h.function.parameters == n) (not h.function.inside) (eq-eqb h.function.parameters n h.arity) (not_false h.function.inside h.zoned))
 
-module _ (p : PlainProgram) (sound : SoundFunctions [] p.functions) (n a : ℕ) where
-  means_not : (i : ℕ) (new : Result Value Fault) (z : Completion (Unit {0}) Value) → new_of z ≡ Some new → NotOff (act_means a i new z)
-  means_not i new (Completes v u) h = check_not (same_new (Ok v) new) a i (subst (λ x. same_new (Ok v) x ≡ true) (some_one (Ok v) new h) (new_itself (Ok v)))
-  means_not i new (Recurs vs u) h = not_there h
-  means_not i new (Faults f u) h = check_not (same_new (Err f) new) a i (subst (λ x. same_new (Err f) x ≡ true) (some_one (Err f) new h) (new_itself (Err f)))
-  means_not i new (Retries u) h = not_there h
-  means_not i new (Waits u) h = not_there h
-  means_not i new (OutOfTurns u) h = not_there h
-  means_not i new Invalid h = not_there h
+-- the second of two tests matters where the first finds nothing
+and_then_not : (f g : Finding) → NotOff f → (f ≡ Fine → NotOff g) → NotOff (and_then f g)
+and_then_not Fine g h k = k refl
+and_then_not (Off a i) g h k = absurd h
+and_then_not (Short a i) g h k = tt
 
-  -- with more turns an action comes to the same
-  lower_not : (i : ℕ) (new : Result Value Fault) (y z : Completion (Unit {0}) Value) → Related (same_link (Unit {0})) y z → new_of z ≡ Some new → NotOff (act_means a i new y)
-  lower_not i new (Completes v u) z h e = means_not i new (Completes v u) (ap new_of (sym (same_long (Unit {0}) (Completes v u) z h tt)) ∙ e)
-  lower_not i new (Recurs vs u) z h e = means_not i new (Recurs vs u) (ap new_of (sym (same_long (Unit {0}) (Recurs vs u) z h tt)) ∙ e)
-  lower_not i new (Faults f u) z h e = means_not i new (Faults f u) (ap new_of (sym (same_long (Unit {0}) (Faults f u) z h tt)) ∙ e)
-  lower_not i new (Retries u) z h e = means_not i new (Retries u) (ap new_of (sym (same_long (Unit {0}) (Retries u) z h tt)) ∙ e)
-  lower_not i new (Waits u) z h e = means_not i new (Waits u) (ap new_of (sym (same_long (Unit {0}) (Waits u) z h tt)) ∙ e)
-  lower_not i new (OutOfTurns u) z h e = tt
-  lower_not i new Invalid z h e = means_not i new Invalid (ap new_of (sym (same_long (Unit {0}) Invalid z h tt)) ∙ e)
+-- a test that needs turns finds something
+never_fine : {A : Type 0} (f : Finding) (a i : ℕ) → and_then f (Short a i) ≡ Fine → A
+never_fine f a i h = short_fine a i (and_fine f (Short a i) h).1
 
-  higher_not : (i : ℕ) (new : Result Value Fault) (y z : Completion (Unit {0}) Value) → Related (same_link (Unit {0})) z y → new_of z ≡ Some new → NotOff (act_means a i new y)
-  higher_not i new y (Completes v u) h e = means_not i new y (ap new_of (same_long (Unit {0}) (Completes v u) y h tt) ∙ e)
-  higher_not i new y (Recurs vs u) h e = not_there e
-  higher_not i new y (Faults f u) h e = means_not i new y (ap new_of (same_long (Unit {0}) (Faults f u) y h tt) ∙ e)
-  higher_not i new y (Retries u) h e = not_there e
-  higher_not i new y (Waits u) h e = not_there e
-  higher_not i new y (OutOfTurns u) h e = not_there e
-  higher_not i new y Invalid h e = not_there e
+-- ---- an action with other turns
 
-  new_more : (k m : ℕ) → k ≤ m → (x : Action) (v : Value) → Related (same_link (Unit {0})) (new_state k p.functions (validators_of p.cells) x v) (new_state m p.functions (validators_of p.cells) x v)
-  new_more k m le x v =
-      let depth = length p.functions in
-      let q : ℕ → Applies (Unit {0}) = λ j. quietly j p.functions depth x.span in
-      let more = pure_more p.functions sound k m le depth x.span in
-      let o = validator_at (validators_of p.cells) x.agent.number in
-      bind_related (Unit {0}) (Unit {0}) (same_link (Unit {0})) (q k x.callee (v ∷ x.args) tt) (q m x.callee (v ∷ x.args) tt) (λ w s1. validated (q k) o x.span w s1) (λ w s1. validated (q m) o x.span w s1) (more x.callee (v ∷ x.args) tt tt refl)
-      (λ w s1 t1 r1. validated_related (Unit {0}) (Unit {0}) (same_link (Unit {0})) (q k) (q m) more o x.span w s1 t1 r1)
+-- it is over
+abbrev IsOver : Completion ThreadState Value → Type 0
+IsOver (Completes v t) = Unit {0}
+IsOver (Recurs vs t) = ⊥
+IsOver (Faults f t) = Unit {0}
+IsOver (Retries t) = ⊥
+IsOver (Waits t) = ⊥
+IsOver (OutOfTurns t) = ⊥
+IsOver Invalid = ⊥
 
-  act_not : (i : ℕ) (done : List Event) (d : EventKind) → ActMeans p.functions p.cells done d → ActPure p done d → NotOff (act_kind p n a i done d)
-  act_not i done (Act g j new sends) h pure =
-      let x = h.0 in
-      let m = h.2 in
-      let v = newest (opening (cells_of p.cells)) done g.number in
-      let y = new_state n p.functions (validators_of p.cells) x v in
-      let z = new_state m p.functions (validators_of p.cells) x v in
-      let found_so : NotOff (act_means a i new y) =
+over_in : (new : Result Value Fault) (sends : List Action) (out : List ℕ) (m : Completion ThreadState Value) → IsHandedIn new sends out m → IsOver m × HasEatenUp m
+over_in (Ok v) sends out m h = (subst IsOver (sym h.1) tt, subst HasEatenUp (sym h.1) h.2)
+over_in (Err f) sends out m h = (subst IsOver (sym h.1) tt, subst HasEatenUp (sym h.1) h.2)
+
+-- with other turns it is the same, or these don't suffice; the transactions are the same as far as they go
+abbrev SameOrShort : Completion ThreadState Value → Completion ThreadState Value → Type 0
+SameOrShort y z = (y ≡ z) ⊎ ((u : ThreadState) × (y ≡ OutOfTurns u) × Fits u.txs (txs_of z))
+
+fewer_over : (y z : Completion ThreadState Value) → Step None Any y z → IsOver z → HasEatenUp z → SameOrShort y z
+fewer_over (Completes v t) z e o h = inl (sym e)
+fewer_over (Recurs vs t) z e o h = absurd (subst IsOver e o)
+fewer_over (Faults f t) z e o h = inl (sym e)
+fewer_over (Retries t) z e o h = absurd (subst IsOver e o)
+fewer_over (Waits t) z e o h = absurd (subst IsOver e o)
+fewer_over (OutOfTurns u) z e o h = inr (u, refl, from_fits u z e h)
+fewer_over Invalid z e o h = absurd (subst IsOver e o)
+
+more_over : (y z : Completion ThreadState Value) → Step None Any z y → IsOver z → SameOrShort y z
+more_over y (Completes v t) e o = inl e
+more_over y (Recurs vs t) e o = absurd o
+more_over y (Faults f t) e o = inl e
+more_over y (Retries t) e o = absurd o
+more_over y (Waits t) e o = absurd o
+more_over y (OutOfTurns u) e o = absurd o
+more_over y Invalid e o = absurd o
+
+module _ (p : PlainProgram) (sound : Sound p) (x : Action) (v : Value) (fits : SoundAction p.functions x) where
+  abbrev meant_by : ℕ → List SeenEvent → Completion ThreadState Value
+  meant_by n es = action_meaning p.cells p.functions n x v es
+
+  -- the action as a source that has no body
+  abbrev source : ThreadSource
+  source = record { functions = p.functions; cells = p.cells; main = Const Nil (record { span = x.span; wanted = false }) }
+
+  source_sound : SoundSource source
+  source_sound = record { functions = sound.functions; cells = sound.cells; main = tt }
+
+  steps : (n m : ℕ) (es : List SeenEvent) → n ≤ m → Step None Any (meant_by n es) (meant_by m es)
+  steps n m es le = (action_leads source source_sound n m le x v fits es).1
+
+  same_or_short : (n m : ℕ) (es : List SeenEvent) → IsOver (meant_by m es) → HasEatenUp (meant_by m es) → SameOrShort (meant_by n es) (meant_by m es)
+  same_or_short n m es o h =
       ⊎_elim
-      (λ lt. (let le : n ≤ m = omega (arith, lt) in lower_not i new y z (new_more n m le x v) h.3))
-      (λ le. higher_not i new y z (new_more m n le x v) h.3) (cases_lt n m) in
-      subst (λ o. NotOff (act_found p n a i done g new o)) (sym h.1)
-      (subst (λ b. NotOff (if b then act_means a i new y else Off a i)) (sym (pure_true (known p.functions) x.callee (suc (length x.args)) (pure x h.1))) found_so)
-  act_not i done _ h pure = tt
+      (λ lt. (let le : n ≤ m = omega (arith, lt) in fewer_over (meant_by n es) (meant_by m es) (steps n m es le) o h))
+      (λ le. more_over (meant_by n es) (meant_by m es) (steps m n es le) o) (cases_lt n m)
 
-  -- what is done with an atom is no action
-  swap_not : (i : ℕ) (before done : List Event) (c : CellId) (b : ℕ) (d : EventKind) → LegalAtomKind c before b d → NotOff (act_kind p n a i done d)
-  swap_not i before done c b (Read x) h = tt
-  swap_not i before done c b (Commit at view ws sends) h = tt
-  swap_not i before done c b (Retry since x commute) h = tt
-  swap_not i before done c b (Fail at view) h = tt
-  swap_not i before done c b (Refused at view g) h = tt
-  swap_not i before done c b (Send x) h = tt
-  swap_not i before done c b (SendRefused g) h = tt
-  swap_not i before done c b (Act g j new sends) h = absurd h
-  swap_not i before done c b (Swap new) h = tt
-  swap_not i before done c b (Broke at) h = tt
+  judged_action : (out : List ℕ) (n m : ℕ) (es : List SeenEvent) → EndsAs None out (meant_by m es) → Judged None out (meant_by n es) (meant_by m es)
+  judged_action out n m es h =
+      ⊎_elim
+      (λ lt. (let le : n ≤ m = omega (arith, lt) in fewer None out (meant_by n es) (meant_by m es) (steps n m es le) h))
+      (λ le. further_on None out (meant_by n es) (meant_by m es) (steps m n es le) h) (cases_lt n m)
 
-  module _ (r : PlainReport) (x : IsExplained p r) where
-    event_not : (i book at : ℕ) → NotOff (act_at p n a i (take at (books_of r book)) (nth (books_of r book) at))
-    event_not i zero at = go (nth r.book at) refl
-      where
-        go : (o : Option Event) → nth r.book at ≡ o → NotOff (act_at p n a i (take at r.book) o)
-        go None e = tt
-        go (Some d) e = act_not i (take at r.book) d.kind (each_one (λ done c. ActMeans p.functions p.cells done c.kind) [] r.book x.acts at d e) (each_one (λ done c. ActPure p done c.kind) [] r.book x.pure at d e)
-    event_not i (suc j) at = of_book (nth r.atom_books j) refl
-      where
-        of_book : (b : Option (List Event)) → nth r.atom_books j ≡ b → NotOff (act_at p n a i (take at (book_or_none b)) (nth (book_or_none b) at))
-        of_book None e = tt
-        of_book (Some es) e = go (nth es at) refl
-          where
-            -- the atom whose book it is
-            atom : (c : CellId) × (nth (atoms_from 0 p.cells) j ≡ Some c)
-            atom = let lt = within r.atom_books j es e in let many = x.sized.atoms in there_is (atoms_from 0 p.cells) j (omega (arith, lt, many))
+  -- where it waits it is the same with more turns
+  waits_same : (n m : ℕ) (es : List SeenEvent) (t u : ThreadState) → meant_by n es ≡ Waits t → meant_by m es ≡ Waits u → meant_by n es ≡ meant_by m es
+  waits_same n m es t u e f =
+      ⊎_elim
+      (λ lt. (let le : n ≤ m = omega (arith, lt) in e ∙ sym (subst (λ c. Step None Any c (meant_by m es)) e (steps n m es le))))
+      (λ le. subst (λ c. Step None Any c (meant_by n es)) f (steps m n es le) ∙ sym f) (cases_lt n m)
 
-            its : books_of r (home p.cells atom.0) ≡ es
-            its = ap (books_of r) (listed_home p.cells j atom.0 atom.1) ∙ ap book_or_none e
+-- ---- the tests of an action
 
-            go : (o : Option Event) → nth es at ≡ o → NotOff (act_at p n a i (take at es) o)
-            go None f = tt
-            go (Some d) f =
-                let legal = (x.atoms atom.0 (listed_atom p.cells j atom.0 atom.1)).legal.each in
-                let here = each_one (λ done c. LegalAtomKind atom.0 done c.actor c.kind) [] (books_of r (home p.cells atom.0)) legal at d (ap (λ l. nth l at) its ∙ f) in
-                swap_not i (take at (books_of r (home p.cells atom.0))) (take at es) atom.0 d.actor d.kind here
+booked_true : (o : Option CellId) (span : Span) (v : Value) (held : List Action) (new : Result Value Fault) (sends : List Action) → IsBooked o span (Ok v) held new sends → is_booked o span v held new sends ≡ true
+booked_true None span v held new sends h =
+    and_true (same_new (Ok v) new) (same_actions held sends) (subst (λ w. same_new (Ok v) w ≡ true) (sym h.0) (new_itself (Ok v))) (subst (λ l. same_actions held l ≡ true) (sym h.1) (same_actions-itself held))
+booked_true (Some g) span v held new sends h =
+    and_true (same_new (Err (fault_at AgentFailed span)) new) (is_empty sends) (subst (λ w. same_new (Err (fault_at AgentFailed span)) w ≡ true) (sym h.0) (new_itself (Err (fault_at AgentFailed span)))) (ap is_empty h.1)
 
-    acts_not : (i : ℕ) (qs : List Place) → NotOff (acts_found p r n a i qs)
-    acts_not i [] = tt
-    acts_not i (q ∷ qs) = and_not (act_at p n a i (take q.at (books_of r q.book)) (nth (books_of r q.book) q.at)) (acts_found p r n a (suc i) qs) (event_not i q.book q.at) (acts_not (suc i) qs)
+-- nothing is left
+left_none : (l : List SeenEvent) → l ≡ [] → (length l == 0) ≡ true
+left_none l e = ap (λ x. length x == 0) e
+
+module _ (cells : List StoreCell) (done : List Event) (span : Span) (a i k : ℕ) (m : List SeenEvent → Completion ThreadState Value) (es : List SeenEvent) (new : Result Value Fault) (sends : List Action) where
+  abbrev ends_found : Completion ThreadState Value → Finding
+  ends_found c = act_ends cells done span a i k m es new sends c
+
+  checks_not : (todo : List SeenEvent) (b : Bool) (j : ℕ) → todo ≡ [] → b ≡ true → NotOff (and_then (check (length todo == 0) a j) (check b a k))
+  checks_not todo b j e h = and_not (check (length todo == 0) a j) (check b a k) (check_not (length todo == 0) a j (left_none todo e)) (check_not b a k h)
+
+  -- what is handed in is what the act has
+  handed_not : (result : Result Value Fault) (held : List Action) (out : List ℕ) (c : Completion ThreadState Value) → IsHandedIn result held out c → IsBooked (first_failed cells done held) span result held new sends → NotOff (ends_found c) × (printed_by c ≡ out)
+  handed_not (Ok v) held out c h b =
+      let t = h.0 in
+      let same : held_by t ≡ held = ap sends_if h.4 in
+      let booked : is_booked (first_failed cells done (held_by t)) span v (held_by t) new sends ≡ true = subst (λ l. is_booked (first_failed cells done l) span v l new sends ≡ true) (sym same) (booked_true (first_failed cells done held) span v held new sends b) in (
+        subst (λ d. NotOff (ends_found d)) (sym h.1) (checks_not t.todo (is_booked (first_failed cells done (held_by t)) span v (held_by t) new sends) (i + (length es - length t.todo)) h.2 booked),
+        ap printed_by h.1 ∙ h.3,
+      )
+  handed_not (Err f) held out c h b =
+      let t = h.0 in
+      let none : IsBooked (first_failed cells done []) span (Err f) [] new sends = subst (λ l. IsBooked (first_failed cells done l) span (Err f) l new sends) h.4 b in
+      let booked : (same_new (Err f) new && is_empty sends) ≡ true = and_true (same_new (Err f) new) (is_empty sends) (subst (λ w. same_new (Err f) w ≡ true) (sym none.0) (new_itself (Err f))) (ap is_empty none.1) in (
+        subst (λ d. NotOff (ends_found d)) (sym h.1) (checks_not t.todo (same_new (Err f) new && is_empty sends) (i + (length es - length t.todo)) h.2 booked),
+        ap printed_by h.1 ∙ h.3,
+      )
+
+module _ (a i k : ℕ) (m : List SeenEvent → Completion ThreadState Value) (es : List SeenEvent) (out : List ℕ) (least : begins (least_of m es) out ≡ true) where
+  part_holds : (whole rest : List ℕ) → whole ≡ out ++ rest → part_printed m es out whole ≡ true
+  part_holds whole rest e = and_true (begins out whole) (begins (least_of m es) out) (begins_true whole out (rest, e)) least
+
+  part_checks : (todo : List SeenEvent) (b : Bool) (j : ℕ) → todo ≡ [] → b ≡ true → NotOff (and_then (check (length todo == 0) a j) (check b a k))
+  part_checks todo b j e h = and_not (check (length todo == 0) a j) (check b a k) (check_not (length todo == 0) a j (left_none todo e)) (check_not b a k h)
+
+  still_ends_not : (c : Completion ThreadState Value) (rest : List ℕ) → HasEatenAll (out ++ rest) c → NotOff (still_ends a i k m es out c)
+  still_ends_not (Completes v t) rest h = part_checks t.todo (part_printed m es out t.printed) (i + (length es - length t.todo)) h.0 (part_holds t.printed rest h.1)
+  still_ends_not (Recurs vs t) rest h = absurd h
+  still_ends_not (Faults f t) rest h = part_checks t.todo (part_printed m es out t.printed) (i + (length es - length t.todo)) h.0 (part_holds t.printed rest h.1)
+  still_ends_not (Retries t) rest h = absurd h
+  still_ends_not (Waits t) rest h = part_checks t.todo (part_printed m es out t.printed) (i + (length es - length t.todo)) h.0 (part_holds t.printed rest h.1)
+  still_ends_not (OutOfTurns t) rest h = test (length t.todo == 0 && part_printed m es out t.printed)
+    where
+      test : (b : Bool) → NotOff (if b then Fine else Short a (i + (length es - length t.todo)))
+      test true = tt
+      test false = tt
+  still_ends_not Invalid rest h = absurd h
+
+short_still : (a i k : ℕ) (m : List SeenEvent → Completion ThreadState Value) (es : List SeenEvent) (out : List ℕ) (t : ThreadState) → NotOff (still_ends a i k m es out (OutOfTurns t))
+short_still a i k m es out t = test (length t.todo == 0 && part_printed m es out t.printed)
+  where
+    test : (b : Bool) → NotOff (if b then Fine else Short a (i + (length es - length t.todo)))
+    test true = tt
+    test false = tt
+
+-- ---- an agent's trace
 
 stopped_true : (o : Option Outcome) → Stopped o → is_stopped o ≡ true
 stopped_true None h = refl
@@ -765,15 +767,185 @@ stopped_true (Some StepsSpent) h = refl
 stopped_true (Some JournalFull) h = refl
 stopped_true (Some Memory) h = refl
 
-agents_not : (p : PlainProgram) (r : PlainReport) → SoundFunctions [] p.functions → IsExplained p r → (n a : ℕ) (rans : List PlainActorReport) → ((i : ℕ) (ran : PlainActorReport) → nth rans i ≡ Some ran → AgentExplained ran) → NotOff (agents_found p r n a rans)
-agents_not p r sound x n a [] h = tt
-agents_not p r sound x n a (ran ∷ rans) h =
-    let last = is_stopped ran.outcome && length ran.printed == 0 in
-    let its = h 0 ran refl in
-    and_not (acts_found p r n a 0 ran.trace) (and_then (check last a (length ran.trace)) (agents_found p r n (suc a) rans)) (acts_not p sound n a r x 0 ran.trace)
-    (and_not (check last a (length ran.trace)) (agents_found p r n (suc a) rans)
-    (check_not last a (length ran.trace) (and_true (is_stopped ran.outcome) (length ran.printed == 0) (stopped_true ran.outcome its.unended) (ap (λ l. length l == 0) its.silent)))
-    (agents_not p r sound x n (suc a) rans (λ i y there. h (suc i) y there)))
+module _ (p : PlainProgram) (r : PlainReport) (sound : Sound p) (n a : ℕ) (g : CellId) where
+  abbrev seen : List Place → List SeenEvent
+  seen ps = seen_of p.cells (books_of r) ps
+
+  abbrev calm_on : ℕ → List Place → List TxRun → Finding
+  calm_on i since xs = calm_found (cells_of p.cells) (books_of r) a i since xs
+
+  noted_same : (m : List SeenEvent → Completion ThreadState Value) (es : List SeenEvent) → is_wrong (m es) ≡ false → noted_in m es ≡ txs_of (m es)
+  noted_same m es right = ap (λ b. txs_of (if b then m (take (right_events m [] es) es) else m es)) right
+
+  calm_noted : (i : ℕ) (since : List Place) (m : List SeenEvent → Completion ThreadState Value) (zs : List TxRun) → is_wrong (m (seen since)) ≡ false → SaidOf (undisturbed p.cells (books_of r)) (books_of r) since zs → Fits (txs_of (m (seen since))) zs → NotOff (calm_on i since (noted_in m (seen since)))
+  calm_noted i since m zs right calm f = subst (λ xs. NotOff (calm_on i since xs)) (sym (noted_same m (seen since) right)) (calm_not p.cells (books_of r) a i since (txs_of (m (seen since))) zs calm f)
+
+  -- an action that is over
+  acted_not : (i k : ℕ) (done : List Event) (since : List Place) (d : ActionDid) (out : List ℕ) (new : Result Value Fault) (sends : List Action) → d.trace ≡ since → (x : ActMeans p.cells p.functions (books_of r) done g d out new sends)
+      → NotOff (action_found p r n a i k done g since new sends (Some x.action)) × (action_found p r n a i k done g since new sends (Some x.action) ≡ Fine → action_prints p r n done g since (Some x.action) ≡ out)
+  acted_not i k done since d out new sends e x =
+      let v = newest (opening (cells_of p.cells)) done g.number in
+      let m = action_after p n done g x.action in
+      let z = action_after p d.turns done g x.action (seen since) in
+      let handed : IsHandedIn x.result x.held out z = subst (λ ps. IsHandedIn x.result x.held out (action_after p d.turns done g x.action (seen ps))) e x.means in
+      let over = over_in x.result x.held out z handed in
+      let txs : d.txs ≡ txs_of z = x.noted ∙ ap (λ ps. txs_of (action_after p d.turns done g x.action (seen ps))) e in
+      let calm : SaidOf (undisturbed p.cells (books_of r)) (books_of r) since (txs_of z) = subst (λ xs. SaidOf (undisturbed p.cells (books_of r)) (books_of r) since xs) txs (subst (λ ps. SaidOf (undisturbed p.cells (books_of r)) (books_of r) ps d.txs) e x.calm) in
+      let ends = λ (c : Completion ThreadState Value). act_ends (cells_of p.cells) done x.action.span a i k m (seen since) new sends c in
+      let looks = and_then (calm_on i since (noted_in m (seen since))) (ends (m (seen since))) in
+      let sent = sent_true (known p.functions) x.action.callee (suc (length x.action.args)) x.sound in
+      let tested : (NotOff looks × (looks ≡ Fine → printed_by (m (seen since)) ≡ out)) =
+      ⊎_elim
+      (λ same.
+      (let right : is_wrong (m (seen since)) ≡ false = ap is_wrong same ∙ up_right z over.1 in
+      let fit : Fits (txs_of (m (seen since))) (txs_of z) = subst (λ c. Fits (txs_of c) (txs_of z)) (sym same) (fits_itself (txs_of z)) in
+      let handed_so = handed_not (cells_of p.cells) done x.action.span a i k m (seen since) new sends x.result x.held out (m (seen since)) (subst (λ c. IsHandedIn x.result x.held out c) (sym same) handed) x.booked in
+      (and_not (calm_on i since (noted_in m (seen since))) (ends (m (seen since))) (calm_noted i since m (txs_of z) right calm fit) handed_so.0, λ fine. handed_so.1)))
+      (λ short.
+      (let right : is_wrong (m (seen since)) ≡ false = ap is_wrong short.1 in
+      let fit : Fits (txs_of (m (seen since))) (txs_of z) = subst (λ c. Fits (txs_of c) (txs_of z)) (sym short.1) short.2 in
+      let j = i + (length (seen since) - length short.0.todo) in
+      let is : ends (m (seen since)) ≡ Short a j = ap ends short.1 in (
+        and_not (calm_on i since (noted_in m (seen since))) (ends (m (seen since))) (calm_noted i since m (txs_of z) right calm fit) (subst NotOff (sym is) tt),
+        λ fine. never_fine (calm_on i since (noted_in m (seen since))) a j (ap (and_then (calm_on i since (noted_in m (seen since)))) (sym is) ∙ fine),
+      )))
+      (same_or_short p sound x.action v x.sound n d.turns (seen since) over.0 over.1) in
+      let opened : (if is_sent_call (known p.functions) x.action.callee (suc (length x.action.args)) then looks else Off a k) ≡ looks = ap (λ b. if b then looks else Off a k) sent in
+      let prints : action_prints p r n done g since (Some x.action) ≡ printed_by (m (seen since)) = ap (λ b. if b then printed_by (m (seen since)) else []) sent in
+      (subst NotOff (sym opened) tested.0, λ fine. prints ∙ tested.1 (sym opened ∙ fine))
+
+  -- what is told of the beginning of its events holds with these turns, too
+  least_holds : (since : List Place) (d : ActionDid) (out : List ℕ) (x : StillMeans p.cells p.functions (books_of r) g d out) → d.trace ≡ since → AreNamed (books_of r) since → HasEatenUp (action_after p n r.book g x.action (seen since)) → begins (least_of (action_after p n r.book g x.action) (seen since)) out ≡ true
+  least_holds since d out x e named up =
+      let v = newest (opening (cells_of p.cells)) r.book g.number in
+      let m = action_after p n r.book g x.action in
+      ⊎_elim
+      (λ none. (let is : since ≡ [] = sym e ∙ none in subst (λ l. begins (least_of m (seen l)) out ≡ true) (sym is) refl))
+      (λ b.
+      (let hs = b.0 in
+      let split : since ≡ hs ++ b.1 ∷ [] = sym e ∙ b.2 in
+      let last = seen_last p.cells (books_of r) b.1 (named_part (books_of r) hs (b.1 ∷ []) (subst (AreNamed (books_of r)) split named)).0 in
+      let all : seen since ≡ seen hs ++ last.0 ∷ [] = ap seen split ∙ seen_both p.cells (books_of r) hs (b.1 ∷ []) ∙ ap (λ l. seen hs ++ l) last.1 in
+      let cut = action_cut (last.0 ∷ []) (source p sound x.action v x.sound) n sound.functions x.action v (seen hs) in
+      let w = waits_front last.0 (m (seen hs)) (m (seen hs ++ last.0 ∷ [])) cut (subst (λ l. HasEatenUp (m l)) all up) in
+      let there = waited_is b.4 (action_after p b.3 r.book g x.action (seen hs)) b.5 in
+      let same : m (seen hs) ≡ action_after p b.3 r.book g x.action (seen hs) = waits_same p sound x.action v x.sound n b.3 (seen hs) w.0 there.0 w.1 there.1 in
+      let printed : least_of m (seen since) ≡ b.4 =
+      ap (least_of m) all ∙ least_last m (seen hs) last.0 ∙ ap (λ l. printed_by (m l)) (but_last_of (seen hs) last.0) ∙ ap printed_by same ∙ ap printed_by there.1 ∙ there.2 in
+      subst (λ l. begins l out ≡ true) (sym printed) (begins_true out b.4 (b.6, b.7)))) x.least
+    where
+      waited_is : (part : List ℕ) (c : Completion ThreadState Value) → HasWaited part (halted c) → (t : ThreadState) × (c ≡ Waits t) × (t.printed ≡ part)
+      waited_is part (Completes v t) h = absurd h
+      waited_is part (Recurs vs t) h = absurd h
+      waited_is part (Faults f t) h = absurd h
+      waited_is part (Retries t) h = absurd h
+      waited_is part (Waits t) h = (t, refl, h.1)
+      waited_is part (OutOfTurns t) h = absurd h
+      waited_is part Invalid h = absurd h
+
+  -- an action that isn't over
+  still_not : (i k : ℕ) (since : List Place) (d : ActionDid) (out : List ℕ) → d.trace ≡ since → AreNamed (books_of r) since → (x : StillMeans p.cells p.functions (books_of r) g d out) → NotOff (still_found p r n a i k g since out (Some x.action))
+  still_not i k since d out e named x =
+      let v = newest (opening (cells_of p.cells)) r.book g.number in
+      let m = action_after p n r.book g x.action in
+      let z = action_after p d.turns r.book g x.action (seen since) in
+      let means : HasEatenAll (out ++ x.rest) z = subst (λ ps. HasEatenAll (out ++ x.rest) (action_after p d.turns r.book g x.action (seen ps))) e x.means in
+      let txs : d.txs ≡ txs_of z = x.noted ∙ ap (λ ps. txs_of (action_after p d.turns r.book g x.action (seen ps))) e in
+      let calm : SaidOf (undisturbed p.cells (books_of r)) (books_of r) since (txs_of z) = subst (λ xs. SaidOf (undisturbed p.cells (books_of r)) (books_of r) since xs) txs (subst (λ ps. SaidOf (undisturbed p.cells (books_of r)) (books_of r) ps d.txs) e x.calm) in
+      let ends = λ (c : Completion ThreadState Value). still_ends a i k m (seen since) out c in
+      let looks = and_then (calm_on i since (noted_in m (seen since))) (ends (m (seen since))) in
+      let sent = sent_true (known p.functions) x.action.callee (suc (length x.action.args)) x.sound in
+      let tested : NotOff looks =
+      ⊎_elim
+      (λ h.
+      (let up : HasEatenUp (m (seen since)) = eaten_up (out ++ h.0.0) (m (seen since)) h.0.1 in
+      and_not (calm_on i since (noted_in m (seen since))) (ends (m (seen since))) (calm_noted i since m (txs_of z) (up_right (m (seen since)) up) calm h.1)
+      (still_ends_not a i k m (seen since) out (least_holds since d out x e named up) (m (seen since)) h.0.0 h.0.1)))
+      (λ short.
+      (let right : is_wrong (m (seen since)) ≡ false = ap is_wrong short.1 in
+      let fit : Fits (txs_of (m (seen since))) (txs_of z) = subst (λ c. Fits (txs_of c) (txs_of z)) (sym short.1) short.2 in
+      and_not (calm_on i since (noted_in m (seen since))) (ends (m (seen since))) (calm_noted i since m (txs_of z) right calm fit) (subst (λ c. NotOff (ends c)) (sym short.1) (short_still a i k m (seen since) out short.0))))
+      (judged_action p sound x.action v x.sound out n d.turns (seen since) (x.rest, means)) in
+      subst NotOff (sym (ap (λ b. if b then looks else Off a i) sent)) tested
+
+  abbrev InTurn : List Place → List Place → List ℕ → List ActionDid → Type 0
+  InTurn qs since out ds = ActsInTurn p.cells p.functions (books_of r) g qs since out ds
+
+  dropped : (outs rest : List ℕ) → drop (length outs) (outs ++ rest) ≡ rest
+  dropped [] rest = refl
+  dropped (x ∷ xs) rest = dropped xs rest
+
+  -- nothing came since, or this is found
+  either_not : (i k : ℕ) (since : List Place) (out : List ℕ) → NotOff (still_found p r n a i k g since out (next_action (cells_of p.cells) r.book g)) → NotOff (rest_found p r n a i k g since out)
+  either_not i k [] [] h = tt
+  either_not i k [] (o ∷ os) h = h
+  either_not i k (q ∷ qs) out h = h
+
+  rest_not : (i k : ℕ) (since : List Place) (out : List ℕ) (ds : List ActionDid) → AreNamed (books_of r) since → InTurn [] since out ds → NotOff (rest_found p r n a i k g since out)
+  rest_not i k since out [] named h = subst (λ l. NotOff (rest_found p r n a i k g l out)) (sym h.0) (subst (λ l. NotOff (rest_found p r n a i k g [] l)) (sym h.1) tt)
+  rest_not i k since out (d ∷ []) named h =
+      let x = h.1 in
+      either_not i k since out (subst (λ o. NotOff (still_found p r n a i k g since out o)) (sym x.next) (still_not i k since d out h.0 named x))
+  rest_not i k since out (d ∷ e ∷ ds) named h = absurd h
+
+  end_not_off : (since : List Place) (outs out : List ℕ) (ds : List ActionDid) (ran : PlainActorReport) → AreNamed (books_of r) since → Stopped ran.outcome → ran.printed ≡ outs ++ out → InTurn [] since out ds → NotOff (agent_end p r n a g since outs ran)
+  end_not_off since outs out ds ran named stopped e h =
+      let k = length ran.trace in
+      let b = is_stopped ran.outcome && begins outs ran.printed in
+      let left : drop (length outs) ran.printed ≡ out = ap (drop (length outs)) e ∙ dropped outs out in
+      and_not (check b a k) (rest_found p r n a (k - length since) k g since (drop (length outs) ran.printed))
+      (check_not b a k (and_true (is_stopped ran.outcome) (begins outs ran.printed) (stopped_true ran.outcome stopped) (begins_true ran.printed outs (out, e))))
+      (subst (λ l. NotOff (rest_found p r n a (k - length since) k g since l)) (sym left) (rest_not (k - length since) k since out ds named h))
+
+  module _ (ran : PlainActorReport) (stopped : Stopped ran.outcome) where
+    abbrev Holds : ℕ → List Place → Type 0
+    Holds k qs = (since : List Place) (outs out : List ℕ) (ds : List ActionDid) → AreNamed (books_of r) since → ran.printed ≡ outs ++ out → InTurn qs since out ds → NotOff (acts_found p r n a k g since outs qs ran)
+
+    -- an event of this kind
+    kind_not : (k : ℕ) (q : Place) (qs : List Place) → Holds (suc k) qs → IsNamed (books_of r) q → (d : EventKind) (since : List Place) (outs out : List ℕ) (ds : List ActionDid) → AreNamed (books_of r) since → ran.printed ≡ outs ++ out
+        → EventMeans p.cells p.functions (books_of r) g q d since out ds (λ since1 out1 ds1. InTurn qs since1 out1 ds1) → NotOff (kind_found p r n a k q g since outs d (λ since1 outs1. acts_found p r n a (suc k) g since1 outs1 qs ran))
+    kind_not k q qs next named (Act h number new sends) since outs out [] front e m = absurd m
+    kind_not k q qs next named (Act h number new sends) since outs out (d ∷ ds) front e m =
+        let done = take q.at (books_of r q.book) in
+        let i = k - length since in
+        let x = m.4 in
+        let y = acted_not i k done since d m.1 new sends m.0 x in
+        let o = next_action (cells_of p.cells) done g in
+        let act = action_found p r n a i k done g since new sends o in
+        let here : NotOff act = subst (λ b. NotOff (action_found p r n a i k done g since new sends b)) (sym x.next) y.0 in
+        let behind : act ≡ Fine → NotOff (acts_found p r n a (suc k) g [] (outs ++ action_prints p r n done g since o) qs ran) =
+        λ fine.
+        (let prints : action_prints p r n done g since o ≡ m.1 = ap (action_prints p r n done g since) x.next ∙ y.1 (ap (λ b. action_found p r n a i k done g since new sends b) (sym x.next) ∙ fine) in
+        next [] (outs ++ action_prints p r n done g since o) m.2 ds tt
+        (e ∙ ap (λ l. outs ++ l) m.3 ∙ sym (append_assoc outs m.1 m.2) ∙ ap (λ l. (outs ++ l) ++ m.2) (sym prints)) m.5) in
+        and_then_not act (acts_found p r n a (suc k) g [] (outs ++ action_prints p r n done g since o) qs ran) here behind
+    kind_not k q qs next named (Read c) since outs out ds front e m = next (since ++ q ∷ []) outs out ds (named_both (books_of r) since (q ∷ []) front (named, tt)) e m
+    kind_not k q qs next named (Commit at view ws sends) since outs out ds front e m = next (since ++ q ∷ []) outs out ds (named_both (books_of r) since (q ∷ []) front (named, tt)) e m
+    kind_not k q qs next named (Retry from c commute) since outs out ds front e m = next (since ++ q ∷ []) outs out ds (named_both (books_of r) since (q ∷ []) front (named, tt)) e m
+    kind_not k q qs next named (Fail at view) since outs out ds front e m = next (since ++ q ∷ []) outs out ds (named_both (books_of r) since (q ∷ []) front (named, tt)) e m
+    kind_not k q qs next named (Refused at view h) since outs out ds front e m = next (since ++ q ∷ []) outs out ds (named_both (books_of r) since (q ∷ []) front (named, tt)) e m
+    kind_not k q qs next named (Send x) since outs out ds front e m = next (since ++ q ∷ []) outs out ds (named_both (books_of r) since (q ∷ []) front (named, tt)) e m
+    kind_not k q qs next named (SendRefused h) since outs out ds front e m = next (since ++ q ∷ []) outs out ds (named_both (books_of r) since (q ∷ []) front (named, tt)) e m
+    kind_not k q qs next named (Swap new) since outs out ds front e m = next (since ++ q ∷ []) outs out ds (named_both (books_of r) since (q ∷ []) front (named, tt)) e m
+    kind_not k q qs next named (Broke at) since outs out ds front e m = next (since ++ q ∷ []) outs out ds (named_both (books_of r) since (q ∷ []) front (named, tt)) e m
+
+    acts_not : (k : ℕ) (qs : List Place) → Holds k qs
+    acts_not k [] since outs out ds front e h = end_not_off since outs out ds ran front stopped e h
+    acts_not k (q ∷ qs) since outs out ds front e h = go (nth (books_of r q.book) q.at) refl h (acts_not (suc k) qs)
+      where
+        go : (o : Option Event) → nth (books_of r q.book) q.at ≡ o → OfEvent o (λ d. EventMeans p.cells p.functions (books_of r) g q d.kind since out ds (λ since1 out1 ds1. InTurn qs since1 out1 ds1)) → Holds (suc k) qs
+            → NotOff (event_found p r n a k q g since outs o (λ since1 outs1. acts_found p r n a (suc k) g since1 outs1 qs ran))
+        go None there m next = absurd m
+        go (Some d) there m next = kind_not k q qs next (d, there) d.kind since outs out ds front e m
+
+agents_not : (p : PlainProgram) (r : PlainReport) → Sound p → (n a : ℕ) (gs : List CellId) (rans : List PlainActorReport) → ((i : ℕ) (g : CellId) (ran : PlainActorReport) → nth gs i ≡ Some g → nth rans i ≡ Some ran → AgentExplained p r g ran) → NotOff (agents_found p r n a gs rans)
+agents_not p r sound n a [] rans h = tt
+agents_not p r sound n a (g ∷ gs) [] h = tt
+agents_not p r sound n a (g ∷ gs) (ran ∷ rans) h =
+    let x = h 0 g ran refl refl in
+    and_not (acts_found p r n a 0 g [] [] ran.trace ran) (agents_found p r n (suc a) gs rans)
+    (acts_not p r sound n a g ran x.unended 0 ran.trace [] [] ran.printed x.did tt refl x.acts)
+    (agents_not p r sound n (suc a) gs rans (λ i f y there here. h (suc i) f y there here))
 
 -- ---- all
 
@@ -784,14 +956,14 @@ found_not p r sound x n =
     let store = store_found p r in
     let atoms = atoms_found p r (atoms_from 0 p.cells) in
     let threads = threads_found p r n 0 p.threads r.threads in
-    let agents = agents_found p r n (length p.threads) r.agents in
+    let agents = agents_found p r n (length p.threads) (agents_from 0 p.cells) r.agents in
     and_not sizes (and_then traces (and_then store (and_then atoms (and_then threads agents)))) (check_not (fits_sizes p r) 0 0 (sizes_true p r x.sized))
     (and_not traces (and_then store (and_then atoms (and_then threads agents)))
     (traces_not r 0 (r.threads ++ r.agents) (λ a ran there. (let z : a ≡ 0 + a = omega arith in subst (λ b. TraceHolds (books_of r) b ran.trace) z (x.traced a ran there))))
     (and_not store (and_then atoms (and_then threads agents)) (store_not p r x)
     (and_not atoms (and_then threads agents) (atoms_not p r (atoms_from 0 p.cells) (λ i c there. x.atoms c (listed_atom p.cells i c there)))
     (and_not threads agents (threads_not p r n 0 p.threads r.threads (λ b i t ran there here. thread_not p r sound n b i t ran there (x.threads i t ran there here)))
-    (agents_not p r sound.functions x n (length p.threads) r.agents x.agents)))))
+    (agents_not p r sound n (length p.threads) (agents_from 0 p.cells) r.agents x.agents)))))
 
 pub differs_is_not_explained : DiffersIsNotExplained
-differs_is_not_explained p r n a i sound h x = answer_not (found p r n) (are_serial p r n p.threads r.threads) a i h (found_not p r sound x n)
+differs_is_not_explained p r n a i sound h x = answer_not (found p r n) (are_serial p r n p.threads r.threads && agents_serial p r n (agents_from 0 p.cells) r.agents) a i h (found_not p r sound x n)

@@ -5,5 +5,7 @@ pub mod Findings
 pub mod Listing
 pub mod Onward
 pub mod Ordered
+pub mod Owning
 pub mod Piecing
 pub mod Serial
+pub mod Waiting

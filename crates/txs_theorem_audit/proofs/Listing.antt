@@ -170,6 +170,32 @@ agent_within cells g h =
     let b = both (same_kind g.kind Agent) (is_of_kind g.kind (nth (cells_of cells) g.number)) h in
     agent_found 0 cells g.number (subst (λ k. is_of_kind k (nth (cells_of cells) g.number) ≡ true) (is_agent_kind g.kind b.0) b.1)
 
+-- an agent among the cells is the one that is listed where as many are before it
+agent_there : (n : ℕ) (ds : List CellDefinition) (j : ℕ) → is_of_kind Agent (nth (cells_of ds) j) ≡ true → nth (agents_from n ds) (agents_below (cells_of ds) j) ≡ Some (record { kind = Agent; number = n + j })
+agent_there n [] j h = absurd (false≢true h)
+agent_there n (d ∷ ds) zero h = go d.kind h
+  where
+    go : (k : CellKind) → same_kind Agent k ≡ true → nth (with_agent k n (agents_from (suc n) ds)) 0 ≡ Some (record { kind = Agent; number = n + 0 })
+    go Ref h = absurd (false≢true h)
+    go Atom h = absurd (false≢true h)
+    go Agent h = let z : n ≡ n + 0 = omega arith in ap (λ k. Some (record { kind = Agent; number = k })) z
+agent_there n (d ∷ ds) (suc j) h =
+    let z : suc n + j ≡ n + suc j = omega arith in
+    go d.kind (agent_there (suc n) ds j h ∙ ap (λ k. Some (record { kind = Agent; number = k })) z)
+  where
+    go : (k : CellKind) → nth (agents_from (suc n) ds) (agents_below (cells_of ds) j) ≡ Some (record { kind = Agent; number = n + suc j })
+        → nth (with_agent k n (agents_from (suc n) ds)) (if same_kind k Agent then suc (agents_below (cells_of ds) j) else agents_below (cells_of ds) j) ≡ Some (record { kind = Agent; number = n + suc j })
+    go Ref h = h
+    go Atom h = h
+    go Agent h = h
+
+pub agent_listed : (cells : List CellDefinition) (g : CellId) → has_agent (cells_of cells) g ≡ true → nth (agents_from 0 cells) (agents_below (cells_of cells) g.number) ≡ Some g
+agent_listed cells g h =
+    let b = both (same_kind g.kind Agent) (is_of_kind g.kind (nth (cells_of cells) g.number)) h in
+    let k = is_agent_kind g.kind b.0 in
+    let z : 0 + g.number ≡ g.number = omega arith in
+    agent_there 0 cells g.number (subst (λ i. is_of_kind i (nth (cells_of cells) g.number) ≡ true) k b.1) ∙ ap Some (same_id (record { kind = Agent; number = 0 + g.number }) g (sym k) z)
+
 -- ---- the events that a trace names
 
 -- whether a number is among these

@@ -17,7 +17,7 @@ use Rattle.txs_value_cell.specs.declared.form.PutForm.{PutForm}
 use Rattle.txs_value_cell.specs.declared.form.PutForm.TheVariants.{RefSet, Reset}
 use Rattle.txs_value_cell.specs.declared.form.UpdateForm.{UpdateForm}
 use Rattle.txs_value_cell.specs.declared.form.UpdateForm.TheVariants.{Alter, Commute, Swap}
-use Rattle.txs_frame.specs.Frame.{PlainTxFrame, with_cell, is_commuted, set_ref, commute_ref, set_writes, commuted, phase_work}
+use Rattle.txs_frame.specs.Frame.{PlainTxFrame, with_cell, is_commuted, set_ref, commute_ref, set_writes, commuted, phase_work, sends_of_commit}
 use Rattle.txs_value_apply.specs.Core.{core, vector_of}
 use Rattle.txs_value_apply.specs.Truth.{choose}
 use Rattle.txs_value_base.specs.Places.{nth, fault_at}
@@ -35,9 +35,9 @@ use Rattle.txs_value_data.specs.declared.value.Value.TheVariants.{Nil, Truth, In
 use Rattle.txs_tree_meaning.specs.Known.{Known, is_pure, known_of, known}
 use Rattle.txs_tree_meaning.specs.Meaning.{Completion, Completes, Recurs, Faults, Retries, Waits, OutOfTurns, Invalid, bind, again, closed, give, result_of, Applies, turns, apply, eval, eval_all, eval_let, eval_do, call_at}
 use Rattle.txs_tree_meaning.specs.Pure.{no_effects, nowhere}
-use Rattle.txs_tree_meaning.specs.Sound.{MayStand, MayCall, in_thread, in_dosync, SoundTree, SoundAll, SoundLet, SoundDo, SoundCallee, SoundFunctions, SoundSource}
-use Rattle.txs_tree_meaning.specs.Thread.{TxRun, ThreadState, with_tx, uneaten, eats, meant, reads, resets, faulted, faultless, swaps, sends, sends_or_holds, over, Transacting, run_of, ends_tx, is_retry, eats_tx, thread_look, thread_put, thread_update, on_events, around, thread_meaning}
-use Rattle.txs_tree_meaning.specs.Transaction.{TxState, own, current, noted, done_as, tx_look, tx_put, tx_update, in_transaction, tx_start, tx_meaning, valued, merged, redone, judged, validated, if_accepted, commute_writes, final_writes}
+use Rattle.txs_tree_meaning.specs.Sound.{MayStand, MayCall, in_thread, in_dosync, SoundTree, SoundAll, SoundLet, SoundDo, SoundCallee, SoundFunctions, SoundSource, SoundSent}
+use Rattle.txs_tree_meaning.specs.Thread.{TxRun, ThreadState, with_tx, holding, uneaten, eats, meant, reads, resets, faulted, faultless, swaps, sends, sends_or_holds, over, Transacting, run_of, ends_tx, is_retry, eats_tx, thread_look, thread_put, thread_update, on_events, around, thread_meaning, from_events, applies_in, action_meaning, accepts}
+use Rattle.txs_tree_meaning.specs.Transaction.{TxState, own, current, noted, done_as, tx_look, tx_put, tx_update, in_transaction, tx_start, tx_meaning, valued, merged, judged, validated, if_accepted, commute_writes, final_writes}
 use Rattle.txs_tree_meaning.specs.Tree.{Mark, Tree, Const, Local, If, Do, Let, Loop, Recur, Core, Call, VectorOf, Println, Dosync, Look, Put, Update, Send, Trees, none, more, count, PlainFunction, ThreadSource}
 use Rattle.txs_tree_meaning.proofs.Callable.{nth-take, function_at}
 use Rattle.txs_theorem_threads.proofs.Accepted.{OfValidator, validator_such, cells_such, validators_pure, validated_related, if_accepted_related, validated_carried, made_carried, final_carried}
@@ -47,7 +47,7 @@ use Rattle.txs_theorem_threads.proofs.Functions.{there, nth_below, thread_sound}
 use Rattle.txs_theorem_threads.proofs.Meant.{Any, none_some, shallow_proper}
 use Rattle.txs_theorem_threads.proofs.Quiet.{carried, quietly, callee_carried, AllCommutes, commutes_both}
 use Rattle.txs_theorem_threads.proofs.Related.{Link, Related, Turns, bind_related, closed_related, Applied, Alike, apply_related, eval_related, calls_related}
-use Rattle.txs_theorem_threads.proofs.Same.{same_link, from_same, redone_alike, same_long}
+use Rattle.txs_theorem_threads.proofs.Same.{same_link, redone_alike, same_long}
 use Rattle.txs_theorem_threads.specs.Behaves.{IsProper}
 use Rattle.txs_theorem_threads.specs.RepliesFit.{Halt, Going, Stopped, Short, Rerun}
 
@@ -519,7 +519,7 @@ module _ (functions : List PlainFunction) (sound : SoundFunctions [] functions) 
           let g : Applies TxState = apply (call_at (λ e. in_transaction R) nr functions d inside) m.span in
           from_pair (λ u. (in_transaction R).update form inside m c callee vs f u) (λ u. (in_transaction R).update form inside m c callee vs g u)
           (λ u h. takes_cell (cell_of (rule (form_of.Update form)) true c) m.span (λ x t1. tx_update R form m x callee vs f t1) (λ x t1. tx_update R form m x callee vs g t1) u (λ x. updates_suit R form m x callee pure vs f g (a (λ j. tt)) u h)) s t r;
-      send = λ inside m c callee vs s t i pure r. from_pair (λ u. (in_transaction R).send inside m c callee vs u) (λ u. (in_transaction R).send inside m c callee vs u)
+      send = λ inside m c callee vs s t i r. from_pair (λ u. (in_transaction R).send inside m c callee vs u) (λ u. (in_transaction R).send inside m c callee vs u)
           (λ u h. takes_cell (cell_of (rule form_of.Send) true c) m.span _ _ u (λ x. (refl, alike_self _ h))) s t r;
       dosync = λ inside m e env s t i p b a r. b tt s t r;
     }
@@ -545,7 +545,7 @@ module _ (functions : List PlainFunction) (sound : SoundFunctions [] functions) 
       look = λ form inside m c s t may i r. refl;
       put = λ form inside m c w s t may i a r. refl;
       update = λ form inside m c callee vs s t may i p a r. refl;
-      send = λ inside m c callee vs s t i p r. refl;
+      send = λ inside m c callee vs s t i r. refl;
       dosync = λ inside m e env s t i p b a r. refl;
     }
 
@@ -589,6 +589,10 @@ over_at t x y h F G broke each b = (over_inside t y G broke (λ v z e. (each v z
 
 noted_on : (t : ThreadState) (x : TxRun) → Onward t (with_tx x t)
 noted_on t x = record { more = []; gone = []; runs = x ∷ []; prints = sym (append-nil t.printed); eats = refl; notes = refl }
+
+-- what an action holds counts for nothing here
+held_on : (t : ThreadState) (x : TxRun) (sends : List Action) → Onward t (holding sends (with_tx x t))
+held_on t x sends = record { more = []; gone = []; runs = x ∷ []; prints = sym (append-nil t.printed); eats = refl; notes = refl }
 
 -- a callee that is sound among the first functions is pure
 before_pure : (ks : List Known) (b : ℕ) (c : Callee) (n : ℕ) → SoundCallee (take b ks) c n → IsPure ks c
@@ -710,8 +714,8 @@ module _ (p : ThreadSource) (sound : SoundSource p) (nl nr : ℕ) (le : nl ≤ n
     ends_at : (k : EventKind) (R Q C : World) (t : ThreadState) → At t (ends_tx (tx nl) (f nl) k R Q C t) (ends_tx (tx nr) (f nr) k R Q C t)
     ends_at (event.Commit at view writes sent) R Q C t =
         over_at t ((tx nl).on R) ((tx nr).on R) (on_step R) _ _ (λ g. Invalid)
-        (λ v z h. finals_at z.done (suits_of R v z h) C t (λ y. faultless y (λ ws t1. meant (same_writes ws writes && same_actions z.done.sends sent) v (with_tx (run_of (tx nr) v z) t1))) (λ u. refl)
-        (faultless_inside t (λ ws t1. meant (same_writes ws writes && same_actions z.done.sends sent) v (with_tx (run_of (tx nr) v z) t1)) (λ ws. meant_inside (same_writes ws writes && same_actions z.done.sends sent) v t (with_tx (run_of (tx nr) v z) t) (noted_on t (run_of (tx nr) v z))))) (λ g. tt)
+        (λ v z h. finals_at z.done (suits_of R v z h) C t (λ y. faultless y (λ ws t1. meant (same_writes ws writes && same_actions (sends_of_commit t1.held z.done.sends) sent) v (holding z.done.sends (with_tx (run_of (tx nr) v z) t1)))) (λ u. refl)
+        (faultless_inside t (λ ws t1. meant (same_writes ws writes && same_actions (sends_of_commit t1.held z.done.sends) sent) v (holding z.done.sends (with_tx (run_of (tx nr) v z) t1))) (λ ws. meant_inside (same_writes ws writes && same_actions (sends_of_commit t.held z.done.sends) sent) v t (holding z.done.sends (with_tx (run_of (tx nr) v z) t)) (held_on t (run_of (tx nr) v z) z.done.sends)))) (λ g. tt)
     ends_at (event.Fail at view) R Q C t =
         over_at t ((tx nl).on R) ((tx nr).on R) (on_step R) _ _ (λ g. Faults g t)
         (λ v z h. finals_at z.done (suits_of R v z h) Q t (λ y. faulted y (λ g t1. Faults g t1)) (λ u. refl) (faulted_inside t)) (λ g. same t)
@@ -994,3 +998,44 @@ module _ (p : ThreadSource) (sound : SoundSource p) (nl nr : ℕ) (le : nl ≤ n
         closed_from (eval (on_events (around p nr) d) (call nr d) nr false p.main [] (start es)) (start es) h.0,
         closed_step (eval (on_events (around p nl) d) (call nl d) nl false p.main [] (start es)) (eval (on_events (around p nr) d) (call nr d) nr false p.main [] (start es)) h.1,
       )
+
+  -- ---- actions
+
+  abbrev depth : ℕ
+  depth = length p.functions
+
+  calls_so : (i : ℕ) (k : Known) → nth ks i ≡ Some k → MayCall in_thread k → (vs : List Value) → k.parameters ≡ length vs → (s : ThreadState) → Leads None Any s (call nl depth false i vs s) (call nr depth false i vs s)
+  calls_so i k q z vs a s = let found = there p.functions i k q in calls_all i k (nth_below p.functions i found.0 found.1) q z vs a s
+
+  proper_so : (n : ℕ) (span : Span) (c : Callee) (vs : List Value) → SoundCallee ks c (length vs) → IsProper (quietly n p.functions depth span c vs tt)
+  proper_so n span c vs h = shallow_proper p.functions sound.functions n depth pures_fit (omega arith) span c vs h
+
+  -- a callee that may be sent
+  pub applied_leads : (span : Span) (c : Callee) (vs : List Value) → SoundSent ks c (length vs) → (s : ThreadState) → Leads None Any s (applies_in (around p nl) span c vs s) (applies_in (around p nr) span c vs s)
+  applied_leads span (CoreOp op) vs h s = result_leads None (core op vs) span s
+  applied_leads span (Function f) vs h s = calls_so f h.function h.found h.zoned vs h.arity s
+
+  -- a validator changes no state, and is such a part
+  pub accepts_so : (n : ℕ) (span : Span) (g : CellId) (w : Value) (t : ThreadState) → accepts (around p n) (applies_in (around p n) span) g span w t ≡ carried t (validated (quietly n p.functions depth span) (validator_at (validators_of p.cells) g.number) span w tt)
+  accepts_so n span g w t = validates_so depth ks (sound_pure ks) calls_so proper_so n span g w t
+
+  pub accepts_proper : (n : ℕ) (span : Span) (g : CellId) (w : Value) → IsProper (validated (quietly n p.functions depth span) (validator_at (validators_of p.cells) g.number) span w tt)
+  accepts_proper n span g w = answers depth ks (sound_pure ks) calls_so proper_so n span g w
+
+  -- a state, where the agent's validator accepts it
+  accepts_lead : (span : Span) (g : CellId) (w : Value) (t : ThreadState) → Leads None Any t (accepts (around p nl) (applies_in (around p nl) span) g span w t) (accepts (around p nr) (applies_in (around p nr) span) g span w t)
+  accepts_lead span g w t =
+      let o = validator_at (validators_of p.cells) g.number in
+      let q : ℕ → Applies (Unit {0}) = λ n. quietly n p.functions depth span in
+      let x : ℕ → Completion (Unit {0}) Value = λ n. validated (q n) o span w tt in
+      subst (λ z. Leads None Any t z (accepts (around p nr) (applies_in (around p nr) span) g span w t)) (sym (accepts_so nl span g w t))
+      (subst (λ z. Leads None Any t (carried t (x nl)) z) (sym (accepts_so nr span g w t))
+      (pure_leads (x nl) (x nr) (accepts_proper nl span g w) (accepts_proper nr span g w)
+      (validated_related (Unit {0}) (Unit {0}) (same_link (Unit {0})) (q nl) (q nr) (pure_more p.functions sound.functions nl nr le depth span) o span w tt tt refl) t))
+
+  -- an action that a program may send
+  pub action_leads : (a : Action) (v : Value) → SoundSent ks a.callee (suc (length a.args)) → (es : List SeenEvent) → Leads None Any (from_events (Some []) es) (action_meaning p.cells p.functions nl a v es) (action_meaning p.cells p.functions nr a v es)
+  action_leads a v fits es =
+      let f : ℕ → Applies ThreadState = λ n. applies_in (around p n) a.span in
+      bind_leads None Any Any (f nl a.callee (v ∷ a.args) (from_events (Some []) es)) (f nr a.callee (v ∷ a.args) (from_events (Some []) es)) (λ w t. accepts (around p nl) (f nl) a.agent a.span w t) (λ w t. accepts (around p nr) (f nr) a.agent a.span w t)
+      (from_events (Some []) es) (applied_leads a.span a.callee (v ∷ a.args) fits (from_events (Some []) es)) (λ w t g. accepts_lead a.span a.agent w t)

@@ -1,5 +1,5 @@
 -- What it is that a program explains a report.
-use Rattle.std.specs.Prelude.{◌≡◌, ℕ, suc, true, false, List, [], ◌++◌, length, Option, Some, None}
+use Rattle.std.specs.Prelude.{◌≡◌, ℕ, true, false, List, [], ◌++◌, length, Option, Some, None}
 use Rattle.txs_value_base.specs.Places.{nth}
 use Rattle.txs_value_cell.specs.Agents.{agents_from}
 use Rattle.txs_value_cell.specs.Forms.{same_kind}
@@ -8,26 +8,20 @@ use Rattle.txs_value_data.specs.declared.value.CellId.{CellId}
 use Rattle.txs_value_data.specs.declared.value.CellKind.TheVariants.{Atom}
 use Rattle.txs_value_data.specs.declared.value.Value.{Value}
 use Rattle.txs_world_protocol.specs.SeenEvent.{SeenEvent, home}
-use Rattle.txs_value_cell.specs.declared.action.Action.{Action}
 use Rattle.txs_world_protocol.specs.declared.event.Event.{Event}
-use Rattle.txs_world_protocol.specs.declared.event.EventKind.{EventKind}
-use Rattle.txs_world_protocol.specs.declared.event.EventKind.TheVariants.{Act}
 use Rattle.txs_world_protocol.specs.declared.event.Outcome.{Outcome}
 use Rattle.txs_world_protocol.specs.declared.event.Outcome.TheVariants.{Done, Failed, StepsSpent, JournalFull, Memory}
 use Rattle.txs_world_book.specs.Atom.{LegalAtom, atom_after}
-use Rattle.txs_world_book.specs.Book.{Each, Legal, newest, opening, mail_after}
+use Rattle.txs_world_book.specs.Book.{Legal, actors, newest, opening, mail_after}
 use Rattle.txs_world_book.specs.Served.{cells_of}
-use Rattle.txs_world.specs.Store.{next_action}
-use Rattle.txs_tree_meaning.specs.Known.{known}
-use Rattle.txs_tree_meaning.specs.Pure.{PureCallee}
 use Rattle.txs_tree_meaning.specs.Meaning.{Completion, Completes, Faults}
 use Rattle.txs_tree_meaning.specs.Thread.{ThreadState, thread_meaning}
 use Rattle.txs_tree_meaning.specs.Tree.{PlainProgram, PlainThread}
 use Rattle.txs_theorem_threads.specs.FollowsAll.{source_of}
 use Rattle.txs_theorem_threads.specs.Noted.{txs_of}
 use Rattle.txs_theorem_threads.specs.RepliesFit.{HasEatenAll}
-use Rattle.txs_theorem_runs.specs.Agents.{ActsMean}
-use Rattle.txs_theorem_runs.specs.Explains.{AreThreads}
+use Rattle.txs_theorem_runs.specs.Agents.{ActionDid, ActsInTurn}
+use Rattle.txs_theorem_runs.specs.Explains.{AreActors}
 use Rattle.txs_theorem_runs.specs.Shared.{has_atom}
 use Rattle.txs_theorem_runs.specs.Told.{TraceHolds, seen_of}
 use Rattle.txs_theorem_runs.specs.Transactions.{SaidOf, undisturbed}
@@ -86,31 +80,23 @@ pub record ThreadExplained (p : PlainProgram) (r : PlainReport) (t : PlainThread
 
 -- ---- atoms and agents
 
--- an atom's book is legal, what it says was done by threads, and it leaves the atom's value
+-- an atom's book is legal, what it says was done by threads and agents, and it leaves the atom's value
 pub record AtomExplained (p : PlainProgram) (r : PlainReport) (c : CellId) : Type 0 where
   pub legal : LegalAtom c (books_of r (home p.cells c))
-  pub by_threads : AreThreads (length p.threads) (books_of r (home p.cells c))
+  pub by_actors : AreActors (actors (length p.threads) (cells_of p.cells)) (books_of r (home p.cells c))
   pub value : nth r.cells c.number ≡ Some (atom_after (opening (cells_of p.cells) c.number) (books_of r (home p.cells c)) (length (books_of r (home p.cells c))))
 
--- an action that came to something was the first in its agent's mail, and its callee is pure and takes the state and the arguments
-abbrev pub ActPure : PlainProgram → List Event → EventKind → Type 0
-ActPure p done (Act g number new sends) = (x : Action) → next_action (cells_of p.cells) done g ≡ Some x → PureCallee (known p.functions) x.callee (suc (length x.args))
-ActPure p done _ = Unit {0}
-
--- so it is of each action of a book
-abbrev pub ActsPure : PlainProgram → List Event → Type 0
-ActsPure p book = Each (λ done e. ActPure p done e.kind) [] book
-
--- an agent's actor printed nothing and never ended
-pub record AgentExplained (ran : PlainActorReport) : Type 0 where
-  pub silent : ran.printed ≡ []
+-- An agent's actor never ended; and what it did and printed is what its actions mean, one after another, and behind them what the action means that is
+-- first after the whole book.
+pub record AgentExplained (p : PlainProgram) (r : PlainReport) (g : CellId) (ran : PlainActorReport) : Type 0 where
   pub unended : Stopped ran.outcome
+  pub did : List ActionDid
+  pub acts : ActsInTurn p.cells p.functions (books_of r) g ran.trace [] ran.printed did
 
 -- ---- all
 
 -- A program explains a report: there is one entry for each; each trace names its actor's events, and no others; the books are legal; cells
--- and failed agents are those after them; each action is of a pure callee, and came to what that means; and threads and agents did what
--- they mean.
+-- and failed agents are those after them; and threads and agents did what they mean.
 pub record IsExplained (p : PlainProgram) (r : PlainReport) : Type 0 where
   pub sized : Sized p r
   pub traced : (a : ℕ) (ran : PlainActorReport) → nth (r.threads ++ r.agents) a ≡ Some ran → TraceHolds (books_of r) a ran.trace
@@ -119,6 +105,4 @@ pub record IsExplained (p : PlainProgram) (r : PlainReport) : Type 0 where
   pub failures : (i : ℕ) (g : CellId) → nth (agents_from 0 p.cells) i ≡ Some g → nth r.failed i ≡ Some (mail_after (cells_of p.cells) r.book g.number).fault
   pub atoms : (c : CellId) → has_atom p.cells c ≡ true → AtomExplained p r c
   pub threads : (a : ℕ) (t : PlainThread) (ran : PlainActorReport) → nth p.threads a ≡ Some t → nth r.threads a ≡ Some ran → ThreadExplained p r t ran
-  pub acts : ActsMean p.functions p.cells r.book
-  pub pure : ActsPure p r.book
-  pub agents : (i : ℕ) (ran : PlainActorReport) → nth r.agents i ≡ Some ran → AgentExplained ran
+  pub agents : (i : ℕ) (g : CellId) (ran : PlainActorReport) → nth (agents_from 0 p.cells) i ≡ Some g → nth r.agents i ≡ Some ran → AgentExplained p r g ran

@@ -1,19 +1,21 @@
 -- What an audit answers of a report: the tests in their order, the first that fails or needs more turns.
-use Rattle.std.specs.Prelude.{ℕ, zero, suc, Bool, true, false, not, ◌&&◌, ◌||◌, ◌==◌, ◌-◌, nat_lt, List, [], ◌∷◌, ◌++◌, length, take, Option, Some, None, Result, Ok, Err, if◌then◌else◌}
-use Rattle.txs_value_base.specs.Places.{nth}
+use Rattle.std.specs.Prelude.{ℕ, zero, suc, Bool, true, false, not, ◌&&◌, ◌||◌, ◌==◌, ◌-◌, ◌+◌, nat_le, nat_lt, List, [], ◌∷◌, ◌++◌, length, take, drop, Option, Some, None, Result, Ok, Err, if◌then◌else◌}
+use Rattle.txs_value_base.specs.Places.{nth, fault_at}
 use Rattle.txs_value_apply.specs.Core.{takes}
 use Rattle.txs_value_base.specs.declared.fault.Fault.{Fault}
+use Rattle.txs_value_base.specs.declared.fault.FaultKind.TheVariants.{AgentFailed}
+use Rattle.txs_value_base.specs.declared.fault.Span.{Span}
 use Rattle.txs_value_base.specs.declared.op.Callee.{Callee}
 use Rattle.txs_value_base.specs.declared.op.Callee.TheVariants.{Core as CoreOp, Function}
 use Rattle.txs_value_cell.specs.Agents.{agents_from}
 use Rattle.txs_value_cell.specs.Forms.{same_kind}
 use Rattle.txs_value_cell.specs.declared.action.Action.{Action}
 use Rattle.txs_value_cell.specs.declared.cell.CellDefinition.{CellDefinition}
-use Rattle.txs_value_data.specs.Limits.{most_events}
+use Rattle.txs_value_data.specs.Limits.{most_events, most_items}
 use Rattle.txs_value_data.specs.declared.value.CellId.{CellId}
 use Rattle.txs_value_data.specs.declared.value.CellKind.TheVariants.{Atom}
 use Rattle.txs_value_data.specs.declared.value.Value.{Value}
-use Rattle.txs_world_protocol.specs.Ask.{same_cell, same_value, same_fault, same_new}
+use Rattle.txs_world_protocol.specs.Ask.{same_cell, same_value, same_fault, same_new, same_actions}
 use Rattle.txs_world_protocol.specs.SeenEvent.{SeenEvent, home}
 use Rattle.txs_world_protocol.specs.declared.event.Event.{Event}
 use Rattle.txs_world_protocol.specs.declared.event.EventKind.{EventKind}
@@ -21,19 +23,17 @@ use Rattle.txs_world_protocol.specs.declared.event.EventKind.TheVariants.{Read, 
 use Rattle.txs_world_protocol.specs.declared.event.Outcome.{Outcome}
 use Rattle.txs_world_protocol.specs.declared.event.Outcome.TheVariants.{Done, Failed, StepsSpent, JournalFull, Memory}
 use Rattle.txs_world_book.specs.Atom.{atom_after}
-use Rattle.txs_world_book.specs.Book.{has_ref, has_agent, has_readable, are_refs, are_sends, cells_in, may_end, may_name, first_failed, is_failed, is_there, is_empty, mail_after, waits, makes, newest, opening, written}
+use Rattle.txs_world_book.specs.Book.{has_ref, has_agent, has_readable, are_refs, are_sends, cells_in, may_end, may_name, first_failed, is_failed, is_there, is_empty, may_send, actors, mail_after, waits, makes, newest, opening, written}
 use Rattle.txs_world_book.specs.Served.{cells_of}
 use Rattle.txs_world_book.specs.declared.cell.StoreCell.{StoreCell}
 use Rattle.txs_world.specs.Store.{next_action}
 use Rattle.txs_tree_meaning.specs.Known.{Known, known}
 use Rattle.txs_tree_meaning.specs.Meaning.{Completion, Completes, Recurs, Faults, Retries, Waits, OutOfTurns, Invalid}
-use Rattle.txs_tree_meaning.specs.Right.{is_wrong, eats_right, right_meaning}
-use Rattle.txs_tree_meaning.specs.Thread.{TxRun, ThreadState, thread_meaning}
+use Rattle.txs_tree_meaning.specs.Right.{is_wrong, right_events, eats_right, right_meaning}
+use Rattle.txs_tree_meaning.specs.Thread.{TxRun, ThreadState, thread_meaning, action_meaning}
 use Rattle.txs_tree_meaning.specs.Tree.{PlainProgram, PlainThread, ThreadSource}
 use Rattle.txs_theorem_threads.specs.FollowsAll.{source_of}
-use Rattle.txs_theorem_threads.specs.FollowsAgent.{new_state}
 use Rattle.txs_theorem_threads.specs.Noted.{txs_of}
-use Rattle.txs_value_cell.specs.Cells.{validators_of}
 use Rattle.txs_theorem_runs.specs.Told.{Place, places_in, places_by, seen_of}
 use Rattle.txs_theorem_serial.specs.Serial.{is_covered}
 use Rattle.txs_theorem_audit.specs.Audited.{PlainActorReport, PlainReport, books_of, entry_of, Verdict, Finding, Fine, Off, Short, and_then, check, answer}
@@ -121,7 +121,7 @@ is_legal_kind cells done a (Refused at view g) = has_agent cells g && (may_end d
 is_legal_kind cells done a (Send x) = has_agent cells x.agent && not (is_failed cells done x.agent)
 is_legal_kind cells done a (SendRefused g) = has_agent cells g && is_failed cells done g
 is_legal_kind cells done a (Act g n new sends) =
-    has_agent cells g && (not (is_failed cells done g) && (waits (mail_after cells done g.number).actions && (n == suc (mail_after cells done g.number).acts && is_empty sends)))
+    has_agent cells g && (not (is_failed cells done g) && (waits (mail_after cells done g.number).actions && (n == suc (mail_after cells done g.number).acts && (may_send new sends && (are_sends cells sends && not (is_there (first_failed cells done sends)))))))
 is_legal_kind cells done a (Swap new) = false
 is_legal_kind cells done a (Broke at) = false
 
@@ -178,7 +178,7 @@ is_value v (Some w) = same_value v w
 abbrev pub atom_found : PlainProgram → PlainReport → CellId → Finding
 atom_found p r c =
     and_then
-    (book_found (λ done e. nat_lt e.actor (length p.threads) && is_legal_swap c done e.actor e.kind) (λ a k. index_if (home p.cells c) k (entry_of r a)) [] (books_of r (home p.cells c)))
+    (book_found (λ done e. nat_lt e.actor (actors (length p.threads) (cells_of p.cells)) && is_legal_swap c done e.actor e.kind) (λ a k. index_if (home p.cells c) k (entry_of r a)) [] (books_of r (home p.cells c)))
     (check (is_value (atom_after (opening (cells_of p.cells) c.number) (books_of r (home p.cells c)) (length (books_of r (home p.cells c)))) (nth r.cells c.number)) 0 (length_if (entry_of r 0)))
 
 -- the books of these atoms
@@ -324,54 +324,129 @@ threads_found p r n a (t ∷ ts) (ran ∷ rans) = and_then (thread_found p r n a
 
 -- ---- agents
 
--- what an action came to, beside the new state that it means
-abbrev pub act_means : ℕ → ℕ → Result Value Fault → Completion (Unit {0}) Value → Finding
-act_means a i new (Completes v u) = check (same_new (Ok v) new) a i
-act_means a i new (Recurs vs u) = Off a i
-act_means a i new (Faults f u) = check (same_new (Err f) new) a i
-act_means a i new (Retries u) = Off a i
-act_means a i new (Waits u) = Off a i
-act_means a i new (OutOfTurns u) = Short a i
-act_means a i new Invalid = Off a i
+-- what an action means on these events of its agent's actor, after these events of the store's book
+abbrev pub action_after : PlainProgram → ℕ → List Event → CellId → Action → List SeenEvent → Completion ThreadState Value
+action_after p n done g x es = action_meaning p.cells p.functions n x (newest (opening (cells_of p.cells)) done g.number) es
 
--- whether a function that is known is pure, and takes so many values
-abbrev pub is_pure_known : Option Known → ℕ → Bool
-is_pure_known None n = false
-is_pure_known (Some k) n = k.parameters == n && k.pure
+-- whether a function that is known isn't for transactions alone, and takes so many values
+abbrev pub is_sent_known : Option Known → ℕ → Bool
+is_sent_known None n = false
+is_sent_known (Some k) n = k.parameters == n && not k.inside
 
--- whether a callee is pure, and takes so many values
-abbrev pub is_pure_call : List Known → Callee → ℕ → Bool
-is_pure_call ks (CoreOp op) n = takes op n
-is_pure_call ks (Function f) n = is_pure_known (nth ks f) n
+-- whether a callee may be sent, of so many values
+abbrev pub is_sent_call : List Known → Callee → ℕ → Bool
+is_sent_call ks (CoreOp op) n = takes op n && nat_le n most_items
+is_sent_call ks (Function f) n = is_sent_known (nth ks f) n
 
--- the action that was the first in its agent's mail, on the agent's state; its callee has to be pure
-abbrev pub act_found : PlainProgram → ℕ → ℕ → ℕ → List Event → CellId → Result Value Fault → Option Action → Finding
-act_found p n a i done g new None = Off a i
-act_found p n a i done g new (Some x) =
-    if is_pure_call (known p.functions) x.callee (suc (length x.args))
-    then act_means a i new (new_state n p.functions (validators_of p.cells) x (newest (opening (cells_of p.cells)) done g.number))
+-- these sends, where there are some
+abbrev pub sends_if : Option (List Action) → List Action
+sends_if None = []
+sends_if (Some held) = held
+
+-- the sends that are held, none of a thread's
+abbrev pub held_by : ThreadState → List Action
+held_by t = sends_if t.held
+
+-- the transactions that a meaning notes on these events, up to an event that gives it no meaning
+abbrev pub noted_in : (List SeenEvent → Completion ThreadState Value) → List SeenEvent → List TxRun
+noted_in m es = txs_of (if is_wrong (m es) then m (take (right_events m [] es) es) else m es)
+
+-- whether what an action hands in is booked so, by the first agent of its sends that had failed
+abbrev pub is_booked : Option CellId → Span → Value → List Action → Result Value Fault → List Action → Bool
+is_booked None span v held new sends = same_new (Ok v) new && same_actions held sends
+is_booked (Some h) span v held new sends = same_new (Err (fault_at AgentFailed span)) new && is_empty sends
+
+-- an action that means this on its events, of which the first is the i-th of the actor's trace, against its act, which is the k-th
+abbrev pub act_ends : List StoreCell → List Event → Span → ℕ → ℕ → ℕ → (List SeenEvent → Completion ThreadState Value) → List SeenEvent → Result Value Fault → List Action → Completion ThreadState Value → Finding
+act_ends cells done span a i k m es new sends (Completes v t) =
+    and_then (check (length t.todo == 0) a (i + (length es - length t.todo))) (check (is_booked (first_failed cells done (held_by t)) span v (held_by t) new sends) a k)
+act_ends cells done span a i k m es new sends (Recurs vs t) = Off a (i + right_events m [] es)
+act_ends cells done span a i k m es new sends (Faults f t) =
+    and_then (check (length t.todo == 0) a (i + (length es - length t.todo))) (check (same_new (Err f) new && is_empty sends) a k)
+act_ends cells done span a i k m es new sends (Retries t) = Off a (i + right_events m [] es)
+-- an action that needs an event more isn't over
+act_ends cells done span a i k m es new sends (Waits t) = Off a k
+act_ends cells done span a i k m es new sends (OutOfTurns t) = Short a (i + (length es - length t.todo))
+act_ends cells done span a i k m es new sends Invalid = Off a (i + right_events m [] es)
+
+-- an action, on the events of this part of the actor's trace: its transactions, and then its end
+abbrev pub action_found : PlainProgram → PlainReport → ℕ → ℕ → ℕ → ℕ → List Event → CellId → List Place → Result Value Fault → List Action → Option Action → Finding
+action_found p r n a i k done g since new sends None = Off a k
+action_found p r n a i k done g since new sends (Some x) =
+    if is_sent_call (known p.functions) x.callee (suc (length x.args))
+    then and_then (calm_found (cells_of p.cells) (books_of r) a i since (noted_in (action_after p n done g x) (seen_of p.cells (books_of r) since)))
+    (act_ends (cells_of p.cells) done x.span a i k (action_after p n done g x) (seen_of p.cells (books_of r) since) new sends (action_after p n done g x (seen_of p.cells (books_of r) since)))
+    else Off a k
+
+-- what an action prints, where there is one that may be sent
+abbrev pub action_prints : PlainProgram → PlainReport → ℕ → List Event → CellId → List Place → Option Action → List ℕ
+action_prints p r n done g since None = []
+action_prints p r n done g since (Some x) =
+    if is_sent_call (known p.functions) x.callee (suc (length x.args)) then printed_by (action_after p n done g x (seen_of p.cells (books_of r) since)) else []
+
+-- what a meaning prints on all events but the last; nothing where there is none
+abbrev pub least_of : (List SeenEvent → Completion ThreadState Value) → List SeenEvent → List ℕ
+least_of m [] = []
+least_of m (e ∷ es) = printed_by (m (but_last (e ∷ es)))
+
+-- whether an action that isn't over printed so much of this and no more
+abbrev pub part_printed : (List SeenEvent → Completion ThreadState Value) → List SeenEvent → List ℕ → List ℕ → Bool
+part_printed m es out whole = begins out whole && begins (least_of m es) out
+
+-- an action that isn't over and means this on its events, of which the first is the i-th of the actor's trace, which has k; it has printed this
+abbrev pub still_ends : ℕ → ℕ → ℕ → (List SeenEvent → Completion ThreadState Value) → List SeenEvent → List ℕ → Completion ThreadState Value → Finding
+still_ends a i k m es out (Completes v t) = and_then (check (length t.todo == 0) a (i + (length es - length t.todo))) (check (part_printed m es out t.printed) a k)
+still_ends a i k m es out (Recurs vs t) = Off a (i + right_events m [] es)
+still_ends a i k m es out (Faults f t) = and_then (check (length t.todo == 0) a (i + (length es - length t.todo))) (check (part_printed m es out t.printed) a k)
+still_ends a i k m es out (Retries t) = Off a (i + right_events m [] es)
+still_ends a i k m es out (Waits t) = and_then (check (length t.todo == 0) a (i + (length es - length t.todo))) (check (part_printed m es out t.printed) a k)
+still_ends a i k m es out (OutOfTurns t) = if length t.todo == 0 && part_printed m es out t.printed then Fine else Short a (i + (length es - length t.todo))
+still_ends a i k m es out Invalid = Off a (i + right_events m [] es)
+
+-- the action that is first after the whole book, on the events after the last act
+abbrev pub still_found : PlainProgram → PlainReport → ℕ → ℕ → ℕ → ℕ → CellId → List Place → List ℕ → Option Action → Finding
+still_found p r n a i k g since out None = Off a i
+still_found p r n a i k g since out (Some x) =
+    if is_sent_call (known p.functions) x.callee (suc (length x.args))
+    then and_then (calm_found (cells_of p.cells) (books_of r) a i since (noted_in (action_after p n r.book g x) (seen_of p.cells (books_of r) since)))
+    (still_ends a i k (action_after p n r.book g x) (seen_of p.cells (books_of r) since) out (action_after p n r.book g x (seen_of p.cells (books_of r) since)))
     else Off a i
 
--- an event of an agent, after these
-abbrev pub act_kind : PlainProgram → ℕ → ℕ → ℕ → List Event → EventKind → Finding
-act_kind p n a i done (Act g k new sends) = act_found p n a i done g new (next_action (cells_of p.cells) done g)
-act_kind p n a i done _ = Fine
+-- an actor's end, by its trace's part after the last act and what was printed since: nothing, or what the first action means
+abbrev pub rest_found : PlainProgram → PlainReport → ℕ → ℕ → ℕ → ℕ → CellId → List Place → List ℕ → Finding
+rest_found p r n a i k g [] [] = Fine
+rest_found p r n a i k g since out = still_found p r n a i k g since out (next_action (cells_of p.cells) r.book g)
 
--- the same, where there is one
-abbrev pub act_at : PlainProgram → ℕ → ℕ → ℕ → List Event → Option Event → Finding
-act_at p n a i done None = Fine
-act_at p n a i done (Some e) = act_kind p n a i done e.kind
+-- an agent's end: it never ended, and printed what its actions print, one after another, and behind that what its first action prints
+abbrev pub agent_end : PlainProgram → PlainReport → ℕ → ℕ → CellId → List Place → List ℕ → PlainActorReport → Finding
+agent_end p r n a g since outs ran =
+    and_then (check (is_stopped ran.outcome && begins outs ran.printed) a (length ran.trace))
+    (rest_found p r n a (length ran.trace - length since) (length ran.trace) g since (drop (length outs) ran.printed))
 
--- the actions of an agent, from the i-th of its trace on
-abbrev pub acts_found : PlainProgram → PlainReport → ℕ → ℕ → ℕ → List Place → Finding
-acts_found p r n a i [] = Fine
-acts_found p r n a i (q ∷ qs) = and_then (act_at p n a i (take q.at (books_of r q.book)) (nth (books_of r q.book) q.at)) (acts_found p r n a (suc i) qs)
+-- what is found of an event of this kind
+abbrev pub kind_found : PlainProgram → PlainReport → ℕ → ℕ → ℕ → Place → CellId → List Place → List ℕ → EventKind → (List Place → List ℕ → Finding) → Finding
+kind_found p r n a k q g since outs (Act h number new sends) go =
+    and_then
+    (action_found p r n a (k - length since) k (take q.at (books_of r q.book)) g since new sends (next_action (cells_of p.cells) (take q.at (books_of r q.book)) g))
+    (go [] (outs ++ action_prints p r n (take q.at (books_of r q.book)) g since (next_action (cells_of p.cells) (take q.at (books_of r q.book)) g)))
+kind_found p r n a k q g since outs kind go = go (since ++ q ∷ []) outs
 
--- the agents, from this actor on: their actions, and that they printed nothing and never ended
-abbrev pub agents_found : PlainProgram → PlainReport → ℕ → ℕ → List PlainActorReport → Finding
-agents_found p r n a [] = Fine
-agents_found p r n a (ran ∷ rans) =
-    and_then (acts_found p r n a 0 ran.trace) (and_then (check (is_stopped ran.outcome && length ran.printed == 0) a (length ran.trace)) (agents_found p r n (suc a) rans))
+-- an event of an agent's trace: an act ends what came since the act before it, and any other event joins that
+abbrev pub event_found : PlainProgram → PlainReport → ℕ → ℕ → ℕ → Place → CellId → List Place → List ℕ → Option Event → (List Place → List ℕ → Finding) → Finding
+event_found p r n a k q g since outs None go = go (since ++ q ∷ []) outs
+event_found p r n a k q g since outs (Some e) go = kind_found p r n a k q g since outs e.kind go
+
+-- the actions of an agent from the k-th event of its trace on, and then its end
+abbrev pub acts_found : PlainProgram → PlainReport → ℕ → ℕ → ℕ → CellId → List Place → List ℕ → List Place → PlainActorReport → Finding
+acts_found p r n a k g since outs [] ran = agent_end p r n a g since outs ran
+acts_found p r n a k g since outs (q ∷ qs) ran =
+    event_found p r n a k q g since outs (nth (books_of r q.book) q.at) (λ since1 outs1. acts_found p r n a (suc k) g since1 outs1 qs ran)
+
+-- the agents, from this actor on
+abbrev pub agents_found : PlainProgram → PlainReport → ℕ → ℕ → List CellId → List PlainActorReport → Finding
+agents_found p r n a [] rans = Fine
+agents_found p r n a (g ∷ gs) [] = Fine
+agents_found p r n a (g ∷ gs) (ran ∷ rans) = and_then (acts_found p r n a 0 g [] [] ran.trace ran) (agents_found p r n (suc a) gs rans)
 
 -- ---- all
 
@@ -393,6 +468,31 @@ are_serial p r n (t ∷ ts) [] = true
 are_serial p r n (t ∷ ts) (ran ∷ rans) =
     covered_all (books_of r) ran.trace (txs_of (thread_meaning (source_of p t) n (seen_of p.cells (books_of r) ran.trace))) && are_serial p r n ts rans
 
+-- whether every commit of an action is covered
+abbrev pub action_covered : PlainProgram → PlainReport → ℕ → List Event → CellId → List Place → Option Action → Bool
+action_covered p r n done g since None = true
+action_covered p r n done g since (Some x) = covered_all (books_of r) since (txs_of (action_after p n done g x (seen_of p.cells (books_of r) since)))
+
+-- the same of the actions of an agent, those that are over and the one that isn't
+abbrev pub kind_covered : PlainProgram → PlainReport → ℕ → Place → CellId → List Place → EventKind → (List Place → Bool) → Bool
+kind_covered p r n q g since (Act h number new sends) go =
+    action_covered p r n (take q.at (books_of r q.book)) g since (next_action (cells_of p.cells) (take q.at (books_of r q.book)) g) && go []
+kind_covered p r n q g since kind go = go (since ++ q ∷ [])
+
+abbrev pub event_covered : PlainProgram → PlainReport → ℕ → Place → CellId → List Place → Option Event → (List Place → Bool) → Bool
+event_covered p r n q g since None go = go (since ++ q ∷ [])
+event_covered p r n q g since (Some e) go = kind_covered p r n q g since e.kind go
+
+abbrev pub acts_covered : PlainProgram → PlainReport → ℕ → CellId → List Place → List Place → Bool
+acts_covered p r n g since [] = action_covered p r n r.book g since (next_action (cells_of p.cells) r.book g)
+acts_covered p r n g since (q ∷ qs) = event_covered p r n q g since (nth (books_of r q.book) q.at) (λ since1. acts_covered p r n g since1 qs)
+
+-- whether every commit of these agents is covered
+abbrev pub agents_serial : PlainProgram → PlainReport → ℕ → List CellId → List PlainActorReport → Bool
+agents_serial p r n [] rans = true
+agents_serial p r n (g ∷ gs) [] = true
+agents_serial p r n (g ∷ gs) (ran ∷ rans) = acts_covered p r n g [] ran.trace && agents_serial p r n gs rans
+
 -- what the tests find, in their order
 abbrev pub found : PlainProgram → PlainReport → ℕ → Finding
 found p r n =
@@ -400,8 +500,8 @@ found p r n =
     (and_then (traces_found (books_of r) (suc (length r.atom_books)) 0 (r.threads ++ r.agents))
     (and_then (store_found p r)
     (and_then (atoms_found p r (atoms_from 0 p.cells))
-    (and_then (threads_found p r n 0 p.threads r.threads) (agents_found p r n (length p.threads) r.agents)))))
+    (and_then (threads_found p r n 0 p.threads r.threads) (agents_found p r n (length p.threads) (agents_from 0 p.cells) r.agents)))))
 
 -- the verdict, where each loop makes at most n turns
 abbrev pub verdict : PlainProgram → PlainReport → ℕ → Verdict
-verdict p r n = answer (found p r n) (are_serial p r n p.threads r.threads)
+verdict p r n = answer (found p r n) (are_serial p r n p.threads r.threads && agents_serial p r n (agents_from 0 p.cells) r.agents)

@@ -10,7 +10,7 @@ ghost use Rattle.txs_theorem_audit.specs.Examples.{
   SkewIsAnswered,
   TwoAreAnswered,
 };
-ghost use Rattle.txs_theorem_audit.specs.Laws.{AgreesIsExplained, DiffersIsNotExplained, ExplainedIsSerial, SerialIsOneByOne, WrongStays};
+ghost use Rattle.txs_theorem_audit.specs.Laws.{AgreesIsExplained, DiffersIsNotExplained, ExplainedActionsAreSerial, ExplainedIsSerial, SerialIsOneByOne, WrongStays, WrongStaysInActions};
 ghost use Rattle.txs_theorem_audit.specs.Pieces.{HalvesAreWhole, PiecesAreAll};
 
 /// A program explains a report on which an audit agrees.
@@ -26,6 +26,11 @@ pub fn differs_is_not_explained()
 /// Each covered commit of a report that a sound program explains is serial.
 pub fn explained_is_serial()
     ensures { ExplainedIsSerial }
+{}
+
+/// So is each covered commit of an action.
+pub fn explained_actions_are_serial()
+    ensures { ExplainedActionsAreSerial }
 {}
 
 /// Where an audit agrees and says that all commits are covered, they are as if the transactions had run one after the other.
@@ -56,6 +61,11 @@ pub fn changed_is_answered()
 /// What a sound thread doesn't allow on a beginning of its events, it doesn't allow on all of them.
 pub fn wrong_stays()
     ensures { WrongStays }
+{}
+
+/// The same of an action that a program may send.
+pub fn wrong_stays_in_actions()
+    ensures { WrongStaysInActions }
 {}
 
 /// A report in which one event was changed differs at it.

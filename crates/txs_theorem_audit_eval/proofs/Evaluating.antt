@@ -1,5 +1,5 @@
 -- What an audit finds of threads and actions, by what the evaluators answer.
-use Rattle.std.proofs.Common.{◌≡◌, ◌≤◌, ℕ, suc, ◌+◌, ◌-◌, ◌==◌, ◌&&◌, ◌||◌, Bool, true, false, List, [], ◌∷◌, length, length-append, map, take, Option, Some, None, Result, Ok, Err, refl, sym, ap, ◌∙◌, subst, arith, if◌then◌else◌}
+use Rattle.std.proofs.Common.{◌≡◌, ◌≤◌, ℕ, suc, ◌+◌, ◌-◌, ◌==◌, ◌&&◌, ◌||◌, Bool, true, false, List, [], ◌∷◌, length, length-append, map, take, Option, Some, None, Result, Ok, Err, refl, sym, ap, ◌∙◌, subst, arith, if◌then◌else◌, ◌++◌}
 use Rattle.std.specs.Prelude.{not}
 use Rattle.std.proofs.lemmas.Bool.{eq-eqb, eqb-true}
 use Rattle.txs_value_base.specs.Places.{nth, fault_at}
@@ -11,7 +11,7 @@ use Rattle.txs_value_base.specs.declared.op.Callee.TheVariants.{Core as CoreOp, 
 use Rattle.txs_value_base.specs.declared.op.Op.{Op}
 use Rattle.txs_value_apply.specs.Core.{core}
 use Rattle.txs_value_apply.specs.Truth.{choose}
-use Rattle.txs_value_cell.specs.Cells.{Validators, validator_at}
+use Rattle.txs_value_cell.specs.Cells.{validator_at, validators_of}
 use Rattle.txs_value_cell.specs.declared.action.Action.{Action}
 use Rattle.txs_value_base.specs.declared.fault.Fault.{Fault}
 use Rattle.txs_value_data.specs.declared.value.Value.{Value}
@@ -25,10 +25,10 @@ use Rattle.txs_world_protocol.specs.declared.event.Outcome.TheVariants.{Done, Fa
 use Rattle.txs_world_book.specs.declared.cell.StoreCell.{StoreCell}
 use Rattle.txs_tree_meaning.specs.Meaning.{Completion, Completes, Recurs, Faults, Retries, Waits, OutOfTurns, Invalid, bind, result_of, Applies, apply}
 use Rattle.txs_tree_meaning.specs.Pure.{nowhere, pure_calls, pure_meaning}
-use Rattle.txs_tree_meaning.specs.Right.{is_wrong, eats_right, right_meaning}
-use Rattle.txs_tree_meaning.specs.Thread.{TxRun, ThreadState, thread_meaning}
+use Rattle.txs_tree_meaning.specs.Right.{is_wrong, eats_right, right_meaning, right_events}
+use Rattle.txs_tree_meaning.specs.Thread.{TxRun, ThreadState, thread_meaning, from_events, accepts, applies_in, action_in, around_action}
 use Rattle.txs_tree_meaning.specs.Transaction.{judged, validated}
-use Rattle.txs_tree_meaning.specs.Tree.{PlainFunction, ThreadSource}
+use Rattle.txs_tree_meaning.specs.Tree.{PlainFunction, ThreadSource, PlainProgram, Const}
 use Rattle.txs_tree_eval.specs.Told.{told_tx, Account, TellsWrong, TellsOf, PureGives}
 use Rattle.txs_tree_eval.specs.declared.pure_call.EvalStop.{EvalStop}
 use Rattle.txs_tree_eval.specs.declared.pure_call.EvalStop.TheVariants.{Fault as AFault, Turns as FewTurns, Memory as NoMemory}
@@ -36,13 +36,21 @@ use Rattle.txs_tree_eval.specs.declared.meaning.Needs.{Needs}
 use Rattle.txs_tree_eval.specs.declared.meaning.Needs.TheVariants as needs
 use Rattle.txs_tree_eval.specs.declared.meaning.ThreadMeaning.{ThreadMeaning}
 use Rattle.txs_theorem_threads.proofs.Meant.{Any}
-use Rattle.txs_theorem_threads.specs.FollowsAgent.{new_state}
+use Rattle.txs_theorem_threads.specs.FollowsAgent.{SoundAction}
 use Rattle.txs_theorem_threads.specs.Noted.{txs_of}
 use Rattle.txs_theorem_serial.specs.Serial.{is_covered}
+use Rattle.txs_world_protocol.specs.Ask.{same_new}
+use Rattle.txs_world_book.specs.Book.{first_failed, is_empty}
+use Rattle.txs_tree_meaning.specs.Sound.{Sound, SoundSource}
+use Rattle.txs_tree_eval.specs.ActionTold.{sends_held, ActionAccount, ActionTellsWrong, ActionTellsOf, TellsAction}
+use Rattle.txs_tree_eval.specs.declared.action.ActionMeaning.{ActionMeaning}
+use Rattle.txs_theorem_threads.proofs.Quiet.{carried, quietly}
+use Rattle.txs_theorem_threads.specs.Behaves.{IsProper}
 use Rattle.txs_theorem_audit.specs.Audited.{PlainActorReport, Finding, Fine, Off, Short, and_then, check}
-use Rattle.txs_theorem_audit.specs.Verdict.{begins, same_numbers, is_calm, is_end, is_commit, with_run, calm_at, calm_found, covered_if, covered_all, is_stopped, is_done, has_faulted, least_printed, printed_by, printed_part, noted_by, end_found, act_means}
-use Rattle.txs_theorem_audit.proofs.Onward.{Onward, From, thread_leads}
-use Rattle.txs_theorem_audit_eval.specs.Evaluated.{calm_by, with_first, calm_at_by, calm_found_by, covered_if_by, covered_all_by, same_end, end_by, least_by, answer_in, judged_by, accepted_by, state_by, act_by, ValidatorGives, ActBy, CalmBy, CoveredBy, NotedBy, EndBy, LeastBy}
+use Rattle.txs_theorem_audit.specs.Verdict.{begins, same_numbers, is_calm, is_end, is_commit, with_run, calm_at, calm_found, covered_if, covered_all, is_stopped, is_done, has_faulted, least_printed, printed_by, printed_part, noted_by, end_found, sends_if, held_by, noted_in, is_booked, act_ends, part_printed, still_ends}
+use Rattle.txs_theorem_audit.proofs.Findings.{not_there}
+use Rattle.txs_theorem_audit.proofs.Onward.{Onward, From, thread_leads, accepts_so, accepts_proper, applied_leads}
+use Rattle.txs_theorem_audit_eval.specs.Evaluated.{calm_by, with_first, calm_at_by, calm_found_by, covered_if_by, covered_all_by, same_end, end_by, least_by, answer_in, judged_by, accepted_by, act_by, ValidatorGives, ActBy, CalmBy, CoveredBy, NotedBy, EndBy, LeastBy, ActionEnd, HandedIn, LacksEvent, LacksTurns, Disallows, end_of_state, end_of_action, still_by, prints_by, ActionGives, means_on, StillBy, ActionNotedBy}
 
 -- ---- transactions
 
@@ -271,12 +279,6 @@ fault_said f e = subst IsMemory (sym e) tt
 turns_said : HadMemory (Err FewTurns)
 turns_said e = subst IsMemory (sym e) tt
 
-says_act : (a i : ℕ) (new : Result Value Fault) (r : Result Value EvalStop) (c : Completion (Unit {0}) Value) → Says r c → act_means a i new c ≡ act_by a i new r
-says_act a i new (Ok v) c h = ap (act_means a i new) h.0
-says_act a i new (Err (AFault f)) c h = ap (act_means a i new) h.0
-says_act a i new (Err FewTurns) c h = ap (act_means a i new) h.0
-says_act a i new (Err NoMemory) c h = absurd (h.1 refl)
-
 -- an operation as callee, whose fault is that of the action's span
 op_says : (op : Op) (span : Span) (o : Result Value FaultKind) (r : Result Value EvalStop) → Says r (result_of o nowhere tt) → Says (answer_in (CoreOp op) span r) (result_of o span tt)
 unfolding fault_of
@@ -326,23 +328,235 @@ module _ (n : ℕ) (functions : List PlainFunction) (span : Span) where
   says_accepted None v q h = (refl, value_said v)
   says_accepted (Some f) v q h = says_then v (answer_in f span q) (applies f (v ∷ []) tt) (says_in f (v ∷ []) q h)
 
--- an agent's new state
-module _ (functions : List PlainFunction) (vs : Validators) (n : ℕ) (x : Action) (state : Value) (q : Result Value EvalStop) where
+-- ---- what is answered of an action
+
+held_same : (o : Option (List Action)) → sends_if o ≡ sends_held o
+held_same None = refl
+held_same (Some sends) = refl
+
+-- a part that is proper isn't wrong
+proper_right : (t : ThreadState) (z : Completion (Unit {0}) Value) → IsProper z → is_wrong (carried t z) ≡ false
+proper_right t (Completes v u) h = refl
+proper_right t (Recurs vs u) h = absurd h
+proper_right t (Faults f u) h = refl
+proper_right t (Retries u) h = absurd h
+proper_right t (Waits u) h = absurd h
+proper_right t (OutOfTurns u) h = refl
+proper_right t Invalid h = absurd h
+
+module _ (p : PlainProgram) (n : ℕ) (x : Action) (state : Value) (sound : Sound p) (fits : SoundAction p.functions x) where
+  -- the action as a source that has no body
+  abbrev source : ThreadSource
+  source = record { functions = p.functions; cells = p.cells; main = Const Nil (record { span = x.span; wanted = false }) }
+
+  source_sound : SoundSource source
+  source_sound = record { functions = sound.functions; cells = sound.cells; main = tt }
+
+  abbrev callee_on : List SeenEvent → Completion ThreadState Value
+  callee_on es = action_in (around_action p.cells p.functions n) x.callee x.span (state ∷ x.args) es
+
+  abbrev whole : List SeenEvent → Completion ThreadState Value
+  whole es = means_on p n x state es
+
   abbrev guard : Option Callee
-  guard = validator_at vs x.agent.number
+  guard = validator_at (validators_of p.cells) x.agent.number
 
-  abbrev then_checked : Value → Unit {0} → Completion (Unit {0}) Value
-  then_checked w u = validated (applies n functions x.span) guard x.span w u
+  abbrev looked : Value → ThreadState → Completion ThreadState Value
+  looked w t = accepts (around_action p.cells p.functions n) (applies_in (around_action p.cells p.functions n) x.span) x.agent x.span w t
 
-  says_state : (r : Result Value EvalStop) → Says r (pure_meaning n functions x.callee (state ∷ x.args)) → ((v : Value) → r ≡ Ok v → ValidatorGives n functions guard v q) → Says (state_by x guard r q) (new_state n functions vs x state)
-  says_state (Ok v) h g =
-      subst (λ c. Says (accepted_by guard x.span v q) (bind c then_checked)) (sym (says_in n functions x.span x.callee (state ∷ x.args) (Ok v) h).0) (says_accepted n functions x.span guard v q (g v refl))
-  says_state (Err (AFault f)) h g =
-      let one = says_in n functions x.span x.callee (state ∷ x.args) (Err (AFault f)) h in (ap (λ c. bind c then_checked) one.0, one.1)
-  says_state (Err FewTurns) h g =
-      let one = says_in n functions x.span x.callee (state ∷ x.args) (Err FewTurns) h in (ap (λ c. bind c then_checked) one.0, one.1)
-  says_state (Err NoMemory) h g = absurd (h.1 refl)
+  abbrev quiet_look : Value → Completion (Unit {0}) Value
+  quiet_look w = validated (quietly n p.functions (length p.functions) x.span) guard x.span w tt
+
+  same_turns : n ≤ n
+  same_turns = omega arith
+
+  looks_so : (w : Value) (t : ThreadState) → looked w t ≡ carried t (quiet_look w)
+  looks_so w t = accepts_so source source_sound n n same_turns n x.span x.agent w t
+
+  -- the validator makes nothing wrong
+  right_same : (c : Completion ThreadState Value) → is_wrong (bind c looked) ≡ is_wrong c
+  right_same (Completes w t) = ap is_wrong (looks_so w t) ∙ proper_right t (quiet_look w) (accepts_proper source source_sound n n same_turns n x.span x.agent w)
+  right_same (Recurs vs t) = refl
+  right_same (Faults f t) = refl
+  right_same (Retries t) = refl
+  right_same (Waits t) = refl
+  right_same (OutOfTurns t) = refl
+  right_same Invalid = refl
+
+  events_same : (done es : List SeenEvent) → right_events whole done es ≡ right_events callee_on done es
+  events_same done [] = refl
+  events_same done (e ∷ es) = ap (λ b. if b then length done else right_events whole (done ++ e ∷ []) es) (right_same (callee_on (done ++ e ∷ []))) ∙ ap (λ r. if is_wrong (callee_on (done ++ e ∷ [])) then length done else r) (events_same (done ++ e ∷ []) es)
+
+  -- it comes from its start
+  started : (es : List SeenEvent) → From None Any (from_events (Some []) es) (callee_on es)
+  started es = (applied_leads source source_sound n n same_turns x.span x.callee (state ∷ x.args) fits (from_events (Some []) es)).0
+
+  left_few : (es : List SeenEvent) (t : ThreadState) → Onward (from_events (Some []) es) t → length t.todo ≤ length es
+  left_few es t g = let l = ap length g.eats in let m = length-append g.gone t.todo in omega (arith, l, m)
+
+  -- what comes of a value, where the agent's validator looks at it
+  module _ (w : Value) (t : ThreadState) (q : Result Value EvalStop) (gives : ValidatorGives n p.functions guard w q) where
+    abbrev answer : Result Value EvalStop
+    answer = accepted_by guard x.span w q
+
+    looked_as : (c : Completion (Unit {0}) Value) → quiet_look w ≡ c → looked w t ≡ carried t c
+    looked_as c e = looks_so w t ∙ ap (carried t) e
+
+    looked_by : (r : Result Value EvalStop) → answer ≡ r → (G : ActionEnd → Completion ThreadState Value → Type 0)
+        → ((v : Value) → G (HandedIn (Ok v)) (Completes v t)) → ((f : Fault) → G (HandedIn (Err f)) (Faults f t)) → G LacksTurns (OutOfTurns t) → G (end_of_state answer) (looked w t)
+    looked_by r e G value fault turns =
+        let says = subst (λ z. Says z (quiet_look w)) e (says_accepted n p.functions x.span guard w q gives) in
+        subst (λ z. G (end_of_state z) (looked w t)) (sym e) (go r says)
+      where
+        go : (z : Result Value EvalStop) → Says z (quiet_look w) → G (end_of_state z) (looked w t)
+        go (Ok v) h = subst (G (HandedIn (Ok v))) (sym (looked_as (Completes v tt) h.0)) (value v)
+        go (Err (AFault f)) h = subst (G (HandedIn (Err f))) (sym (looked_as (Faults f tt) h.0)) (fault f)
+        go (Err FewTurns) h = subst (G LacksTurns) (sym (looked_as (OutOfTurns tt) h.0)) turns
+        go (Err NoMemory) h = absurd (h.1 refl)
+
+  -- ---- the end of an action
+
+  module _ (es : List SeenEvent) (m : ActionMeaning) (q : Result Value EvalStop) (gives : ActionGives p n x state es m q) where
+    abbrev count : ℕ
+    count = length es
+
+    abbrev accepted : Value → Result Value EvalStop
+    accepted v = accepted_by guard x.span v q
+
+    -- what is found, F of the meaning, is E of what is answered
+    module _ (F : Completion ThreadState Value → Finding) (E : ActionEnd → List ℕ → ℕ → List Action → Finding)
+        (value : (v : Value) (t : ThreadState) → length t.todo ≤ count → F (Completes v t) ≡ E (HandedIn (Ok v)) t.printed (count - length t.todo) (sends_held t.held))
+        (fault : (f : Fault) (t : ThreadState) (sends : List Action) → length t.todo ≤ count → F (Faults f t) ≡ E (HandedIn (Err f)) t.printed (count - length t.todo) sends)
+        (waits : (t : ThreadState) → length t.todo ≤ count → F (Waits t) ≡ E LacksEvent t.printed (count - length t.todo) [])
+        (turns : (t : ThreadState) (sends : List Action) → length t.todo ≤ count → F (OutOfTurns t) ≡ E LacksTurns t.printed (count - length t.todo) sends)
+        (wrong : (out : List ℕ) → F Invalid ≡ E Disallows out (right_events whole [] es) []) where
+      -- what is answered, in its parts
+      act_answered : (ate : ℕ) (t : ThreadState) (lack : Needs) (end : Option (Result Value Fault)) (sends : List Action) → ActionAccount m ate t lack end sends → E (end_of_action lack end accepted) t.printed ate sends ≡ E (end_of_action m.needs m.result accepted) m.printed m.eaten m.sends
+      act_answered ate t lack end sends h =
+          sym
+          (ap (λ z. E (end_of_action z m.result accepted) m.printed m.eaten m.sends) h.needs ∙ ap (λ z. E (end_of_action lack z accepted) m.printed m.eaten m.sends) h.result
+          ∙ ap (λ z. E (end_of_action lack end accepted) z m.eaten m.sends) h.printed ∙ ap (λ z. E (end_of_action lack end accepted) t.printed z m.sends) h.eaten ∙ ap (λ z. E (end_of_action lack end accepted) t.printed ate z) h.sends)
+
+      wrong_so : (right : ℕ) (c : Completion ThreadState Value) → right ≡ right_events whole [] es → ActionTellsWrong m right c → F Invalid ≡ E (end_of_action m.needs m.result accepted) m.printed m.eaten m.sends
+      wrong_so right (Completes v t) e h = absurd h
+      wrong_so right (Recurs vs t) e h = absurd h
+      wrong_so right (Faults f t) e h = absurd h
+      wrong_so right (Retries t) e h = absurd h
+      wrong_so right (Waits t) e h = wrong t.printed ∙ ap (λ z. E Disallows t.printed z []) (sym e) ∙ act_answered right t needs.Wrong None [] h
+      wrong_so right (OutOfTurns t) e h = absurd h
+      wrong_so right Invalid e h = absurd h
+
+      found_on : (right : ℕ) (b c : Completion ThreadState Value) → right ≡ right_events whole [] es → ActionTellsOf m count right b c → From None Any (from_events (Some []) es) c → F (bind c looked) ≡ E (end_of_action m.needs m.result accepted) m.printed m.eaten m.sends
+      found_on right b (Completes v t) e h g =
+          let few = left_few es t g.1 in
+          looked_by v t q (gives.validator v h.result) (accepted v) refl (λ end c. F c ≡ E end t.printed (count - length t.todo) (sends_held t.held)) (λ w. value w t few) (λ f. fault f t (sends_held t.held) few) (turns t (sends_held t.held) few)
+          ∙ act_answered (count - length t.todo) t needs.Nothing (Some (Ok v)) (sends_held t.held) h
+      found_on right b (Recurs vs t) e h g = absurd h
+      found_on right b (Faults f t) e h g = fault f t [] (left_few es t g) ∙ act_answered (count - length t.todo) t needs.Nothing (Some (Err f)) [] h
+      found_on right b (Retries t) e h g = absurd h
+      found_on right b (Waits t) e h g = waits t (left_few es t g) ∙ act_answered (count - length t.todo) t needs.Event None [] h
+      found_on right b (OutOfTurns t) e h g = turns t [] (left_few es t g) ∙ act_answered (count - length t.todo) t needs.Turns None [] h
+      found_on right b Invalid e h g = wrong_so right b e h
+
+      found_so : F (whole es) ≡ E (end_of_action m.needs m.result accepted) m.printed m.eaten m.sends
+      found_so = found_on (right_events callee_on [] es) (callee_on (take (right_events callee_on [] es) es)) (callee_on es) (sym (events_same [] es)) gives.tells (started es)
+
+-- nothing is left where all is eaten
+left_tested : (a i k left : ℕ) (rest : Finding) → left ≤ k → and_then (check (left == 0) a (i + (k - left))) rest ≡ and_then (check (k - left == k) a (i + (k - left))) rest
+left_tested a i k left rest few = ap (λ c. and_then (check c a (i + (k - left))) rest) (none_left k left few)
 
 pub act_told : ActBy
-act_told functions vs n a i new x state r q h m g =
-    says_act a i new (state_by x (validator_at vs x.agent.number) r q) (new_state n functions vs x state) (says_state functions vs n x state q r (h, m) g)
+act_told p n a i k cells done x state es new sends m q sound fits gives =
+    let count = length es in
+    let F = λ (c : Completion ThreadState Value). act_ends cells done x.span a i k (means_on p n x state) es new sends c in
+    found_so p n x state sound fits es m q gives F (λ end out eaten held. act_by cells done x.span a i k count eaten held new sends end)
+    (λ v t few. left_tested a i count (length t.todo) (check (is_booked (first_failed cells done (held_by t)) x.span v (held_by t) new sends) a k) few
+    ∙ ap (λ l. and_then (check (count - length t.todo == count) a (i + (count - length t.todo))) (check (is_booked (first_failed cells done l) x.span v l new sends) a k)) (held_same t.held))
+    (λ f t held few. left_tested a i count (length t.todo) (check (same_new (Err f) new && is_empty sends) a k) few)
+    (λ t few. refl) (λ t held few. refl) (λ out. refl)
+
+pub still_told : StillBy
+still_told p n a i k x state es out m q sound fits gives =
+    let count = length es in
+    let part = λ (whole : List ℕ). part_printed (means_on p n x state) es out whole in
+    let F = λ (c : Completion ThreadState Value). still_ends a i k (means_on p n x state) es out c in
+    found_so p n x state sound fits es m q gives F (λ end printed eaten held. still_by a i k count eaten (part printed) end)
+    (λ v t few. left_tested a i count (length t.todo) (check (part t.printed) a k) few)
+    (λ f t held few. left_tested a i count (length t.todo) (check (part t.printed) a k) few)
+    (λ t few. left_tested a i count (length t.todo) (check (part t.printed) a k) few)
+    (λ t held few. ap (λ c. if c && part t.printed then Fine else Short a (i + (count - length t.todo))) (none_left count (length t.todo) few))
+    (λ printed. refl)
+
+-- ---- what an action notes and prints
+
+module _ (p : PlainProgram) (n : ℕ) (x : Action) (state : Value) (sound : Sound p) (fits : SoundAction p.functions x) (es : List SeenEvent) (m : ActionMeaning) where
+  abbrev all : List SeenEvent → Completion ThreadState Value
+  all l = means_on p n x state l
+
+  abbrev callee : List SeenEvent → Completion ThreadState Value
+  callee l = callee_on p n x state sound fits l
+
+  -- a validator that is proper notes and prints nothing
+  kept : (t : ThreadState) (z : Completion (Unit {0}) Value) → IsProper z → (txs_of (carried t z) ≡ t.txs) × (printed_by (carried t z) ≡ t.printed)
+  kept t (Completes v u) h = (refl, refl)
+  kept t (Recurs vs u) h = absurd h
+  kept t (Faults f u) h = (refl, refl)
+  kept t (Retries u) h = absurd h
+  kept t (Waits u) h = absurd h
+  kept t (OutOfTurns u) h = (refl, refl)
+  kept t Invalid h = absurd h
+
+  abbrev Kept : Completion ThreadState Value → Completion ThreadState Value → Type 0
+  Kept c b = (txs_of c ≡ txs_of b) × (printed_by c ≡ printed_by b)
+
+  kept_by : (s : ThreadState) (b : Completion ThreadState Value) → From None Any s b → Kept (bind b (looked p n x state sound fits)) b
+  kept_by s (Completes w t) h = subst (λ c. Kept c (Completes w t)) (sym (looks_so p n x state sound fits w t)) (kept t (quiet_look p n x state sound fits w) (accepts_proper (source p n x state sound fits) (source_sound p n x state sound fits) n n (same_turns p n x state sound fits) n x.span x.agent w))
+  kept_by s (Recurs vs t) h = not_there h.0
+  kept_by s (Faults f t) h = (refl, refl)
+  kept_by s (Retries t) h = absurd h
+  kept_by s (Waits t) h = (refl, refl)
+  kept_by s (OutOfTurns t) h = (refl, refl)
+  kept_by s Invalid h = (refl, refl)
+
+  abbrev Told : Completion ThreadState Value → Completion ThreadState Value → Type 0
+  Told before c = (m.txs ≡ map told_tx (txs_of (if is_wrong c then before else c))) × (printed_by c ≡ prints_by m.needs m.printed)
+
+  wrong_told : (right : ℕ) (b : Completion ThreadState Value) → ActionTellsWrong m right b → Told b Invalid
+  wrong_told right (Completes v t) h = absurd h
+  wrong_told right (Recurs vs t) h = absurd h
+  wrong_told right (Faults f t) h = absurd h
+  wrong_told right (Retries t) h = absurd h
+  wrong_told right (Waits t) h = (h.txs, sym (ap (λ z. prints_by z m.printed) h.needs))
+  wrong_told right (OutOfTurns t) h = absurd h
+  wrong_told right Invalid h = absurd h
+
+  callee_told : (right : ℕ) (b c : Completion ThreadState Value) → ActionTellsOf m (length es) right b c → Told b c
+  callee_told right b (Completes v t) h = (h.txs, sym (ap (λ z. prints_by z m.printed) h.needs ∙ h.printed))
+  callee_told right b (Recurs vs t) h = absurd h
+  callee_told right b (Faults f t) h = (h.txs, sym (ap (λ z. prints_by z m.printed) h.needs ∙ h.printed))
+  callee_told right b (Retries t) h = absurd h
+  callee_told right b (Waits t) h = (h.txs, sym (ap (λ z. prints_by z m.printed) h.needs ∙ h.printed))
+  callee_told right b (OutOfTurns t) h = (h.txs, sym (ap (λ z. prints_by z m.printed) h.needs ∙ h.printed))
+  callee_told right b Invalid h = wrong_told right b h
+
+  either : (b : Bool) (y z u v : Completion ThreadState Value) → txs_of y ≡ txs_of u → txs_of z ≡ txs_of v → txs_of (if b then y else z) ≡ txs_of (if b then u else v)
+  either true y z u v h k = h
+  either false y z u v h k = k
+
+  noted_so : TellsAction m p x.callee x.span (state ∷ x.args) n es → (m.txs ≡ map told_tx (noted_in all es)) × (printed_by (all es) ≡ prints_by m.needs m.printed)
+  noted_so h =
+      let right = right_events callee [] es in
+      let r = callee_told right (callee (take right es)) (callee es) h in
+      let counted : right_events all [] es ≡ right = events_same p n x state sound fits [] es in
+      let from : (l : List SeenEvent) → From None Any (from_events (Some []) l) (callee l) = λ l. started p n x state sound fits l in
+      let last = kept_by (from_events (Some []) es) (callee es) (from es) in
+      let first = kept_by (from_events (Some []) (take right es)) (callee (take right es)) (from (take right es)) in
+      let same : txs_of (if is_wrong (callee es) then callee (take right es) else callee es) ≡ noted_in all es =
+      sym
+      (ap (λ b. txs_of (if b then all (take (right_events all [] es) es) else all es)) (right_same p n x state sound fits (callee es))
+      ∙ ap (λ j. txs_of (if is_wrong (callee es) then all (take j es) else all es)) counted
+      ∙ either (is_wrong (callee es)) (all (take right es)) (all es) (callee (take right es)) (callee es) first.0 last.0) in
+      (r.0 ∙ ap (map told_tx) same, last.1 ∙ r.1)
+
+pub action_told : ActionNotedBy
+action_told p n x state es m sound fits h = noted_so p n x state sound fits es m h

@@ -1,5 +1,5 @@
 -- What an audit finds of threads and actions, by what the evaluators answer.
-use Rattle.std.specs.Prelude.{◌≡◌, ℕ, suc, Bool, true, false, not, ◌&&◌, ◌||◌, ◌==◌, List, [], ◌∷◌, length, map, take, Option, Some, None, Result, Ok, Err, if◌then◌else◌}
+use Rattle.std.specs.Prelude.{◌≡◌, ℕ, suc, Bool, true, false, not, ◌&&◌, ◌||◌, ◌==◌, List, [], ◌∷◌, length, map, Option, Some, None, Result, Ok, Err, if◌then◌else◌, ◌+◌, take}
 use Rattle.txs_value_base.specs.Places.{nth, fault_at}
 use Rattle.txs_value_base.specs.declared.fault.Fault.{Fault}
 use Rattle.txs_value_base.specs.declared.fault.Span.{Span}
@@ -7,7 +7,7 @@ use Rattle.txs_value_base.specs.declared.op.Callee.{Callee}
 use Rattle.txs_value_base.specs.declared.op.Callee.TheVariants.{Core as CoreOp, Function}
 use Rattle.txs_value_apply.specs.Truth.{choose}
 use Rattle.txs_value_base.specs.declared.fault.FaultKind.TheVariants.{InvalidState}
-use Rattle.txs_value_cell.specs.Cells.{Validators, validator_at}
+use Rattle.txs_value_cell.specs.Cells.{validator_at, validators_of}
 use Rattle.txs_value_cell.specs.declared.action.Action.{Action}
 use Rattle.txs_value_data.specs.declared.value.Value.{Value}
 use Rattle.txs_world_protocol.specs.Ask.{same_fault, same_new}
@@ -17,13 +17,13 @@ use Rattle.txs_world_protocol.specs.declared.event.EventKind.{EventKind}
 use Rattle.txs_world_protocol.specs.declared.event.EventKind.TheVariants.{Commit, Refused}
 use Rattle.txs_world_protocol.specs.declared.event.Outcome.{Outcome}
 use Rattle.txs_world_protocol.specs.declared.event.Outcome.TheVariants.{Done, Failed}
-use Rattle.txs_world_book.specs.Book.{first_failed}
+use Rattle.txs_world_book.specs.Book.{first_failed, is_empty}
 use Rattle.txs_world_book.specs.declared.cell.StoreCell.{StoreCell}
 use Rattle.txs_tree_meaning.specs.Pure.{pure_meaning}
-use Rattle.txs_tree_meaning.specs.Sound.{SoundSource}
-use Rattle.txs_tree_meaning.specs.Thread.{TxRun, thread_meaning}
+use Rattle.txs_tree_meaning.specs.Sound.{SoundSource, Sound}
+use Rattle.txs_tree_meaning.specs.Thread.{TxRun, thread_meaning, ThreadState, action_meaning}
 use Rattle.txs_tree_meaning.specs.Transaction.{TxState}
-use Rattle.txs_tree_meaning.specs.Tree.{PlainFunction, ThreadSource}
+use Rattle.txs_tree_meaning.specs.Tree.{PlainFunction, ThreadSource, PlainProgram}
 use Rattle.txs_tree_eval.specs.Told.{told_tx, Tells, PureGives}
 use Rattle.txs_tree_eval.specs.declared.pure_call.EvalStop.{EvalStop}
 use Rattle.txs_tree_eval.specs.declared.pure_call.EvalStop.TheVariants.{Fault as AFault, Turns as FewTurns, Memory as NoMemory}
@@ -31,11 +31,14 @@ use Rattle.txs_tree_eval.specs.declared.meaning.Needs.{Needs}
 use Rattle.txs_tree_eval.specs.declared.meaning.Needs.TheVariants as needs
 use Rattle.txs_tree_eval.specs.declared.meaning.ThreadMeaning.{ThreadMeaning}
 use Rattle.txs_tree_eval.specs.declared.transaction.TxMeaning.{TxMeaning}
-use Rattle.txs_theorem_threads.specs.FollowsAgent.{new_state}
+use Rattle.txs_theorem_threads.specs.FollowsAgent.{SoundAction}
 use Rattle.txs_theorem_runs.specs.Told.{Place}
 use Rattle.txs_theorem_serial.specs.Serial.{is_covered}
+use Rattle.txs_tree_meaning.specs.Meaning.{Completion}
+use Rattle.txs_tree_eval.specs.ActionTold.{TellsAction}
+use Rattle.txs_tree_eval.specs.declared.action.ActionMeaning.{ActionMeaning}
 use Rattle.txs_theorem_audit.specs.Audited.{PlainActorReport, Finding, Fine, Off, Short, and_then, check}
-use Rattle.txs_theorem_audit.specs.Verdict.{begins, same_numbers, is_untouched, is_first_failed, is_end, is_commit, calm_found, covered_all, is_stopped, least_printed, printed_by, noted_by, end_found, act_means}
+use Rattle.txs_theorem_audit.specs.Verdict.{begins, same_numbers, is_untouched, is_first_failed, is_end, is_commit, calm_found, covered_all, is_stopped, least_printed, printed_by, noted_by, end_found, noted_in, is_booked, act_ends, part_printed, still_ends}
 
 -- ---- transactions
 
@@ -126,17 +129,57 @@ abbrev pub accepted_by : Option Callee → Span → Value → Result Value EvalS
 accepted_by None span v q = Ok v
 accepted_by (Some f) span v q = judged_by span v (answer_in f span q)
 
--- an agent's new state, by what is answered of its action's callee, and of the agent's validator on the value that this gives
-abbrev pub state_by : Action → Option Callee → Result Value EvalStop → Result Value EvalStop → Result Value EvalStop
-state_by x o (Ok v) q = accepted_by o x.span v q
-state_by x o (Err e) q = answer_in x.callee x.span (Err e)
+-- how an action ends, by what is answered of it: it hands this in; it lacks an event, or turns; or it doesn't allow one. Where there was no memory
+-- nothing is said.
+pub data ActionEnd : Type 0 where
+  HandedIn : (new : Result Value Fault) → ActionEnd
+  LacksEvent LacksTurns Disallows Unsaid : ActionEnd
 
--- what an action came to, beside the new state that is answered; where there was no memory nothing is said
-abbrev pub act_by : ℕ → ℕ → Result Value Fault → Result Value EvalStop → Finding
-act_by a i new (Ok v) = check (same_new (Ok v) new) a i
-act_by a i new (Err (AFault f)) = check (same_new (Err f) new) a i
-act_by a i new (Err FewTurns) = Short a i
-act_by a i new (Err NoMemory) = Fine
+-- the same of a value, by what is answered of the agent's validator on it
+abbrev pub end_of_state : Result Value EvalStop → ActionEnd
+end_of_state (Ok v) = HandedIn (Ok v)
+end_of_state (Err (AFault f)) = HandedIn (Err f)
+end_of_state (Err FewTurns) = LacksTurns
+end_of_state (Err NoMemory) = Unsaid
+
+-- how an action ends that lacks this and has this result, by what comes of a value where the agent's validator looks at it
+abbrev pub end_of_action : Needs → Option (Result Value Fault) → (Value → Result Value EvalStop) → ActionEnd
+end_of_action needs.Nothing None accepted = Disallows
+end_of_action needs.Nothing (Some (Ok v)) accepted = end_of_state (accepted v)
+end_of_action needs.Nothing (Some (Err f)) accepted = HandedIn (Err f)
+end_of_action needs.Event r accepted = LacksEvent
+end_of_action needs.Turns r accepted = LacksTurns
+end_of_action needs.Wrong r accepted = Disallows
+
+-- the same of what is answered of an action, and of the agent's validator on its value
+abbrev pub end_by_answers : ActionMeaning → Option Callee → Span → Result Value EvalStop → ActionEnd
+end_by_answers m o span q = end_of_action m.needs m.result (λ v. accepted_by o span v q)
+
+-- what is found of an action that ends so, which ate so many of its events and holds these sends, against its act, which is the k-th of the actor's
+-- trace; its first event is the i-th
+abbrev pub act_by : List StoreCell → List Event → Span → ℕ → ℕ → ℕ → ℕ → ℕ → List Action → Result Value Fault → List Action → ActionEnd → Finding
+act_by cells done span a i k count eaten held new sends (HandedIn (Ok v)) =
+    and_then (check (eaten == count) a (i + eaten)) (check (is_booked (first_failed cells done held) span v held new sends) a k)
+act_by cells done span a i k count eaten held new sends (HandedIn (Err f)) = and_then (check (eaten == count) a (i + eaten)) (check (same_new (Err f) new && is_empty sends) a k)
+act_by cells done span a i k count eaten held new sends LacksEvent = Off a k
+act_by cells done span a i k count eaten held new sends LacksTurns = Short a (i + eaten)
+act_by cells done span a i k count eaten held new sends Disallows = Off a (i + eaten)
+act_by cells done span a i k count eaten held new sends Unsaid = Fine
+
+-- the same of an action that isn't over, where this says whether it printed a part of what it prints
+abbrev pub still_by : ℕ → ℕ → ℕ → ℕ → ℕ → Bool → ActionEnd → Finding
+still_by a i k count eaten part (HandedIn new) = and_then (check (eaten == count) a (i + eaten)) (check part a k)
+still_by a i k count eaten part LacksEvent = and_then (check (eaten == count) a (i + eaten)) (check part a k)
+still_by a i k count eaten part LacksTurns = if eaten == count && part then Fine else Short a (i + eaten)
+still_by a i k count eaten part Disallows = Off a (i + eaten)
+still_by a i k count eaten part Unsaid = Fine
+
+-- what an action prints that lacks this: nothing, where it doesn't allow an event
+abbrev pub prints_by : Needs → List ℕ → List ℕ
+prints_by needs.Nothing out = out
+prints_by needs.Event out = out
+prints_by needs.Turns out = out
+prints_by needs.Wrong out = []
 
 -- of the agent's validator on a value this is answered, and there was memory
 abbrev pub ValidatorGives : ℕ → List PlainFunction → Option Callee → Value → Result Value EvalStop → Type 0
@@ -167,10 +210,34 @@ EndBy =
 abbrev pub LeastBy : Type 0
 LeastBy = (s : ThreadSource) (n : ℕ) (es : List SeenEvent) (m : ThreadMeaning) (out : List ℕ) → Tells m s n es → begins (printed_by (thread_meaning s n es)) out ≡ least_by m.needs m.printed out
 
--- what an action came to
+-- of an action of the program that may be sent this is answered, and this of its agent's validator on its value; there was memory
+pub record ActionGives (p : PlainProgram) (n : ℕ) (x : Action) (state : Value) (es : List SeenEvent) (m : ActionMeaning) (q : Result Value EvalStop) : Type 0 where
+  pub tells : TellsAction m p x.callee x.span (state ∷ x.args) n es
+  pub validator : (v : Value) → m.result ≡ Some (Ok v) → ValidatorGives n p.functions (validator_at (validators_of p.cells) x.agent.number) v q
+
+-- what an action means on its agent's state
+abbrev pub means_on : PlainProgram → ℕ → Action → Value → List SeenEvent → Completion ThreadState Value
+means_on p n x state es = action_meaning p.cells p.functions n x state es
+
+-- the end that is found of an action that is over
 abbrev pub ActBy : Type 0
 ActBy =
-    (functions : List PlainFunction) (vs : Validators) (n a i : ℕ) (new : Result Value Fault) (x : Action) (state : Value) (r q : Result Value EvalStop)
-    → PureGives r (pure_meaning n functions x.callee (state ∷ x.args)) → (r ≡ Err NoMemory → ⊥)
-    → ((v : Value) → r ≡ Ok v → ValidatorGives n functions (validator_at vs x.agent.number) v q)
-    → act_means a i new (new_state n functions vs x state) ≡ act_by a i new (state_by x (validator_at vs x.agent.number) r q)
+    (p : PlainProgram) (n a i k : ℕ) (cells : List StoreCell) (done : List Event) (x : Action) (state : Value) (es : List SeenEvent) (new : Result Value Fault) (sends : List Action) (m : ActionMeaning) (q : Result Value EvalStop)
+    → Sound p → SoundAction p.functions x → ActionGives p n x state es m q
+    → act_ends cells done x.span a i k (means_on p n x state) es new sends (means_on p n x state es)
+    ≡ act_by cells done x.span a i k (length es) m.eaten m.sends new sends (end_by_answers m (validator_at (validators_of p.cells) x.agent.number) x.span q)
+
+-- that of an action that isn't over and has printed this
+abbrev pub StillBy : Type 0
+StillBy =
+    (p : PlainProgram) (n a i k : ℕ) (x : Action) (state : Value) (es : List SeenEvent) (out : List ℕ) (m : ActionMeaning) (q : Result Value EvalStop)
+    → Sound p → SoundAction p.functions x → ActionGives p n x state es m q
+    → still_ends a i k (means_on p n x state) es out (means_on p n x state es)
+    ≡ still_by a i k (length es) m.eaten (part_printed (means_on p n x state) es out m.printed) (end_by_answers m (validator_at (validators_of p.cells) x.agent.number) x.span q)
+
+-- the transactions that are answered of an action are those that an audit looks at, and what it prints is what is answered
+abbrev pub ActionNotedBy : Type 0
+ActionNotedBy =
+    (p : PlainProgram) (n : ℕ) (x : Action) (state : Value) (es : List SeenEvent) (m : ActionMeaning)
+    → Sound p → SoundAction p.functions x → TellsAction m p x.callee x.span (state ∷ x.args) n es
+    → (m.txs ≡ map told_tx (noted_in (means_on p n x state) es)) × (printed_by (means_on p n x state es) ≡ prints_by m.needs m.printed)

@@ -1,7 +1,7 @@
 //! What an audit finds of threads and actions, by what the evaluators answer. Nothing in this crate runs.
 #![tactic(auto)]
 
-ghost use Rattle.txs_theorem_audit_eval.specs.Evaluated.{ActBy, CalmBy, CoveredBy, EndBy, LeastBy, NotedBy};
+ghost use Rattle.txs_theorem_audit_eval.specs.Evaluated.{ActBy, ActionNotedBy, CalmBy, CoveredBy, EndBy, LeastBy, NotedBy, StillBy};
 
 /// What is found of a thread's transactions is found by what is answered of them.
 pub fn calm_is_answered()
@@ -28,7 +28,17 @@ pub fn least_is_answered()
     ensures { LeastBy }
 {}
 
-/// What an action came to is found by what is answered of its callee.
+/// The end of an action that is over is found by what is answered of it, and of its agent's validator.
 pub fn act_is_answered()
     ensures { ActBy }
+{}
+
+/// So is that of an action that isn't over.
+pub fn still_is_answered()
+    ensures { StillBy }
+{}
+
+/// The transactions of an action are those that an audit looks at, and what it prints is what is answered.
+pub fn action_is_answered()
+    ensures { ActionNotedBy }
 {}

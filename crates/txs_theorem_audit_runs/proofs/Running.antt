@@ -3,10 +3,6 @@ use Rattle.std.proofs.Common.{◌≡◌, ◌≤◌, ℕ, zero, suc, ◌+◌, Boo
 use Rattle.std.proofs.lemmas.Bool.{false≢true, cases_lt}
 use Rattle.txs_value_base.specs.Places.{nth}
 use Rattle.txs_value_base.specs.declared.fault.Fault.{Fault}
-use Rattle.txs_value_base.specs.declared.op.Callee.{Callee}
-use Rattle.txs_value_base.specs.declared.op.Callee.TheVariants.{Core as CoreOp, Function}
-use Rattle.txs_world_protocol.specs.declared.event.EventKind.{EventKind}
-use Rattle.txs_world_protocol.specs.declared.event.EventKind.TheVariants.{Act}
 use Rattle.txs_value_cell.specs.Agents.{agents_from, with_agent}
 use Rattle.txs_value_cell.specs.Forms.{same_kind}
 use Rattle.txs_value_cell.specs.declared.cell.CellDefinition.{CellDefinition}
@@ -22,21 +18,18 @@ use Rattle.txs_world_protocol.specs.declared.event.Place as event
 use Rattle.txs_world_protocol.specs.declared.report.ActorReport.{ActorReport}
 use Rattle.txs_world_protocol.specs.declared.report.Report.{Report}
 use Rattle.txs_world_book.specs.Atom.{LegalAtom, atom_after}
-use Rattle.txs_world_book.specs.Book.{Legal, has_cell, is_of_kind, mail_after, newest, opening}
+use Rattle.txs_world_book.specs.Book.{Legal, actors, has_cell, is_of_kind, mail_after, newest, opening}
 use Rattle.txs_world_book.specs.Served.{cells_of}
-use Rattle.txs_tree_meaning.proofs.Callable.{both, nth-take}
-use Rattle.txs_tree_meaning.specs.Known.{known}
-use Rattle.txs_tree_meaning.specs.Pure.{PureCallee}
-use Rattle.txs_theorem_runs.proofs.Acting.{next_sound}
+use Rattle.txs_tree_meaning.proofs.Callable.{both}
 use Rattle.txs_tree_meaning.specs.Meaning.{Completion, Completes, Recurs, Faults, Retries, Waits, OutOfTurns, Invalid}
-use Rattle.txs_tree_meaning.specs.Sound.{Sound, SoundCallee, SoundSource}
+use Rattle.txs_tree_meaning.specs.Sound.{Sound, SoundSource}
 use Rattle.txs_tree_meaning.specs.Thread.{ThreadState, thread_meaning}
 use Rattle.txs_tree_meaning.specs.Tree.{PlainProgram, PlainThread, ThreadSource}
 use Rattle.txs_theorem_threads.specs.FollowsAll.{source_of}
 use Rattle.txs_theorem_threads.specs.Noted.{txs_of}
 use Rattle.txs_theorem_threads.specs.RepliesFit.{halted, HasWaited}
-use Rattle.txs_theorem_runs.specs.Agents.{ActsMean, SendsSound, AllSound}
-use Rattle.txs_theorem_runs.specs.Explains.{AreThreads}
+use Rattle.txs_theorem_runs.specs.Agents.{ActsInTurn}
+use Rattle.txs_theorem_runs.specs.Explains.{AreActors}
 use Rattle.txs_theorem_runs.specs.Shared.{has_atom, is_atom, world_of}
 use Rattle.txs_theorem_runs.specs.Told.{Place, TraceHolds, seen_of}
 use Rattle.txs_theorem_runs.specs.Transactions.{SaidOf, undisturbed}
@@ -46,13 +39,14 @@ use Rattle.txs_machine.specs.Reported.{IsReportOf}
 use Rattle.txs_machine.specs.RunOver.{places_of}
 use Rattle.txs_machine.specs.RunTheorem.{meant_by, ExplainsSo, HasPrintedLeast, NeverEnds, ExplainsAll}
 use Rattle.txs_theorem_audit.specs.Audited.{PlainActorReport, PlainReport, place_of, ran_as, report_as, book_or_none, books_of}
-use Rattle.txs_theorem_audit.specs.Explained.{Begins, Stopped, EndsAs, ThreadExplained, AtomExplained, ActPure, ActsPure, AgentExplained, IsExplained}
+use Rattle.txs_theorem_audit.specs.Explained.{Begins, Stopped, EndsAs, ThreadExplained, AtomExplained, AgentExplained, IsExplained}
 use Rattle.txs_theorem_audit.specs.Verdict.{atoms_from, printed_by, but_last, least_printed}
 use Rattle.txs_theorem_audit.proofs.Agreeing.{sound_thread}
 use Rattle.txs_theorem_audit.proofs.Beginning.{cut}
-use Rattle.txs_theorem_audit.proofs.Differing.{HasEatenUp, ends_up, waits_front, settles, differs_is_not_explained}
+use Rattle.txs_theorem_audit.proofs.Differing.{settles, differs_is_not_explained}
+use Rattle.txs_theorem_audit.proofs.Waiting.{HasEatenUp, ends_up, waits_front}
 use Rattle.txs_theorem_audit.proofs.Findings.{not_there}
-use Rattle.txs_theorem_audit.proofs.Listing.{there_is, within, all_each, each_one}
+use Rattle.txs_theorem_audit.proofs.Listing.{there_is, within}
 use Rattle.txs_theorem_audit_runs.specs.Runs.{RunsAreExplained, RunsNeverDiffer}
 
 -- ---- lists
@@ -258,7 +252,10 @@ module _ (p : PlainProgram) (s : PlainShared) (r : Report) (sound : Sound p) (ce
       let one = many ran_as r.threads.items in
       let same = x.by_threads.one_each in
       let z : length p.threads + i ≡ a = omega (arith, e, one, same) in
-      subst (λ b. TraceHolds (books_of rep) b ran.trace) z (subst (λ (y : PlainActorReport). TraceHolds (books_of rep) (length p.threads + i) y.trace) m.2 (trace_is (length p.threads + i) m.0 (x.each i m.0 m.1).traced))
+      let lt = within r.agents.items i m.0 m.1 in
+      let agents = x.one_each in
+      let g = there_is (agents_from 0 p.cells) i (omega (arith, lt, agents)) in
+      subst (λ b. TraceHolds (books_of rep) b ran.trace) z (subst (λ (y : PlainActorReport). TraceHolds (books_of rep) (length p.threads + i) y.trace) m.2 (trace_is (length p.threads + i) m.0 (x.each i g.0 m.0 g.1 m.1).traced))
 
   -- ---- cells
 
@@ -298,26 +295,21 @@ module _ (p : PlainProgram) (s : PlainShared) (r : Report) (sound : Sound p) (ce
   atom_is_explained : (c : CellId) → has_atom p.cells c ≡ true → AtomExplained p rep c
   atom_is_explained c has = record {
     legal = subst (λ (b : ℕ → List Event). LegalAtom c (b (home p.cells c))) same_books (x.by_threads.books.atoms c has);
-    by_threads = subst (λ (b : ℕ → List Event). AreThreads (length p.threads) (b (home p.cells c))) same_books (x.by_threads.books.by_threads c has);
+    by_actors = subst (λ (b : ℕ → List Event). AreActors (actors (length p.threads) (cells_of p.cells)) (b (home p.cells c))) same_books (x.by_threads.books.by_threads c has);
     value = atom_value c has;
   }
 
-  -- ---- actions
+  -- ---- agents
 
-  -- what is sent in a beginning of the book a program may send
-  sound_front : (k : ℕ) → AllSound p.functions (take k (N 0))
-  sound_front k = all_each (λ done e. SendsSound p.functions e.kind) [] (take k (N 0)) (λ j e there. each_one (λ done e1. SendsSound p.functions e1.kind) [] (N 0) x.sends j e (nth-take k (N 0) j e there).1)
-
-  pure_callee : (c : Callee) (n : ℕ) → SoundCallee (known p.functions) c n → PureCallee (known p.functions) c n
-  pure_callee (CoreOp op) n h = h.0
-  pure_callee (Function f) n h = h
-
-  act_pure : (k : ℕ) (d : EventKind) → ActPure p (take k (N 0)) d
-  act_pure k (Act g number new sends) = λ y e. pure_callee y.callee (suc (length y.args)) (next_sound p.functions (cells_of p.cells) (take k (N 0)) g y (sound_front k) e)
-  act_pure k _ = tt
-
-  acts_pure : ActsPure p (N 0)
-  acts_pure = all_each (λ done e. ActPure p done e.kind) [] (N 0) (λ k e there. act_pure k e.kind)
+  agent_is : (i : ℕ) (g : CellId) (ran : ActorReport) → nth (agents_from 0 p.cells) i ≡ Some g → nth r.agents.items i ≡ Some ran → AgentExplained p rep g (ran_as ran)
+  agent_is i g ran there here =
+      let e = x.each i g ran there here in
+      let out = ran.printed.items in
+      record {
+        unended = never_ends ran.outcome e.unended;
+        did = e.did;
+        acts = subst (λ b. ActsInTurn p.cells p.functions b g (map place_of ran.trace.items) [] out e.did) same_books (subst (λ ps. ActsInTurn p.cells p.functions N g ps [] out e.did) (places_same ran.trace.items) e.acts);
+      }
 
   is_explained : IsExplained p rep
   is_explained = record {
@@ -334,13 +326,7 @@ module _ (p : PlainProgram) (s : PlainShared) (r : Report) (sound : Sound p) (ce
     failures = λ i g there. ap (λ l. nth l i) faults_same ∙ nth_faults fault 0 p.cells i g there ∙ ap (λ (b : ℕ → List Event). Some (mail_after (cells_of p.cells) (b 0) g.number).fault) same_books;
     atoms = atom_is_explained;
     threads = λ a t ran there h. (let m = mapped ran_as r.threads.items a ran h in subst (λ z. ThreadExplained p rep t z) m.2 (thread_is a t m.0 there m.1));
-    acts = subst (λ (b : ℕ → List Event). ActsMean p.functions p.cells (b 0)) same_books x.acts;
-    pure = subst (λ (b : ℕ → List Event). ActsPure p (b 0)) same_books acts_pure;
-    agents = λ i ran h.
-        (let m = mapped ran_as r.agents.items i ran h in
-        let e = x.each i m.0 m.1 in
-        let its : AgentExplained (ran_as m.0) = record { silent = e.silent; unended = never_ends m.0.outcome e.unended } in
-        subst (λ z. AgentExplained z) m.2 its);
+    agents = λ i g ran there h. (let m = mapped ran_as r.agents.items i ran h in subst (λ z. AgentExplained p rep g z) m.2 (agent_is i g m.0 there m.1));
   }
 
 pub runs_are_explained : RunsAreExplained

@@ -17,7 +17,7 @@ use Rattle.txs_value_base.specs.declared.op.Callee.{Callee}
 use Rattle.txs_value_base.specs.declared.op.Callee.TheVariants.{Core as CoreOp, Function}
 use Rattle.txs_tree_meaning.specs.Known.{Known, is_pure, known}
 use Rattle.txs_tree_meaning.specs.Tree.{Tree, Mark, Const, Local, If, Do, Let, Loop, Recur, Core, Call, VectorOf, Println, Dosync, Look, Put, Update, Send, Trees, none, more, count, PlainProgram}
-use Rattle.txs_check.specs.Faulty.{IsAmong, is_first, is_later, IsLast, is_only, is_behind, IsBefore, is_now, is_then, Stands, as_whole, in_test, in_first, in_second, in_block, in_last, in_bound, in_let, in_start, in_loop, in_recur, in_operation, in_call, in_vector, in_line, in_transaction, in_looked, in_filled, in_value, in_updated, in_further, in_agent, in_sent, IsForm, it_looks, it_puts, it_updates, it_sends, HasApplied, in_update, in_action, callee_takes, HasFault, recurs_nowhere, recurs_before_end, recurs_across, recurs_with_others, operates_on_others, calls_with_others, applies_to_others, applies_impurely, calls_outside, stands_outside, calls_inside, stands_inside, prints_inside, FaultIn, IsBody, body_first, body_later, IsValidator, ValidatorFault, validates_others, validates_impurely, FaultOfValidator}
+use Rattle.txs_check.specs.Faulty.{IsAmong, is_first, is_later, IsLast, is_only, is_behind, IsBefore, is_now, is_then, Stands, as_whole, in_test, in_first, in_second, in_block, in_last, in_bound, in_let, in_start, in_loop, in_recur, in_operation, in_call, in_vector, in_line, in_transaction, in_looked, in_filled, in_value, in_updated, in_further, in_agent, in_sent, IsForm, it_looks, it_puts, it_updates, it_sends, HasApplied, in_update, in_action, callee_takes, HasFault, recurs_nowhere, recurs_before_end, recurs_across, recurs_with_others, operates_on_others, calls_with_others, applies_to_others, applies_impurely, calls_outside, sends_inside, stands_outside, calls_inside, stands_inside, prints_inside, FaultIn, IsBody, body_first, body_later, IsValidator, ValidatorFault, validates_others, validates_impurely, FaultOfValidator}
 use Rattle.txs_check.specs.declared.error.CheckError.{CheckError}
 use Rattle.txs_check.specs.declared.error.CheckErrorKind.{CheckErrorKind}
 use Rattle.txs_check.specs.declared.error.CheckErrorKind.TheVariants.{RecurNotTail, RecurCount, RecurAcrossDosync, Arity, NotPure, InsideOnly, OutsideOnly, CodeTooLarge}
@@ -25,7 +25,7 @@ use Rattle.txs_check.specs.declared.place.Target.{Target}
 use Rattle.txs_check.specs.declared.place.Target.TheVariants.{Nowhere, Across, Nearest}
 use Rattle.txs_check.specs.declared.place.Zone.{Zone}
 use Rattle.txs_check.specs.declared.place.Zone.TheVariants.{InFunction, InFuture, InDosync}
-use Rattle.txs_check.specs.Refused.{Checked, fine, ◌>>◌, only, inner, across, recurs, operates, accepts, zoned, calls, called, placed, formed, applied, here, place_of, turned_in, in_turn, checked, checked_all, checked_do, Body, in_order, Validator, validators_in, validates, Checkable, of_body, of_validator, earlier, together, checked_one, checked_each, room, few, refusal, CheckStops}
+use Rattle.txs_check.specs.Refused.{Checked, fine, ◌>>◌, only, inner, across, recurs, operates, accepts, zoned, calls, called, sent, sent_zoned, placed, formed, applied, here, place_of, turned_in, in_turn, checked, checked_all, checked_do, Body, in_order, Validator, validators_in, validates, Checkable, of_body, of_validator, earlier, together, checked_one, checked_each, room, few, refusal, CheckStops}
 use Rattle.txs_theorem_language.proofs.Spreads.{InTurn, Spreads, SpreadRow, spreads_order, row_order}
 
 -- ---- one form
@@ -85,6 +85,14 @@ module _ (ks : List Known) where
   at_called (CoreOp op) n at = at_only (takes op n) Arity at
   at_called (Function f) n at = at_then at (only (accepts (nth ks f) n) Arity at) (only (is_pure (nth ks f)) NotPure at) (at_only (accepts (nth ks f) n) Arity at) (at_only (is_pure (nth ks f)) NotPure at)
 
+  at_sent_zoned : (o : Option Known) (at : Span) → IsAt at (sent_zoned o at)
+  at_sent_zoned None at = tt
+  at_sent_zoned (Some k) at = at_only (not k.inside) InsideOnly at
+
+  at_sent : (c : Callee) (n : ℕ) (at : Span) → IsAt at (sent ks c n at)
+  at_sent (CoreOp op) n at = at_only (takes op n) Arity at
+  at_sent (Function f) n at = at_then at (only (accepts (nth ks f) n) Arity at) (sent_zoned (nth ks f) at) (at_only (accepts (nth ks f) n) Arity at) (at_sent_zoned (nth ks f) at)
+
   at_recurs : (t : Target) (n : ℕ) (at : Span) → IsAt at (recurs t n at)
   at_recurs Nowhere n at = refl
   at_recurs Across n at = refl
@@ -107,22 +115,31 @@ module _ (ks : List Known) where
   here_at z t (Look form cell m) = at_placed z (rule (form_of.Look form)).stands m.span
   here_at z t (Put form cell value m) = at_placed z (rule (form_of.Put form)).stands m.span
   here_at z t (Update form cell callee args m) = at_then m.span (called ks callee (suc (count args)) m.span) (formed z (form_of.Update form) m.span) (at_called callee (suc (count args)) m.span) (at_placed z (rule (form_of.Update form)).stands m.span)
-  here_at z t (Send cell callee args m) = at_then m.span (called ks callee (suc (count args)) m.span) (formed z form_of.Send m.span) (at_called callee (suc (count args)) m.span) (at_placed z (rule form_of.Send).stands m.span)
+  here_at z t (Send cell callee args m) = at_then m.span (sent ks callee (suc (count args)) m.span) (formed z form_of.Send m.span) (at_sent callee (suc (count args)) m.span) (at_placed z (rule form_of.Send).stands m.span)
 
   called_refuses : (callee : Callee) (n : ℕ) (at : Span) → callee_takes ks callee n ≡ false → Refuses (called ks callee n at)
   called_refuses (CoreOp op) n at h = only_refuses (takes op n) Arity at h
   called_refuses (Function f) n at h = first_refuses (only (accepts (nth ks f) n) Arity at) (only (is_pure (nth ks f)) NotPure at) (only_refuses (accepts (nth ks f) n) Arity at h)
 
-  -- a callee that refuses has the form refused
-  applied_refuses : (z : Zone) (t : Target) (callee : Callee) (n : ℕ) (e : Tree) → HasApplied callee n e → ((at : Span) → Refuses (called ks callee n at)) → Refuses (here ks z t e)
-  applied_refuses z t callee n _ (in_update f cell _ args m) h = first_refuses (called ks callee (suc (count args)) m.span) (formed z (form_of.Update f) m.span) (h m.span)
-  applied_refuses z t callee n _ (in_action cell _ args m) h = first_refuses (called ks callee (suc (count args)) m.span) (formed z form_of.Send m.span) (h m.span)
+  sent_refuses : (callee : Callee) (n : ℕ) (at : Span) → callee_takes ks callee n ≡ false → Refuses (sent ks callee n at)
+  sent_refuses (CoreOp op) n at h = only_refuses (takes op n) Arity at h
+  sent_refuses (Function f) n at h = first_refuses (only (accepts (nth ks f) n) Arity at) (sent_zoned (nth ks f) at) (only_refuses (accepts (nth ks f) n) Arity at h)
+
+  -- a callee that doesn't take so many arguments has the form refused
+  applied_refuses : (z : Zone) (t : Target) (callee : Callee) (n : ℕ) (e : Tree) → HasApplied callee n e → callee_takes ks callee n ≡ false → Refuses (here ks z t e)
+  applied_refuses z t callee n _ (in_update f cell _ args m) h =
+      first_refuses (called ks callee (suc (count args)) m.span) (formed z (form_of.Update f) m.span) (called_refuses callee (suc (count args)) m.span h)
+  applied_refuses z t callee n _ (in_action cell _ args m) h =
+      first_refuses (sent ks callee (suc (count args)) m.span) (formed z form_of.Send m.span) (sent_refuses callee (suc (count args)) m.span h)
+
+  sent_inside : (o : Option Known) (k : Known) (at : Span) → o ≡ Some k → k.inside ≡ true → Refuses (sent_zoned o at)
+  sent_inside o k at is inside = subst (λ x. Refuses (sent_zoned x at)) (sym is) (only_refuses (not k.inside) InsideOnly at (ap not inside))
 
   formed_refuses : (z : Zone) (t : Target) (f : CellForm) (e : Tree) → IsForm f e → ((at : Span) → Refuses (formed z f at)) → Refuses (here ks z t e)
   formed_refuses z t f _ (it_looks l cell m) h = h m.span
   formed_refuses z t f _ (it_puts l cell value m) h = h m.span
   formed_refuses z t f _ (it_updates l cell callee args m) h = second_refuses (called ks callee (suc (count args)) m.span) (formed z (form_of.Update l) m.span) (h m.span)
-  formed_refuses z t f _ (it_sends cell callee args m) h = second_refuses (called ks callee (suc (count args)) m.span) (formed z form_of.Send m.span) (h m.span)
+  formed_refuses z t f _ (it_sends cell callee args m) h = second_refuses (sent ks callee (suc (count args)) m.span) (formed z form_of.Send m.span) (h m.span)
 
   zoned_future : (z : Zone) (o : Option Known) (k : Known) (at : Span) → z ≡ InFuture → o ≡ Some k → k.inside ≡ true → Refuses (zoned z o at)
   zoned_future z o k at zone is inside =
@@ -142,9 +159,15 @@ module _ (ks : List Known) where
       (second_refuses (only tail RecurNotTail m.span) (only (nat_eq k (count values)) RecurCount m.span) (only_refuses (nat_eq k (count values)) RecurCount m.span other))
   fault_refuses z t _ _ (operates_on_others op args m h) = only_refuses (takes op (count args)) Arity m.span h
   fault_refuses z t _ _ (calls_with_others f args m h) = first_refuses (only (accepts (nth ks f) (count args)) Arity m.span) (zoned z (nth ks f) m.span) (only_refuses (accepts (nth ks f) (count args)) Arity m.span h)
-  fault_refuses z t _ _ (applies_to_others callee n e has h) = applied_refuses z t callee n e has (λ at. called_refuses callee n at h)
-  fault_refuses z t _ _ (applies_impurely f n e has h) =
-      applied_refuses z t (Function f) n e has (λ at. second_refuses (only (accepts (nth ks f) n) Arity at) (only (is_pure (nth ks f)) NotPure at) (only_refuses (is_pure (nth ks f)) NotPure at h))
+  fault_refuses z t _ _ (applies_to_others callee n e has h) = applied_refuses z t callee n e has h
+  fault_refuses z t _ _ (applies_impurely form cell f args m h) =
+      let n = suc (count args) in
+      first_refuses (called ks (Function f) n m.span) (formed z (form_of.Update form) m.span)
+      (second_refuses (only (accepts (nth ks f) n) Arity m.span) (only (is_pure (nth ks f)) NotPure m.span) (only_refuses (is_pure (nth ks f)) NotPure m.span h))
+  fault_refuses z t _ _ (sends_inside cell f args m k is inside) =
+      let n = suc (count args) in
+      first_refuses (sent ks (Function f) n m.span) (formed z form_of.Send m.span)
+      (second_refuses (only (accepts (nth ks f) n) Arity m.span) (sent_zoned (nth ks f) m.span) (sent_inside (nth ks f) k m.span is inside))
   fault_refuses z t _ _ (calls_outside f args m k zone is inside) =
       second_refuses (only (accepts (nth ks f) (count args)) Arity m.span) (zoned z (nth ks f) m.span) (zoned_future z (nth ks f) k m.span zone is inside)
   fault_refuses z t _ _ (stands_outside f e zone it is) = formed_refuses z t f e it (λ at. placed_refuses z (rule f).stands at zone is)

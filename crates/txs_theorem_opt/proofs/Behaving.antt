@@ -10,7 +10,7 @@ use Rattle.txs_theorem_threads.specs.Behaves.{source, Behaves, HasEnded, IsMeant
 use Rattle.txs_opt.proofs.Like.{IsInvalid, improved}
 use Rattle.txs_theorem_opt.proofs.Sources.{SourceKept}
 
-ended_valid : (x : Completion ActorState Value) → HasEnded x → IsInvalid x → ⊥
+pub ended_valid : (x : Completion ActorState Value) → HasEnded x → IsInvalid x → ⊥
 ended_valid (Completes v s) h e = e
 ended_valid (Recurs vs s) h e = e
 ended_valid (Faults f s) h e = e
@@ -19,7 +19,7 @@ ended_valid (Waits s) h e = e
 ended_valid (OutOfTurns s) h e = e
 ended_valid Invalid h e = h
 
-meant_valid : (x : Completion ActorState Value) → IsMeant x → IsInvalid x → ⊥
+pub meant_valid : (x : Completion ActorState Value) → IsMeant x → IsInvalid x → ⊥
 meant_valid (Completes v s) h e = e
 meant_valid (Recurs vs s) h e = e
 meant_valid (Faults f s) h e = e

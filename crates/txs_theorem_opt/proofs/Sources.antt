@@ -19,7 +19,7 @@ use Rattle.txs_opt.proofs.Like.{Like, closed_like}
 use Rattle.txs_opt.proofs.OneWorld.{Any}
 use Rattle.txs_theorem_opt.proofs.Replies.{K, reply_forms, reply_ends}
 
-abbrev fx : Validators → ℕ → Effects ActorState
+abbrev pub fx : Validators → ℕ → Effects ActorState
 fx va d = on_replies va
 
 -- where the first isn't invalid, the second is the same

@@ -1,11 +1,13 @@
 -- Code that behaves as an optimised program's trees follows the program from before.
 use Rattle.std.specs.Prelude.{◌≡◌, ℕ, List}
 use Rattle.txs_value_cell.specs.Cells.{validators_of}
+use Rattle.txs_value_cell.specs.declared.action.Action.{Action}
+use Rattle.txs_value_data.specs.declared.value.CellId.{CellId}
 use Rattle.txs_tree_meaning.specs.Sound.{Sound}
 use Rattle.txs_tree_meaning.specs.Tree.{PlainProgram}
 use Rattle.txs_code_meaning.specs.Machine.{Library, ThreadCode}
-use Rattle.txs_theorem_threads.specs.ActionsBehave.{ActionsBehave}
-use Rattle.txs_theorem_threads.specs.FollowsAgent.{FollowsAgents}
+use Rattle.txs_theorem_threads.specs.ActionsBehave.{ActionBehaves}
+use Rattle.txs_theorem_threads.specs.FollowsAgent.{SoundAction, FollowsAgents}
 use Rattle.txs_theorem_threads.specs.FollowsAll.{BehavesAll, FollowsAll}
 use Rattle.txs_opt.specs.Keeps.{MeansSame}
 use Rattle.txs_opt.specs.Optimised.{optimised}
@@ -22,10 +24,10 @@ OptimisedFollows = (codes : List ThreadCode) (limit : ℕ) (p : PlainProgram) �
 abbrev pub OptimisedSound : Type 0
 OptimisedSound = (limit : ℕ) (p : PlainProgram) → Sound p → Sound (optimised limit p)
 
--- code with the cells' validators that does in actions what the optimised functions mean follows the agents' actions by the functions
--- from before
+-- code that does in actions what the optimised functions mean follows the agents' actions by the functions from before
 abbrev pub OptimisedFollowsAgents : Type 0
-OptimisedFollowsAgents = (code : Library) (limit : ℕ) (p : PlainProgram) → Sound p → code.validators ≡ validators_of p.cells → ActionsBehave code (optimised limit p).functions → FollowsAgents code p.functions
+OptimisedFollowsAgents = (code : Library) (limit : ℕ) (p : PlainProgram) → Sound p → code.validators ≡ validators_of p.cells
+    → ((g : CellId) (a : Action) → a.agent ≡ g → SoundAction (optimised limit p).functions a → ActionBehaves code p.cells (optimised limit p).functions g a) → FollowsAgents code p.cells p.functions
 
 -- an optimised program means what the program means, on any events
 abbrev pub OptimisedMeansSame : Type 0

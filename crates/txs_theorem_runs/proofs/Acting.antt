@@ -1,9 +1,6 @@
 -- Each action that an agent hands in is what its callee means on the state that the agent found.
 use Rattle.std.proofs.Common.{◌≡◌, ◌<◌, ◌+◌, ℕ, zero, suc, Bool, true, false, not, ◌&&◌, ◌==◌, nat_lt, List, [], ◌∷◌, ◌++◌, length, map, drop, Option, Some, None, Result, Ok, Err, refl, sym, ap, ◌∙◌, subst, arith, if◌then◌else◌, append_assoc}
 use Rattle.std.proofs.lemmas.Bool.{false≢true, ltb-true}
-use Rattle.txs_world_protocol.specs.Ask.{Exchange}
-use Rattle.txs_world_protocol.specs.declared.ask.Ask.TheVariants as ask
-use Rattle.txs_world_protocol.specs.declared.ask.Reply.TheVariants as reply
 use Rattle.txs_world_protocol.specs.declared.event.Event.{Event}
 use Rattle.txs_world_protocol.specs.declared.event.EventKind.{EventKind}
 use Rattle.txs_world_protocol.specs.declared.event.EventKind.TheVariants as event
@@ -17,15 +14,14 @@ use Rattle.txs_value_data.specs.declared.value.CellKind.{CellKind}
 use Rattle.txs_value_data.specs.declared.value.CellKind.TheVariants.{Ref, Atom, Agent}
 use Rattle.txs_value_data.specs.declared.value.Value.{Value}
 use Rattle.txs_tree_meaning.specs.Tree.{PlainFunction}
-use Rattle.txs_theorem_threads.specs.FollowsAgent.{SoundAction, AgentFits, AgentTold, taking}
+use Rattle.txs_theorem_threads.specs.FollowsAgent.{SoundAction}
 use Rattle.txs_world_book.proofs.Outcomes.{both}
-use Rattle.txs_world_book.specs.Book.{has_agent, has_cell, is_of_kind, is_there, is_failed, agents_below, newest, Mail, no_mail, sent_to, acted, mail_changed, mail_from, mail_after, goes_on, makes, Each, Legal}
+use Rattle.txs_world_book.specs.Book.{has_agent, has_cell, is_of_kind, is_there, is_failed, agents_below, Mail, no_mail, sent_to, acted, mail_changed, mail_from, mail_after, goes_on, makes, Each, Legal}
 use Rattle.txs_world_book.specs.Book as world
 use Rattle.txs_world.specs.Laws.{acts_for, no_acts}
 use Rattle.txs_world.specs.Store.{first_action, next_action}
 use Rattle.txs_world_book.specs.declared.cell.StoreCell.{StoreCell}
 use Rattle.txs_theorem_runs.specs.Agents.{AreSound, SendsSound, AllSound}
-use Rattle.txs_theorem_runs.specs.Run.{exchange}
 use Rattle.txs_theorem_runs.specs.Told.{Entry, exchange_of}
 use Rattle.txs_theorem_runs.proofs.Growing.{AreOwn}
 
@@ -97,28 +93,9 @@ module _ (functions : List PlainFunction) where
   next_sound cells book g x s e =
       first_sound (is_failed cells book g) (mail_after cells book g.number).actions x (sound_mail (goes_on (nth cells g.number)) g.number no_mail [] book tt s) e
 
-  -- one more action that was taken and finished
-  pub fits_more : (g : CellId) (xs : List Exchange) (number : ℕ) (a : Action) (v : Value) (new : Result Value Fault) → AgentFits functions g xs → SoundAction functions a
-      → AgentFits functions g (xs ++ taking g number a v ∷ exchange (ask.Finish g new []) reply.Done ∷ [])
-  fits_more g [] number a v new h s = (refl, s, new, refl, refl, tt)
-  fits_more g (x ∷ []) number a v new h s = absurd h
-  fits_more g (x ∷ y ∷ xs) number a v new h s = (h.0, h.1, h.2, h.3, h.4, fits_more g xs number a v new h.5 s)
-
-  -- what an agent has finished, it was told so
-  pub told_fits : (g : CellId) (xs : List Exchange) → AgentFits functions g xs → AgentTold functions g xs
-  told_fits g [] h = tt
-  told_fits g (x ∷ []) h = absurd h
-  told_fits g (x ∷ y ∷ xs) h = (h.0, h.1, h.2, h.3, h.4, told_fits g xs h.5)
-
-  -- and with the action that it has in hand
-  pub told_more : (g : CellId) (xs : List Exchange) (number : ℕ) (a : Action) (v : Value) → AgentFits functions g xs → SoundAction functions a → AgentTold functions g (xs ++ taking g number a v ∷ [])
-  told_more g [] number a v h s = (refl, s)
-  told_more g (x ∷ []) number a v h s = absurd h
-  told_more g (x ∷ y ∷ xs) number a v h s = (h.0, h.1, h.2, h.3, h.4, told_more g xs number a v h.5 s)
-
 -- ---- agents' numbers
 
-agent_turned : (k : CellKind) → same_kind Agent k ≡ true → same_kind k Agent ≡ true
+pub agent_turned : (k : CellKind) → same_kind Agent k ≡ true → same_kind k Agent ≡ true
 agent_turned Ref h = absurd (false≢true h)
 agent_turned Atom h = absurd (false≢true h)
 agent_turned Agent h = refl
@@ -128,7 +105,7 @@ is_agent_kind Ref h = absurd (false≢true h)
 is_agent_kind Atom h = absurd (false≢true h)
 is_agent_kind Agent h = refl
 
-abbrev agent_at : List StoreCell → ℕ → Bool
+abbrev pub agent_at : List StoreCell → ℕ → Bool
 agent_at cells k = is_of_kind Agent (nth cells k)
 
 -- agents with as many agents before them are the same
@@ -151,10 +128,10 @@ one_number (d ∷ ds) (suc j) (suc k) hj hk e = ap suc (one_number ds j k hj hk 
     go true e = omega (arith, e)
     go false e = e
 
-same_id : (c d : CellId) → c.kind ≡ d.kind → c.number ≡ d.number → c ≡ d
+pub same_id : (c d : CellId) → c.kind ≡ d.kind → c.number ≡ d.number → c ≡ d
 same_id c d p q = rw (p, q) refl
 
-agent_there : (cells : List StoreCell) (g : CellId) → has_agent cells g ≡ true → (g.kind ≡ Agent) × (agent_at cells g.number ≡ true)
+pub agent_there : (cells : List StoreCell) (g : CellId) → has_agent cells g ≡ true → (g.kind ≡ Agent) × (agent_at cells g.number ≡ true)
 agent_there cells g h =
     let b = both (same_kind g.kind Agent) (has_cell cells g) h in
     let k = is_agent_kind g.kind b.0 in
@@ -188,7 +165,7 @@ append_none : (xs : List Event) → xs ++ [] ≡ xs
 append_none [] = refl
 append_none (x ∷ xs) = ap (λ l. x ∷ l) (append_none xs)
 
-each_behind : (P : List Event → Event → Type 0) (done es more : List Event) → Each P done (es ++ more) → Each P (done ++ es) more
+pub each_behind : (P : List Event → Event → Type 0) (done es more : List Event) → Each P done (es ++ more) → Each P (done ++ es) more
 each_behind P done [] more h = subst (λ l. Each P l more) (sym (append_none done)) h
 each_behind P done (e ∷ es) more h = subst (λ l. Each P l more) (append_assoc done (e ∷ []) es) (each_behind P (done ++ e ∷ []) es more h.1)
 

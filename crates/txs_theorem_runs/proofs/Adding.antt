@@ -1,5 +1,5 @@
 -- What is served adds only such events as the ask may bring.
-use Rattle.std.proofs.Common.{◌≡◌, ◌&&◌, ◌==◌, ℕ, suc, Bool, true, false, nat_lt, List, [], ◌∷◌, ◌++◌, length, Option, Some, None, Result, if◌then◌else◌}
+use Rattle.std.proofs.Common.{ℕ, suc, Bool, true, false, nat_lt, List, [], ◌∷◌, ◌++◌, length, Option, Some, None, Result, Err, if◌then◌else◌}
 use Rattle.txs_world_protocol.specs.Ask.{Writes}
 use Rattle.txs_world_protocol.specs.declared.ask.Ask.{Ask}
 use Rattle.txs_world_protocol.specs.declared.ask.Ask.TheVariants as ask
@@ -13,14 +13,16 @@ use Rattle.txs_value_cell.specs.declared.action.Action.{Action}
 use Rattle.txs_value_cell.specs.declared.cell.CellDefinition.{CellDefinition}
 use Rattle.txs_value_data.specs.declared.value.CellId.{CellId}
 use Rattle.txs_value_data.specs.declared.value.Value.{Value}
+use Rattle.txs_value_base.specs.Places.{fault_at}
 use Rattle.txs_value_base.specs.declared.fault.Fault.{Fault}
+use Rattle.txs_value_base.specs.declared.fault.FaultKind.TheVariants.{AgentFailed}
+use Rattle.txs_value_base.specs.declared.fault.Span.{Span}
 use Rattle.txs_world_book.proofs.Growth.{each_more}
-use Rattle.txs_world_book.proofs.Outcomes.{both}
 use Rattle.txs_world_book.specs.Atom.{closes_at, swapped_since}
-use Rattle.txs_world_book.specs.Book.{cells_in, opening, least_written, is_failed, first_failed, mail_after, has_agent, actor_of, is_empty, Each, is_outdated}
+use Rattle.txs_world_book.specs.Book.{cells_in, opening, least_written, is_failed, first_failed, mail_after, Each, is_outdated}
 use Rattle.txs_world_book.specs.Served.{served, adds, event_of, cells_of}
-use Rattle.txs_world.specs.Store.{looks, commits, sends_to, merged, is_taken}
-use Rattle.txs_theorem_runs.specs.Shared.{is_atom, serve_on, may_ask}
+use Rattle.txs_world.specs.Store.{looks, commits, sends_to, finishes, span_of, merged}
+use Rattle.txs_theorem_runs.specs.Shared.{is_atom, serve_on}
 
 -- an event that sends nothing and is no action
 abbrev pub IsQuiet : EventKind → Type 0
@@ -33,15 +35,9 @@ IsQuiet _ = Unit {0}
 abbrev pub Brings : (List Event → EventKind → Type 0) → List Event → Ask → Type 0
 Brings Q book (ask.Commit p sets ensured q commuted sends) = (ws : Writes) → Q book (event.Commit p q ws sends)
 Brings Q book (ask.Send x) = Q book (event.Send x)
-Brings Q book (ask.Finish g new sends) = (i : ℕ) → Q book (event.Act g i new sends)
+-- (an action whose send's agent had failed sends nothing)
+Brings Q book (ask.Finish g new sends) = (i : ℕ) → Q book (event.Act g i new sends) × ((span : Span) → Q book (event.Act g i (Err (fault_at AgentFailed span)) []))
 Brings Q book _ = Unit {0}
-
--- what an action hands in sends nothing, where it may be asked
-pub sends_nothing : (cells : List CellDefinition) (threads b : ℕ) (taken : List Bool) (book : List Event) (g : CellId) (new : Result Value Fault) (sends : List Action) → may_ask cells threads taken b (ask.Finish g new sends) book ≡ true → is_empty sends ≡ true
-sends_nothing cells threads b taken book g new sends may =
-    let m = both (b == actor_of threads (cells_of cells) g) _ may in
-    let n = both (has_agent (cells_of cells) g) (is_taken taken g && is_empty sends) m.1 in
-    (both (is_taken taken g) (is_empty sends) n.1).1
 
 module _ (Q : List Event → EventKind → Type 0) (quiet : (done : List Event) (kind : EventKind) → IsQuiet kind → Q done kind) (cells : List CellDefinition) (b : ℕ) (book : List Event) (h : Each (λ done e. Q done e.kind) [] book) where
   -- each event of a book has it
@@ -72,6 +68,11 @@ module _ (Q : List Event → EventKind → Type 0) (quiet : (done : List Event) 
   sends_such true x m = adds_quiet (event.SendRefused x.agent) (reply.AgentIsFailed x.agent) tt
   sends_such false x m = adds_such (event.Send x) reply.Done m
 
+  finishes_such : (o : Option CellId) (g : CellId) (n : ℕ) (new : Result Value Fault) (sends : List Action) (span : Span)
+      → (Q book (event.Act g n new sends) × ((at : Span) → Q book (event.Act g n (Err (fault_at AgentFailed at)) []))) → All (finishes o b g n new sends span book).book
+  finishes_such None g n new sends span m = adds_such (event.Act g n new sends) reply.Done m.0
+  finishes_such (Some h) g n new sends span m = adds_such (event.Act g n (Err (fault_at AgentFailed span)) []) (reply.AgentIsFailed h) (m.1 span)
+
   closes_such : (t : Bool) (c : CellId) (v : Value) → All (closes_at t b c v book).book
   closes_such true c v = h
   closes_such false c v = adds_quiet (event.Swap v) reply.Done tt
@@ -90,7 +91,8 @@ module _ (Q : List Event → EventKind → Type 0) (quiet : (done : List Event) 
   served_such (ask.Peek c) m = peek_such (is_atom c) c _ _
   served_such (ask.Send x) m = sends_such (is_failed (cells_of cells) book x.agent) x m
   served_such (ask.Take g) m = h
-  served_such (ask.Finish g new sends) m = adds_such (event.Act g (suc (mail_after (cells_of cells) book g.number).acts) new sends) reply.Done (m (suc (mail_after (cells_of cells) book g.number).acts))
+  served_such (ask.Finish g new sends) m =
+      finishes_such (first_failed (cells_of cells) book sends) g (suc (mail_after (cells_of cells) book g.number).acts) new sends (span_of (mail_after (cells_of cells) book g.number).actions) (m (suc (mail_after (cells_of cells) book g.number).acts))
   served_such (ask.OpenAt c) m = h
   served_such (ask.CloseAt c None v) m = closes_such false c v
   served_such (ask.CloseAt c (Some p) v) m = closes_such (swapped_since p book) c v

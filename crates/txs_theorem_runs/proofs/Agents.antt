@@ -1,299 +1,304 @@
--- Agents are explained: each action that they hand in is what its callee means on the state that they found.
-use Rattle.std.proofs.Common.{◌≡◌, ◌+◌, ℕ, zero, suc, Bool, true, false, ◌&&◌, ◌==◌, List, [], ◌∷◌, length, map, set, get_or, Option, Some, None, refl, sym, ap, ◌∙◌, subst, if◌then◌else◌, ◌⊎◌, inl, inr}
+-- Agents are explained: what each agent's actor did means what its actions mean, on the state and the events that each found.
+use Rattle.std.proofs.Common.{◌≡◌, ℕ, suc, Bool, true, false, ◌==◌, List, [], ◌∷◌, ◌++◌, length, map, take, Option, Some, None, refl, sym, ap, ◌∙◌, subst, if◌then◌else◌}
 use Rattle.std.proofs.lemmas.Bool.{false≢true}
-use Rattle.std.proofs.lemmas.List.{get_or-set_other, length-set}
 use Rattle.txs_world_protocol.specs.declared.ask.Ask.{Ask}
 use Rattle.txs_world_protocol.specs.declared.ask.Ask.TheVariants as ask
 use Rattle.txs_world_protocol.specs.declared.ask.Reply.{Reply}
 use Rattle.txs_world_protocol.specs.declared.ask.Reply.TheVariants as reply
 use Rattle.txs_world_protocol.specs.declared.event.Event.{Event}
-use Rattle.txs_world_protocol.specs.declared.event.EventKind.{EventKind}
-use Rattle.txs_world_protocol.specs.declared.event.EventKind.TheVariants as event
 use Rattle.txs_value_data.proofs.SameLemmas.{numbers, number-itself}
-use Rattle.txs_value_cell.specs.Cells.{validators_of}
+use Rattle.txs_value_cell.specs.declared.action.Action.{Action}
 use Rattle.txs_value_cell.specs.declared.cell.CellDefinition.{CellDefinition}
 use Rattle.txs_value_data.specs.declared.value.CellId.{CellId}
+use Rattle.txs_value_data.specs.declared.value.Value.{Value}
 use Rattle.txs_tree_meaning.specs.Tree.{PlainFunction}
-use Rattle.txs_code_meaning.specs.ActorState.{ActorState}
-use Rattle.txs_code_meaning.specs.Machine.{Library, ThreadCode, agent_code, Configuration, Turned, Ended, Failed, Asking, Unfinished, Stuck, and_then, turn}
-use Rattle.txs_code_meaning.specs.Opening as machine
-use Rattle.txs_code_meaning.proofs.Acts.{stated, exec_run}
-use Rattle.txs_theorem_threads.specs.FollowsAgent.{AgentTold, GoesOn, FollowsAgents}
+use Rattle.txs_code_meaning.specs.Machine.{Library, ThreadCode, agent_code, Configuration, Turned, Ended, Failed, Asking, Unfinished, Stuck, turn}
+use Rattle.txs_code_meaning.specs.Opening.{given, opening}
+use Rattle.txs_theorem_threads.specs.FollowsAgent.{FollowsAgents}
 use Rattle.txs_world_book.proofs.Outcomes.{both}
-use Rattle.txs_world_book.specs.Book.{has_agent, agents_below, opening}
+use Rattle.txs_world_book.specs.Book.{Legal, has_agent, newest, mail_after}
 use Rattle.txs_world_book.specs.Book as world
-use Rattle.txs_world.specs.Laws.{ActionStays, ServeKeeps}
-use Rattle.txs_world_book.specs.Served.{cells_of}
-use Rattle.txs_world.specs.Store.{none_taken, is_taken, hands_out, is_done, taken_after}
-use Rattle.txs_world_book.specs.declared.cell.StoreCell.{StoreCell}
-use Rattle.txs_theorem_runs.specs.Agents.{ActMeans, ActsMean, AllSound, HasFinished, HasTaken, RunsAgents, AgentExplained, AgentsExplain, ThreadsSendSound, RunActsMean}
-use Rattle.txs_theorem_runs.specs.Explains.{outcome_at}
-use Rattle.txs_theorem_runs.specs.Invariant.{SharedStands}
-use Rattle.txs_theorem_runs.specs.Run.{Stop, Actor, Moved, moved, entry, comes_to, asked, asks_for, turned, turns_from, stops_from, Play, TakesTurn, IsStopped, State, moves, actor_of, play, plays_from, opens}
+use Rattle.txs_world.specs.Laws.{ActionStays, ServeKeeps, RefusedIsUndisturbed, no_acts}
+use Rattle.txs_world_book.specs.Served.{Served, cells_of}
+use Rattle.txs_world.specs.Store.{next_action, takes}
+use Rattle.txs_theorem_runs.specs.Agents.{SendsSound, RunsAgents, ActorsSendSound, AgentExplained, RunActsMean}
+use Rattle.txs_theorem_runs.specs.Goes.{AsksNothing, AsksAt, GoesTo}
+use Rattle.txs_theorem_runs.specs.Invariant.{ActorInvariant, RunInvariant}
+use Rattle.txs_theorem_runs.specs.Placed.{is_finish}
+use Rattle.txs_theorem_runs.specs.Run.{Stop, Actor, Moved, exchange, entry, stop, comes_to, hears, replied, asked, asks_for, turned, turns_from, stops_from, Play, TakesTurn, IsStopped, State, moves, actor_of, play, plays_from, opens}
+use Rattle.txs_theorem_runs.specs.Run as run_of
 use Rattle.txs_theorem_runs.specs.Shared.{Shared, book_for, serve_on, may_ask}
-use Rattle.txs_theorem_runs.specs.Told.{exchange_of}
-use Rattle.txs_theorem_runs.proofs.Acting.{map_append, told_fits, told_more}
-use Rattle.txs_theorem_runs.proofs.Adding.{IsQuiet, Brings, sends_nothing, served_such}
+use Rattle.txs_theorem_runs.specs.Staged.{StagedActor, IsStaged, StagedFrom}
+use Rattle.txs_theorem_runs.specs.Stages.{Stage}
+use Rattle.txs_theorem_runs.specs.Told.{exchange_of, IsExchanged}
+use Rattle.txs_theorem_runs.proofs.Acting.{append_nil, one_agent, others_act_not}
+use Rattle.txs_theorem_runs.proofs.Going.{starts}
+use Rattle.txs_theorem_runs.proofs.Growing.{Grown, Serves, own_grown, taken_whole}
+use Rattle.txs_theorem_runs.proofs.Handing.{goes_walk, goes_hear, none_served, takes_append, takes_finish, takes_stay, takes_fixed, at_end, home_of, each_taken}
+use Rattle.txs_theorem_runs.proofs.Owned.{next_own}
+use Rattle.txs_theorem_runs.proofs.Rounds.{OutSo, TakesSo, resting}
 use Rattle.txs_theorem_runs.proofs.Sending.{Sends, play_sends, opening_sends}
-use Rattle.txs_theorem_runs.proofs.Steps.{MovedWell, moves_stand}
-use Rattle.txs_theorem_runs.proofs.Whole.{FreshStands, opening_holds}
-use Rattle.txs_theorem_runs.proofs.Working.{Phase, Works, finish_means, turns_well, stops_well, others_leave}
+use Rattle.txs_theorem_runs.proofs.Serving.{serves}
+use Rattle.txs_theorem_runs.proofs.Steps.{MovedWell, moves_stand, play_holds}
+use Rattle.txs_theorem_runs.proofs.Whole.{Lower, FreshStands, opening_holds}
 
 abbrev agent_actor : List CellDefinition → ℕ → CellId → ℕ
 agent_actor cells threads g = world.actor_of threads (cells_of cells) g
 
-module _ (cells : List CellDefinition) (threads : ℕ) (code : Library) (functions : List PlainFunction) where
-  -- ---- what is taken
+-- a turn that is staged where it continues asks nothing
+asks_none : (agent : Bool) (st : Stage) (o : Turned Configuration) → IsStaged agent st o → AsksNothing o
+asks_none agent st (Ended s) h = tt
+asks_none agent st (Failed f s) h = tt
+asks_none agent st (Asking s) h = absurd h
+asks_none agent st (Unfinished c) h = tt
+asks_none agent st Stuck h = tt
 
-  -- another actor takes no action of an agent's, and gives none back
-  record Took (b : ℕ) (sh : Shared) (m : Moved) : Type 0 where
-    same : (g : CellId) → (b ≡ agent_actor cells threads g → ⊥) → is_taken m.shared.taken g ≡ is_taken sh.taken g
-    long : length m.shared.taken ≡ length sh.taken
+-- ---- plays
 
-  module _ (kd : ThreadCode) (b : ℕ) (sh : Shared) where
-    unmoved : (x : Actor) → Took b sh (moved x sh)
-    unmoved x = record { same = λ g n. refl; long = refl }
+module _ (stays : ActionStays) (cells : List CellDefinition) (threads : ℕ) (code : Library) where
+  -- where an agent's code leads, and what it was handed out
+  pub record Does (books : ℕ → List Event) (g : CellId) (x : Actor) : Type 0 where
+    pub goes : GoesTo (agent_code code g) (Unfinished (opening (agent_code code g) [])) x.entries x.at
+    pub takes : TakesSo cells books g (length (books 0)) x.entries
 
-    -- of the taken ones that of one agent is set, where it is the actor's
-    abbrev SetOne : List Bool → Type 0
-    SetOne later = ((g : CellId) → (b ≡ agent_actor cells threads g → ⊥) → is_taken later g ≡ is_taken sh.taken g) × (length later ≡ length sh.taken)
+  -- another actor's events leave it
+  others_do : (g : CellId) → has_agent (cells_of cells) g ≡ true → (b : ℕ) → (b ≡ agent_actor cells threads g → ⊥) → (books later : ℕ → List Event) → Grown b books later → Legal (cells_of cells) threads (later 0)
+      → (x : Actor) (k : ActorInvariant cells threads true (agent_code code g) books (agent_actor cells threads g) x) → Does books g x → Does later g x
+  others_do g has b n books later grown legal x k d = record {
+    goes = d.goes;
+    takes = takes_stay cells g threads (agent_actor cells threads g) books later (grown.more 0) (grown.grown 0)
+        (at_end cells g threads (agent_actor cells threads g) books later (grown.more 0) (grown.grown 0) stays has legal
+        (others_act_not (cells_of cells) threads g b (books 0) (grown.more 0) n (grown.own 0) (subst (Legal (cells_of cells) threads) (grown.grown 0) legal)))
+        x.entries k.told.hold d.takes;
+  }
 
-    one_set : (h : CellId) (v t : Bool) → (b == agent_actor cells threads h) ≡ true → SetOne (if t then set sh.taken h.number v else sh.taken)
-    one_set h v false e = (λ g n. refl, refl)
-    one_set h v true e = (
-      λ g n. get_or-set_other sh.taken h.number g.number v false (λ i. n (numbers b (agent_actor cells threads h) e ∙ ap (λ j. threads + agents_below (cells_of cells) j) (sym i))),
-      length-set sh.taken h.number v,
-    )
+  module _ (g : CellId) (has : has_agent (cells_of cells) g ≡ true) (known : StagedActor true (agent_code code g)) (sh : Shared) (x : Actor) (k : ActorInvariant cells threads true (agent_code code g) sh.books (agent_actor cells threads g) x) (d : Does sh.books g x) where
+    abbrev tc : ThreadCode
+    tc = agent_code code g
 
-    set_by : (q : Ask) (r : Reply) → may_ask cells threads sh.taken b q (sh.books (book_for cells q)) ≡ true → SetOne (taken_after q r sh.taken)
-    set_by ask.Begin r may = (λ g n. refl, refl)
-    set_by (ask.Look c p) r may = (λ g n. refl, refl)
-    set_by (ask.View cs) r may = (λ g n. refl, refl)
-    set_by (ask.Commit p sets ensured q commuted sends) r may = (λ g n. refl, refl)
-    set_by (ask.Fail p q) r may = (λ g n. refl, refl)
-    set_by (ask.Peek c) r may = (λ g n. refl, refl)
-    set_by (ask.Send x) r may = (λ g n. refl, refl)
-    set_by (ask.Take h) r may = one_set h true (hands_out r) (both (b == agent_actor cells threads h) _ may).0
-    set_by (ask.Finish h new sends) r may = one_set h false (is_done r) (both (b == agent_actor cells threads h) _ may).0
-    set_by (ask.OpenAt c) r may = (λ g n. refl, refl)
-    set_by (ask.CloseAt c p v) r may = (λ g n. refl, refl)
-    set_by (ask.Broke c p) r may = (λ g n. refl, refl)
+    abbrev a : ℕ
+    a = agent_actor cells threads g
 
-    asked_took : (t : Bool) (c : Configuration) (q : Ask) (x : Actor) → may_ask cells threads sh.taken b q (sh.books (book_for cells q)) ≡ t → Took b sh (asked t cells kd b c q x sh)
-    asked_took false c q x may = record { same = λ g n. refl; long = refl }
-    asked_took true c q x may = let s = set_by q (serve_on cells b q (sh.books (book_for cells q))).reply may in record { same = s.0; long = s.1 }
+    abbrev start : Turned Configuration
+    start = Unfinished (opening tc [])
 
-    asks_took : (c : Configuration) (s : ActorState) (o : Option Ask) (x : Actor) → Took b sh (asks_for cells threads kd b c s o x sh)
-    asks_took c s None x = unmoved (comes_to (Asking s) x)
-    asks_took c s (Some q) x = asked_took (may_ask cells threads sh.taken b q (sh.books (book_for cells q))) c q x refl
+    -- where the books stay, or grow by events of this actor that are no acts
+    grown_does : (later : ℕ → List Event) (more : List Event) → later 0 ≡ sh.books 0 ++ more → no_acts g.number more ≡ true → Legal (cells_of cells) threads (later 0) → TakesSo cells later g (length (later 0)) x.entries
+    grown_does later more e none legal = takes_stay cells g threads a sh.books later more e (at_end cells g threads a sh.books later more e stays has legal none) x.entries k.told.hold d.takes
 
-    turned_took : (c : Configuration) (o : Turned Configuration) (x : Actor) → Took b sh (turned cells threads kd b c o x sh)
-    turned_took c (Ended s) x = unmoved (comes_to (Ended s) x)
-    turned_took c (Failed f s) x = unmoved (comes_to (Failed f s) x)
-    turned_took c (Asking s) x = asks_took c s s.wants x
-    turned_took c (Unfinished d) x = unmoved (comes_to (Unfinished d) x)
-    turned_took c Stuck x = unmoved (comes_to Stuck x)
+    stopped : (why : Stop) → Does sh.books g (stop why x)
+    stopped why = record { goes = d.goes; takes = d.takes }
 
-    turns_took : (o : Turned Configuration) (why : Option Stop) (x : Actor) → Took b sh (turns_from cells threads kd b o why x sh)
-    turns_took (Ended s) why x = unmoved x
-    turns_took (Failed f s) why x = unmoved x
-    turns_took (Asking s) why x = unmoved x
-    turns_took (Unfinished c) None x = turned_took c (turn kd c) x
-    turns_took (Unfinished c) (Some s) x = unmoved x
-    turns_took Stuck why x = unmoved x
-
-  moves_took : (codes : ℕ → ThreadCode) (y : Play) (st : State) → Took (actor_of y) st.shared (moves cells threads codes y st)
-  moves_took codes (TakesTurn b) st = turns_took (codes b) b st.shared (st.actors b).at (st.actors b).stopped (st.actors b)
-  moves_took codes (IsStopped b why) st = unmoved (codes b) b st.shared (stops_from why (st.actors b).at (st.actors b).stopped (st.actors b))
-
-  -- ---- the actions in the books
-
-  abbrev Means : (ℕ → List Event) → Type 0
-  Means books = (n : ℕ) → ActsMean functions cells (books n)
-
-  pub quiet_means : (done : List Event) (kind : EventKind) → IsQuiet kind → ActMeans functions cells done kind
-  quiet_means done (event.Read c) h = tt
-  quiet_means done (event.Commit at view ws sends) h = absurd h
-  quiet_means done (event.Retry since c commute) h = tt
-  quiet_means done (event.Fail at view) h = tt
-  quiet_means done (event.Refused at view g) h = tt
-  quiet_means done (event.Send x) h = absurd h
-  quiet_means done (event.SendRefused g) h = tt
-  quiet_means done (event.Act g n new sends) h = absurd h
-  quiet_means done (event.Swap new) h = tt
-  quiet_means done (event.Broke at) h = tt
-
-  module _ (follows : FollowsAgents code functions) (ours : code.validators ≡ validators_of cells) (codes : ℕ → ThreadCode) (run_agents : RunsAgents cells threads codes code) (by : ThreadsSendSound threads codes functions) where
-    abbrev WorksAll : State → Type 0
-    WorksAll st = (g : CellId) → has_agent (cells_of cells) g ≡ true → Works cells threads code functions st.shared g (st.actors (agent_actor cells threads g))
-
-    module _ (st : State) (sound : AllSound functions (st.shared.books 0)) (long : length st.shared.taken ≡ length (cells_of cells)) (all : WorksAll st) (means : Means st.shared.books) (b : ℕ) where
-      finishes : (c : Configuration) (s : ActorState) (q : Ask) → (st.actors b).at ≡ Unfinished c → turn (codes b) c ≡ Asking s → s.wants ≡ Some q → may_ask cells threads st.shared.taken b q (st.shared.books (book_for cells q)) ≡ true
-          → Brings (ActMeans functions cells) (st.shared.books (book_for cells q)) q
-      finishes c s (ask.Finish g new (y ∷ ys)) at e w may = absurd (false≢true (sends_nothing cells threads b st.shared.taken (st.shared.books 0) g new (y ∷ ys) may))
-      finishes c s (ask.Finish g new []) at e w may =
-          let m = both (b == agent_actor cells threads g) _ may in
-          let n = both (has_agent (cells_of cells) g) (is_taken st.shared.taken g && true) m.1 in
-          let i = numbers b (agent_actor cells threads g) m.0 in
-          finish_means cells threads code functions follows ours g n.0 st.shared sound long (st.actors (agent_actor cells threads g)) (all g n.0) c s
-          (subst (λ j. (st.actors j).at ≡ Unfinished c) i at) (subst (λ kd. turn kd c ≡ Asking s) (ap codes i ∙ run_agents g n.0) e) new w (both (is_taken st.shared.taken g) true n.1).0
-      finishes c s ask.Begin at e w may = tt
-      finishes c s (ask.Look d p) at e w may = tt
-      finishes c s (ask.View cs) at e w may = tt
-      finishes c s (ask.Commit p sets ensured q commuted sends) at e w may = λ ws. tt
-      finishes c s (ask.Fail p q) at e w may = tt
-      finishes c s (ask.Peek d) at e w may = tt
-      finishes c s (ask.Send x) at e w may = tt
-      finishes c s (ask.Take g) at e w may = tt
-      finishes c s (ask.OpenAt d) at e w may = tt
-      finishes c s (ask.CloseAt d p v) at e w may = tt
-      finishes c s (ask.Broke d p) at e w may = tt
-
-      asked_means : (t : Bool) (c : Configuration) (s : ActorState) (q : Ask) → may_ask cells threads st.shared.taken b q (st.shared.books (book_for cells q)) ≡ t → (st.actors b).at ≡ Unfinished c → turn (codes b) c ≡ Asking s → s.wants ≡ Some q
-          → Means (asked t cells (codes b) b c q (st.actors b) st.shared).shared.books
-      asked_means false c s q may at e w = means
-      asked_means true c s q may at e w = λ n. go n (n == book_for cells q)
-        where
-          go : (n : ℕ) (t : Bool) → ActsMean functions cells (if t then (serve_on cells b q (st.shared.books (book_for cells q))).book else st.shared.books n)
-          go n true = served_such (ActMeans functions cells) quiet_means cells b (st.shared.books (book_for cells q)) (means (book_for cells q)) q (finishes c s q at e w may)
-          go n false = means n
-
-      wanted_means : (c : Configuration) (s : ActorState) (o : Option Ask) → (st.actors b).at ≡ Unfinished c → turn (codes b) c ≡ Asking s → s.wants ≡ o → Means (asks_for cells threads (codes b) b c s o (st.actors b) st.shared).shared.books
-      wanted_means c s None at e w = means
-      wanted_means c s (Some q) at e w = asked_means (may_ask cells threads st.shared.taken b q (st.shared.books (book_for cells q))) c s q refl at e w
-
-      turned_means : (c : Configuration) (o : Turned Configuration) → (st.actors b).at ≡ Unfinished c → turn (codes b) c ≡ o → Means (turned cells threads (codes b) b c o (st.actors b) st.shared).shared.books
-      turned_means c (Ended s) at e = means
-      turned_means c (Failed f s) at e = means
-      turned_means c (Asking s) at e = wanted_means c s s.wants at e refl
-      turned_means c (Unfinished d) at e = means
-      turned_means c Stuck at e = means
-
-      turns_mean : (o : Turned Configuration) (why : Option Stop) → (st.actors b).at ≡ o → Means (turns_from cells threads (codes b) b o why (st.actors b) st.shared).shared.books
-      turns_mean (Ended s) why e = means
-      turns_mean (Failed f s) why e = means
-      turns_mean (Asking s) why e = means
-      turns_mean (Unfinished c) None e = turned_means c (turn (codes b) c) e refl
-      turns_mean (Unfinished c) (Some s) e = means
-      turns_mean Stuck why e = means
-
-    moves_mean : (y : Play) (st : State) → AllSound functions (st.shared.books 0) → length st.shared.taken ≡ length (cells_of cells) → WorksAll st → Means st.shared.books → Means (moves cells threads codes y st).shared.books
-    moves_mean (TakesTurn b) st sound long all means = turns_mean st sound long all means b (st.actors b).at (st.actors b).stopped refl
-    moves_mean (IsStopped b why) st sound long all means = means
-
-    -- ---- plays
-
-    module _ (g : CellId) (has : has_agent (cells_of cells) g ≡ true) (st : State) (sound : AllSound functions (st.shared.books 0)) (long : length st.shared.taken ≡ length (cells_of cells)) (all : WorksAll st) where
-      abbrev OwnWell : Play → Type 0
-      OwnWell y = Works cells threads code functions (moves cells threads codes y st).shared g (moves cells threads codes y st).actor
-
-      abbrev own : ℕ
-      own = agent_actor cells threads g
-
-      own_well : (y : Play) → actor_of y ≡ own → OwnWell y
-      own_well (TakesTurn b) e =
-          subst (λ i. OwnWell (TakesTurn i)) (sym e)
-          (subst (λ kd. Works cells threads code functions (turns_from cells threads kd own (st.actors own).at (st.actors own).stopped (st.actors own) st.shared).shared g (turns_from cells threads kd own (st.actors own).at (st.actors own).stopped (st.actors own) st.shared).actor) (sym (run_agents g has))
-          (turns_well cells threads code functions follows ours g has st.shared sound long (st.actors own) (all g has) (st.actors own).at (st.actors own).stopped refl))
-      own_well (IsStopped b why) e =
-          subst (λ i. OwnWell (IsStopped i why)) (sym e) (stops_well cells threads code functions follows ours g has st.shared sound long (st.actors own) (all g has) why (st.actors own).at (st.actors own).stopped)
-
-    -- what holds between plays
-    record Standing (st : State) : Type 0 where
-      shared : SharedStands cells threads st.shared
-      long : length st.shared.taken ≡ length (cells_of cells)
-      sends : Sends functions cells threads codes by st
-      means : Means st.shared.books
-      all : WorksAll st
-
-    play_stands : ServeKeeps → ActionStays → (y : Play) (st : State) → Standing st → Standing (play cells threads codes y st)
-    play_stands keeps stays y st h = record {
-      shared = w.shared;
-      long = took.long ∙ h.long;
-      sends = play_sends functions cells threads codes by y st h.sends;
-      means = moves_mean y st sound h.long h.all h.means;
-      all = λ g has. go g has (actor_of y == agent_actor cells threads g) refl;
+    quiet : (c : Configuration) (o : Turned Configuration) → x.at ≡ Unfinished c → turn tc c ≡ o → IsStaged true k.stage o → Does sh.books g (comes_to o x)
+    quiet c o at e h = record {
+      goes = subst (λ u. GoesTo tc start x.entries u) e (goes_walk tc x.entries start c (subst AsksNothing (sym e) (asks_none true k.stage o h)) (subst (λ u. GoesTo tc start x.entries u) at d.goes));
+      takes = d.takes;
     }
+
+    module _ (q : Ask) (may : may_ask cells threads sh.taken a q (sh.books (book_for cells q)) ≡ true) where
+      abbrev v : Served
+      v = serve_on cells a q (sh.books (book_for cells q))
+
+      abbrev later : ℕ → List Event
+      later n = if n == book_for cells q then v.book else sh.books n
+
+      abbrev size : ℕ
+      size = length (sh.books (book_for cells q))
+
+      s : Serves a (sh.books (book_for cells q)) v
+      s = serves a (sh.books (book_for cells q)) cells q
+
+      -- what was served to another ask is no act
+      none_more : is_finish q ≡ false → no_acts g.number ((own_grown cells threads a sh.books q sh.taken may v refl s).more 0) ≡ true
+      none_more isnt = go (0 == book_for cells q)
+        where
+          go : (b : Bool) → no_acts g.number (if b then s.more else []) ≡ true
+          go true = none_served cells g.number a q (sh.books (book_for cells q)) s.more isnt s.grown
+          go false = refl
+
+      -- what is handed out is what the agent runs next
+      out_take : (h : CellId) (o : Option Action) (n : ℕ) (w : Value) (book : List Event) (bs : ℕ → List Event) → h ≡ g → bs 0 ≡ book → next_action (cells_of cells) book h ≡ o → newest (world.opening (cells_of cells)) book h.number ≡ w → OutSo cells bs g (ask.Take h) (takes o n w) (length (bs 0))
+      out_take h None n w book bs i e next found = tt
+      out_take h (Some y) n w book bs i e next found =
+          let whole : take (length (bs 0)) (bs 0) ≡ book = taken_whole (bs 0) ∙ e in (
+            subst (λ l. next_action (cells_of cells) l g ≡ Some y) (sym whole) (subst (λ j. next_action (cells_of cells) book j ≡ Some y) i next),
+            subst (λ l. newest (world.opening (cells_of cells)) l g.number ≡ w) (sym whole) (subst (λ j. newest (world.opening (cells_of cells)) book j.number ≡ w) i found),
+          )
+
+    -- so it is of each ask
+    out_so : (q : Ask) (may : may_ask cells threads sh.taken a q (sh.books (book_for cells q)) ≡ true) → OutSo cells (later q may) g q (serve_on cells a q (sh.books (book_for cells q))).reply (length (later q may 0))
+    out_so (ask.Take h) may =
+        let m = both (a == agent_actor cells threads h) _ may in
+        let n = both (has_agent (cells_of cells) h) _ m.1 in
+        out_take (ask.Take h) may h (next_action (cells_of cells) (sh.books 0) h) (suc (mail_after (cells_of cells) (sh.books 0) h.number).acts) (newest (world.opening (cells_of cells)) (sh.books 0) h.number) (sh.books 0) (later (ask.Take h) may)
+        (sym (one_agent (cells_of cells) threads g h has n.0 (numbers a (agent_actor cells threads h) m.0))) refl refl refl
+    out_so ask.Begin may = tt
+    out_so (ask.Look c p) may = tt
+    out_so (ask.View cs) may = tt
+    out_so (ask.Commit p sets ensured q commuted sends) may = tt
+    out_so (ask.Fail p q) may = tt
+    out_so (ask.Peek c) may = tt
+    out_so (ask.Send y) may = tt
+    out_so (ask.Finish h new sends) may = tt
+    out_so (ask.OpenAt c) may = tt
+    out_so (ask.CloseAt c p w) may = tt
+    out_so (ask.Broke c p) may = tt
+
+    module _ (c : Configuration) (at : x.at ≡ Unfinished c) (q : Ask) (asks : AsksAt tc c q) (may : may_ask cells threads sh.taken a q (sh.books (book_for cells q)) ≡ true) (legal : Legal (cells_of cells) threads (later q may 0)) where
+      -- the reply is taken
+      heard_does : Does (later q may) g (hears tc c q (v q may).reply (size q may) x)
+      heard_does = record {
+        goes = goes_hear tc x.entries start c (entry q (v q may).reply (size q may)) asks (subst (λ u. GoesTo tc start x.entries u) at d.goes);
+        takes = by (is_finish q) refl;
+      }
+        where
+          grown : later q may 0 ≡ sh.books 0 ++ (own_grown cells threads a sh.books q sh.taken may (v q may) refl (s q may)).more 0
+          grown = (own_grown cells threads a sh.books q sh.taken may (v q may) refl (s q may)).grown 0
+
+          by : (b : Bool) → is_finish q ≡ b → TakesSo cells (later q may) g (length (later q may 0)) (x.entries ++ entry q (v q may).reply (size q may) ∷ [])
+          by false isnt =
+              takes_append cells g (later q may) (length (later q may 0)) x.entries (entry q (v q may).reply (size q may)) isnt (out_so q may)
+              (grown_does (later q may) ((own_grown cells threads a sh.books q sh.taken may (v q may) refl (s q may)).more 0) grown (none_more q may isnt) legal)
+          by true does =
+              takes_finish cells g (later q may) (length (later q may 0)) x.entries (entry q (v q may).reply (size q may)) does
+              (subst (λ n. TakesSo cells (later q may) g (length (sh.books n)) x.entries) (sym (home_of cells g q does))
+              (takes_fixed cells g threads a sh.books (later q may) ((own_grown cells threads a sh.books q sh.taken may (v q may) refl (s q may)).more 0) grown x.entries k.told.hold d.takes))
+
+      -- a reply that isn't taken leaves the books
+      left_does : (IsExchanged (v q may).reply → ⊥) → Does (later q may) g x
+      left_does isnt = record {
+        goes = d.goes;
+        takes = grown_does (later q may) [] (as_before (0 == book_for cells q) refl) refl legal;
+      }
+        where
+          as_before : (t : Bool) → (0 == book_for cells q) ≡ t → (if t then (v q may).book else sh.books 0) ≡ sh.books 0 ++ []
+          as_before true h = (s q may).grown ∙ ap (λ l. sh.books (book_for cells q) ++ l) ((s q may).stays isnt) ∙ ap (λ i. sh.books i ++ []) (sym (numbers 0 (book_for cells q) h))
+          as_before false h = sym (append_nil (sh.books 0))
+
+      replied_does : (r : Reply) → ((IsExchanged r) → Does (later q may) g (hears tc c q r (size q may) x)) → ((IsExchanged r → ⊥) → Does (later q may) g x) → Does (later q may) g (replied tc c q r (size q may) x)
+      replied_does (reply.At p) own left = own tt
+      replied_does (reply.Is w) own left = own tt
+      replied_does (reply.Views p vs) own left = own tt
+      replied_does reply.Done own left = own tt
+      replied_does (reply.Retry e) own left = own tt
+      replied_does (reply.Changed e) own left = own tt
+      replied_does (reply.AgentIsFailed h) own left = own tt
+      replied_does (reply.Action n y w) own left = own tt
+      replied_does (reply.Opened p w) own left = own tt
+      replied_does reply.Idle own left = left (λ e. e)
+      replied_does reply.Full own left = let l = left (λ e. e) in record { goes = l.goes; takes = l.takes }
+      replied_does reply.Memory own left = let l = left (λ e. e) in record { goes = l.goes; takes = l.takes }
+
+      served_does : Does (later q may) g (replied tc c q (v q may).reply (size q may) x)
+      served_does = replied_does (v q may).reply (λ ex. heard_does) left_does
+
+    -- ---- a turn
+
+    abbrev After : Moved → Type 0
+    After m = Legal (cells_of cells) threads (m.shared.books 0) → Does m.shared.books g m.actor
+
+    asked_does : (b : Bool) (c : Configuration) (q : Ask) → may_ask cells threads sh.taken a q (sh.books (book_for cells q)) ≡ b → x.at ≡ Unfinished c → AsksAt tc c q → After (asked b cells tc a c q x sh)
+    asked_does false c q may at asks = λ legal. stopped run_of.Unlawful
+    asked_does true c q may at asks = λ legal. served_does c at q asks may legal
+
+    turned_does : (c : Configuration) (o : Turned Configuration) → x.at ≡ Unfinished c → turn tc c ≡ o → StagedFrom true k.stage o (λ q r. turn tc (given (exchange q r ∷ []) c)) → After (turned cells threads tc a c o x sh)
+    turned_does c (Ended t) at e h = λ legal. quiet c (Ended t) at e h
+    turned_does c (Failed f t) at e h = λ legal. quiet c (Failed f t) at e h
+    turned_does c (Asking t) at e h =
+        subst (λ o. After (asks_for cells threads tc a c t o x sh)) (sym h.1) (asked_does (may_ask cells threads sh.taken a h.0 (sh.books (book_for cells h.0))) c h.0 refl at (t, e, h.1))
+    turned_does c (Unfinished u) at e h = λ legal. quiet c (Unfinished u) at e h
+    turned_does c Stuck at e h = λ legal. quiet c Stuck at e tt
+
+    pub turns_do : (o : Turned Configuration) (why : Option Stop) → x.at ≡ o → After (turns_from cells threads tc a o why x sh)
+    turns_do (Ended t) why e = λ legal. d
+    turns_do (Failed f t) why e = λ legal. d
+    turns_do (Asking t) why e = λ legal. d
+    turns_do (Unfinished c) None e =
+        let h = subst (λ o. IsStaged true k.stage o) e k.staged in
+        turned_does c (turn tc c) e refl (known x.turns (map exchange_of x.entries) c (k.ran ∙ e) h.0 k.stage h.1)
+    turns_do (Unfinished c) (Some y) e = λ legal. d
+    turns_do Stuck why e = λ legal. d
+
+    pub stops_do : (why : Stop) (o : Turned Configuration) (w : Option Stop) → Does sh.books g (stops_from why o w x)
+    stops_do why (Ended t) w = d
+    stops_do why (Failed f t) w = d
+    stops_do why (Asking t) w = d
+    stops_do why (Unfinished c) None = stopped why
+    stops_do why (Unfinished c) (Some y) = d
+    stops_do why Stuck w = d
+
+  -- ---- runs
+
+  module _ (codes : ℕ → ThreadCode) (run_agents : RunsAgents cells threads codes code) (staged : (g : CellId) → StagedActor true (agent_code code g)) where
+    abbrev AllDo : State → Type 0
+    AllDo st = (g : CellId) → has_agent (cells_of cells) g ≡ true → Does st.shared.books g (st.actors (agent_actor cells threads g))
+
+    -- an agent's actor, as it is between plays
+    agent_stands : (st : State) → RunInvariant cells threads codes st → (g : CellId) → has_agent (cells_of cells) g ≡ true → ActorInvariant cells threads true (agent_code code g) st.shared.books (agent_actor cells threads g) (st.actors (agent_actor cells threads g))
+    agent_stands st h g has =
+        subst (λ kd. ActorInvariant cells threads true kd st.shared.books (agent_actor cells threads g) (st.actors (agent_actor cells threads g))) (run_agents g has)
+        (h.actors true (agent_actor cells threads g) (subst (StagedActor true) (sym (run_agents g has)) (staged g)))
+
+    play_does : ServeKeeps → (y : Play) (st : State) → RunInvariant cells threads codes st → AllDo st → AllDo (play cells threads codes y st)
+    play_does keeps y st h all g has = go (actor_of y == agent_actor cells threads g) refl
       where
-        sound : AllSound functions (st.shared.books 0)
-        sound = h.sends.books 0
+        a : ℕ
+        a = agent_actor cells threads g
 
         w : MovedWell keeps cells threads (actor_of y) st.shared (moves cells threads codes y st)
         w = moves_stand keeps cells threads codes y st h.shared
 
-        took : Took (actor_of y) st.shared (moves cells threads codes y st)
-        took = moves_took codes y st
+        own : (y : Play) → actor_of y ≡ a → Legal (cells_of cells) threads ((moves cells threads codes y st).shared.books 0) → Does (moves cells threads codes y st).shared.books g (moves cells threads codes y st).actor
+        own (TakesTurn b) e =
+            subst (λ i. Legal (cells_of cells) threads ((moves cells threads codes (TakesTurn i) st).shared.books 0) → Does (moves cells threads codes (TakesTurn i) st).shared.books g (moves cells threads codes (TakesTurn i) st).actor) (sym e)
+            (subst (λ kd. Legal (cells_of cells) threads ((turns_from cells threads kd a (st.actors a).at (st.actors a).stopped (st.actors a) st.shared).shared.books 0)
+            → Does (turns_from cells threads kd a (st.actors a).at (st.actors a).stopped (st.actors a) st.shared).shared.books g (turns_from cells threads kd a (st.actors a).at (st.actors a).stopped (st.actors a) st.shared).actor) (sym (run_agents g has))
+            (turns_do g has (staged g) st.shared (st.actors a) (agent_stands st h g has) (all g has) (st.actors a).at (st.actors a).stopped refl))
+        own (IsStopped b why) e = λ legal.
+            subst (λ i. Does (moves cells threads codes (IsStopped i why) st).shared.books g (moves cells threads codes (IsStopped i why) st).actor) (sym e)
+            (stops_do g has (staged g) st.shared (st.actors a) (agent_stands st h g has) (all g has) why (st.actors a).at (st.actors a).stopped)
 
-        go : (g : CellId) → has_agent (cells_of cells) g ≡ true → (t : Bool) → (actor_of y == agent_actor cells threads g) ≡ t
-            → Works cells threads code functions (moves cells threads codes y st).shared g (if t then (moves cells threads codes y st).actor else st.actors (agent_actor cells threads g))
-        go g has true e = own_well g has st sound h.long h.all y (numbers (actor_of y) (agent_actor cells threads g) e)
-        go g has false e =
-            let n : actor_of y ≡ agent_actor cells threads g → ⊥ = λ i. false≢true (sym e ∙ ap (λ j. actor_of y == j) (sym i) ∙ number-itself (actor_of y)) in
-            others_leave cells threads code functions stays g has (actor_of y) n st.shared (moves cells threads codes y st).shared w.grown w.shared.store.legal (took.same g n) (st.actors (agent_actor cells threads g)) (h.all g has)
+        go : (t : Bool) → (actor_of y == a) ≡ t → Does (moves cells threads codes y st).shared.books g (if t then (moves cells threads codes y st).actor else st.actors a)
+        go true e = own y (numbers (actor_of y) a e) w.shared.store.legal
+        go false e =
+            others_do g has (actor_of y) (λ i. false≢true (sym e ∙ ap (λ j. actor_of y == j) (sym i) ∙ number-itself (actor_of y))) st.shared.books (moves cells threads codes y st).shared.books w.grown w.shared.store.legal (st.actors a)
+            (agent_stands st h g has) (all g has)
 
-    plays_stand : ServeKeeps → ActionStays → (ys : List Play) (st : State) → Standing st → Standing (plays_from cells threads codes ys st)
-    plays_stand keeps stays [] st h = h
-    plays_stand keeps stays (y ∷ ys) st h = plays_stand keeps stays ys (play cells threads codes y st) (play_stands keeps stays y st h)
+    -- what holds between plays
+    record Standing (functions : List PlainFunction) (by : ActorsSendSound cells threads codes functions) (st : State) : Type 0 where
+      holds : RunInvariant cells threads codes st
+      sends : Sends functions cells threads codes by st
+      all : AllDo st
 
-    none_long : (cs : List StoreCell) → length (none_taken cs) ≡ length cs
-    none_long [] = refl
-    none_long (c ∷ cs) = ap suc (none_long cs)
+    plays_stand : ServeKeeps → (functions : List PlainFunction) (by : ActorsSendSound cells threads codes functions) (ys : List Play) (st : State) → Standing functions by st → Standing functions by (plays_from cells threads codes ys st)
+    plays_stand keeps functions by [] st h = h
+    plays_stand keeps functions by (y ∷ ys) st h =
+        plays_stand keeps functions by ys (play cells threads codes y st)
+        (record { holds = play_holds keeps cells threads codes y st h.holds; sends = play_sends functions cells threads codes by y st h.sends; all = play_does keeps y st h.holds h.all })
 
-    none_there : (cs : List StoreCell) (k : ℕ) → get_or (none_taken cs) k false ≡ false
-    none_there [] k = refl
-    none_there (c ∷ cs) zero = refl
-    none_there (c ∷ cs) (suc k) = none_there cs k
-
-    opening_stands : FreshStands → Standing (opens cells codes)
-    opening_stands fresh = record {
-      shared = (opening_holds fresh cells threads codes).shared;
-      long = none_long (cells_of cells);
+    opening_stands : FreshStands → (functions : List PlainFunction) (by : ActorsSendSound cells threads codes functions) → Standing functions by (opens cells codes)
+    opening_stands fresh functions by = record {
+      holds = opening_holds fresh cells threads codes;
       sends = opening_sends functions cells threads codes by;
-      means = λ n. tt;
-      all = λ g has.
-          record { ran = ap (λ kd. Unfinished (first kd)) (sym (run_agents g has)); consumed = refl; phase = inl (none_there (cells_of cells) g.number, tt) };
+      all = λ g has. record { goes = (0, ap (λ kd. Unfinished (opening kd [])) (sym (run_agents g has))); takes = tt };
     }
-      where
-        first : ThreadCode → Configuration
-        first kd = machine.opening kd []
 
-    -- an agent goes on, and has printed nothing
-    works_on : (g : CellId) (sh : Shared) (x : Actor) → Works cells threads code functions sh g x → GoesOn (outcome_at x.at)
-    works_on g sh x w =
-        subst GoesOn (exec_run tc x.turns (machine.opening tc (map exchange_of x.entries)) ∙ ap (λ o. and_then o stated) w.ran ∙ outcome x.at)
-        ((follows g).goes_on (map exchange_of x.entries) x.turns (told w.phase))
-      where
-        tc : ThreadCode
-        tc = agent_code code g
+    -- an agent is explained where this holds
+    explained : Lower → RefusedIsUndisturbed → (functions : List PlainFunction) (by : ActorsSendSound cells threads codes functions) → FollowsAgents code cells functions → (st : State) → Standing functions by st
+        → (g : CellId) → has_agent (cells_of cells) g ≡ true → AgentExplained cells code functions st.shared.books (agent_actor cells threads g) g (st.actors (agent_actor cells threads g))
+    explained lower refused functions by follows st h g has =
+        let k = agent_stands st h.holds g has in
+        let x = st.actors (agent_actor cells threads g) in
+        let d = h.all g has in
+        let r = resting lower refused cells threads code functions follows st.shared.books (λ n le. each_taken (λ done e. SendsSound functions e.kind) n [] (st.shared.books 0) (h.sends.books 0)) g (agent_actor cells threads g)
+        (λ n le y e. next_own (cells_of cells) threads (st.shared.books 0) h.holds.shared.store.legal g has n y e) (staged g)
+        x.entries (opening (agent_code code g) []).state [] x.at refl (refl, refl) (starts (agent_code code g)) d.goes k.told.hold d.takes in
+        record { ran = k.ran; printed = r.printed; goes_on = r.goes_on; did = r.did; acts = r.acts }
 
-        outcome : (o : Turned Configuration) → and_then o stated ≡ outcome_at o
-        outcome (Ended s) = refl
-        outcome (Failed f s) = refl
-        outcome (Asking s) = refl
-        outcome (Unfinished c) = refl
-        outcome Stuck = refl
-
-        told : Phase cells threads code functions sh.taken (sh.books 0) g x.entries → AgentTold functions g (map exchange_of x.entries)
-        told (inl p) = told_fits functions g (map exchange_of x.entries) p.1
-        told (inr p) =
-            let h = p.1 in
-            subst (AgentTold functions g) (sym (ap (map exchange_of) h.entries ∙ map_append h.done (entry (ask.Take g) (reply.Action h.number h.action h.state) h.at)))
-            (told_more functions g (map exchange_of h.done) h.number h.action h.state h.finished h.sound)
-
-    explained : ServeKeeps → ActionStays → FreshStands → (ys : List Play) → AgentsExplain cells threads code functions (plays_from cells threads codes ys (opens cells codes))
-    explained keeps stays fresh ys =
-        let h = plays_stand keeps stays ys (opens cells codes) (opening_stands fresh) in
-        record { sends = h.sends.books 0; acts = h.means 0; agents = λ g has. of g (h.all g has) }
-      where
-        of : (g : CellId) → Works cells threads code functions (plays_from cells threads codes ys (opens cells codes)).shared g ((plays_from cells threads codes ys (opens cells codes)).actors (agent_actor cells threads g))
-            → AgentExplained cells code functions ((plays_from cells threads codes ys (opens cells codes)).shared.books 0) g ((plays_from cells threads codes ys (opens cells codes)).actors (agent_actor cells threads g))
-        of g w = record { ran = w.ran; consumed = w.consumed; goes_on = works_on g _ _ w; actions = go w.phase }
-          where
-            go : Phase cells threads code functions (plays_from cells threads codes ys (opens cells codes)).shared.taken ((plays_from cells threads codes ys (opens cells codes)).shared.books 0) g ((plays_from cells threads codes ys (opens cells codes)).actors (agent_actor cells threads g)).entries
-                → HasFinished functions g ((plays_from cells threads codes ys (opens cells codes)).actors (agent_actor cells threads g)).entries
-                ⊎ HasTaken cells code functions ((plays_from cells threads codes ys (opens cells codes)).shared.books 0) g ((plays_from cells threads codes ys (opens cells codes)).actors (agent_actor cells threads g)).entries
-            go (inl p) = inl p.1
-            go (inr p) = inr p.1
-
-pub run_acts_mean : ServeKeeps → ActionStays → FreshStands → RunActsMean
-run_acts_mean keeps stays fresh cells threads codes code functions ys ours follows run_agents by = explained cells threads code functions follows ours codes run_agents by keeps stays fresh ys
+pub run_acts_mean : Lower → RefusedIsUndisturbed → ServeKeeps → ActionStays → FreshStands → RunActsMean
+run_acts_mean lower refused keeps stays fresh cells threads codes code functions ys follows run_agents staged by =
+    let h = plays_stand stays cells threads code codes run_agents staged keeps functions by ys (opens cells codes) (opening_stands stays cells threads code codes run_agents staged fresh functions by) in
+    record {
+      sends = h.sends.books 0;
+      agents = explained stays cells threads code codes run_agents staged lower refused functions by follows (plays_from cells threads codes ys (opens cells codes)) h;
+    }

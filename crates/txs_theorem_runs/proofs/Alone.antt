@@ -87,7 +87,7 @@ module _ (cells : List CellDefinition) (a : ℕ) (book : List Event) where
       go false r = r
 
 pub alone_history : HistoryOfWhole → AloneHistory
-alone_history whole cells threads book a es st legal t =
+alone_history whole cells threads book agent a es st legal t =
     ap (seen_of cells (alone book)) (all_of_store (trace_of cells (alone book) a es) (λ n. t.traced (suc n)) ∙ ap store_places (t.traced 0))
     ∙ replayed cells a book 0 book refl
     ∙ sym (whole (cells_of cells) threads (opening (cells_of cells)) a book legal)

@@ -1,5 +1,6 @@
 -- What an actor was told fits what it did.
-use Rattle.std.proofs.Common.{◌≡◌, ◌≤◌, ℕ, suc, Bool, true, false, ◌&&◌, nat_lt, List, [], ◌∷◌, ◌++◌, if◌then◌else◌, length, take, map, Option, Some, None, refl, sym, ap, ◌∙◌, subst, arith}
+use Rattle.std.proofs.Common.{◌≡◌, ◌≤◌, ℕ, suc, Bool, true, false, ◌&&◌, ◌||◌, nat_lt, List, [], ◌∷◌, ◌++◌, if◌then◌else◌, length, take, map, Option, Some, None, refl, sym, ap, ◌∙◌, subst, arith}
+use Rattle.std.proofs.lemmas.Bool.{false≢true}
 use Rattle.std.proofs.lemmas.Bool.Decides.{nat_tests}
 use Rattle.txs_world_protocol.specs.Ask.{Writes, Exchange, with_write}
 use Rattle.txs_world_protocol.specs.SeenEvent.{SeenEvent, home, atoms_below}
@@ -23,14 +24,14 @@ use Rattle.txs_value_data.specs.declared.value.Value.{Value}
 use Rattle.txs_theorem_threads.specs.RepliesFit.{Phase, Out, belongs, PhaseFits, Gives, AgreeOn}
 use Rattle.txs_theorem_threads.specs.RepliesFitTo.{RepliesFitTo}
 use Rattle.txs_world_book.specs.Atom.{atom_after, swapped_since, closes_at}
-use Rattle.txs_world_book.specs.Book.{opening, after, newest, is_outdated, least_written, cells_in, may_name, may_end, has_cell, is_failed, first_failed, has_ref, has_refs, are_refs, are_sends}
+use Rattle.txs_world_book.specs.Book.{opening, after, newest, is_outdated, least_written, cells_in, actors, may_name, may_end, has_cell, is_failed, first_failed, has_ref, has_refs, are_refs, are_sends, is_empty}
 use Rattle.txs_tree_meaning.specs.Transaction as tree
 use Rattle.txs_world_book.specs.Laws.{UnwrittenStays}
 use Rattle.txs_world_book.specs.Served.{Served, served, adds, event_of, cells_of}
 use Rattle.txs_world.specs.Store.{looks, commits, sends_to, merged, are_apart, serve}
 use Rattle.txs_theorem_runs.specs.Shared.{book_for, serve_on, may_ask, is_atom, has_atom, world_of, seen_in}
-use Rattle.txs_theorem_runs.specs.Stages.{Stage, Idle, Open, Viewing, Swapping, AsksIn, stage_after, phase_of}
-use Rattle.txs_theorem_runs.specs.Told.{Entry, exchange_of, Place, IsExchanged, AllHold, AreStaged, trace_of, seen_before, seen_of, ToldBy, history_of}
+use Rattle.txs_theorem_runs.specs.Stages.{Stage, Resting, Idle, Open, Viewing, Swapping, AsksIn, stage_after, phase_of}
+use Rattle.txs_theorem_runs.specs.Told.{Entry, exchange_of, Place, IsExchanged, AllHold, AreStaged, trace_of, seen_before, seen_of, history_of}
 use Rattle.txs_theorem_runs.proofs.Replayed.{length_taken, after_taken, newest_taken, atom_taken, atom_newest_taken, atom_unswapped, stands_there, named, ended, gives_all, unwritten_agree}
 
 -- an event added where there is room
@@ -111,8 +112,8 @@ module _ (stays : UnwrittenStays) (cells : List CellDefinition) (threads : ℕ) 
   atom_world c h es p = subst (λ b. world_of cells (if b then suc (atoms_below cells c.number) else 0) es p c.number ≡ atom_after (w c.number) es p) (sym h) refl
 
   -- what is tested behind the actor's number
-  tested : (b : Bool) → (nat_lt a threads && b) ≡ true → b ≡ true
-  tested b h = (and_both (nat_lt a threads) b h).1
+  tested : (b : Bool) → (nat_lt a (actors threads (cells_of cells)) && b) ≡ true → b ≡ true
+  tested b h = (and_both (nat_lt a (actors threads (cells_of cells))) b h).1
 
   atom_there : (c : CellId) → has_atom cells c ≡ true → is_atom c ≡ true
   atom_there c h = (and_both (is_atom c) (has_cell (cells_of cells) c) h).0
@@ -144,7 +145,7 @@ module _ (stays : UnwrittenStays) (cells : List CellDefinition) (threads : ℕ) 
     sends_fit true x within = adding (ask.Send x) k within xs end ps Idle (event.SendRefused x.agent) (reply.AgentIsFailed x.agent) (λ g. (refl, (refl, (refl, refl), g)))
     sends_fit false x within = adding (ask.Send x) k within xs end ps Idle (event.Send x) reply.Done (λ g. (refl, (refl, refl, g)))
 
-    idle_fits : (q : Ask) → AsksIn Idle q → AskFits Idle q
+    idle_fits : (q : Ask) → AsksIn false Idle q → AskFits Idle q
     idle_fits ask.Begin ok within may = quietly ask.Begin k within xs end ps Idle (reply.At (length (take k (books 0)))) (λ g. (refl, (world_of cells 0 (books 0) (length (take k (books 0))), g)))
     idle_fits (ask.Peek c) ok within may =
         subst (λ v. Fitting (ask.Peek c) k within xs end ps Idle v) (sym (peek_served c k within))
@@ -166,7 +167,7 @@ module _ (stays : UnwrittenStays) (cells : List CellDefinition) (threads : ℕ) 
     idle_fits (ask.Commit p sets ensured q commuted sends) ok within may = absurd ok
     idle_fits (ask.Fail p q) ok within may = absurd ok
     idle_fits (ask.Take g) ok within may = absurd ok
-    idle_fits (ask.Finish g new sends) ok within may = absurd ok
+    idle_fits (ask.Finish g new sends) ok within may = absurd (false≢true ok)
     idle_fits (ask.Broke c p) ok within may = absurd ok
 
     looks_fit : (b : Bool) (c : CellId) (p : ℕ) (within : k ≤ length (books 0)) → p ≤ k → Fitting (ask.Look c p) k within xs end ps (Open p) (looks b w a c p (take k (books 0)))
@@ -187,7 +188,7 @@ module _ (stays : UnwrittenStays) (cells : List CellDefinition) (threads : ℕ) 
     in_place all p within h = subst (λ j. p ≤ j) (length_taken k (books 0) within) (named all (take k (books 0)) a p h)
 
     -- in a try on the world at this read point
-    open_fits : (at : ℕ) (q : Ask) → AsksIn (Open at) q → AskFits (Open at) q
+    open_fits : (at : ℕ) (q : Ask) → AsksIn false (Open at) q → AskFits (Open at) q
     open_fits at (ask.Look c p) ok within may =
         subst (λ i. Fitting (ask.Look c p) k within xs end ps (Open i) (looks (is_outdated c.number p (take k (books 0))) w a c p (take k (books 0)))) (sym ok)
         (looks_fit (is_outdated c.number p (take k (books 0))) c p within (in_place false p within (and_both (has_ref (cells_of cells) c) (may_name false (take k (books 0)) a p) (tested (has_ref (cells_of cells) c && may_name false (take k (books 0)) a p) may)).1))
@@ -215,7 +216,7 @@ module _ (stays : UnwrittenStays) (cells : List CellDefinition) (threads : ℕ) 
     open_fits at (ask.Peek c) ok within may = absurd ok
     open_fits at (ask.Send x) ok within may = absurd ok
     open_fits at (ask.Take g) ok within may = absurd ok
-    open_fits at (ask.Finish g new sends) ok within may = absurd ok
+    open_fits at (ask.Finish g new sends) ok within may = absurd (false≢true ok)
     open_fits at (ask.OpenAt c) ok within may = absurd ok
     open_fits at (ask.CloseAt c p v) ok within may = absurd ok
     open_fits at (ask.Broke c p) ok within may = absurd ok
@@ -239,7 +240,7 @@ module _ (stays : UnwrittenStays) (cells : List CellDefinition) (threads : ℕ) 
         (λ f. (refl, (refl, (refl, same refl, (merged_alike sets commuted, refl)), f)))
 
     -- in a commute phase
-    viewing_fits : (at view : ℕ) (q : Ask) → AsksIn (Viewing at view) q → AskFits (Viewing at view) q
+    viewing_fits : (at view : ℕ) (q : Ask) → AsksIn false (Viewing at view) q → AskFits (Viewing at view) q
     viewing_fits at view (ask.Commit p sets ensured q commuted sends) ok within may =
         subst (λ i. Fitting (ask.Commit p sets ensured q commuted sends) k within xs end ps (Viewing i view) (serve (cells_of cells) a (ask.Commit p sets ensured q commuted sends) (take k (books 0)))) (sym ok.0)
         (subst (λ i. Fitting (ask.Commit p sets ensured q commuted sends) k within xs end ps (Viewing p i) (serve (cells_of cells) a (ask.Commit p sets ensured q commuted sends) (take k (books 0)))) (sym ok.1)
@@ -247,7 +248,7 @@ module _ (stays : UnwrittenStays) (cells : List CellDefinition) (threads : ℕ) 
       where
         ends_may : may_end (take k (books 0)) a p q ≡ true
         ends_may =
-            let h0 = (and_both (nat_lt a threads) _ may).1 in
+            let h0 = (and_both (nat_lt a threads || (is_empty sends && nat_lt a (actors threads (cells_of cells)))) _ may).1 in
             let h1 = (and_both (are_refs (cells_of cells) 0 (cells_in sets)) _ h0).1 in
             let h2 = (and_both (has_refs (cells_of cells) ensured) _ h1).1 in
             let h3 = (and_both (are_refs (cells_of cells) 0 (cells_in commuted)) _ h2).1 in
@@ -283,7 +284,7 @@ module _ (stays : UnwrittenStays) (cells : List CellDefinition) (threads : ℕ) 
     closes_fit false c p v within same = adding (ask.CloseAt c (Some p) v) k within xs end ps (Swapping c p) (event.Swap v) reply.Done (λ g. (refl, (refl, (refl, same refl, refl), g)))
 
     -- with a swap in hand
-    swapping_fits : (c : CellId) (at : ℕ) (q : Ask) → AsksIn (Swapping c at) q → AskFits (Swapping c at) q
+    swapping_fits : (c : CellId) (at : ℕ) (q : Ask) → AsksIn false (Swapping c at) q → AskFits (Swapping c at) q
     swapping_fits c at (ask.CloseAt d (Some p) v) ok within may =
         subst (λ i. Fitting (ask.CloseAt d (Some p) v) k within xs end ps (Swapping i at) (closes_at (swapped_since p (take k (books (home cells d)))) a d v (take k (books (home cells d))))) (sym ok.0)
         (subst (λ i. Fitting (ask.CloseAt d (Some p) v) k within xs end ps (Swapping d i) (closes_at (swapped_since p (take k (books (home cells d)))) a d v (take k (books (home cells d))))) (sym ok.1)
@@ -318,8 +319,23 @@ module _ (stays : UnwrittenStays) (cells : List CellDefinition) (threads : ℕ) 
     swapping_fits c at (ask.Finish g new sends) ok within may = absurd ok
     swapping_fits c at (ask.OpenAt d) ok within may = absurd ok
 
-    ask_fits : (st : Stage) (q : Ask) → AsksIn st q → AskFits st q
+    resting_fits : (q : Ask) → AsksIn false Resting q → AskFits Resting q
+    resting_fits ask.Begin ok = absurd ok
+    resting_fits (ask.Look c p) ok = absurd ok
+    resting_fits (ask.View cs) ok = absurd ok
+    resting_fits (ask.Commit p sets ensured q commuted sends) ok = absurd ok
+    resting_fits (ask.Fail p q) ok = absurd ok
+    resting_fits (ask.Peek c) ok = absurd ok
+    resting_fits (ask.Send x) ok = absurd ok
+    resting_fits (ask.Finish g new sends) ok = absurd ok
+    resting_fits (ask.OpenAt c) ok = absurd ok
+    resting_fits (ask.CloseAt c p v) ok = absurd ok
+    resting_fits (ask.Broke c p) ok = absurd ok
+    resting_fits (ask.Take g) ok = absurd (false≢true ok)
+
+    ask_fits : (st : Stage) (q : Ask) → AsksIn false st q → AskFits st q
     ask_fits Idle q ok = idle_fits q ok
+    ask_fits Resting q ok = resting_fits q ok
     ask_fits (Open at) q ok = open_fits at q ok
     ask_fits (Viewing at view) q ok = viewing_fits at view q ok
     ask_fits (Swapping c at) q ok = swapping_fits c at q ok
@@ -327,7 +343,7 @@ module _ (stays : UnwrittenStays) (cells : List CellDefinition) (threads : ℕ) 
   -- ---- all entries
 
   -- entries that hold, each in its stage, fit the events that they added
-  pub entries_fit : (st end : Stage) (es : List Entry) → AllHold cells threads books a es → AreStaged st es end
+  pub entries_fit : (st end : Stage) (es : List Entry) → AllHold cells threads books a es → AreStaged false st es end
       → RepliesFitTo cells (phase_of cells books st) (map exchange_of es) (seen_of cells books (trace_of cells books a es)) (phase_of cells books end)
   entries_fit st end [] hold staged = (refl, ap (phase_of cells books) staged)
   entries_fit st end (e ∷ es) hold staged =
@@ -340,5 +356,5 @@ module _ (stays : UnwrittenStays) (cells : List CellDefinition) (threads : ℕ) 
       (subst (λ r. Goes e.ask e.at h.within (map exchange_of es) (phase_of cells books end) (trace_of cells books a es) (phase_of cells books (stage_after st e.ask r)) (seen_of cells books (trace_of cells books a es))) h.replied rest))
 
   -- what an actor was told fits what it did
-  pub told_fits : (es : List Entry) (st : Stage) → ToldBy cells threads books a es st → RepliesFitTo cells Out (map exchange_of es) (history_of cells books a es) (phase_of cells books st)
-  told_fits es st t = entries_fit Idle st es t.hold t.staged
+  pub told_fits : (es : List Entry) (st : Stage) → AllHold cells threads books a es → AreStaged false Idle es st → RepliesFitTo cells Out (map exchange_of es) (history_of cells books a es) (phase_of cells books st)
+  told_fits es st hold staged = entries_fit Idle st es hold staged

@@ -1,5 +1,5 @@
 -- Where code comes to that asks for entries one after another: it was told these, each ask came in its stage, and what it sent is what it may send.
-use Rattle.std.proofs.Common.{◌≡◌, ℕ, zero, suc, List, [], ◌∷◌, ◌++◌, map, Option, Some, None, refl, sym, ap, ◌∙◌, subst, append_assoc}
+use Rattle.std.proofs.Common.{◌≡◌, ℕ, zero, suc, Bool, List, [], ◌∷◌, ◌++◌, map, Option, Some, None, refl, sym, ap, ◌∙◌, subst, append_assoc}
 use Rattle.txs_world_protocol.specs.Ask.{Exchange}
 use Rattle.txs_world_protocol.specs.declared.ask.Ask.{Ask}
 use Rattle.txs_world_protocol.specs.declared.ask.Reply.{Reply}
@@ -10,16 +10,15 @@ use Rattle.txs_code_meaning.specs.Opening.{given, opening}
 use Rattle.txs_code_meaning.proofs.Acts.{run_more}
 use Rattle.txs_code_meaning.proofs.Later.{more_to_come}
 use Rattle.txs_theorem_threads.specs.Sends.{CodeSendsSound}
-use Rattle.txs_theorem_runs.specs.Agents.{HasConsumed}
 use Rattle.txs_theorem_runs.specs.Goes.{AsksNothing, WalksTo, AsksAt, GoesTo}
 use Rattle.txs_theorem_runs.specs.Run.{exchange}
-use Rattle.txs_theorem_runs.specs.Staged.{StagedCode, IsStaged, StagedFrom}
+use Rattle.txs_theorem_runs.specs.Staged.{StagedActor, IsStaged, StagedFrom, HandsIn}
 use Rattle.txs_theorem_runs.specs.Stages.{Stage, AsksIn, stage_after}
 use Rattle.txs_theorem_runs.specs.Told.{Entry, exchange_of, AreStaged}
 use Rattle.txs_theorem_runs.proofs.Acting.{append_nil}
 use Rattle.txs_theorem_runs.proofs.Keeping.{Holds}
 use Rattle.txs_theorem_runs.proofs.Sending.{AskSound, WantSound, HoldsSound, turn_sound}
-use Rattle.txs_theorem_runs.proofs.Working.{turn_consumed}
+use Rattle.txs_theorem_runs.proofs.Consuming.{HasConsumed, turn_consumed}
 
 abbrev ask_or : Ask → Option Ask → Ask
 ask_or q None = q
@@ -39,7 +38,7 @@ module _ (code : ThreadCode) where
   starts = record { turns = 0; ran = refl }
 
   -- one turn more
-  step : (xs : List Exchange) (c : Configuration) → Came xs (Unfinished c) → Came xs (turn code c)
+  pub step : (xs : List Exchange) (c : Configuration) → Came xs (Unfinished c) → Came xs (turn code c)
   step xs c h = record { turns = suc h.turns; ran = run_more code h.turns (opening code xs) ∙ ap (λ r. and_then r (turn code)) h.ran }
 
   pub walked : (xs : List Exchange) (n : ℕ) (at there : Turned Configuration) → Came xs at → WalksTo code n at there → Came xs there
@@ -68,8 +67,8 @@ module _ (code : ThreadCode) where
 
   -- ---- stages
 
-  module _ (staged : StagedCode code) where
-    turn_staged : (st : Stage) (o : Turned Configuration) (go : Ask → Reply → Turned Configuration) → AsksNothing o → StagedFrom st o go → IsStaged st o
+  module _ (agent : Bool) (staged : StagedActor agent code) where
+    pub turn_staged : (st : Stage) (o : Turned Configuration) (go : Ask → Reply → Turned Configuration) → AsksNothing o → StagedFrom agent st o go → IsStaged agent st o
     turn_staged st (Ended s) go n h = h
     turn_staged st (Failed f s) go n h = h
     turn_staged st (Asking s) go n h = absurd n
@@ -77,31 +76,35 @@ module _ (code : ThreadCode) where
     turn_staged st Stuck go n h = tt
 
     -- the turn from here, as it is staged
-    turn_in : (xs : List Exchange) (st : Stage) (c : Configuration) → Came xs (Unfinished c) → IsStaged st (Unfinished c) → StagedFrom st (turn code c) (λ q r. turn code (given (exchange q r ∷ []) c))
-    turn_in xs st c h s = subst (λ i. StagedFrom i (turn code c) (λ q r. turn code (given (exchange q r ∷ []) c))) s.1 (staged h.turns xs c h.ran s.0)
+    pub turn_in : (xs : List Exchange) (st : Stage) (c : Configuration) → Came xs (Unfinished c) → IsStaged agent st (Unfinished c) → StagedFrom agent st (turn code c) (λ q r. turn code (given (exchange q r ∷ []) c))
+    turn_in xs st c h s = staged h.turns xs c h.ran s.0 st s.1
 
-    walk_staged : (xs : List Exchange) (st : Stage) (n : ℕ) (at there : Turned Configuration) → Came xs at → IsStaged st at → WalksTo code n at there → IsStaged st there
-    walk_staged xs st zero at there h s w = subst (IsStaged st) w s
+    pub walk_staged : (xs : List Exchange) (st : Stage) (n : ℕ) (at there : Turned Configuration) → Came xs at → IsStaged agent st at → WalksTo code n at there → IsStaged agent st there
+    walk_staged xs st zero at there h s w = subst (IsStaged agent st) w s
     walk_staged xs st (suc n) at there h s w =
         let came : Came xs (Unfinished w.0) = subst (Came xs) w.1 h in
-        let here : IsStaged st (Unfinished w.0) = subst (IsStaged st) w.1 s in
+        let here : IsStaged agent st (Unfinished w.0) = subst (IsStaged agent st) w.1 s in
         walk_staged xs st n (turn code w.0) there (step xs w.0 came) (turn_staged st (turn code w.0) _ w.2 (turn_in xs st w.0 came here)) w.3
 
-    asked_staged : (st : Stage) (c : Configuration) (q : Ask) → AsksAt code c q → StagedFrom st (turn code c) (λ q r. turn code (given (exchange q r ∷ []) c))
-        → AsksIn st q × ((r : Reply) → IsStaged (stage_after st q r) (turn code (given (exchange q r ∷ []) c)))
+    pub asked_staged : (st : Stage) (c : Configuration) (q : Ask) → AsksAt code c q → StagedFrom agent st (turn code c) (λ q r. turn code (given (exchange q r ∷ []) c))
+        → (s : ActorState) × (turn code c ≡ Asking s) × AsksIn agent st q × ((r : Reply) → IsStaged agent (stage_after st q r) (turn code (given (exchange q r ∷ []) c))) × HandsIn s q (λ q r. turn code (given (exchange q r ∷ []) c))
     asked_staged st c q a h =
-        let t : StagedFrom st (Asking a.0) (λ q r. turn code (given (exchange q r ∷ []) c)) = subst (λ o. StagedFrom st o (λ q r. turn code (given (exchange q r ∷ []) c))) a.1 h in
-        subst (λ p. AsksIn st p × ((r : Reply) → IsStaged (stage_after st p r) (turn code (given (exchange p r ∷ []) c)))) (same_want a.0 t.0 q t.1 a.2) (t.2, t.3)
+        let t : StagedFrom agent st (Asking a.0) (λ q r. turn code (given (exchange q r ∷ []) c)) = subst (λ o. StagedFrom agent st o (λ q r. turn code (given (exchange q r ∷ []) c))) a.1 h in
+        let x = (
+        subst (λ p. AsksIn agent st p × ((r : Reply) → IsStaged agent (stage_after st p r) (turn code (given (exchange p r ∷ []) c))) × HandsIn a.0 p (λ q r. turn code (given (exchange q r ∷ []) c)))
+        (same_want a.0 t.0 q t.1 a.2) (t.2, t.3, t.4)
+        ) in
+        (a.0, a.1, x.0, x.1, x.2)
 
-    pub goes_staged : (es : List Entry) (xs : List Exchange) (st : Stage) (at there : Turned Configuration) → Came xs at → IsStaged st at → GoesTo code at es there → (end : Stage) × AreStaged st es end × IsStaged end there
+    pub goes_staged : (es : List Entry) (xs : List Exchange) (st : Stage) (at there : Turned Configuration) → Came xs at → IsStaged agent st at → GoesTo code at es there → (end : Stage) × AreStaged agent st es end × IsStaged agent end there
     goes_staged [] xs st at there h s g = (st, refl, walk_staged xs st g.0 at there h s g.1)
     goes_staged (e ∷ es) xs st at there h s g =
         let c = g.1 in
         let came : Came xs (Unfinished c) = walked xs g.0 at (Unfinished c) h g.2 in
-        let here : IsStaged st (Unfinished c) = walk_staged xs st g.0 at (Unfinished c) h s g.2 in
+        let here : IsStaged agent st (Unfinished c) = walk_staged xs st g.0 at (Unfinished c) h s g.2 in
         let asks = asked_staged st c e.ask g.3 (turn_in xs st c came here) in
-        let rest = goes_staged es (xs ++ exchange_of e ∷ []) (stage_after st e.ask e.reply) (turn code (given (exchange_of e ∷ []) c)) there (heard xs c (exchange_of e) came) (asks.1 e.reply) g.4 in
-        (rest.0, (asks.0, rest.1), rest.2)
+        let rest = goes_staged es (xs ++ exchange_of e ∷ []) (stage_after st e.ask e.reply) (turn code (given (exchange_of e ∷ []) c)) there (heard xs c (exchange_of e) came) (asks.3 e.reply) g.4 in
+        (rest.0, (asks.2, rest.1), rest.2)
 
   -- ---- what is sent
 
@@ -119,7 +122,7 @@ module _ (code : ThreadCode) where
     SendSound (e ∷ es) = AskSound functions e.ask × SendSound es
 
     asked_sound : (c : Configuration) (q : Ask) → AsksAt code c q → Sound (turn code c) → AskSound functions q
-    asked_sound c q a h = subst (WantSound functions) a.2 (subst Sound a.1 h).1
+    asked_sound c q a h = subst (WantSound functions) a.2 (subst Sound a.1 h).2
 
     pub goes_sound : (es : List Entry) (at there : Turned Configuration) → Sound at → GoesTo code at es there → SendSound es
     goes_sound [] at there h g = tt

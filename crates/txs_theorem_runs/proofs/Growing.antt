@@ -11,7 +11,7 @@ use Rattle.txs_value_data.proofs.SameLemmas.{numbers, number-itself}
 use Rattle.txs_value_cell.specs.declared.cell.CellDefinition.{CellDefinition}
 use Rattle.txs_world_book.specs.Served.{Served}
 use Rattle.txs_theorem_runs.specs.Shared.{book_for, serve_on, may_ask}
-use Rattle.txs_theorem_runs.specs.Stages.{Stage, Idle, AsksIn, stage_after}
+use Rattle.txs_theorem_runs.specs.Stages.{Stage, AsksIn, first_stage, stage_after}
 use Rattle.txs_theorem_runs.specs.Told.{Entry, Place, IsExchanged, before_entry, served_at, EntryHolds, AllHold, AreStaged, adding, trace_of, TraceHolds, places_in, places_by, ToldBy}
 use Rattle.txs_theorem_runs.specs.Run.{entry}
 
@@ -33,7 +33,7 @@ append_nil (x ∷ xs) = ap (λ l. x ∷ l) (append_nil xs)
 pub nothing_grown : (a : ℕ) (books : ℕ → List Event) → Grown a books books
 nothing_grown a books = record { more = λ n. []; grown = λ n. sym (append_nil (books n)); own = λ n. tt }
 
-taken_more : {A : Type 0} (k : ℕ) (xs ys : List A) → k ≤ length xs → take k (xs ++ ys) ≡ take k xs
+pub taken_more : {A : Type 0} (k : ℕ) (xs ys : List A) → k ≤ length xs → take k (xs ++ ys) ≡ take k xs
 taken_more zero [] [] le = refl
 taken_more zero [] (y ∷ ys) le = refl
 taken_more zero (x ∷ xs) ys le = refl
@@ -98,9 +98,9 @@ places_in_append n (p ∷ ps) qs = go (p.book == n) (places_in_append n ps qs)
     go true h = ap (λ l. p.at ∷ l) h
     go false h = h
 
-staged_append : (st mid end : Stage) (es fs : List Entry) → AreStaged st es mid → AreStaged mid fs end → AreStaged st (es ++ fs) end
-staged_append st mid end [] fs e h = subst (λ i. AreStaged i fs end) (sym e) h
-staged_append st mid end (x ∷ es) fs g h = (g.0, staged_append (stage_after st x.ask x.reply) mid end es fs g.1 h)
+pub staged_append : (agent : Bool) (st mid end : Stage) (es fs : List Entry) → AreStaged agent st es mid → AreStaged agent mid fs end → AreStaged agent st (es ++ fs) end
+staged_append agent st mid end [] fs e h = subst (λ i. AreStaged agent i fs end) (sym e) h
+staged_append agent st mid end (x ∷ es) fs g h = (g.0, staged_append agent (stage_after st x.ask x.reply) mid end es fs g.1 h)
 
 module _ (cells : List CellDefinition) (threads a b : ℕ) (books later : ℕ → List Event) (g : Grown a books later) where
   before_stays : (e : Entry) → EntryHolds cells threads books b e → before_entry cells later e ≡ before_entry cells books e
@@ -144,8 +144,8 @@ module _ (cells : List CellDefinition) (threads a b : ℕ) (books later : ℕ �
       ∙ sym (places_append b 0 (books i) (g.more i)) ∙ ap (places_by b 0) (sym (g.grown i))
 
   -- and what an actor was told
-  pub told_stays : (a ≡ b → ⊥) → (es : List Entry) (st : Stage) → ToldBy cells threads books b es st → ToldBy cells threads later b es st
-  told_stays n es st t = record {
+  pub told_stays : (a ≡ b → ⊥) → (agent : Bool) (es : List Entry) (st : Stage) → ToldBy cells threads books agent b es st → ToldBy cells threads later agent b es st
+  told_stays n agent es st t = record {
     hold = all_stay es t.hold;
     staged = t.staged;
     traced = traced_stays n es t.hold t.traced;
@@ -280,9 +280,9 @@ module _ (cells : List CellDefinition) (threads a : ℕ) (books : ℕ → List E
         ∙ sym (places_append a 0 (books n) (own_grown.more n)) ∙ ap (places_by a 0) (sym (own_grown.grown n))
 
     -- so an actor was told what the books say after it
-    pub own_told : IsExchanged v.reply → (xs : List Entry) (st : Stage) → AsksIn st q → ToldBy cells threads books a xs st → ToldBy cells threads (books_after v) a (xs ++ own ∷ []) (stage_after st q v.reply)
-    own_told ex xs st ok t = record {
+    pub own_told : IsExchanged v.reply → (agent : Bool) (xs : List Entry) (st : Stage) → AsksIn agent st q → ToldBy cells threads books agent a xs st → ToldBy cells threads (books_after v) agent a (xs ++ own ∷ []) (stage_after st q v.reply)
+    own_told ex agent xs st ok t = record {
       hold = own_hold ex xs t.hold;
-      staged = staged_append Idle st (stage_after st q v.reply) xs (own ∷ []) t.staged (ok, refl);
+      staged = staged_append agent (first_stage agent) st (stage_after st q v.reply) xs (own ∷ []) t.staged (ok, refl);
       traced = own_traced xs t.hold t.traced;
     }

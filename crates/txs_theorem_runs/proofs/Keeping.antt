@@ -1,10 +1,10 @@
 -- What each exchange keeps of an actor's state is kept by an instruction.
-use Rattle.std.proofs.Common.{◌≡◌, ℕ, zero, suc, ◌+◌, Bool, true, false, List, [], ◌∷◌, ◌++◌, length, Option, Some, None, Result, Ok, Err, refl, arith, if◌then◌else◌}
+use Rattle.std.proofs.Common.{◌≡◌, ℕ, zero, suc, ◌+◌, Bool, true, false, List, [], ◌∷◌, ◌++◌, length, Option, Some, None, Result, Ok, Err, refl, ap, arith, if◌then◌else◌, ◌⊎◌, inl, inr}
 use Rattle.txs_world_protocol.specs.Ask.{Writes, buffered, with_write, Exchange, same_ask}
 use Rattle.txs_world_protocol.specs.declared.ask.Ask.{Ask}
 use Rattle.txs_world_protocol.specs.declared.ask.Ask.TheVariants as ask
 use Rattle.txs_world_protocol.specs.declared.ask.Reply.{Reply}
-use Rattle.txs_frame.specs.Frame.{PlainTxFrame, empty_frame, is_commuted, commuted, with_cell, set_writes, ensure_ref, commute_ref, hold_send}
+use Rattle.txs_frame.specs.Frame.{PlainTxFrame, empty_frame, sends_of_commit, is_commuted, commuted, with_cell, set_writes, ensure_ref, commute_ref, hold_send}
 use Rattle.txs_frame.specs.Phase.{tasks_of, to_write}
 use Rattle.txs_frame.specs.declared.frame.Commute.{Commute}
 use Rattle.txs_frame.specs.declared.phase.Task.{Task}
@@ -32,15 +32,20 @@ use Rattle.txs_value_base.specs.declared.op.Callee.{Callee}
 use Rattle.txs_value_base.specs.declared.op.Callee.TheVariants as callee
 use Rattle.txs_value_data.specs.declared.value.CellId.{CellId}
 use Rattle.txs_value_data.specs.declared.value.Value.{Value}
-use Rattle.txs_code_meaning.specs.ActorState.{ActorState, Replied, Unreplied, receives, asks, StepResult, Continue, Break, Redo, Await, Malformed, on_step, step_of, Reading, Says, SaysRetry, SaysNothing, read_as, heard, read_point, just_done, value_there, newest_value, views, Verdict, Landed, Outdated, Undone, Denied, commit_verdict, opened, swap_verdict, send_verdict, Taken, handed_out, begun, begin, fail, buffered_or, look, paired, viewed, view, commit, peek, SwapInHand, open_atom, close_swap, break_swap, reset_atom, sent, send_now, take_action, finish, read_cell, read, set_own, assign_cell, assign, RefUpdate, Alters, Commutes, update_form, kept_open, open_update, close_own, close_update, open_swap, send_action, send_to, print, InHand, send_or_hold, now_holding}
-use Rattle.txs_code_meaning.specs.Machine.{PlainInstr, Push, Load, Store, Pop, Jump, JumpFalse, CoreOf, CallOf, Return, MakeVector, PrintOf, TxBegin, TxEnd, LookOf, PutOf, OpenOf, CloseOf, SendOf, Halt, TakeOf, RunOf, FinishOf, ThreadCode, fetch, Frame, Savepoint, Activity, Outside, Restarting, Running, Applying, Swapping, is_inside, Configuration, ahead, arguments_of, Turned, Ended, Failed, Asking, Unfinished, Stuck, told, raise, try_more, retried, on, found, on_top, on_args, on_args_of, on_two, gives, starts, begins, decided, lands, settles, applies, ends, returns_to, opens_ref, opens_atom, opens, swap_decided, closes_swap, closes, started, runs_callee, runs, act, turn, ends_with, rested, staying, first_place, answered, validates, where_accepted, where_valid, works, puts, finishes, Destination, to_stack, to_commutes, to_validation, state_after}
+use Rattle.txs_code_meaning.specs.ActorState.{ActorState, Replied, Unreplied, receives, asks, StepResult, Continue, Break, Redo, Await, Malformed, on_step, step_of, Reading, Says, SaysRetry, SaysNothing, read_as, heard, read_point, just_done, value_there, newest_value, views, Verdict, Landed, Outdated, Undone, Denied, commit_verdict, opened, swap_verdict, send_verdict, Taken, handed_out, begun, begin, fail, buffered_or, look, paired, viewed, view, commit, peek, SwapInHand, open_atom, close_swap, break_swap, reset_atom, sent, send_now, take_action, finish, read_cell, read, set_own, assign_cell, assign, RefUpdate, Alters, Commutes, update_form, kept_open, open_update, close_own, close_update, open_swap, send_action, send_to, print, InHand, send_or_hold, held_in, holding, landed, taken_back}
+use Rattle.txs_code_meaning.specs.Machine.{PlainInstr, Push, Load, Store, Pop, Jump, JumpFalse, CoreOf, CallOf, Return, MakeVector, PrintOf, TxBegin, TxEnd, LookOf, PutOf, OpenOf, CloseOf, SendOf, Halt, TakeOf, RunOf, FinishOf, ThreadCode, fetch, Frame, Savepoint, Activity, Outside, Restarting, Running, Applying, Swapping, is_inside, Configuration, ahead, arguments_of, Turned, Ended, Failed, Asking, Unfinished, Stuck, told, raise, try_more, retried, on, found, on_top, on_args, on_args_of, on_two, gives, starts, begins, decided, lands, settles, applies, ends, returns_to, opens_ref, opens_atom, opens, swap_decided, closes_swap, closes, started, runs_callee, runs, act, turn, ends_with, fails_with, hands_in, fault_in, rested, staying, first_place, answered, validates, where_accepted, where_valid, works, puts, finishes, Destination, to_stack, to_commutes, to_validation, state_after}
 use Rattle.txs_code_meaning.specs.declared.instr.OpenForm.{OpenForm}
 use Rattle.txs_code_meaning.specs.declared.instr.OpenForm.TheVariants as open_form
 
--- what an ask sends: one such action, or those that the transaction holds
+-- what an action hands in: nothing, or the sends that it holds
+abbrev pub HeldBy : Option InHand → List Action → Type 0
+HeldBy o sends = (sends ≡ []) ⊎ (held_in o ≡ Some sends)
+
+-- what an ask sends: one such action, those that the transaction holds, or those that the action holds
 abbrev pub SendsOwn : (Action → Type 0) → ActorState → Ask → Type 0
 SendsOwn P s (ask.Send x) = P x
-SendsOwn P s (ask.Commit p sets ensured q commuted sends) = sends ≡ s.done.sends
+SendsOwn P s (ask.Commit p sets ensured q commuted sends) = sends ≡ sends_of_commit (held_in s.acting) s.done.sends
+SendsOwn P s (ask.Finish g new sends) = HeldBy s.acting sends
 SendsOwn P s _ = Unit {0}
 
 -- the instruction, if it is a send, sends such actions alone
@@ -53,7 +58,11 @@ pub record IsKept (P : Action → Type 0) (A : ActorState → Type 0) : Type 0 w
   pub on_begin : (s : ActorState) (p : ℕ) → A s → A (record s { at = p; view = p; done = empty_frame; commuting = None })
   pub on_work : (s : ActorState) (view : ℕ) (w : PlainTxFrame) (o : Option Commute) → w.sends ≡ s.done.sends → A s → A (record s { view = view; done = w; commuting = o })
   pub on_hold : (s : ActorState) (x : Action) → P x → A s → A (record s { done = hold_send x s.done })
-  pub on_acting : (s : ActorState) (o : Option InHand) → A s → A (record s { acting = o })
+  pub on_take : (s : ActorState) (g : CellId) (x : Action) → A s → A (record s { acting = Some (record { agent = g; action = x; sends = []; fault = None }) })
+  pub on_rest : (s : ActorState) → A s → A (rested s)
+  pub on_fault : (s : ActorState) (h : InHand) (f : Fault) → s.acting ≡ Some h → A s → A (record s { acting = Some (record h { fault = Some f }) })
+  pub on_held : (s : ActorState) (x : Action) → P x → A s → A (holding (x ∷ []) s)
+  pub on_land : (s : ActorState) → A s → A (holding s.done.sends s)
   pub on_accepted : (s : ActorState) (o : Option Bool) → A s → A (record s { accepted = o })
   pub on_wait : (s : ActorState) (q : Ask) → SendsOwn P s q → A s → A (record s { wants = Some q })
 
@@ -133,9 +142,17 @@ module _ (P : Action → Type 0) (A Z : ActorState → Type 0) (kept : IsKept P 
       then_keeps (heard views (asks (ask.View (commuted s.done)) s)) (λ x s1. viewed x.0 (paired (commuted s.done) x.1) s1) (heard_keeps views (ask.View (commuted s.done)) s tt h)
       (λ x s1 h1. viewed_keeps x.0 (paired (commuted s.done) x.1) s1 h1)
 
+  landed_keeps : (v : Verdict) (s : ActorState) → A s → InStep (landed v s)
+  landed_keeps Landed s h = kept.on_land s h
+  landed_keeps Outdated s h = h
+  landed_keeps Undone s h = h
+  landed_keeps Denied s h = h
+
   commit_keeps : (ws : Writes) (s : ActorState) → A s → InStep (commit ws s)
   unfolding commit
-  commit_keeps ws s h = heard_keeps commit_verdict (ask.Commit s.at (set_writes s.done) s.done.ensures s.view ws s.done.sends) s refl h
+  commit_keeps ws s h =
+      then_keeps (heard commit_verdict (asks (ask.Commit s.at (set_writes s.done) s.done.ensures s.view ws (sends_of_commit (held_in s.acting) s.done.sends)) s)) landed
+      (heard_keeps commit_verdict (ask.Commit s.at (set_writes s.done) s.done.ensures s.view ws (sends_of_commit (held_in s.acting) s.done.sends)) s refl h) landed_keeps
 
   peek_keeps : (d : CellId) (s : ActorState) → A s → InStep (peek d s)
   unfolding peek
@@ -171,9 +188,9 @@ module _ (P : Action → Type 0) (A Z : ActorState → Type 0) (kept : IsKept P 
   unfolding take_action
   take_keeps g s h = heard_keeps handed_out (ask.Take g) s tt h
 
-  finish_keeps : (g : CellId) (new : Result Value Fault) (s : ActorState) → A s → InStep (finish g new s)
+  finish_keeps : (g : CellId) (new : Result Value Fault) (sends : List Action) (s : ActorState) → HeldBy s.acting sends → A s → InStep (finish g new sends s)
   unfolding finish
-  finish_keeps g new s h = heard_keeps just_done (ask.Finish g new []) s tt h
+  finish_keeps g new sends s own h = heard_keeps taken_back (ask.Finish g new sends) s own h
 
   -- ---- forms
 
@@ -233,7 +250,7 @@ module _ (P : Action → Type 0) (A Z : ActorState → Type 0) (kept : IsKept P 
     where
       or_hold : (o : Option InHand) → InStep (send_or_hold o x s)
       or_hold None = send_now_keeps x s such h
-      or_hold (Some y) = kept.on_acting s (now_holding x s.acting) h
+      or_hold (Some y) = kept.on_held s x such h
 
   send_keeps : (inside : Bool) (span : Span) (cell : Value) (f : Callee) (vs : List Value) (s : ActorState) → ((g : CellId) → P (record { agent = g; callee = f; args = vs; span = span })) → A s → InStep (send_to inside span cell f vs s)
   send_keeps inside span cell f vs s such h =
@@ -255,17 +272,21 @@ module _ (P : Action → Type 0) (A Z : ActorState → Type 0) (kept : IsKept P 
 
   over_keeps : (o : Option InHand) (f : Fault) (s : ActorState) → A s → Holds A Z (ends_with o f s)
   over_keeps None f s h = h
-  over_keeps (Some x) f s h = told_keeps (finish x.agent (Err f) s) _ (finish_keeps x.agent (Err f) s h) (λ s1 h1. on_end (rested s1) (kept.on_acting s1 None h1))
+  over_keeps (Some x) f s h = told_keeps (finish x.agent (Err f) [] s) _ (finish_keeps x.agent (Err f) [] s (inl refl) h) (λ s1 h1. on_end (rested s1) (kept.on_rest s1 h1))
+
+  fails_keep : (o : Option InHand) (f : Fault) (s : ActorState) → s.acting ≡ o → A s → Holds A Z (fails_with o f s)
+  fails_keep None f s e h = h
+  fails_keep (Some x) f s e h = on_end (record s { acting = Some (record x { fault = Some f }) }) (kept.on_fault s x f e h)
 
   raise_keeps : (doing : Activity) (f : Fault) (s : ActorState) → A s → Holds A Z (raise doing f s)
   raise_keeps Outside f s h = over_keeps s.acting f s h
-  raise_keeps (Restarting left) f s h = h
-  raise_keeps (Running left inner from) f s h = told_keeps (fail s) _ (fail_keeps s h) (λ s1 h1. h1)
-  raise_keeps (Applying left from work values) f s h = told_keeps (fail s) _ (fail_keeps s h) (λ s1 h1. h1)
-  raise_keeps (Swapping swap from) f s h = told_keeps (break_swap swap s) _ (break_swap_keeps swap s h) (λ s1 h1. h1)
+  raise_keeps (Restarting left) f s h = fails_keep s.acting f s refl h
+  raise_keeps (Running left inner from) f s h = told_keeps (fail s) _ (fail_keeps s h) (λ s1 h1. fails_keep s1.acting f s1 refl h1)
+  raise_keeps (Applying left from work values) f s h = told_keeps (fail s) _ (fail_keeps s h) (λ s1 h1. fails_keep s1.acting f s1 refl h1)
+  raise_keeps (Swapping swap from) f s h = told_keeps (break_swap swap s) _ (break_swap_keeps swap s h) (λ s1 h1. fails_keep s1.acting f s1 refl h1)
 
   try_keeps : (left : ℕ) (from : Savepoint) (s : ActorState) (go : ℕ → Configuration) → A s → ((k : ℕ) → Z (go k).state) → Holds A Z (try_more left from s go)
-  try_keeps zero from s go h k = h
+  try_keeps zero from s go h k = fails_keep s.acting (fault_at fault_kind.RetryLimit from.span) s refl h
   try_keeps (suc left) from s go h k = k left
 
   retried_keeps : (doing : Activity) (s : ActorState) → A s → Holds A Z (retried doing s)
@@ -313,7 +334,7 @@ module _ (P : Action → Type 0) (A Z : ActorState → Type 0) (kept : IsKept P 
   decided_keeps c left from Landed s q = on_end s q
   decided_keeps c left from Outdated s q = try_keeps left from s _ q (λ k. on_end s q)
   decided_keeps c left from Undone s q = try_keeps left from s _ q (λ k. on_end s q)
-  decided_keeps c left from Denied s q = q
+  decided_keeps c left from Denied s q = fails_keep s.acting (fault_at fault_kind.AgentFailed from.span) s refl q
 
   lands_keeps : (c : Configuration) → A c.state → (left : ℕ) (from : Savepoint) (values : Writes) → Holds A Z (lands left from values c)
   lands_keeps c h left from values = on_keeps c.doing (commit values c.state) (λ verdict s. decided verdict left from c s) (commit_keeps values c.state h) (λ v s q. decided_keeps c left from v s q)
@@ -433,15 +454,32 @@ module _ (P : Action → Type 0) (A Z : ActorState → Type 0) (kept : IsKept P 
         (λ a s q. valid_keeps code (validator_at code.validators a.number) w span c (λ c1. gives c1 rest (assign_cell Reset (is_inside c.doing) span w a c1.state)) h
         (λ c1 h1. gives_from c1 rest (assign_cell Reset (is_inside c.doing) span w a c1.state) (assign_cell_keeps Reset (is_inside c.doing) span w a c1.state h1)))
 
-    finishes_keeps : (g : CellId) (o : Option InHand) (v : Value) → Holds A Z (finishes code g o v c)
-    finishes_keeps g None v = tt
-    finishes_keeps g (Some x) v =
-        valid_keeps code (validator_at code.validators x.action.agent.number) v x.action.span c (λ c1. told (finish g (Ok v) c1.state) (λ s. Unfinished (first_place [] (rested s)))) h
-        (λ c1 h1. told_keeps (finish g (Ok v) c1.state) _ (finish_keeps g (Ok v) c1.state h1) (λ s q. on_end (rested s) (kept.on_acting s None q)))
+    finishes_keeps : (g : CellId) (o : Option InHand) (v : Value) → c.state.acting ≡ o → Holds A Z (finishes code g o v c)
+    finishes_keeps g None v e = tt
+    finishes_keeps g (Some x) v e = by (validator_at code.validators x.action.agent.number)
+      where
+        hands : ActorState → Turned Configuration
+        hands s = told (finish g (Ok v) x.sends s) (λ s1. Unfinished (first_place [] (rested s1)))
+
+        handed : (s : ActorState) → s.acting ≡ Some x → A s → Holds A Z (hands s)
+        handed s k q = told_keeps (finish g (Ok v) x.sends s) _ (finish_keeps g (Ok v) x.sends s (inr (ap held_in k)) q) (λ s1 h1. on_end (rested s1) (kept.on_rest s1 h1))
+
+        accepted : (f : Callee) (o : Option Bool) → Holds A Z (where_accepted code o f v x.action.span c (λ c1. hands c1.state))
+        accepted f None = validates_keeps code c h f v x.action.span
+        accepted f (Some true) = handed (record c.state { accepted = None }) e (kept.on_accepted c.state None h)
+        accepted f (Some false) = raise_keeps c.doing (fault_at fault_kind.InvalidState x.action.span) (record c.state { accepted = None }) (kept.on_accepted c.state None h)
+
+        by : (o : Option Callee) → Holds A Z (where_valid code o v x.action.span c (λ c1. hands c1.state))
+        by None = handed c.state e h
+        by (Some f) = accepted f c.state.accepted
+
+    hands_keep : (g : CellId) (k : Option Fault) → Holds A Z (hands_in code g c.state.acting k c)
+    hands_keep g None = top_keeps c.stack _ (λ v rest. finishes_keeps g c.state.acting v refl)
+    hands_keep g (Some f) = told_keeps (finish g (Err f) [] c.state) _ (finish_keeps g (Err f) [] c.state (inl refl) h) (λ s q. on_end (rested s) (kept.on_rest s q))
 
     started_keeps : (g : CellId) (o : Option Taken) (s : ActorState) → A s → Holds A Z (started g o c s)
     started_keeps g None s q = on_end s q
-    started_keeps g (Some t) s q = let o : Option InHand = Some (record { agent = g; action = t.action; sends = [] }) in on_end (record s { acting = o }) (kept.on_acting s o q)
+    started_keeps g (Some t) s q = on_end (record s { acting = Some (record { agent = g; action = t.action; sends = []; fault = None }) }) (kept.on_take s g t.action q)
 
     runs_callee_keeps : (f : Callee) (a : Action) (v : Value) (rest : List Value) → Holds A Z (runs_callee code f a v rest c)
     runs_callee_keeps (callee.Core op) a v rest = gives_keeps rest (step_of (core op (v ∷ a.args)) a.span c.state) (result_keeps (core op (v ∷ a.args)) a.span c.state h)
@@ -475,7 +513,7 @@ module _ (P : Action → Type 0) (A Z : ActorState → Type 0) (kept : IsKept P 
     act_keeps (Some Halt) such = h
     act_keeps (Some (TakeOf g)) such = on_keeps c.doing (take_action g c.state) (λ o s. started g o c s) (take_keeps g c.state h) (λ o s q. started_keeps g o s q)
     act_keeps (Some RunOf) such = top_keeps c.stack _ (λ v rest. runs_keeps c.state.acting v rest)
-    act_keeps (Some (FinishOf g)) such = top_keeps c.stack _ (λ v rest. finishes_keeps g c.state.acting v)
+    act_keeps (Some (FinishOf g)) such = hands_keep g (fault_in c.state.acting)
 
     -- an instruction keeps it
     pub turn_keeps : SendsSuch P (fetch code c.body c.place) → Holds A Z (turn code c)

@@ -39,7 +39,11 @@ prints_kept out = record {
   on_begin = λ s p h. h;
   on_work = λ s view w o e h. h;
   on_hold = λ s x such h. h;
-  on_acting = λ s o h. h;
+  on_take = λ s g x h. h;
+  on_rest = λ s h. h;
+  on_fault = λ s x f e h. h;
+  on_held = λ s x such h. h;
+  on_land = λ s h. h;
   on_accepted = λ s o h. h;
   on_wait = λ s q own h. h;
 }
@@ -58,7 +62,11 @@ waits_kept out = record {
   on_begin = λ s p h. h;
   on_work = λ s view w o e h. h;
   on_hold = λ s x such h. h;
-  on_acting = λ s o h. h;
+  on_take = λ s g x h. h;
+  on_rest = λ s h. h;
+  on_fault = λ s x f e h. h;
+  on_held = λ s x such h. h;
+  on_land = λ s h. h;
   on_accepted = λ s o h. h;
   on_wait = λ s q own h. h;
 }
@@ -75,7 +83,7 @@ turn_prints out code c h =
     has_printed out (turn code c)
     (turn_keeps Any (Prints out) (Prints out) (prints_kept out) (λ s k. k) (λ s more k. (k.0 ++ more, ap (λ l. l ++ more) k.1 ∙ append_assoc out k.0 more)) code c h (λ f n span e g vs many. tt))
 
-turn_waits : (code : ThreadCode) (c : Configuration) (s : ActorState) → c.state.todo ≡ [] → turn code c ≡ Asking s → Waits c.state.printed s
+pub turn_waits : (code : ThreadCode) (c : Configuration) (s : ActorState) → c.state.todo ≡ [] → turn code c ≡ Asking s → Waits c.state.printed s
 turn_waits code c s h e =
     subst (λ o. Holds (Waits c.state.printed) (λ t. Unit {0}) o) e
     (turn_keeps Any (Waits c.state.printed) (λ t. Unit {0}) (waits_kept c.state.printed) (λ t k. tt) (λ t more k. tt) code c (h, refl) (λ f n span e g vs many. tt))
@@ -118,7 +126,7 @@ apart (x ∷ xs) y (b ∷ bs) e rest h = go (apart xs y bs e rest (ap behind h))
     go (inr k) = inr (k.0, ap (λ i. i ∷ xs) (ap (first_or x) h) ∙ ap (λ l. b ∷ l) k.1)
 
 module _ (cells : List CellDefinition) (threads : ℕ) where
-  module _ (code : ThreadCode) (a : ℕ) (sh : Shared) (x : Actor) (k : ActorInvariant cells threads code sh.books a x) (l : EachWaits code x) where
+  module _ (code : ThreadCode) (a : ℕ) (sh : Shared) (x : Actor) (k : ActorInvariant cells threads false code sh.books a x) (l : EachWaits code x) where
     stopped : (why : Stop) → EachWaits code (stop why x)
     stopped why before e rest h = let w = l before e rest h in record { waiting = w.waiting; asking = w.asking; consumed = w.consumed; printed = w.printed }
 
@@ -140,7 +148,7 @@ module _ (cells : List CellDefinition) (threads : ℕ) where
 
         go : (before ≡ x.entries) ⊎ ((less : List Entry) × (x.entries ≡ before ++ d ∷ less)) → WaitsOn code (hears code c q r n x) before
         go (inl i) =
-            let staged = subst (λ o. IsStaged k.stage o) at k.staged in
+            let staged = subst (λ o. IsStaged false k.stage o) at k.staged in
             let waits = turn_waits code c s staged.0 e in
             record {
               waiting = s;
@@ -207,8 +215,8 @@ module _ (cells : List CellDefinition) (threads : ℕ) where
     AllWait st = (a : ℕ) → StagedCode (codes a) → EachWaits (codes a) (st.actors a)
 
     moves_wait : (y : Play) (st : State) → RunInvariant cells threads codes st → AllWait st → StagedCode (codes (actor_of y)) → EachWaits (codes (actor_of y)) (moves cells threads codes y st).actor
-    moves_wait (TakesTurn a) st h l known = turns_wait (codes a) a st.shared (st.actors a) (h.actors a known) (l a known) (st.actors a).at (st.actors a).stopped refl
-    moves_wait (IsStopped a why) st h l known = stops_wait (codes a) a st.shared (st.actors a) (h.actors a known) (l a known) why (st.actors a).at (st.actors a).stopped
+    moves_wait (TakesTurn a) st h l known = turns_wait (codes a) a st.shared (st.actors a) (h.actors false a known) (l a known) (st.actors a).at (st.actors a).stopped refl
+    moves_wait (IsStopped a why) st h l known = stops_wait (codes a) a st.shared (st.actors a) (h.actors false a known) (l a known) why (st.actors a).at (st.actors a).stopped
 
     play_waits : (y : Play) (st : State) → RunInvariant cells threads codes st → AllWait st → AllWait (play cells threads codes y st)
     play_waits y st h l b = go (actor_of y == b) refl
@@ -312,11 +320,11 @@ module _ (cells : List CellDefinition) (threads : ℕ) (books : ℕ → List Eve
   hold_before [] rest h = tt
   hold_before (e ∷ es) rest h = (h.0, hold_before es rest h.1)
 
-  staged_before : (st end : Stage) (before rest : List Entry) → AreStaged st (before ++ rest) end → (mid : Stage) × AreStaged st before mid
+  staged_before : (st end : Stage) (before rest : List Entry) → AreStaged false st (before ++ rest) end → (mid : Stage) × AreStaged false st before mid
   staged_before st end [] rest h = (st, refl)
   staged_before st end (e ∷ es) rest h = let g = staged_before (stage_after st e.ask e.reply) end es rest h.1 in (g.0, (h.0, g.1))
 
-  pub printed_before : Lower → (code : ThreadCode) (x : Actor) (stage : Stage) → ToldBy cells threads books a x.entries stage → EachWaits code x → PrintedBeforeLast cells code books a x
+  pub printed_before : Lower → (code : ThreadCode) (x : Actor) (stage : Stage) → ToldBy cells threads books false a x.entries stage → EachWaits code x → PrintedBeforeLast cells code books a x
   printed_before by code x stage t l = go (last_of x.entries t.hold)
     where
       go : (trace_of cells books a x.entries ≡ []) ⊎ LastOf x.entries → PrintedBeforeLast cells code books a x
@@ -326,7 +334,7 @@ module _ (cells : List CellDefinition) (threads : ℕ) (books : ℕ → List Eve
           let xs = map exchange_of d.before in
           let hs = history_of cells books a d.before in
           let hold = hold_before d.before (d.last ∷ d.rest) (subst (AllHold cells threads books a) d.split t.hold) in
-          let staged = staged_before Idle stage d.before (d.last ∷ d.rest) (subst (λ es. AreStaged Idle es stage) d.split t.staged) in
+          let staged = staged_before Idle stage d.before (d.last ∷ d.rest) (subst (λ es. AreStaged false Idle es stage) d.split t.staged) in
           let fits : RepliesFit cells Out xs hs = by.fit cells Out xs hs (phase_of cells books staged.0) (entries_fit by.stays cells threads books a Idle staged.0 d.before hold staged.1) in
           let e : target code x.turns xs ≡ Asking w.waiting = exec_run code x.turns (opening code xs) ∙ ap (λ o. and_then o stated) w.asking in
           inr (
@@ -343,5 +351,5 @@ module _ (cells : List CellDefinition) (threads : ℕ) (books : ℕ → List Eve
 pub run_prints : Lower → ServeKeeps → FreshStands → RunPrints
 run_prints by keeps fresh cells threads codes ys a known =
     let h = plays_wait cells threads keeps codes fresh ys in
-    let k = h.holds.actors a known in
+    let k = h.holds.actors false a known in
     printed_before cells threads _ a by (codes a) _ k.stage k.told (h.waits a known)

@@ -21,7 +21,7 @@ use Rattle.txs_world_book.specs.Book.{cells_in, opening, is_outdated, least_writ
 use Rattle.txs_world_book.specs.Served.{Served, event_of, cells_of}
 use Rattle.txs_world.specs.Store.{looks, commits, merged}
 use Rattle.txs_theorem_runs.specs.Shared.{book_for, serve_on}
-use Rattle.txs_theorem_runs.specs.Stages.{Stage, Idle, Open, Viewing, Swapping, AsksIn, stage_after}
+use Rattle.txs_theorem_runs.specs.Stages.{Stage, Resting, Idle, Open, Viewing, Swapping, AsksIn, stage_after}
 use Rattle.txs_theorem_runs.proofs.Growing.{AreOwn, Grown, differ}
 
 -- an event added where there is room
@@ -76,6 +76,7 @@ others_skip all a b (e ∷ es) n own = (ap (λ t. t && counts all e.kind) (diffe
 
 -- the actor may name the places of its stage
 abbrev pub MayName : List CellDefinition → (ℕ → List Event) → ℕ → Stage → Type 0
+MayName cells books a Resting = Unit {0}
 MayName cells books a Idle = Unit {0}
 MayName cells books a (Open at) = may_name false (books 0) a at ≡ true
 MayName cells books a (Viewing at view) = may_end (books 0) a at view ≡ true
@@ -83,6 +84,7 @@ MayName cells books a (Swapping c at) = may_name true (books (home cells c)) a a
 
 -- the actor may name a try's read point as a view, too
 abbrev pub NamesView : (ℕ → List Event) → ℕ → Stage → Type 0
+NamesView books a Resting = Unit {0}
 NamesView books a Idle = Unit {0}
 NamesView books a (Open at) = may_name true (books 0) a at ≡ true
 NamesView books a (Viewing at view) = Unit {0}
@@ -102,6 +104,7 @@ module _ (cells : List CellDefinition) (a b : ℕ) (books later : ℕ → List E
 
   -- another actor's events leave what an actor may name
   pub names_stay : (st : Stage) → MayName cells books b st → MayName cells later b st
+  names_stay Resting h = tt
   names_stay Idle h = tt
   names_stay (Open at) h = still_named false 0 at h
   names_stay (Viewing at view) h =
@@ -113,6 +116,7 @@ module _ (cells : List CellDefinition) (a b : ℕ) (books later : ℕ → List E
 
 -- where the books are as before, so is what may be named
 pub names_same : (cells : List CellDefinition) (a : ℕ) (books later : ℕ → List Event) → ((i : ℕ) → later i ≡ books i) → (st : Stage) → MayName cells books a st → MayName cells later a st
+names_same cells a books later e Resting h = tt
 names_same cells a books later e Idle h = tt
 names_same cells a books later e (Open at) h = subst (λ l. may_name false l a at ≡ true) (sym (e 0)) h
 names_same cells a books later e (Viewing at view) h = subst (λ l. may_end l a at view ≡ true) (sym (e 0)) h
@@ -193,51 +197,92 @@ module _ (cells : List CellDefinition) (a : ℕ) (books : ℕ → List Event) wh
         go true = tt
         go false = tt
 
-  pub names_after : (st : Stage) (q : Ask) → AsksIn st q → MayName cells books a st → NamesAfter st q (serve_on cells a q (books (book_for cells q)))
-  names_after Idle ask.Begin ok h = end_named false a (books 0)
-  names_after Idle (ask.Peek c) ok h = tt
-  names_after Idle (ask.Send x) ok h = tt
-  names_after Idle (ask.OpenAt c) ok h =
+  -- an agent that takes an action names nothing
+  rest_named : (bs : ℕ → List Event) (g : CellId) (r : Reply) → MayName cells bs a (stage_after Resting (ask.Take g) r)
+  rest_named bs g (reply.At i) = tt
+  rest_named bs g (reply.Is v) = tt
+  rest_named bs g (reply.Views i vs) = tt
+  rest_named bs g reply.Done = tt
+  rest_named bs g (reply.Retry d) = tt
+  rest_named bs g (reply.Changed d) = tt
+  rest_named bs g (reply.AgentIsFailed h) = tt
+  rest_named bs g (reply.Action n x v) = tt
+  rest_named bs g reply.Idle = tt
+  rest_named bs g (reply.Opened i v) = tt
+  rest_named bs g reply.Full = tt
+  rest_named bs g reply.Memory = tt
+
+  rest_viewed : (bs : ℕ → List Event) (g : CellId) (r : Reply) → NamesView bs a (stage_after Resting (ask.Take g) r)
+  rest_viewed bs g (reply.At i) = tt
+  rest_viewed bs g (reply.Is v) = tt
+  rest_viewed bs g (reply.Views i vs) = tt
+  rest_viewed bs g reply.Done = tt
+  rest_viewed bs g (reply.Retry d) = tt
+  rest_viewed bs g (reply.Changed d) = tt
+  rest_viewed bs g (reply.AgentIsFailed h) = tt
+  rest_viewed bs g (reply.Action n x v) = tt
+  rest_viewed bs g reply.Idle = tt
+  rest_viewed bs g (reply.Opened i v) = tt
+  rest_viewed bs g reply.Full = tt
+  rest_viewed bs g reply.Memory = tt
+
+  pub names_after : (agent : Bool) (st : Stage) (q : Ask) → AsksIn agent st q → MayName cells books a st → NamesAfter st q (serve_on cells a q (books (book_for cells q)))
+  names_after agent Resting (ask.Take g) ok h = rest_named (later (ask.Take g) (serve_on cells a (ask.Take g) (books 0))) g (serve_on cells a (ask.Take g) (books 0)).reply
+  names_after agent Resting ask.Begin ok h = absurd ok
+  names_after agent Resting (ask.Look c p) ok h = absurd ok
+  names_after agent Resting (ask.View cs) ok h = absurd ok
+  names_after agent Resting (ask.Commit p sets ensured q commuted sends) ok h = absurd ok
+  names_after agent Resting (ask.Fail p q) ok h = absurd ok
+  names_after agent Resting (ask.Peek c) ok h = absurd ok
+  names_after agent Resting (ask.Send x) ok h = absurd ok
+  names_after agent Resting (ask.Finish g new sends) ok h = absurd ok
+  names_after agent Resting (ask.OpenAt c) ok h = absurd ok
+  names_after agent Resting (ask.CloseAt c p v) ok h = absurd ok
+  names_after agent Resting (ask.Broke c p) ok h = absurd ok
+  names_after agent Idle ask.Begin ok h = end_named false a (books 0)
+  names_after agent Idle (ask.Peek c) ok h = tt
+  names_after agent Idle (ask.Send x) ok h = tt
+  names_after agent Idle (ask.OpenAt c) ok h =
       subst (λ t. may_name true (if t then books (home cells c) else books (home cells c)) a (length (books (home cells c))) ≡ true) (sym (number-itself (home cells c))) (end_named true a (books (home cells c)))
-  names_after Idle (ask.CloseAt c None v) ok h = tt
-  names_after Idle (ask.CloseAt c (Some p) v) ok h = absurd ok
-  names_after Idle (ask.Look c p) ok h = absurd ok
-  names_after Idle (ask.View cs) ok h = absurd ok
-  names_after Idle (ask.Commit p sets ensured q commuted sends) ok h = absurd ok
-  names_after Idle (ask.Fail p q) ok h = absurd ok
-  names_after Idle (ask.Take g) ok h = absurd ok
-  names_after Idle (ask.Finish g new sends) ok h = absurd ok
-  names_after Idle (ask.Broke c p) ok h = absurd ok
-  names_after (Open at) (ask.Look c p) ok h = look_named at c p h (is_outdated c.number p (books 0))
-  names_after (Open at) (ask.View cs) ok h = viewed_named at h
-  names_after (Open at) (ask.Commit p sets ensured q commuted sends) ok h =
+  names_after agent Idle (ask.CloseAt c None v) ok h = tt
+  names_after agent Idle (ask.CloseAt c (Some p) v) ok h = absurd ok
+  names_after agent Idle (ask.Look c p) ok h = absurd ok
+  names_after agent Idle (ask.View cs) ok h = absurd ok
+  names_after agent Idle (ask.Commit p sets ensured q commuted sends) ok h = absurd ok
+  names_after agent Idle (ask.Fail p q) ok h = absurd ok
+  names_after agent Idle (ask.Take g) ok h = absurd ok
+  names_after agent Idle (ask.Finish g new sends) ok h = tt
+  names_after agent Idle (ask.Broke c p) ok h = absurd ok
+  names_after agent (Open at) (ask.Look c p) ok h = look_named at c p h (is_outdated c.number p (books 0))
+  names_after agent (Open at) (ask.View cs) ok h = viewed_named at h
+  names_after agent (Open at) (ask.Commit p sets ensured q commuted sends) ok h =
       subst (λ ws. NamesAfter (Open at) (ask.Commit p sets ensured q ws sends) (commits (least_written (books 0) p (cells_in sets ++ ensured)) (least_written (books 0) q (cells_in ws)) (first_failed (cells_of cells) (books 0) sends) a p q (merged sets ws) sends (books 0))) (sym ok.1)
       (tried_named p q sets [] ensured sends at (least_written (books 0) p (cells_in sets ++ ensured)) (first_failed (cells_of cells) (books 0) sends) (merged sets []))
-  names_after (Open at) (ask.Fail p q) ok h = tt
-  names_after (Open at) ask.Begin ok h = absurd ok
-  names_after (Open at) (ask.Peek c) ok h = absurd ok
-  names_after (Open at) (ask.Send x) ok h = absurd ok
-  names_after (Open at) (ask.Take g) ok h = absurd ok
-  names_after (Open at) (ask.Finish g new sends) ok h = absurd ok
-  names_after (Open at) (ask.OpenAt c) ok h = absurd ok
-  names_after (Open at) (ask.CloseAt c p v) ok h = absurd ok
-  names_after (Open at) (ask.Broke c p) ok h = absurd ok
-  names_after (Viewing at view) (ask.Commit p sets ensured q commuted sends) ok h =
+  names_after agent (Open at) (ask.Fail p q) ok h = tt
+  names_after agent (Open at) ask.Begin ok h = absurd ok
+  names_after agent (Open at) (ask.Peek c) ok h = absurd ok
+  names_after agent (Open at) (ask.Send x) ok h = absurd ok
+  names_after agent (Open at) (ask.Take g) ok h = absurd ok
+  names_after agent (Open at) (ask.Finish g new sends) ok h = tt
+  names_after agent (Open at) (ask.OpenAt c) ok h = absurd ok
+  names_after agent (Open at) (ask.CloseAt c p v) ok h = absurd ok
+  names_after agent (Open at) (ask.Broke c p) ok h = absurd ok
+  names_after agent (Viewing at view) (ask.Commit p sets ensured q commuted sends) ok h =
       let x = both (nat_le at view) (may_name false (books 0) a at && may_name true (books 0) a view) h in
       let y = both (may_name false (books 0) a at) (may_name true (books 0) a view) x.1 in
       phased_named p q sets commuted ensured sends at view (least_written (books 0) p (cells_in sets ++ ensured)) (least_written (books 0) q (cells_in commuted)) (first_failed (cells_of cells) (books 0) sends) (merged sets commuted) y.0
-  names_after (Viewing at view) (ask.Fail p q) ok h = tt
-  names_after (Viewing at view) ask.Begin ok h = absurd ok
-  names_after (Viewing at view) (ask.Look c p) ok h = absurd ok
-  names_after (Viewing at view) (ask.View cs) ok h = absurd ok
-  names_after (Viewing at view) (ask.Peek c) ok h = absurd ok
-  names_after (Viewing at view) (ask.Send x) ok h = absurd ok
-  names_after (Viewing at view) (ask.Take g) ok h = absurd ok
-  names_after (Viewing at view) (ask.Finish g new sends) ok h = absurd ok
-  names_after (Viewing at view) (ask.OpenAt c) ok h = absurd ok
-  names_after (Viewing at view) (ask.CloseAt c p v) ok h = absurd ok
-  names_after (Viewing at view) (ask.Broke c p) ok h = absurd ok
-  names_after (Swapping c at) q ok h = tt
+  names_after agent (Viewing at view) (ask.Fail p q) ok h = tt
+  names_after agent (Viewing at view) ask.Begin ok h = absurd ok
+  names_after agent (Viewing at view) (ask.Look c p) ok h = absurd ok
+  names_after agent (Viewing at view) (ask.View cs) ok h = absurd ok
+  names_after agent (Viewing at view) (ask.Peek c) ok h = absurd ok
+  names_after agent (Viewing at view) (ask.Send x) ok h = absurd ok
+  names_after agent (Viewing at view) (ask.Take g) ok h = absurd ok
+  names_after agent (Viewing at view) (ask.Finish g new sends) ok h = absurd ok
+  names_after agent (Viewing at view) (ask.OpenAt c) ok h = absurd ok
+  names_after agent (Viewing at view) (ask.CloseAt c p v) ok h = absurd ok
+  names_after agent (Viewing at view) (ask.Broke c p) ok h = absurd ok
+  names_after agent (Swapping c at) q ok h = tt
 
   -- ---- a try that was not begun again from its view
 
@@ -271,35 +316,47 @@ module _ (cells : List CellDefinition) (a : ℕ) (books : ℕ → List Event) wh
   look_viewed at c p h false = h
 
   -- outside a commute phase, each try after an ask may be viewed at its read point
-  pub view_after : (st : Stage) (q : Ask) → AsksIn st q → (IsViewing st → ⊥) → NamesView books a st ⊎ IsView q → ViewAfter st q (serve_on cells a q (books (book_for cells q)))
-  view_after (Viewing at view) q ok n h = absurd (n tt)
-  view_after Idle ask.Begin ok n h = end_named true a (books 0)
-  view_after Idle (ask.Peek c) ok n h = tt
-  view_after Idle (ask.Send x) ok n h = tt
-  view_after Idle (ask.OpenAt c) ok n h = tt
-  view_after Idle (ask.CloseAt c None v) ok n h = tt
-  view_after Idle (ask.CloseAt c (Some p) v) ok n h = absurd ok
-  view_after Idle (ask.Look c p) ok n h = absurd ok
-  view_after Idle (ask.View cs) ok n h = absurd ok
-  view_after Idle (ask.Commit p sets ensured q commuted sends) ok n h = absurd ok
-  view_after Idle (ask.Fail p q) ok n h = absurd ok
-  view_after Idle (ask.Take g) ok n h = absurd ok
-  view_after Idle (ask.Finish g new sends) ok n h = absurd ok
-  view_after Idle (ask.Broke c p) ok n h = absurd ok
-  view_after (Open at) (ask.Look c p) ok n (inl h) = look_viewed at c p h (is_outdated c.number p (books 0))
-  view_after (Open at) (ask.Look c p) ok n (inr h) = absurd h
-  view_after (Open at) (ask.View cs) ok n h = tt
-  view_after (Open at) (ask.Commit p sets ensured q commuted sends) ok n h =
+  pub view_after : (agent : Bool) (st : Stage) (q : Ask) → AsksIn agent st q → (IsViewing st → ⊥) → NamesView books a st ⊎ IsView q → ViewAfter st q (serve_on cells a q (books (book_for cells q)))
+  view_after agent (Viewing at view) q ok n h = absurd (n tt)
+  view_after agent Resting (ask.Take g) ok n h = rest_viewed (later (ask.Take g) (serve_on cells a (ask.Take g) (books 0))) g (serve_on cells a (ask.Take g) (books 0)).reply
+  view_after agent Resting ask.Begin ok n h = absurd ok
+  view_after agent Resting (ask.Look c p) ok n h = absurd ok
+  view_after agent Resting (ask.View cs) ok n h = absurd ok
+  view_after agent Resting (ask.Commit p sets ensured q commuted sends) ok n h = absurd ok
+  view_after agent Resting (ask.Fail p q) ok n h = absurd ok
+  view_after agent Resting (ask.Peek c) ok n h = absurd ok
+  view_after agent Resting (ask.Send x) ok n h = absurd ok
+  view_after agent Resting (ask.Finish g new sends) ok n h = absurd ok
+  view_after agent Resting (ask.OpenAt c) ok n h = absurd ok
+  view_after agent Resting (ask.CloseAt c p v) ok n h = absurd ok
+  view_after agent Resting (ask.Broke c p) ok n h = absurd ok
+  view_after agent Idle ask.Begin ok n h = end_named true a (books 0)
+  view_after agent Idle (ask.Peek c) ok n h = tt
+  view_after agent Idle (ask.Send x) ok n h = tt
+  view_after agent Idle (ask.OpenAt c) ok n h = tt
+  view_after agent Idle (ask.CloseAt c None v) ok n h = tt
+  view_after agent Idle (ask.CloseAt c (Some p) v) ok n h = absurd ok
+  view_after agent Idle (ask.Look c p) ok n h = absurd ok
+  view_after agent Idle (ask.View cs) ok n h = absurd ok
+  view_after agent Idle (ask.Commit p sets ensured q commuted sends) ok n h = absurd ok
+  view_after agent Idle (ask.Fail p q) ok n h = absurd ok
+  view_after agent Idle (ask.Take g) ok n h = absurd ok
+  view_after agent Idle (ask.Finish g new sends) ok n h = tt
+  view_after agent Idle (ask.Broke c p) ok n h = absurd ok
+  view_after agent (Open at) (ask.Look c p) ok n (inl h) = look_viewed at c p h (is_outdated c.number p (books 0))
+  view_after agent (Open at) (ask.Look c p) ok n (inr h) = absurd h
+  view_after agent (Open at) (ask.View cs) ok n h = tt
+  view_after agent (Open at) (ask.Commit p sets ensured q commuted sends) ok n h =
       subst (λ ws. ViewAfter (Open at) (ask.Commit p sets ensured q ws sends) (commits (least_written (books 0) p (cells_in sets ++ ensured)) (least_written (books 0) q (cells_in ws)) (first_failed (cells_of cells) (books 0) sends) a p q (merged sets ws) sends (books 0))) (sym ok.1)
       (subst (λ st. NamesView (later (ask.Commit p sets ensured q [] sends) (commits (least_written (books 0) p (cells_in sets ++ ensured)) None (first_failed (cells_of cells) (books 0) sends) a p q (merged sets []) sends (books 0))) a st)
       (sym (tried_ends p q at sets ensured sends (least_written (books 0) p (cells_in sets ++ ensured)) (first_failed (cells_of cells) (books 0) sends) (merged sets []))) tt)
-  view_after (Open at) (ask.Fail p q) ok n h = tt
-  view_after (Open at) ask.Begin ok n h = absurd ok
-  view_after (Open at) (ask.Peek c) ok n h = absurd ok
-  view_after (Open at) (ask.Send x) ok n h = absurd ok
-  view_after (Open at) (ask.Take g) ok n h = absurd ok
-  view_after (Open at) (ask.Finish g new sends) ok n h = absurd ok
-  view_after (Open at) (ask.OpenAt c) ok n h = absurd ok
-  view_after (Open at) (ask.CloseAt c p v) ok n h = absurd ok
-  view_after (Open at) (ask.Broke c p) ok n h = absurd ok
-  view_after (Swapping c at) q ok n h = tt
+  view_after agent (Open at) (ask.Fail p q) ok n h = tt
+  view_after agent (Open at) ask.Begin ok n h = absurd ok
+  view_after agent (Open at) (ask.Peek c) ok n h = absurd ok
+  view_after agent (Open at) (ask.Send x) ok n h = absurd ok
+  view_after agent (Open at) (ask.Take g) ok n h = absurd ok
+  view_after agent (Open at) (ask.Finish g new sends) ok n h = tt
+  view_after agent (Open at) (ask.OpenAt c) ok n h = absurd ok
+  view_after agent (Open at) (ask.CloseAt c p v) ok n h = absurd ok
+  view_after agent (Open at) (ask.Broke c p) ok n h = absurd ok
+  view_after agent (Swapping c at) q ok n h = tt

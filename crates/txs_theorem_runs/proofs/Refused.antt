@@ -1,5 +1,5 @@
 -- A commit that was refused was undisturbed.
-use Rattle.std.proofs.Common.{◌≡◌, ℕ, List, [], ◌∷◌, take, sym}
+use Rattle.std.proofs.Common.{◌≡◌, ℕ, false, List, [], ◌∷◌, take, sym}
 use Rattle.txs_world_protocol.specs.declared.ask.Ask.{Ask}
 use Rattle.txs_world_protocol.specs.declared.ask.Ask.TheVariants as ask
 use Rattle.txs_world_protocol.specs.declared.ask.Reply.{Reply}
@@ -66,4 +66,4 @@ all_hold keeps cells threads codes (y ∷ ys) st h = all_hold keeps cells thread
 
 pub run_refusals : RefusedIsUndisturbed → ServeKeeps → FreshStands → RunRefusals
 run_refusals by keeps fresh cells threads codes ys a staged =
-    all_refused by cells threads _ a _ ((all_hold keeps cells threads codes ys (opens cells codes) (opening_holds fresh cells threads codes)).actors a staged).told.hold
+    all_refused by cells threads _ a _ ((all_hold keeps cells threads codes ys (opens cells codes) (opening_holds fresh cells threads codes)).actors false a staged).told.hold

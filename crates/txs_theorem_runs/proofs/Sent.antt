@@ -1,5 +1,5 @@
 -- What threads send is such as their code sends wherever it comes to; so it is of all that the books send, and of what an agent runs next.
-use Rattle.std.proofs.Common.{◌≡◌, ℕ, Bool, true, false, ◌==◌, nat_lt, List, [], ◌∷◌, ◌++◌, length, map, drop, Result, Ok, Err, ap, ◌∙◌, Option, Some, None, refl, sym, subst, if◌then◌else◌}
+use Rattle.std.proofs.Common.{◌≡◌, ℕ, Bool, true, false, not, ◌==◌, nat_lt, List, [], ◌∷◌, ◌++◌, length, map, drop, Result, Ok, Err, ap, ◌∙◌, Option, Some, None, refl, sym, subst, if◌then◌else◌, inl, inr}
 use Rattle.std.proofs.lemmas.Bool.{false≢true}
 use Rattle.txs_world_protocol.specs.Ask.{Exchange}
 use Rattle.txs_world_protocol.specs.declared.ask.Ask.{Ask}
@@ -16,21 +16,23 @@ use Rattle.txs_value_cell.specs.declared.cell.CellDefinition.{CellDefinition}
 use Rattle.txs_value_base.specs.declared.fault.Fault.{Fault}
 use Rattle.txs_value_data.specs.declared.value.CellId.{CellId}
 use Rattle.txs_value_data.specs.declared.value.Value.{Value}
-use Rattle.txs_code_meaning.specs.ActorState.{ActorState}
+use Rattle.txs_code_meaning.specs.ActorState.{ActorState, InHand, held_in, now_holding}
 use Rattle.txs_code_meaning.specs.Machine.{ThreadCode, fetch, Configuration, Turned, Ended, Failed, Asking, Unfinished, Stuck, turn, run}
 use Rattle.txs_code_meaning.specs.Opening.{given, opening}
-use Rattle.txs_world_book.proofs.Outcomes.{both}
-use Rattle.txs_world_book.specs.Book.{is_there, is_failed, is_empty, Mail, no_mail, sent_to, acted, mail_changed, mail_from, mail_after, goes_on, Each}
+use Rattle.txs_world_book.specs.Book.{actors, is_there, is_failed, Mail, no_mail, sent_to, acted, mail_changed, mail_from, mail_after, goes_on, Each}
+use Rattle.txs_world_book.specs.Served.{cells_of}
+use Rattle.txs_frame.specs.Frame.{sends_of_commit}
 use Rattle.txs_world.specs.Laws.{ServeKeeps}
 use Rattle.txs_world.specs.Store.{first_action, next_action}
 use Rattle.txs_world_book.specs.declared.cell.StoreCell.{StoreCell}
 use Rattle.txs_theorem_runs.specs.Invariant.{RunInvariant}
 use Rattle.txs_theorem_runs.specs.Run.{Stop, Actor, Moved, moved, comes_to, replied, exchange, asked, asks_for, turned, turns_from, stops_from, Play, TakesTurn, IsStopped, State, moves, actor_of, play, plays_from, opens}
 use Rattle.txs_theorem_runs.specs.Shared.{Shared, book_for, serve_on, may_ask}
-use Rattle.txs_theorem_runs.specs.Staged.{StagedCode}
+use Rattle.txs_theorem_runs.specs.Staged.{StagedActor}
 use Rattle.txs_theorem_runs.specs.Told.{exchange_of}
-use Rattle.txs_theorem_runs.proofs.Adding.{IsQuiet, Brings, sends_nothing, served_such}
-use Rattle.txs_theorem_runs.proofs.Keeping.{IsKept, SendsOwn, SendsSuch, Holds, turn_keeps}
+use Rattle.txs_theorem_runs.proofs.Adding.{IsQuiet, Brings, served_such}
+use Rattle.txs_theorem_runs.proofs.Asker.{asker_is}
+use Rattle.txs_theorem_runs.proofs.Keeping.{IsKept, HeldBy, SendsOwn, SendsSuch, Holds, turn_keeps}
 use Rattle.txs_theorem_runs.proofs.Steps.{play_holds}
 use Rattle.txs_theorem_runs.proofs.Whole.{FreshStands, opening_holds}
 
@@ -114,39 +116,71 @@ module _ (P : Action → Type 0) where
   abbrev AskSound : Ask → Type 0
   AskSound (ask.Send x) = P x
   AskSound (ask.Commit p sets ensured q commuted sends) = AreSuch sends
+  AskSound (ask.Finish g new sends) = AreSuch sends
   AskSound _ = Unit {0}
 
   abbrev WantSound : Option Ask → Type 0
   WantSound None = Unit {0}
   WantSound (Some q) = AskSound q
 
-  -- what the transaction holds is such, and so what the actor asks
-  abbrev HoldsSound : ActorState → Type 0
-  HoldsSound s = AreSuch s.done.sends × WantSound s.wants
+  -- an action holds such sends
+  abbrev pub ActsSound : Option InHand → Type 0
+  ActsSound None = Unit {0}
+  ActsSound (Some h) = AreSuch h.sends
 
-  own_sound : (s : ActorState) (q : Ask) → SendsOwn P s q → AreSuch s.done.sends → AskSound q
-  own_sound s (ask.Send x) own h = own
-  own_sound s (ask.Commit p sets ensured q commuted sends) own h = subst (AreSuch) (sym own) h
-  own_sound s ask.Begin own h = tt
-  own_sound s (ask.Look c p) own h = tt
-  own_sound s (ask.View cs) own h = tt
-  own_sound s (ask.Fail p q) own h = tt
-  own_sound s (ask.Peek c) own h = tt
-  own_sound s (ask.Take g) own h = tt
-  own_sound s (ask.Finish g new sends) own h = tt
-  own_sound s (ask.OpenAt c) own h = tt
-  own_sound s (ask.CloseAt c p v) own h = tt
-  own_sound s (ask.Broke c p) own h = tt
+  -- what the transaction holds is such, what the action holds, and so what the actor asks
+  abbrev pub HoldsSound : ActorState → Type 0
+  HoldsSound s = AreSuch s.done.sends × ActsSound s.acting × WantSound s.wants
+
+  -- what a commit sends is what the transaction holds, or nothing
+  commit_sound : (o : Option (List Action)) (xs : List Action) → AreSuch xs → AreSuch (sends_of_commit o xs)
+  commit_sound None xs h = h
+  commit_sound (Some ys) xs h = tt
+
+  abbrev list_or : Option (List Action) → List Action
+  list_or None = []
+  list_or (Some xs) = xs
+
+  held_sound : (o : Option InHand) → ActsSound o → AreSuch (list_or (held_in o))
+  held_sound None h = tt
+  held_sound (Some x) h = h
+
+  -- and what an action hands in
+  handed_sound : (o : Option InHand) (sends : List Action) → ActsSound o → HeldBy o sends → AreSuch sends
+  handed_sound o sends h (inl e) = subst (AreSuch) (sym e) tt
+  handed_sound o sends h (inr e) = subst (AreSuch) (ap list_or e) (held_sound o h)
+
+  more_sound : (o : Option InHand) (xs : List Action) → ActsSound o → AreSuch xs → ActsSound (now_holding xs o)
+  more_sound None xs h k = tt
+  more_sound (Some x) xs h k = such_append x.sends xs h k
+
+  own_sound : (s : ActorState) (q : Ask) → SendsOwn P s q → AreSuch s.done.sends → ActsSound s.acting → AskSound q
+  own_sound s (ask.Send x) own h k = own
+  own_sound s (ask.Commit p sets ensured q commuted sends) own h k = subst (AreSuch) (sym own) (commit_sound (held_in s.acting) s.done.sends h)
+  own_sound s ask.Begin own h k = tt
+  own_sound s (ask.Look c p) own h k = tt
+  own_sound s (ask.View cs) own h k = tt
+  own_sound s (ask.Fail p q) own h k = tt
+  own_sound s (ask.Peek c) own h k = tt
+  own_sound s (ask.Take g) own h k = tt
+  own_sound s (ask.Finish g new sends) own h k = handed_sound s.acting sends k own
+  own_sound s (ask.OpenAt c) own h k = tt
+  own_sound s (ask.CloseAt c p v) own h k = tt
+  own_sound s (ask.Broke c p) own h k = tt
 
   sound_kept : IsKept P HoldsSound
   sound_kept = record {
     on_reply = λ s x xs e h. h;
-    on_begin = λ s p h. (tt, h.1);
-    on_work = λ s view w o e h. (subst (AreSuch) (sym e) h.0, h.1);
-    on_hold = λ s x such h. (such_append s.done.sends (x ∷ []) h.0 (such, tt), h.1);
-    on_acting = λ s o h. h;
+    on_begin = λ s p h. (tt, h.1, h.2);
+    on_work = λ s view w o e h. (subst (AreSuch) (sym e) h.0, h.1, h.2);
+    on_hold = λ s x such h. (such_append s.done.sends (x ∷ []) h.0 (such, tt), h.1, h.2);
+    on_take = λ s g x h. (h.0, tt, h.2);
+    on_rest = λ s h. (h.0, tt, h.2);
+    on_fault = λ s x f e h. (h.0, subst ActsSound e h.1, h.2);
+    on_held = λ s x such h. (h.0, more_sound s.acting (x ∷ []) h.1 (such, tt), h.2);
+    on_land = λ s h. (h.0, more_sound s.acting s.done.sends h.1 h.0, h.2);
     on_accepted = λ s o h. h;
-    on_wait = λ s q own h. (h.0, own_sound s q own h.0);
+    on_wait = λ s q own h. (h.0, h.1, own_sound s q own h.0 h.1);
   }
 
   turn_such : (code : ThreadCode) (c : Configuration) → SendsSuch P (fetch code c.body c.place) → HoldsSound c.state → Holds HoldsSound HoldsSound (turn code c)
@@ -170,28 +204,24 @@ module _ (P : Action → Type 0) where
   quiet_sound done (event.Swap new) h = tt
   quiet_sound done (event.Broke at) h = tt
 
-  none_such : (xs : List Action) → is_empty xs ≡ true → AreSuch xs
-  none_such [] e = tt
-  none_such (x ∷ xs) e = absurd (false≢true e)
-
-  -- threads alone send
-  threads_bring : (cells : List CellDefinition) (threads b : ℕ) (taken : List Bool) (book : List Event) (q : Ask) → may_ask cells threads taken b q book ≡ true → (nat_lt b threads ≡ true → AskSound q) → Brings Sent book q
-  threads_bring cells threads b taken book (ask.Send x) may s = s (both (nat_lt b threads) _ may).0
-  threads_bring cells threads b taken book (ask.Commit p sets ensured q commuted sends) may s = λ ws. s (both (nat_lt b threads) _ may).0
-  threads_bring cells threads b taken book (ask.Finish g new sends) may s = λ i. none_such sends (sends_nothing cells threads b taken book g new sends may)
-  threads_bring cells threads b taken book ask.Begin may s = tt
-  threads_bring cells threads b taken book (ask.Look c p) may s = tt
-  threads_bring cells threads b taken book (ask.View cs) may s = tt
-  threads_bring cells threads b taken book (ask.Fail p q) may s = tt
-  threads_bring cells threads b taken book (ask.Peek c) may s = tt
-  threads_bring cells threads b taken book (ask.Take g) may s = tt
-  threads_bring cells threads b taken book (ask.OpenAt c) may s = tt
-  threads_bring cells threads b taken book (ask.CloseAt c p v) may s = tt
-  threads_bring cells threads b taken book (ask.Broke c p) may s = tt
+  -- what an ask sends that may be made
+  asks_bring : (book : List Event) (q : Ask) → AskSound q → Brings Sent book q
+  asks_bring book (ask.Send x) s = s
+  asks_bring book (ask.Commit p sets ensured q commuted sends) s = λ ws. s
+  asks_bring book (ask.Finish g new sends) s = λ i. (s, λ at. tt)
+  asks_bring book ask.Begin s = tt
+  asks_bring book (ask.Look c p) s = tt
+  asks_bring book (ask.View cs) s = tt
+  asks_bring book (ask.Fail p q) s = tt
+  asks_bring book (ask.Peek c) s = tt
+  asks_bring book (ask.Take g) s = tt
+  asks_bring book (ask.OpenAt c) s = tt
+  asks_bring book (ask.CloseAt c p v) s = tt
+  asks_bring book (ask.Broke c p) s = tt
 
   -- ---- plays
 
-  module _ (cells : List CellDefinition) (threads : ℕ) (codes : ℕ → ThreadCode) (by : (a : ℕ) → nat_lt a threads ≡ true → CodeSendsSuch (codes a)) where
+  module _ (cells : List CellDefinition) (threads : ℕ) (codes : ℕ → ThreadCode) (by : (a : ℕ) → nat_lt a (actors threads (cells_of cells)) ≡ true → CodeSendsSuch (codes a)) where
     abbrev BooksSound : (ℕ → List Event) → Type 0
     BooksSound books = (n : ℕ) → AllSuch (books n)
 
@@ -199,27 +229,27 @@ module _ (P : Action → Type 0) where
     abbrev ActorSound : Actor → Type 0
     ActorSound x = Holds HoldsSound HoldsSound x.at
 
-    -- all that was sent, and what the threads hold
+    -- all that was sent, and what the actors hold
     pub record Sends (st : State) : Type 0 where
       pub books : (n : ℕ) → AllSuch (st.shared.books n)
-      pub held : (a : ℕ) → nat_lt a threads ≡ true → Holds HoldsSound HoldsSound (st.actors a).at
+      pub held : (a : ℕ) → nat_lt a (actors threads (cells_of cells)) ≡ true → Holds HoldsSound HoldsSound (st.actors a).at
 
-    -- what is known of an actor's play: the books, and of a thread what it holds
+    -- what is known of an actor's play: the books, and of an actor what it holds
     record After (b : ℕ) (m : Moved) : Type 0 where
       books : BooksSound m.shared.books
-      actor : nat_lt b threads ≡ true → ActorSound m.actor
+      actor : nat_lt b (actors threads (cells_of cells)) ≡ true → ActorSound m.actor
 
-    module _ (b : ℕ) (x : Actor) (sh : Shared) (h : BooksSound sh.books) (k : nat_lt b threads ≡ true → ActorSound x) (ran : nat_lt b threads ≡ true → run (codes b) x.turns (opening (codes b) (map exchange_of x.entries)) ≡ x.at) where
-      here : (c : Configuration) → x.at ≡ Unfinished c → nat_lt b threads ≡ true → SendsSuch P (fetch (codes b) c.body c.place)
+    module _ (b : ℕ) (x : Actor) (sh : Shared) (h : BooksSound sh.books) (k : nat_lt b (actors threads (cells_of cells)) ≡ true → ActorSound x) (ran : nat_lt b (actors threads (cells_of cells)) ≡ true → run (codes b) x.turns (opening (codes b) (map exchange_of x.entries)) ≡ x.at) where
+      here : (c : Configuration) → x.at ≡ Unfinished c → nat_lt b (actors threads (cells_of cells)) ≡ true → SendsSuch P (fetch (codes b) c.body c.place)
       here c at lt = by b lt x.turns (map exchange_of x.entries) c (ran lt ∙ at)
 
-      turns_sound : (c : Configuration) → x.at ≡ Unfinished c → nat_lt b threads ≡ true → Holds HoldsSound HoldsSound (turn (codes b) c)
+      turns_sound : (c : Configuration) → x.at ≡ Unfinished c → nat_lt b (actors threads (cells_of cells)) ≡ true → Holds HoldsSound HoldsSound (turn (codes b) c)
       turns_sound c at lt = turn_such (codes b) c (here c at lt) (subst (Holds HoldsSound HoldsSound) at (k lt))
 
-      hears_sound : (c : Configuration) (q : Ask) (r : Reply) → x.at ≡ Unfinished c → nat_lt b threads ≡ true → Holds HoldsSound HoldsSound (turn (codes b) (given (exchange q r ∷ []) c))
+      hears_sound : (c : Configuration) (q : Ask) (r : Reply) → x.at ≡ Unfinished c → nat_lt b (actors threads (cells_of cells)) ≡ true → Holds HoldsSound HoldsSound (turn (codes b) (given (exchange q r ∷ []) c))
       hears_sound c q r at lt = turn_such (codes b) (given (exchange q r ∷ []) c) (here c at lt) (subst (Holds HoldsSound HoldsSound) at (k lt))
 
-      replied_sound : (c : Configuration) (q : Ask) (r : Reply) (n : ℕ) → x.at ≡ Unfinished c → nat_lt b threads ≡ true → ActorSound (replied (codes b) c q r n x)
+      replied_sound : (c : Configuration) (q : Ask) (r : Reply) (n : ℕ) → x.at ≡ Unfinished c → nat_lt b (actors threads (cells_of cells)) ≡ true → ActorSound (replied (codes b) c q r n x)
       replied_sound c q (reply.At p) n at lt = hears_sound c q (reply.At p) at lt
       replied_sound c q (reply.Is v) n at lt = hears_sound c q (reply.Is v) at lt
       replied_sound c q (reply.Views p vs) n at lt = hears_sound c q (reply.Views p vs) at lt
@@ -239,18 +269,18 @@ module _ (P : Action → Type 0) where
       comes : (c : Configuration) (o : Turned Configuration) → x.at ≡ Unfinished c → turn (codes b) c ≡ o → After b (moved (comes_to o x) sh)
       comes c o at e = record { books = h; actor = λ lt. subst (Holds HoldsSound HoldsSound) e (turns_sound c at lt) }
 
-      asked_sound : (t : Bool) (c : Configuration) (q : Ask) → x.at ≡ Unfinished c → may_ask cells threads sh.taken b q (sh.books (book_for cells q)) ≡ t → (nat_lt b threads ≡ true → AskSound q) → After b (asked t cells (codes b) b c q x sh)
+      asked_sound : (t : Bool) (c : Configuration) (q : Ask) → x.at ≡ Unfinished c → may_ask cells threads sh.taken b q (sh.books (book_for cells q)) ≡ t → (nat_lt b (actors threads (cells_of cells)) ≡ true → AskSound q) → After b (asked t cells (codes b) b c q x sh)
       asked_sound false c q at may s = record { books = h; actor = k }
       asked_sound true c q at may s = record { books = λ n. go n (n == book_for cells q); actor = λ lt. replied_sound c q (serve_on cells b q (sh.books (book_for cells q))).reply (length (sh.books (book_for cells q))) at lt }
         where
           go : (n : ℕ) (t : Bool) → AllSuch (if t then (serve_on cells b q (sh.books (book_for cells q))).book else sh.books n)
-          go n true = served_such Sent quiet_sound cells b (sh.books (book_for cells q)) (h (book_for cells q)) q (threads_bring cells threads b sh.taken (sh.books (book_for cells q)) q may s)
+          go n true = served_such Sent quiet_sound cells b (sh.books (book_for cells q)) (h (book_for cells q)) q (asks_bring (sh.books (book_for cells q)) q (s (asker_is cells threads sh.taken b (sh.books (book_for cells q)) q may)))
           go n false = h n
 
       asks_sound : (c : Configuration) (s : ActorState) (o : Option Ask) → x.at ≡ Unfinished c → turn (codes b) c ≡ Asking s → s.wants ≡ o → After b (asks_for cells threads (codes b) b c s o x sh)
       asks_sound c s None at e w = comes c (Asking s) at e
       asks_sound c s (Some q) at e w =
-          asked_sound (may_ask cells threads sh.taken b q (sh.books (book_for cells q))) c q at refl (λ lt. subst WantSound w (subst (Holds HoldsSound HoldsSound) e (turns_sound c at lt)).1)
+          asked_sound (may_ask cells threads sh.taken b q (sh.books (book_for cells q))) c q at refl (λ lt. subst WantSound w (subst (Holds HoldsSound HoldsSound) e (turns_sound c at lt)).2)
 
       turned_sound : (c : Configuration) (o : Turned Configuration) → x.at ≡ Unfinished c → turn (codes b) c ≡ o → After b (turned cells threads (codes b) b c o x sh)
       turned_sound c (Ended s) at e = comes c (Ended s) at e
@@ -275,9 +305,9 @@ module _ (P : Action → Type 0) where
       stopped_sound why (Unfinished c) (Some s) = stays
       stopped_sound why Stuck o = stays
 
-    -- threads are where their code comes to
+    -- actors are where their code comes to
     abbrev HaveRun : State → Type 0
-    HaveRun st = (b : ℕ) → nat_lt b threads ≡ true → run (codes b) (st.actors b).turns (opening (codes b) (map exchange_of (st.actors b).entries)) ≡ (st.actors b).at
+    HaveRun st = (b : ℕ) → nat_lt b (actors threads (cells_of cells)) ≡ true → run (codes b) (st.actors b).turns (opening (codes b) (map exchange_of (st.actors b).entries)) ≡ (st.actors b).at
 
     moves_sound : (y : Play) (st : State) → HaveRun st → Sends st → After (actor_of y) (moves cells threads codes y st)
     moves_sound (TakesTurn b) st ran h = taken_sound b (st.actors b) st.shared h.books (h.held b) (ran b) (st.actors b).at (st.actors b).stopped refl
@@ -289,21 +319,21 @@ module _ (P : Action → Type 0) where
         m : After (actor_of y) (moves cells threads codes y st)
         m = moves_sound y st ran h
 
-        go : (a : ℕ) → nat_lt a threads ≡ true → (t : Bool) → (actor_of y == a) ≡ t → ActorSound (if t then (moves cells threads codes y st).actor else st.actors a)
-        go a lt true e = m.actor (subst (λ i. nat_lt i threads ≡ true) (sym (numbers (actor_of y) a e)) lt)
+        go : (a : ℕ) → nat_lt a (actors threads (cells_of cells)) ≡ true → (t : Bool) → (actor_of y == a) ≡ t → ActorSound (if t then (moves cells threads codes y st).actor else st.actors a)
+        go a lt true e = m.actor (subst (λ i. nat_lt i (actors threads (cells_of cells)) ≡ true) (sym (numbers (actor_of y) a e)) lt)
         go a lt false e = h.held a lt
 
     pub opening_sends : Sends (opens cells codes)
-    opening_sends = record { books = λ n. tt; held = λ a lt. (tt, tt) }
+    opening_sends = record { books = λ n. tt; held = λ a lt. (tt, tt, tt) }
 
-    have_run : (st : State) → ((a : ℕ) → nat_lt a threads ≡ true → StagedCode (codes a)) → RunInvariant cells threads codes st → HaveRun st
-    have_run st staged h b lt = (h.actors b (staged b lt)).ran
+    have_run : (st : State) → ((a : ℕ) → nat_lt a (actors threads (cells_of cells)) ≡ true → StagedActor (not (nat_lt a threads)) (codes a)) → RunInvariant cells threads codes st → HaveRun st
+    have_run st staged h b lt = (h.actors (not (nat_lt b threads)) b (staged b lt)).ran
 
-    all_sent : ServeKeeps → ((a : ℕ) → nat_lt a threads ≡ true → StagedCode (codes a)) → (ys : List Play) (st : State) → RunInvariant cells threads codes st → Sends st → Sends (plays_from cells threads codes ys st)
+    all_sent : ServeKeeps → ((a : ℕ) → nat_lt a (actors threads (cells_of cells)) ≡ true → StagedActor (not (nat_lt a threads)) (codes a)) → (ys : List Play) (st : State) → RunInvariant cells threads codes st → Sends st → Sends (plays_from cells threads codes ys st)
     all_sent keeps staged [] st i h = h
     all_sent keeps staged (y ∷ ys) st i h =
         all_sent keeps staged ys (play cells threads codes y st) (play_holds keeps cells threads codes y st i) (play_sends y st (have_run st staged i) h)
 
-    -- what the threads of a run send is such
-    pub run_sends : ServeKeeps → FreshStands → ((a : ℕ) → nat_lt a threads ≡ true → StagedCode (codes a)) → (ys : List Play) → AllSuch ((plays_from cells threads codes ys (opens cells codes)).shared.books 0)
+    -- what the actors of a run send is such
+    pub run_sends : ServeKeeps → FreshStands → ((a : ℕ) → nat_lt a (actors threads (cells_of cells)) ≡ true → StagedActor (not (nat_lt a threads)) (codes a)) → (ys : List Play) → AllSuch ((plays_from cells threads codes ys (opens cells codes)).shared.books 0)
     run_sends keeps fresh staged ys = (all_sent keeps staged ys (opens cells codes) (opening_holds fresh cells threads codes) opening_sends).books 0

@@ -12,14 +12,17 @@ use Rattle.txs_value_cell.specs.Cells.{World}
 use Rattle.txs_value_data.specs.Limits.{most_events}
 use Rattle.txs_value_cell.specs.declared.action.Action.{Action}
 use Rattle.txs_value_cell.specs.declared.cell.CellDefinition.{CellDefinition}
+use Rattle.txs_value_base.specs.Places.{fault_at}
 use Rattle.txs_value_base.specs.declared.fault.Fault.{Fault}
+use Rattle.txs_value_base.specs.declared.fault.FaultKind.TheVariants.{AgentFailed}
+use Rattle.txs_value_base.specs.declared.fault.Span.{Span}
 use Rattle.txs_value_data.specs.declared.value.CellId.{CellId}
 use Rattle.txs_value_data.specs.declared.value.Value.{Value}
 use Rattle.txs_code_meaning.specs.Machine.{ThreadCode}
 use Rattle.txs_world_book.specs.Atom.{swapped_to, atom_after, atom_newest, swapped_since, closes_at}
 use Rattle.txs_world_book.specs.Book.{cells_in, opening, value_or, state_of, writes_of, changed, after, newest, is_outdated, least_written, Mail, no_mail, sent_to, acted, mail_changed, mail_from, mail_after, is_failed, first_failed}
 use Rattle.txs_world_book.specs.Served.{Served, event_of, cells_of, adds}
-use Rattle.txs_world.specs.Store.{looks, commits, sends_to, takes, first_action, merged, serve}
+use Rattle.txs_world.specs.Store.{looks, commits, sends_to, takes, first_action, merged, serve, finishes, span_of}
 use Rattle.txs_world_book.specs.declared.cell.StoreCell.{StoreCell}
 use Rattle.txs_theorem_runs.specs.Lawful.{IsKnown, OpeningIsKnown}
 use Rattle.txs_theorem_runs.specs.Shared.{is_atom, atom_of, serve_atom, serve_on}
@@ -192,18 +195,23 @@ module _ (cells : List CellDefinition) (opens : OpeningIsKnown cells) where
     peeks_known true c = adds_known (event.Read c) (reply.Is (atom_newest (atom_of cells c es))) tt (there c)
     peeks_known false c = adds_known (event.Read c) (reply.Is (newest (opening store) es c.number)) tt (after_known (opening store) es (length es) opens h c.number)
 
-    pub serve_known : (Tidy Fresh Clean : Type 0) (code : ThreadCode) (q : Ask) → AskKnown cells Tidy Fresh Clean code q → ServedKnown (serve_on cells a q es)
-    serve_known Tidy Fresh Clean code ask.Begin k = (tt, h)
-    serve_known Tidy Fresh Clean code (ask.Look c p) k = looks_known (is_outdated c.number p es) c p
-    serve_known Tidy Fresh Clean code (ask.View cs) k = (all_newest cs, h)
-    serve_known Tidy Fresh Clean code (ask.Commit p sets ensured q commuted sends) k =
+    finishes_known : (o : Option CellId) (g : CellId) (n : ℕ) (new : Result Value Fault) (sends : List Action) (span : Span) → ResultKnown cells new × SendsKnown cells sends → ServedKnown (finishes o a g n new sends span es)
+    finishes_known None g n new sends span k = adds_known (event.Act g n new sends) reply.Done k tt
+    finishes_known (Some x) g n new sends span k = adds_known (event.Act g n (Err (fault_at AgentFailed span)) []) (reply.AgentIsFailed x) (tt, tt) tt
+
+    pub serve_known : (Tidy Fresh Clean : Type 0) (Own : CellId → Type 0) (code : ThreadCode) (q : Ask) → AskKnown cells Tidy Fresh Clean Own code q → ServedKnown (serve_on cells a q es)
+    serve_known Tidy Fresh Clean Own code ask.Begin k = (tt, h)
+    serve_known Tidy Fresh Clean Own code (ask.Look c p) k = looks_known (is_outdated c.number p es) c p
+    serve_known Tidy Fresh Clean Own code (ask.View cs) k = (all_newest cs, h)
+    serve_known Tidy Fresh Clean Own code (ask.Commit p sets ensured q commuted sends) k =
         commits_known (least_written es p (cells_in sets ++ ensured)) (least_written es q (cells_in commuted)) (first_failed store es sends) p q (merged sets commuted) sends (merged_known sets commuted k.0.1 k.2.1) k.3
-    serve_known Tidy Fresh Clean code (ask.Fail p q) k = adds_known (event.Fail p q) reply.Done tt tt
-    serve_known Tidy Fresh Clean code (ask.Peek c) k = peeks_known (is_atom c) c
-    serve_known Tidy Fresh Clean code (ask.Send x) k = sends_known (is_failed store es x.agent) x k
-    serve_known Tidy Fresh Clean code (ask.Take g) k = (first_known (is_failed store es g) (mail_after store es g.number).actions _ (newest (opening store) es g.number) (mail_known _ g.number no_mail es h tt) (after_known (opening store) es (length es) opens h g.number), h)
-    serve_known Tidy Fresh Clean code (ask.Finish g new sends) k = adds_known (event.Act g (suc (mail_after store es g.number).acts) new sends) reply.Done k tt
-    serve_known Tidy Fresh Clean code (ask.OpenAt c) k = (there c, h)
-    serve_known Tidy Fresh Clean code (ask.CloseAt c None v) k = closes_known false c v k.1
-    serve_known Tidy Fresh Clean code (ask.CloseAt c (Some p) v) k = closes_known (swapped_since p es) c v k.1
-    serve_known Tidy Fresh Clean code (ask.Broke c p) k = adds_known (event.Broke p) reply.Done tt tt
+    serve_known Tidy Fresh Clean Own code (ask.Fail p q) k = adds_known (event.Fail p q) reply.Done tt tt
+    serve_known Tidy Fresh Clean Own code (ask.Peek c) k = peeks_known (is_atom c) c
+    serve_known Tidy Fresh Clean Own code (ask.Send x) k = sends_known (is_failed store es x.agent) x k
+    serve_known Tidy Fresh Clean Own code (ask.Take g) k = (first_known (is_failed store es g) (mail_after store es g.number).actions _ (newest (opening store) es g.number) (mail_known _ g.number no_mail es h tt) (after_known (opening store) es (length es) opens h g.number), h)
+    serve_known Tidy Fresh Clean Own code (ask.Finish g new sends) k =
+        finishes_known (first_failed store es sends) g (suc (mail_after store es g.number).acts) new sends (span_of (mail_after store es g.number).actions) (k.0, k.1)
+    serve_known Tidy Fresh Clean Own code (ask.OpenAt c) k = (there c, h)
+    serve_known Tidy Fresh Clean Own code (ask.CloseAt c None v) k = closes_known false c v k.1
+    serve_known Tidy Fresh Clean Own code (ask.CloseAt c (Some p) v) k = closes_known (swapped_since p es) c v k.1
+    serve_known Tidy Fresh Clean Own code (ask.Broke c p) k = adds_known (event.Broke p) reply.Done tt tt

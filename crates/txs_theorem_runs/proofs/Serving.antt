@@ -1,5 +1,5 @@
 -- What serving an ask does to the books: it adds an event of the actor at most, and keeps what holds of what is shared.
-use Rattle.std.proofs.Common.{◌≡◌, ◌<◌, ℕ, zero, suc, Bool, true, false, not, ◌&&◌, ◌==◌, nat_lt, List, [], ◌∷◌, ◌++◌, if◌then◌else◌, length, Option, Some, None, refl, sym, ap, ◌∙◌, subst, arith}
+use Rattle.std.proofs.Common.{◌≡◌, ◌<◌, ℕ, zero, suc, Bool, true, false, not, ◌&&◌, ◌==◌, nat_lt, List, [], ◌∷◌, ◌++◌, if◌then◌else◌, length, Option, Some, None, Result, Err, refl, sym, ap, ◌∙◌, subst, arith}
 use Rattle.std.proofs.lemmas.Bool.{false≢true, ltb-false}
 use Rattle.std.proofs.lemmas.Bool.Decides.{nat_tests}
 use Rattle.txs_world_protocol.specs.Ask.{Writes}
@@ -14,7 +14,10 @@ use Rattle.txs_world_protocol.specs.declared.event.EventKind.TheVariants as even
 use Rattle.txs_value_data.proofs.SameLemmas.{and_both, numbers}
 use Rattle.txs_value_cell.specs.Forms.{same_kind}
 use Rattle.txs_value_data.specs.Limits.{most_events}
-use Rattle.txs_value_base.specs.Places.{nth}
+use Rattle.txs_value_base.specs.Places.{nth, fault_at}
+use Rattle.txs_value_base.specs.declared.fault.Fault.{Fault}
+use Rattle.txs_value_base.specs.declared.fault.FaultKind.TheVariants.{AgentFailed}
+use Rattle.txs_value_base.specs.declared.fault.Span.{Span}
 use Rattle.txs_value_cell.specs.declared.action.Action.{Action}
 use Rattle.txs_value_cell.specs.declared.cell.CellDefinition.{CellDefinition}
 use Rattle.txs_value_data.specs.declared.value.CellId.{CellId}
@@ -22,13 +25,13 @@ use Rattle.txs_value_data.specs.declared.value.CellKind.{CellKind}
 use Rattle.txs_value_data.specs.declared.value.CellKind.TheVariants.{Ref, Atom, Agent}
 use Rattle.txs_value_data.specs.declared.value.Value.{Value}
 use Rattle.txs_world_book.specs.Atom.{LegalAtom, LegalAtomKind, atom_newest, closes_at, swapped_since}
-use Rattle.txs_world_book.specs.Book.{Each, may_name, has_cell, is_of_kind, is_outdated, least_written, cells_in, is_failed, first_failed, opening, after}
+use Rattle.txs_world_book.specs.Book.{Each, actors, mail_after, may_name, has_cell, is_of_kind, is_outdated, least_written, cells_in, is_failed, first_failed, opening, after}
 use Rattle.txs_world.specs.Laws.{ServeKeeps, StoreStands}
-use Rattle.txs_world.specs.Store.{store_with, takes, next_action, is_lawful, looks, commits, sends_to, merged, serve, taken_after}
+use Rattle.txs_world.specs.Store.{store_with, takes, next_action, is_lawful, looks, commits, sends_to, finishes, span_of, merged, serve, taken_after}
 use Rattle.txs_world_book.specs.Served.{Served, served, adds, event_of, cells_of}
 use Rattle.txs_theorem_runs.specs.Shared.{Shared, store_of, atom_of, is_atom, has_atom, book_for, serve_on, may_ask, shared_after}
 use Rattle.txs_theorem_runs.specs.Told.{IsExchanged}
-use Rattle.txs_theorem_runs.specs.Explains.{AreThreads}
+use Rattle.txs_theorem_runs.specs.Explains.{AreActors}
 use Rattle.txs_theorem_runs.specs.Invariant.{SharedStands}
 use Rattle.txs_theorem_runs.proofs.Fits.{added}
 use Rattle.txs_theorem_runs.proofs.Growing.{IsFull, Serves}
@@ -75,6 +78,10 @@ module _ (a : ℕ) (book : List Event) where
   commits_serve None None (Some g) p q ws sends = adds_serves (event.Refused p q g) (reply.AgentIsFailed g) tt
   commits_serve None None None p q ws sends = adds_serves (event.Commit p q ws sends) reply.Done tt
 
+  finishes_serve : (o : Option CellId) (g : CellId) (n : ℕ) (new : Result Value Fault) (sends : List Action) (span : Span) → Serves a book (finishes o a g n new sends span book)
+  finishes_serve None g n new sends span = adds_serves (event.Act g n new sends) reply.Done tt
+  finishes_serve (Some h) g n new sends span = adds_serves (event.Act g n (Err (fault_at AgentFailed span)) []) (reply.AgentIsFailed h) tt
+
   sends_serve : (b : Bool) (x : Action) → Serves a book (sends_to b a x book)
   sends_serve true x = adds_serves (event.SendRefused x.agent) (reply.AgentIsFailed x.agent) tt
   sends_serve false x = adds_serves (event.Send x) reply.Done tt
@@ -102,7 +109,8 @@ module _ (a : ℕ) (book : List Event) where
   serves cells (ask.Peek c) = peek_serves cells (is_atom c) c _ _
   serves cells (ask.Send x) = sends_serve (is_failed (cells_of cells) book x.agent) x
   serves cells (ask.Take g) = quiet_serves _ (never_full _ _ (next_action (cells_of cells) book g))
-  serves cells (ask.Finish g new sends) = adds_serves _ reply.Done tt
+  serves cells (ask.Finish g new sends) =
+      finishes_serve (first_failed (cells_of cells) book sends) g (suc (mail_after (cells_of cells) book g.number).acts) new sends (span_of (mail_after (cells_of cells) book g.number).actions)
   serves cells (ask.OpenAt c) = quiet_serves _ (λ f. f)
   serves cells (ask.CloseAt c None v) = closes_serve false c v
   serves cells (ask.CloseAt c (Some p) v) = closes_serve (swapped_since p book) c v
@@ -200,17 +208,17 @@ closes_legal : (b : Bool) (c : CellId) (a : ℕ) (v : Value) (book : List Event)
 closes_legal true c a v book l = l
 closes_legal false c a v book l = adds_legal c a book (event.Swap v) reply.Done tt l
 
--- an event of a thread comes to a book of threads, or none
-adds_thread : (threads a : ℕ) (book : List Event) (kind : EventKind) (r : Reply) → a < threads → AreThreads threads book → AreThreads threads (adds a kind r book).book
-adds_thread threads a book kind r k l = go (nat_lt (length book) most_events)
+-- an event of an actor comes to a book of actors, or none
+adds_actor : (threads a : ℕ) (book : List Event) (kind : EventKind) (r : Reply) → a < threads → AreActors threads book → AreActors threads (adds a kind r book).book
+adds_actor threads a book kind r k l = go (nat_lt (length book) most_events)
   where
-    go : (b : Bool) → AreThreads threads (added b a kind r book).book
+    go : (b : Bool) → AreActors threads (added b a kind r book).book
     go false = l
     go true = each_more (λ done x. x.actor < threads) [] book (event_of a kind) l k
 
-closes_thread : (b : Bool) (c : CellId) (threads a : ℕ) (v : Value) (book : List Event) → a < threads → AreThreads threads book → AreThreads threads (closes_at b a c v book).book
-closes_thread true c threads a v book k l = l
-closes_thread false c threads a v book k l = adds_thread threads a book (event.Swap v) reply.Done k l
+closes_actor : (b : Bool) (c : CellId) (threads a : ℕ) (v : Value) (book : List Event) → a < threads → AreActors threads book → AreActors threads (closes_at b a c v book).book
+closes_actor true c threads a v book k l = l
+closes_actor false c threads a v book k l = adds_actor threads a book (event.Swap v) reply.Done k l
 
 -- ---- what is shared
 
@@ -221,8 +229,8 @@ module _ (keeps : ServeKeeps) (cells : List CellDefinition) (threads : ℕ) (sh 
     store = subst (λ n. StoreStands (store_with (cells_of cells) threads (if 0 == n then v.book else sh.books 0) (taken_after q v.reply sh.taken))) (sym h) (keeps (store_of cells threads sh) a q may st.store);
     atoms = λ c hc. subst (λ n. LegalAtom c (if home cells c == n then v.book else sh.books (home cells c))) (sym h)
         (subst (λ (b : Bool). LegalAtom c (if b then v.book else sh.books (home cells c))) (sym (not_store c hc)) (st.atoms c hc));
-    by_threads = λ c hc. subst (λ n. AreThreads threads (if home cells c == n then v.book else sh.books (home cells c))) (sym h)
-        (subst (λ (b : Bool). AreThreads threads (if b then v.book else sh.books (home cells c))) (sym (not_store c hc)) (st.by_threads c hc));
+    by_threads = λ c hc. subst (λ n. AreActors (actors threads (cells_of cells)) (if home cells c == n then v.book else sh.books (home cells c))) (sym h)
+        (subst (λ (b : Bool). AreActors (actors threads (cells_of cells)) (if b then v.book else sh.books (home cells c))) (sym (not_store c hc)) (st.by_threads c hc));
   }
     where
       v : Served
@@ -239,13 +247,13 @@ module _ (keeps : ServeKeeps) (cells : List CellDefinition) (threads : ℕ) (sh 
       not_store c hc = not_zero (home cells c) (atoms_below cells c.number) (atom_home cells c (and_both (is_atom c) (has_cell (cells_of cells) c) hc).0)
 
   -- an atom's book served it
-  by_atom : (q : Ask) (c : CellId) → has_atom cells c ≡ true → book_for cells q ≡ home cells c → ((r : Reply) → taken_after q r sh.taken ≡ sh.taken) → (v : Served) → LegalAtom c v.book → AreThreads threads v.book → SharedStands cells threads (shared_after cells q v sh)
+  by_atom : (q : Ask) (c : CellId) → has_atom cells c ≡ true → book_for cells q ≡ home cells c → ((r : Reply) → taken_after q r sh.taken ≡ sh.taken) → (v : Served) → LegalAtom c v.book → AreActors (actors threads (cells_of cells)) v.book → SharedStands cells threads (shared_after cells q v sh)
   by_atom q c hc h same v l m = record {
     store = subst (λ n. StoreStands (store_with (cells_of cells) threads (if 0 == n then v.book else sh.books 0) (taken_after q v.reply sh.taken))) (sym h)
         (subst (λ (b : Bool). StoreStands (store_with (cells_of cells) threads (if b then v.book else sh.books 0) (taken_after q v.reply sh.taken))) (sym (not_atom (home cells c) (atoms_below cells c.number) (atom_home cells c (and_both (is_atom c) (has_cell (cells_of cells) c) hc).0)))
         (subst (λ t. StoreStands (store_with (cells_of cells) threads (sh.books 0) t)) (sym (same v.reply)) st.store));
     atoms = λ d hd. subst (λ n. LegalAtom d (if home cells d == n then v.book else sh.books (home cells d))) (sym h) (of d hd (home cells d == home cells c) refl);
-    by_threads = λ d hd. subst (λ n. AreThreads threads (if home cells d == n then v.book else sh.books (home cells d))) (sym h) (of_threads d hd (home cells d == home cells c));
+    by_threads = λ d hd. subst (λ n. AreActors (actors threads (cells_of cells)) (if home cells d == n then v.book else sh.books (home cells d))) (sym h) (of_threads d hd (home cells d == home cells c));
   }
     where
       not_atom : (n m : ℕ) → n ≡ suc m → (0 == n) ≡ false
@@ -259,22 +267,22 @@ module _ (keeps : ServeKeeps) (cells : List CellDefinition) (threads : ℕ) (sh 
       of d hd true e = subst (λ i. LegalAtom i v.book) (one_book cells c d hc hd (sym (numbers (home cells d) (home cells c) e))) l
       of d hd false e = st.atoms d hd
 
-      of_threads : (d : CellId) → has_atom cells d ≡ true → (b : Bool) → AreThreads threads (if b then v.book else sh.books (home cells d))
+      of_threads : (d : CellId) → has_atom cells d ≡ true → (b : Bool) → AreActors (actors threads (cells_of cells)) (if b then v.book else sh.books (home cells d))
       of_threads d hd true = m
       of_threads d hd false = st.by_threads d hd
 
-  a_thread : (b : Bool) → (nat_lt a threads && b) ≡ true → a < threads
-  a_thread b h = let k = (and_both (nat_lt a threads) b h).0 in grind (arith, nat_tests, k)
+  an_actor : (b : Bool) → (nat_lt a (actors threads (cells_of cells)) && b) ≡ true → a < actors threads (cells_of cells)
+  an_actor b h = let k = (and_both (nat_lt a (actors threads (cells_of cells))) b h).0 in grind (arith, nat_tests, k)
 
-  tested : (b : Bool) → (nat_lt a threads && b) ≡ true → b ≡ true
-  tested b h = (and_both (nat_lt a threads) b h).1
+  tested : (b : Bool) → (nat_lt a (actors threads (cells_of cells)) && b) ≡ true → b ≡ true
+  tested b h = (and_both (nat_lt a (actors threads (cells_of cells))) b h).1
 
-  at_peek : (c : CellId) (u : Value) (b : Bool) → is_atom c ≡ b → (nat_lt a threads && has_cell (cells_of cells) c) ≡ true
+  at_peek : (c : CellId) (u : Value) (b : Bool) → is_atom c ≡ b → (nat_lt a (actors threads (cells_of cells)) && has_cell (cells_of cells) c) ≡ true
       → SharedStands cells threads (shared_after cells (ask.Peek c) (if b then adds a (event.Read c) (reply.Is u) (sh.books (home cells c)) else serve (cells_of cells) a (ask.Peek c) (sh.books (home cells c))) sh)
   at_peek c u true e may =
       let hc = both e (tested (has_cell (cells_of cells) c) may) in
       by_atom (ask.Peek c) c hc refl (λ r. refl) (adds a (event.Read c) (reply.Is u) (sh.books (home cells c))) (adds_legal c a (sh.books (home cells c)) (event.Read c) (reply.Is u) refl (st.atoms c hc))
-      (adds_thread threads a (sh.books (home cells c)) (event.Read c) (reply.Is u) (a_thread (has_cell (cells_of cells) c) may) (st.by_threads c hc))
+      (adds_actor (actors threads (cells_of cells)) a (sh.books (home cells c)) (event.Read c) (reply.Is u) (an_actor (has_cell (cells_of cells) c) may) (st.by_threads c hc))
     where
       both : is_atom c ≡ true → has_cell (cells_of cells) c ≡ true → has_atom cells c ≡ true
       both p q = rw (p, q) refl
@@ -282,8 +290,8 @@ module _ (keeps : ServeKeeps) (cells : List CellDefinition) (threads : ℕ) (sh 
       subst (λ n. SharedStands cells threads (shared_after cells (ask.Peek c) (serve (cells_of cells) a (ask.Peek c) (sh.books n)) sh)) (sym (store_home cells c e))
       (by_store (ask.Peek c) (store_home cells c e) (readable e may))
     where
-      readable : is_atom c ≡ false → (nat_lt a threads && has_cell (cells_of cells) c) ≡ true → (nat_lt a threads && (not (is_atom c) && has_cell (cells_of cells) c)) ≡ true
-      readable p q = subst (λ (b : Bool). (nat_lt a threads && (not b && has_cell (cells_of cells) c)) ≡ true) (sym p) q
+      readable : is_atom c ≡ false → (nat_lt a (actors threads (cells_of cells)) && has_cell (cells_of cells) c) ≡ true → (nat_lt a (actors threads (cells_of cells)) && (not (is_atom c) && has_cell (cells_of cells) c)) ≡ true
+      readable p q = subst (λ (b : Bool). (nat_lt a (actors threads (cells_of cells)) && (not b && has_cell (cells_of cells) c)) ≡ true) (sym p) q
 
   -- what is shared stands after an ask that may be made
   pub serving_stands : (q : Ask) → may_ask cells threads sh.taken a q (sh.books (book_for cells q)) ≡ true → SharedStands cells threads (shared_after cells q (serve_on cells a q (sh.books (book_for cells q))) sh)
@@ -300,12 +308,12 @@ module _ (keeps : ServeKeeps) (cells : List CellDefinition) (threads : ℕ) (sh 
   serving_stands (ask.CloseAt c None v) may =
       let hc = (and_both (has_atom cells c) true (tested (has_atom cells c && true) may)).0 in
       by_atom (ask.CloseAt c None v) c hc refl (λ r. refl) (serve_on cells a (ask.CloseAt c None v) (sh.books (home cells c))) (closes_legal false c a v (sh.books (home cells c)) (st.atoms c hc))
-      (closes_thread false c threads a v (sh.books (home cells c)) (a_thread (has_atom cells c && true) may) (st.by_threads c hc))
+      (closes_actor false c (actors threads (cells_of cells)) a v (sh.books (home cells c)) (an_actor (has_atom cells c && true) may) (st.by_threads c hc))
   serving_stands (ask.CloseAt c (Some p) v) may =
       let hc = (and_both (has_atom cells c) (may_name true (sh.books (home cells c)) a p) (tested (has_atom cells c && may_name true (sh.books (home cells c)) a p) may)).0 in
       by_atom (ask.CloseAt c (Some p) v) c hc refl (λ r. refl) (serve_on cells a (ask.CloseAt c (Some p) v) (sh.books (home cells c))) (closes_legal (swapped_since p (sh.books (home cells c))) c a v (sh.books (home cells c)) (st.atoms c hc))
-      (closes_thread (swapped_since p (sh.books (home cells c))) c threads a v (sh.books (home cells c)) (a_thread (has_atom cells c && may_name true (sh.books (home cells c)) a p) may) (st.by_threads c hc))
+      (closes_actor (swapped_since p (sh.books (home cells c))) c (actors threads (cells_of cells)) a v (sh.books (home cells c)) (an_actor (has_atom cells c && may_name true (sh.books (home cells c)) a p) may) (st.by_threads c hc))
   serving_stands (ask.Broke c p) may =
       let h = and_both (has_atom cells c) (may_name true (sh.books (home cells c)) a p) (tested (has_atom cells c && may_name true (sh.books (home cells c)) a p) may) in
       by_atom (ask.Broke c p) c h.0 refl (λ r. refl) (serve_on cells a (ask.Broke c p) (sh.books (home cells c))) (adds_legal c a (sh.books (home cells c)) (event.Broke p) reply.Done h.1 (st.atoms c h.0))
-      (adds_thread threads a (sh.books (home cells c)) (event.Broke p) reply.Done (a_thread (has_atom cells c && may_name true (sh.books (home cells c)) a p) may) (st.by_threads c h.0))
+      (adds_actor (actors threads (cells_of cells)) a (sh.books (home cells c)) (event.Broke p) reply.Done (an_actor (has_atom cells c && may_name true (sh.books (home cells c)) a p) may) (st.by_threads c h.0))

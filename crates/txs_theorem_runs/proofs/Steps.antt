@@ -17,7 +17,7 @@ use Rattle.txs_world_book.specs.Served.{Served}
 use Rattle.txs_theorem_runs.specs.Shared.{Shared, book_for, serve_on, may_ask}
 use Rattle.txs_theorem_runs.specs.Stages.{AsksIn, stage_after}
 use Rattle.txs_theorem_runs.specs.Told.{Entry, exchange_of, IsExchanged, ToldBy}
-use Rattle.txs_theorem_runs.specs.Staged.{StagedCode, IsStaged, StagedFrom, stage_of}
+use Rattle.txs_theorem_runs.specs.Staged.{StagedActor, IsStaged, StagedFrom}
 use Rattle.txs_theorem_runs.specs.Invariant.{ActorInvariant, SharedStands, RunInvariant}
 use Rattle.txs_theorem_runs.specs.Run.{Stop, Actor, Moved, moved, exchange, entry, stop, comes_to, hears, replied, asked, asks_for, turned, turns_from, stops_from, Play, TakesTurn, IsStopped, State, placed, moves, actor_of, play}
 use Rattle.txs_theorem_runs.specs.Run as run_of
@@ -72,14 +72,14 @@ module _ (keeps : ServeKeeps) (cells : List CellDefinition) (threads : ℕ) wher
 
   -- ---- the actor whose play it is
 
-  module _ (code : ThreadCode) (known : StagedCode code) (a : ℕ) (sh : Shared) (x : Actor) (k : ActorInvariant cells threads code sh.books a x) where
+  module _ (agent : Bool) (code : ThreadCode) (known : StagedActor agent code) (a : ℕ) (sh : Shared) (x : Actor) (k : ActorInvariant cells threads agent code sh.books a x) where
     abbrev Holds : (ℕ → List Event) → Actor → Type 0
-    Holds books y = ActorInvariant cells threads code books a y
+    Holds books y = ActorInvariant cells threads agent code books a y
 
     stopped : (books : ℕ → List Event) (why : Stop) → Holds books x → Holds books (stop why x)
     stopped books why h = record { stage = h.stage; ran = h.ran; told = h.told; staged = h.staged }
 
-    quiet : (c : Configuration) (o : Turned Configuration) → x.at ≡ Unfinished c → turn code c ≡ o → IsStaged k.stage o → Holds sh.books (comes_to o x)
+    quiet : (c : Configuration) (o : Turned Configuration) → x.at ≡ Unfinished c → turn code c ≡ o → IsStaged agent k.stage o → Holds sh.books (comes_to o x)
     quiet c o at e staged = record {
       stage = k.stage;
       ran = run_more code x.turns (opening code (map exchange_of x.entries)) ∙ ap (λ r. and_then r (turn code)) (k.ran ∙ at) ∙ e;
@@ -88,8 +88,8 @@ module _ (keeps : ServeKeeps) (cells : List CellDefinition) (threads : ℕ) wher
     }
 
     -- an ask whose reply was taken
-    heard : (c : Configuration) (q : Ask) (r : Reply) (n : ℕ) (books : ℕ → List Event) → x.at ≡ Unfinished c → ToldBy cells threads books a (x.entries ++ entry q r n ∷ []) (stage_after k.stage q r)
-        → IsStaged (stage_after k.stage q r) (turn code (given (exchange q r ∷ []) c)) → Holds books (hears code c q r n x)
+    heard : (c : Configuration) (q : Ask) (r : Reply) (n : ℕ) (books : ℕ → List Event) → x.at ≡ Unfinished c → ToldBy cells threads books agent a (x.entries ++ entry q r n ∷ []) (stage_after k.stage q r)
+        → IsStaged agent (stage_after k.stage q r) (turn code (given (exchange q r ∷ []) c)) → Holds books (hears code c q r n x)
     heard c q r n books at t staged = record {
       stage = stage_after k.stage q r;
       ran = ap (λ l. run code (suc x.turns) (opening code l)) (map_append x.entries (entry q r n))
@@ -114,13 +114,13 @@ module _ (keeps : ServeKeeps) (cells : List CellDefinition) (threads : ℕ) wher
       left s none = record {
         stage = k.stage;
         ran = k.ran;
-        told = told_stays cells threads (suc a) a sh.books later (nothing_served cells threads a sh.books q sh.taken may v refl s none) (λ e. absurd (omega (arith, e))) x.entries k.stage k.told;
+        told = told_stays cells threads (suc a) a sh.books later (nothing_served cells threads a sh.books q sh.taken may v refl s none) (λ e. absurd (omega (arith, e))) agent x.entries k.stage k.told;
         staged = k.staged;
       }
 
       replied_well : (c : Configuration) (r : Reply) → x.at ≡ Unfinished c
-          → (IsExchanged r → ToldBy cells threads later a (x.entries ++ entry q r size ∷ []) (stage_after k.stage q r)) → ((IsExchanged r → ⊥) → Holds later x)
-          → IsStaged (stage_after k.stage q r) (turn code (given (exchange q r ∷ []) c)) → Holds later (replied code c q r size x)
+          → (IsExchanged r → ToldBy cells threads later agent a (x.entries ++ entry q r size ∷ []) (stage_after k.stage q r)) → ((IsExchanged r → ⊥) → Holds later x)
+          → IsStaged agent (stage_after k.stage q r) (turn code (given (exchange q r ∷ []) c)) → Holds later (replied code c q r size x)
       replied_well c (reply.At p) at t s staged = heard c q (reply.At p) size later at (t tt) staged
       replied_well c (reply.Is w) at t s staged = heard c q (reply.Is w) size later at (t tt) staged
       replied_well c (reply.Views p vs) at t s staged = heard c q (reply.Views p vs) size later at (t tt) staged
@@ -134,35 +134,34 @@ module _ (keeps : ServeKeeps) (cells : List CellDefinition) (threads : ℕ) wher
       replied_well c reply.Full at t s staged = stopped later run_of.JournalFull (s (λ n. n))
       replied_well c reply.Memory at t s staged = stopped later run_of.Memory (s (λ n. n))
 
-      served_well : (c : Configuration) → x.at ≡ Unfinished c → AsksIn k.stage q → ((r : Reply) → IsStaged (stage_after k.stage q r) (turn code (given (exchange q r ∷ []) c)))
+      served_well : (c : Configuration) → x.at ≡ Unfinished c → AsksIn agent k.stage q → ((r : Reply) → IsStaged agent (stage_after k.stage q r) (turn code (given (exchange q r ∷ []) c)))
           → Holds later (replied code c q v.reply size x)
       served_well c at ok staged =
           let s = serves a (sh.books (book_for cells q)) cells q in
-          replied_well c v.reply at (λ ex. own_told cells threads a sh.books q sh.taken may v refl s ex x.entries k.stage ok k.told) (λ n. left s (s.stays n)) (staged v.reply)
+          replied_well c v.reply at (λ ex. own_told cells threads a sh.books q sh.taken may v refl s ex agent x.entries k.stage ok k.told) (λ n. left s (s.stays n)) (staged v.reply)
 
-    asked_well : (b : Bool) (c : Configuration) (q : Ask) → may_ask cells threads sh.taken a q (sh.books (book_for cells q)) ≡ b → x.at ≡ Unfinished c → AsksIn k.stage q
-        → ((r : Reply) → IsStaged (stage_after k.stage q r) (turn code (given (exchange q r ∷ []) c))) → Holds (asked b cells code a c q x sh).shared.books (asked b cells code a c q x sh).actor
+    asked_well : (b : Bool) (c : Configuration) (q : Ask) → may_ask cells threads sh.taken a q (sh.books (book_for cells q)) ≡ b → x.at ≡ Unfinished c → AsksIn agent k.stage q
+        → ((r : Reply) → IsStaged agent (stage_after k.stage q r) (turn code (given (exchange q r ∷ []) c))) → Holds (asked b cells code a c q x sh).shared.books (asked b cells code a c q x sh).actor
     asked_well false c q e at ok staged = stopped sh.books run_of.Unlawful k
     asked_well true c q e at ok staged = served_well q e c at ok staged
 
-    turned_well : (c : Configuration) (o : Turned Configuration) → x.at ≡ Unfinished c → stage_of c ≡ k.stage → turn code c ≡ o → StagedFrom (stage_of c) o (λ q r. turn code (given (exchange q r ∷ []) c))
+    turned_well : (c : Configuration) (o : Turned Configuration) → x.at ≡ Unfinished c → turn code c ≡ o → StagedFrom agent k.stage o (λ q r. turn code (given (exchange q r ∷ []) c))
         → Holds (turned cells threads code a c o x sh).shared.books (turned cells threads code a c o x sh).actor
-    turned_well c (Ended s) at st e h = quiet c (Ended s) at e h
-    turned_well c (Failed f s) at st e h = quiet c (Failed f s) at e h
-    turned_well c (Asking s) at st e h =
+    turned_well c (Ended s) at e h = quiet c (Ended s) at e h
+    turned_well c (Failed f s) at e h = quiet c (Failed f s) at e h
+    turned_well c (Asking s) at e h =
         subst (λ o. Holds (asks_for cells threads code a c s o x sh).shared.books (asks_for cells threads code a c s o x sh).actor) (sym h.1)
-        (asked_well (may_ask cells threads sh.taken a h.0 (sh.books (book_for cells h.0))) c h.0 refl at (subst (λ i. AsksIn i h.0) st h.2)
-        (λ r. subst (λ i. IsStaged (stage_after i h.0 r) (turn code (given (exchange h.0 r ∷ []) c))) st (h.3 r)))
-    turned_well c (Unfinished d) at st e h = quiet c (Unfinished d) at e (h.0, h.1 ∙ st)
-    turned_well c Stuck at st e h = quiet c Stuck at e tt
+        (asked_well (may_ask cells threads sh.taken a h.0 (sh.books (book_for cells h.0))) c h.0 refl at h.2 h.3)
+    turned_well c (Unfinished d) at e h = quiet c (Unfinished d) at e h
+    turned_well c Stuck at e h = quiet c Stuck at e tt
 
     turns_well : (o : Turned Configuration) (why : Option Stop) → x.at ≡ o → Holds (turns_from cells threads code a o why x sh).shared.books (turns_from cells threads code a o why x sh).actor
     turns_well (Ended s) why e = k
     turns_well (Failed f s) why e = k
     turns_well (Asking s) why e = k
     turns_well (Unfinished c) None e =
-        let h = subst (λ o. IsStaged k.stage o) e k.staged in
-        turned_well c (turn code c) e h.1 refl (known x.turns (map exchange_of x.entries) c (k.ran ∙ e) h.0)
+        let h = subst (λ o. IsStaged agent k.stage o) e k.staged in
+        turned_well c (turn code c) e refl (known x.turns (map exchange_of x.entries) c (k.ran ∙ e) h.0 k.stage h.1)
     turns_well (Unfinished c) (Some s) e = k
     turns_well Stuck why e = k
 
@@ -174,27 +173,27 @@ module _ (keeps : ServeKeeps) (cells : List CellDefinition) (threads : ℕ) wher
     stops_well why (Unfinished c) (Some s) = k
     stops_well why Stuck o = k
 
-  moves_well : (codes : ℕ → ThreadCode) (y : Play) (st : State) (known : StagedCode (codes (actor_of y)))
-      → ActorInvariant cells threads (codes (actor_of y)) st.shared.books (actor_of y) (st.actors (actor_of y))
-      → ActorInvariant cells threads (codes (actor_of y)) (moves cells threads codes y st).shared.books (actor_of y) (moves cells threads codes y st).actor
-  moves_well codes (TakesTurn a) st known k = turns_well (codes a) known a st.shared (st.actors a) k (st.actors a).at (st.actors a).stopped refl
-  moves_well codes (IsStopped a why) st known k = stops_well (codes a) known a st.shared (st.actors a) k why (st.actors a).at (st.actors a).stopped
+  moves_well : (agent : Bool) (codes : ℕ → ThreadCode) (y : Play) (st : State) (known : StagedActor agent (codes (actor_of y)))
+      → ActorInvariant cells threads agent (codes (actor_of y)) st.shared.books (actor_of y) (st.actors (actor_of y))
+      → ActorInvariant cells threads agent (codes (actor_of y)) (moves cells threads codes y st).shared.books (actor_of y) (moves cells threads codes y st).actor
+  moves_well agent codes (TakesTurn a) st known k = turns_well agent (codes a) known a st.shared (st.actors a) k (st.actors a).at (st.actors a).stopped refl
+  moves_well agent codes (IsStopped a why) st known k = stops_well agent (codes a) known a st.shared (st.actors a) k why (st.actors a).at (st.actors a).stopped
 
   -- another actor's play
-  others : (code : ThreadCode) (a b : ℕ) (books later : ℕ → List Event) (x : Actor) → (a ≡ b → ⊥) → Grown a books later
-      → ActorInvariant cells threads code books b x → ActorInvariant cells threads code later b x
-  others code a b books later x n g k = record { stage = k.stage; ran = k.ran; told = told_stays cells threads a b books later g n x.entries k.stage k.told; staged = k.staged }
+  others : (agent : Bool) (code : ThreadCode) (a b : ℕ) (books later : ℕ → List Event) (x : Actor) → (a ≡ b → ⊥) → Grown a books later
+      → ActorInvariant cells threads agent code books b x → ActorInvariant cells threads agent code later b x
+  others agent code a b books later x n g k = record { stage = k.stage; ran = k.ran; told = told_stays cells threads a b books later g n agent x.entries k.stage k.told; staged = k.staged }
 
   module _ (codes : ℕ → ThreadCode) where
-    placed_holds : (a : ℕ) (m : Moved) (st : State) → MovedWell a st.shared m → ((known : StagedCode (codes a)) → ActorInvariant cells threads (codes a) m.shared.books a m.actor)
+    placed_holds : (a : ℕ) (m : Moved) (st : State) → MovedWell a st.shared m → ((agent : Bool) (known : StagedActor agent (codes a)) → ActorInvariant cells threads agent (codes a) m.shared.books a m.actor)
         → RunInvariant cells threads codes st → RunInvariant cells threads codes (placed a m st)
-    placed_holds a m st g own h = record { shared = g.shared; actors = λ b. go b (a == b) refl }
+    placed_holds a m st g own h = record { shared = g.shared; actors = λ agent b. go agent b (a == b) refl }
       where
-        go : (b : ℕ) (t : Bool) → (a == b) ≡ t → (known : StagedCode (codes b)) → ActorInvariant cells threads (codes b) m.shared.books b (if t then m.actor else st.actors b)
-        go b true e = subst (λ i. (known : StagedCode (codes i)) → ActorInvariant cells threads (codes i) m.shared.books i m.actor) (numbers a b e) own
-        go b false e = λ known.
-            others (codes b) a b st.shared.books m.shared.books (st.actors b) (λ s. false≢true (sym e ∙ ap (λ i. a == i) (sym s) ∙ number-itself a)) g.grown (h.actors b known)
+        go : (agent : Bool) (b : ℕ) (t : Bool) → (a == b) ≡ t → (known : StagedActor agent (codes b)) → ActorInvariant cells threads agent (codes b) m.shared.books b (if t then m.actor else st.actors b)
+        go agent b true e = subst (λ i. (known : StagedActor agent (codes i)) → ActorInvariant cells threads agent (codes i) m.shared.books i m.actor) (numbers a b e) (own agent)
+        go agent b false e = λ known.
+            others agent (codes b) a b st.shared.books m.shared.books (st.actors b) (λ s. false≢true (sym e ∙ ap (λ i. a == i) (sym s) ∙ number-itself a)) g.grown (h.actors agent b known)
 
     pub play_holds : (y : Play) (st : State) → RunInvariant cells threads codes st → RunInvariant cells threads codes (play cells threads codes y st)
     play_holds y st h =
-        placed_holds (actor_of y) (moves cells threads codes y st) st (moves_stand codes y st h.shared) (λ known. moves_well codes y st known (h.actors (actor_of y) known)) h
+        placed_holds (actor_of y) (moves cells threads codes y st) st (moves_stand codes y st h.shared) (λ agent known. moves_well agent codes y st known (h.actors agent (actor_of y) known)) h

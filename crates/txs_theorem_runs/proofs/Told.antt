@@ -18,14 +18,14 @@ append_nil [] = refl
 append_nil (x ∷ xs) = ap (λ l. x ∷ l) (append_nil xs)
 
 pub told_fits : UnwrittenStays → ToldFits
-told_fits stays cells threads books a es st t = fits.told_fits stays cells threads books a es st t
+told_fits stays cells threads books a es st hold staged = fits.told_fits stays cells threads books a es st hold staged
 
 pub served_is_told : ServedIsTold
-served_is_told cells threads books taken a q es st may ok t ex =
-    own_told cells threads a books q taken may (serve_on cells a q (books (book_for cells q))) refl (serves a (books (book_for cells q)) cells q) ex es st ok t
+served_is_told cells threads books taken agent a q es st may ok t ex =
+    own_told cells threads a books q taken may (serve_on cells a q (books (book_for cells q))) refl (serves a (books (book_for cells q)) cells q) ex agent es st ok t
 
 pub others_leave_told : OthersLeaveTold
-others_leave_told cells threads books k a e es st n t = told_stays cells threads e.actor a books (λ i. if i == k then books k ++ e ∷ [] else books i) grown n es st t
+others_leave_told cells threads books agent k a e es st n t = told_stays cells threads e.actor a books (λ i. if i == k then books k ++ e ∷ [] else books i) grown n agent es st t
   where
     grown : Grown e.actor books (λ i. if i == k then books k ++ e ∷ [] else books i)
     grown = record { more = λ i. if i == k then e ∷ [] else []; grown = λ i. grows i (i == k) refl; own = λ i. owns (i == k) }

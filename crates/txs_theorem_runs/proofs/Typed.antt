@@ -1,4 +1,4 @@
--- The instructions of well-typed code stand where they may: its callees of commutes and swaps are pure.
+-- The instructions of well-typed code, of threads and of agents, are where they may be: its callees of commutes and swaps are pure.
 use Rattle.std.proofs.Common.{◌≡◌, ◌<◌, ℕ, zero, suc, ◌+◌, ◌-◌, ◌==◌, Bool, true, false, List, [], ◌∷◌, ◌++◌, map, Option, Some, None, Result, Ok, Err, if◌then◌else◌, ◌⊎◌, inl, inr, refl, sym, ap, ◌∙◌, subst, arith}
 use Rattle.std.proofs.lemmas.Bool.{false≢true}
 use Rattle.std.specs.Prelude.{slice_index_or}
@@ -6,20 +6,20 @@ use Rattle.txs_world_protocol.specs.Ask.{Writes, Exchange, buffered, same_ask, w
 use Rattle.txs_world_protocol.specs.declared.ask.Ask.{Ask}
 use Rattle.txs_world_protocol.specs.declared.ask.Ask.TheVariants as ask
 use Rattle.txs_world_protocol.specs.declared.ask.Reply.{Reply}
-use Rattle.txs_frame.specs.Frame.{PlainTxFrame, with_cell, commuted, is_commuted, commutes_of, by_ref, phase_work, written}
+use Rattle.txs_frame.specs.Frame.{PlainTxFrame, with_cell, commuted, is_commuted, commutes_of, by_ref, phase_work, written, sends_of_commit, set_writes}
 use Rattle.txs_frame.specs.Phase.{with_validation, validations, tasks_of, callee_of, to_write}
 use Rattle.txs_frame.specs.declared.frame.Commute.{Commute}
 use Rattle.txs_frame.specs.declared.phase.Task.{Task}
 use Rattle.txs_frame.specs.declared.phase.Task.TheVariants.{Redoes, Validates}
 use Rattle.txs_value_apply.specs.Core.{core, vector_of}
 use Rattle.txs_value_apply.specs.Truth.{choose}
-use Rattle.txs_value_cell.specs.Cells.{Validators, validator_at}
+use Rattle.txs_value_cell.specs.Cells.{Validators, validator_at, validators_of}
 use Rattle.txs_value_cell.specs.Forms.{rule, cell_of}
 use Rattle.txs_value_base.specs.Places.{nth, fault_at}
 use Rattle.txs_value_cell.specs.declared.action.Action.{Action}
 use Rattle.txs_value_base.specs.declared.fault.Fault.{Fault}
 use Rattle.txs_value_base.specs.declared.fault.FaultKind.{FaultKind}
-use Rattle.txs_value_base.specs.declared.fault.FaultKind.TheVariants.{SetAfterCommute, InvalidState}
+use Rattle.txs_value_base.specs.declared.fault.FaultKind.TheVariants.{SetAfterCommute, InvalidState, AgentFailed, RetryLimit}
 use Rattle.txs_value_base.specs.declared.fault.Span.{Span}
 use Rattle.txs_value_cell.specs.declared.form.CellForm.TheVariants as form
 use Rattle.txs_value_cell.specs.declared.form.LookForm.{LookForm}
@@ -31,22 +31,24 @@ use Rattle.txs_value_cell.specs.declared.form.UpdateForm.TheVariants as update
 use Rattle.txs_value_base.specs.declared.op.Callee.{Callee}
 use Rattle.txs_value_base.specs.declared.op.Callee.TheVariants as callee
 use Rattle.txs_value_data.specs.declared.value.CellId.{CellId}
+use Rattle.txs_value_data.specs.declared.value.CellKind.TheVariants.{Agent}
 use Rattle.txs_value_data.specs.declared.value.Value.{Value}
 use Rattle.txs_value_data.specs.declared.value.Value.TheVariants.{Nil, Truth, Int, Key, Text, Vector, Cell}
-use Rattle.txs_code_meaning.specs.ActorState.{ActorState, Replied, Unreplied, receives, asks, StepResult, Continue, Break, Redo, Await, Malformed, on_step, step_of, Reading, Says, SaysRetry, SaysNothing, read_as, heard, read_point, just_done, value_there, newest_value, views, Verdict, Landed, Outdated, Undone, Denied, commit_verdict, opened, swap_verdict, send_verdict, begun, begin, fail, buffered_or, look, paired, viewed, view, commit, peek, SwapInHand, open_atom, close_swap, break_swap, reset_atom, sent, send_now, read_cell, read, set_own, assign_cell, assign, RefUpdate, Alters, Commutes, update_form, kept_open, open_update, close_own, close_update, open_swap, send_action, send_to, print, InHand, send_or_hold, cell_at}
-use Rattle.txs_code_meaning.specs.Machine.{PlainInstr, Push, Load, Store, Pop, Jump, JumpFalse, CoreOf, CallOf, Return, MakeVector, PrintOf, TxBegin, TxEnd, LookOf, PutOf, OpenOf, CloseOf, SendOf, Halt, TakeOf, RunOf, FinishOf, ThreadCode, instr_at, fetch, Destination, to_stack, to_commutes, to_validation, Frame, Savepoint, Activity, Outside, Restarting, Running, Applying, Swapping, is_inside, Configuration, ahead, called, arguments_of, Turned, Ended, Failed, Asking, Unfinished, Stuck, told, raise, rerun, retried, on, found, on_top, on_args, on_args_of, on_two, push_all, put, gives, begins, decided, lands, settles, applies, ends, stack_after, doing_after, returns_to, opens_ref, opens_atom, opens, swap_decided, closes_swap, closes, act, turn, run, ends_with, staying, answered, validates, where_accepted, where_valid, works, puts, state_after}
+use Rattle.txs_code_meaning.specs.ActorState.{ActorState, Replied, Unreplied, receives, asks, StepResult, Continue, Break, Redo, Await, Malformed, on_step, step_of, Reading, Says, SaysRetry, SaysNothing, read_as, heard, read_point, just_done, value_there, newest_value, views, Verdict, Landed, Outdated, Undone, Denied, commit_verdict, opened, swap_verdict, send_verdict, begun, begin, fail, buffered_or, look, paired, viewed, view, commit, peek, SwapInHand, open_atom, close_swap, break_swap, reset_atom, sent, send_now, read_cell, read, set_own, assign_cell, assign, RefUpdate, Alters, Commutes, update_form, kept_open, open_update, close_own, close_update, open_swap, send_action, send_to, print, InHand, send_or_hold, cell_at, held_in, now_holding, landed, Taken, handed_out, take_action, taken_back, finish}
+use Rattle.txs_code_meaning.specs.Machine.{PlainInstr, Push, Load, Store, Pop, Jump, JumpFalse, CoreOf, CallOf, Return, MakeVector, PrintOf, TxBegin, TxEnd, LookOf, PutOf, OpenOf, CloseOf, SendOf, Halt, TakeOf, RunOf, FinishOf, ThreadCode, instr_at, fetch, Destination, to_stack, to_commutes, to_validation, Frame, Savepoint, Activity, Outside, Restarting, Running, Applying, Swapping, is_inside, Configuration, ahead, called, arguments_of, Turned, Ended, Failed, Asking, Unfinished, Stuck, told, raise, rerun, retried, on, found, on_top, on_args, on_args_of, on_two, push_all, put, gives, begins, decided, lands, settles, applies, ends, stack_after, doing_after, returns_to, opens_ref, opens_atom, opens, swap_decided, closes_swap, closes, act, turn, run, ends_with, staying, answered, validates, where_accepted, where_valid, works, puts, state_after, fails_with, PlainBody, agent_body, agent_code, first_place, rested, started, runs_callee, runs, finishes, hands_in, fault_in}
 use Rattle.txs_code_meaning.specs.Opening.{given, opening}
-use Rattle.txs_code_meaning.specs.PlainCode.{CodeBody, PlainCode, parameters_of, plain_instr, plain_instrs, plain_bodies, thread_code}
+use Rattle.txs_code_meaning.specs.PlainCode.{CodeBody, PlainCode, parameters_of, plain_instr, plain_instrs, plain_body, plain_bodies, function_codes, library_of, thread_code}
 use Rattle.txs_code_meaning.specs.WellTyped as typed
-use Rattle.txs_code_meaning.specs.WellTyped.{form_of, FunctionKind, Functions, Owner, a_thread, a_function, IsImpure, MayCall, IsPureFunction, IsPureCallee, Stages, stage_at, LeadsTo, FitsStage, IsStaging, WellTypedThreads, WellTypedFunctions, WellTypedValidators}
+use Rattle.txs_code_meaning.specs.WellTyped.{form_of, FunctionKind, Functions, Owner, a_thread, a_function, IsImpure, MayCall, IsPureFunction, IsPureCallee, Stages, stage_at, LeadsTo, FitsStage, IsStaging, WellTyped, WellTypedThreads, WellTypedFunctions, WellTypedValidators, MayBeSent}
 use Rattle.txs_code_meaning.specs.declared.instr.Instr.{Instr}
 use Rattle.txs_code_meaning.specs.declared.instr.Instr.TheVariants as instr
 use Rattle.txs_code_meaning.specs.declared.instr.OpenForm.{OpenForm}
 use Rattle.txs_code_meaning.specs.declared.instr.OpenForm.TheVariants as open_form
 use Rattle.txs_theorem_runs.specs.Explains.{code_or_none}
 use Rattle.txs_theorem_runs.specs.Lawful.{TypedStands, TypedActorsStand}
-use Rattle.txs_theorem_runs.specs.Standing.{MayStandIn, MayStandHere, IsThreads, StandingCode}
-use Rattle.txs_theorem_runs.proofs.Known.{KnownCode, run_known, standing_code}
+use Rattle.txs_theorem_runs.specs.Staged.{HasFault}
+use Rattle.txs_theorem_runs.specs.Standing.{MayStandIn, MayStandHere, MayHandIn, MayRun, TakesTurns, RunsOne, StandingCode, StandingActor}
+use Rattle.txs_theorem_runs.proofs.Known.{KnownCode, run_known, standing_actor}
 
 -- an instruction as the machine sees it, where it has a span
 abbrev Fetched : List ℕ → List Value → Option PlainInstr → Option Instr → Type 0
@@ -136,125 +138,125 @@ IsPurePlain RunOf = ⊥
 IsPurePlain (FinishOf g) = ⊥
 IsPurePlain _ = Unit {0}
 
-may_apply : (left : ℕ) (from : Savepoint) (work : List Task) (values : Writes) (p : PlainInstr) → IsPurePlain p → MayStandIn (Applying left from work values) p
-may_apply left from work values (Push v) h = tt
-may_apply left from work values (Load i) h = tt
-may_apply left from work values (Store i) h = tt
-may_apply left from work values Pop h = tt
-may_apply left from work values (Jump to) h = tt
-may_apply left from work values (JumpFalse to) h = tt
-may_apply left from work values (CoreOf op n span) h = tt
-may_apply left from work values (CallOf f n) h = tt
-may_apply left from work values Return h = tt
-may_apply left from work values (MakeVector n span) h = tt
-may_apply left from work values (PrintOf n) h = tt
-may_apply left from work values (TxBegin span) h = tt
-may_apply left from work values TxEnd h = tt
-may_apply left from work values (LookOf f span) h = absurd h
-may_apply left from work values (PutOf f span) h = absurd h
-may_apply left from work values (OpenOf f n span) h = absurd h
-may_apply left from work values (CloseOf f span) h = absurd h
-may_apply left from work values (SendOf f n span) h = absurd h
-may_apply left from work values Halt h = tt
-may_apply left from work values (TakeOf g) h = absurd h
-may_apply left from work values RunOf h = absurd h
-may_apply left from work values (FinishOf g) h = absurd h
+may_apply : (agent : Bool) (left : ℕ) (from : Savepoint) (work : List Task) (values : Writes) (p : PlainInstr) → IsPurePlain p → MayStandIn agent (Applying left from work values) p
+may_apply agent left from work values (Push v) h = tt
+may_apply agent left from work values (Load i) h = tt
+may_apply agent left from work values (Store i) h = tt
+may_apply agent left from work values Pop h = tt
+may_apply agent left from work values (Jump to) h = tt
+may_apply agent left from work values (JumpFalse to) h = tt
+may_apply agent left from work values (CoreOf op n span) h = tt
+may_apply agent left from work values (CallOf f n) h = tt
+may_apply agent left from work values Return h = tt
+may_apply agent left from work values (MakeVector n span) h = tt
+may_apply agent left from work values (PrintOf n) h = tt
+may_apply agent left from work values (TxBegin span) h = tt
+may_apply agent left from work values TxEnd h = tt
+may_apply agent left from work values (LookOf f span) h = absurd h
+may_apply agent left from work values (PutOf f span) h = absurd h
+may_apply agent left from work values (OpenOf f n span) h = absurd h
+may_apply agent left from work values (CloseOf f span) h = absurd h
+may_apply agent left from work values (SendOf f n span) h = absurd h
+may_apply agent left from work values Halt h = tt
+may_apply agent left from work values (TakeOf g) h = absurd h
+may_apply agent left from work values RunOf h = absurd h
+may_apply agent left from work values (FinishOf g) h = absurd h
 
-may_swap : (swap : SwapInHand) (from : Savepoint) (p : PlainInstr) → IsPurePlain p → MayStandIn (Swapping swap from) p
-may_swap swap from (Push v) h = tt
-may_swap swap from (Load i) h = tt
-may_swap swap from (Store i) h = tt
-may_swap swap from Pop h = tt
-may_swap swap from (Jump to) h = tt
-may_swap swap from (JumpFalse to) h = tt
-may_swap swap from (CoreOf op n span) h = tt
-may_swap swap from (CallOf f n) h = tt
-may_swap swap from Return h = tt
-may_swap swap from (MakeVector n span) h = tt
-may_swap swap from (PrintOf n) h = tt
-may_swap swap from (TxBegin span) h = tt
-may_swap swap from TxEnd h = tt
-may_swap swap from (LookOf f span) h = absurd h
-may_swap swap from (PutOf f span) h = absurd h
-may_swap swap from (OpenOf f n span) h = absurd h
-may_swap swap from (CloseOf f span) h = absurd h
-may_swap swap from (SendOf f n span) h = absurd h
-may_swap swap from Halt h = tt
-may_swap swap from (TakeOf g) h = absurd h
-may_swap swap from RunOf h = absurd h
-may_swap swap from (FinishOf g) h = absurd h
+may_swap : (agent : Bool) (swap : SwapInHand) (from : Savepoint) (p : PlainInstr) → IsPurePlain p → MayStandIn agent (Swapping swap from) p
+may_swap agent swap from (Push v) h = tt
+may_swap agent swap from (Load i) h = tt
+may_swap agent swap from (Store i) h = tt
+may_swap agent swap from Pop h = tt
+may_swap agent swap from (Jump to) h = tt
+may_swap agent swap from (JumpFalse to) h = tt
+may_swap agent swap from (CoreOf op n span) h = tt
+may_swap agent swap from (CallOf f n) h = tt
+may_swap agent swap from Return h = tt
+may_swap agent swap from (MakeVector n span) h = tt
+may_swap agent swap from (PrintOf n) h = tt
+may_swap agent swap from (TxBegin span) h = tt
+may_swap agent swap from TxEnd h = tt
+may_swap agent swap from (LookOf f span) h = absurd h
+may_swap agent swap from (PutOf f span) h = absurd h
+may_swap agent swap from (OpenOf f n span) h = absurd h
+may_swap agent swap from (CloseOf f span) h = absurd h
+may_swap agent swap from (SendOf f n span) h = absurd h
+may_swap agent swap from Halt h = tt
+may_swap agent swap from (TakeOf g) h = absurd h
+may_swap agent swap from RunOf h = absurd h
+may_swap agent swap from (FinishOf g) h = absurd h
 
-may_outside : (p : PlainInstr) → IsNotAgents p → MayStandIn Outside p
-may_outside (Push v) h = tt
-may_outside (Load i) h = tt
-may_outside (Store i) h = tt
-may_outside Pop h = tt
-may_outside (Jump to) h = tt
-may_outside (JumpFalse to) h = tt
-may_outside (CoreOf op n span) h = tt
-may_outside (CallOf f n) h = tt
-may_outside Return h = tt
-may_outside (MakeVector n span) h = tt
-may_outside (PrintOf n) h = tt
-may_outside (TxBegin span) h = tt
-may_outside TxEnd h = tt
-may_outside (LookOf f span) h = tt
-may_outside (PutOf f span) h = tt
-may_outside (OpenOf f n span) h = tt
-may_outside (CloseOf f span) h = tt
-may_outside (SendOf f n span) h = tt
-may_outside Halt h = tt
-may_outside (TakeOf g) h = absurd h
-may_outside RunOf h = absurd h
-may_outside (FinishOf g) h = absurd h
+may_outside : (agent : Bool) (p : PlainInstr) → IsNotAgents p → MayStandIn agent Outside p
+may_outside agent (Push v) h = tt
+may_outside agent (Load i) h = tt
+may_outside agent (Store i) h = tt
+may_outside agent Pop h = tt
+may_outside agent (Jump to) h = tt
+may_outside agent (JumpFalse to) h = tt
+may_outside agent (CoreOf op n span) h = tt
+may_outside agent (CallOf f n) h = tt
+may_outside agent Return h = tt
+may_outside agent (MakeVector n span) h = tt
+may_outside agent (PrintOf n) h = tt
+may_outside agent (TxBegin span) h = tt
+may_outside agent TxEnd h = tt
+may_outside agent (LookOf f span) h = tt
+may_outside agent (PutOf f span) h = tt
+may_outside agent (OpenOf f n span) h = tt
+may_outside agent (CloseOf f span) h = tt
+may_outside agent (SendOf f n span) h = tt
+may_outside agent Halt h = tt
+may_outside agent (TakeOf g) h = absurd h
+may_outside agent RunOf h = absurd h
+may_outside agent (FinishOf g) h = absurd h
 
-may_begin : (left : ℕ) (p : PlainInstr) → IsNotAgents p → MayStandIn (Restarting left) p
-may_begin left (Push v) h = tt
-may_begin left (Load i) h = tt
-may_begin left (Store i) h = tt
-may_begin left Pop h = tt
-may_begin left (Jump to) h = tt
-may_begin left (JumpFalse to) h = tt
-may_begin left (CoreOf op n span) h = tt
-may_begin left (CallOf f n) h = tt
-may_begin left Return h = tt
-may_begin left (MakeVector n span) h = tt
-may_begin left (PrintOf n) h = tt
-may_begin left (TxBegin span) h = tt
-may_begin left TxEnd h = tt
-may_begin left (LookOf f span) h = tt
-may_begin left (PutOf f span) h = tt
-may_begin left (OpenOf f n span) h = tt
-may_begin left (CloseOf f span) h = tt
-may_begin left (SendOf f n span) h = tt
-may_begin left Halt h = tt
-may_begin left (TakeOf g) h = absurd h
-may_begin left RunOf h = absurd h
-may_begin left (FinishOf g) h = absurd h
+may_begin : (agent : Bool) (left : ℕ) (p : PlainInstr) → IsNotAgents p → MayStandIn agent (Restarting left) p
+may_begin agent left (Push v) h = tt
+may_begin agent left (Load i) h = tt
+may_begin agent left (Store i) h = tt
+may_begin agent left Pop h = tt
+may_begin agent left (Jump to) h = tt
+may_begin agent left (JumpFalse to) h = tt
+may_begin agent left (CoreOf op n span) h = tt
+may_begin agent left (CallOf f n) h = tt
+may_begin agent left Return h = tt
+may_begin agent left (MakeVector n span) h = tt
+may_begin agent left (PrintOf n) h = tt
+may_begin agent left (TxBegin span) h = tt
+may_begin agent left TxEnd h = tt
+may_begin agent left (LookOf f span) h = tt
+may_begin agent left (PutOf f span) h = tt
+may_begin agent left (OpenOf f n span) h = tt
+may_begin agent left (CloseOf f span) h = tt
+may_begin agent left (SendOf f n span) h = tt
+may_begin agent left Halt h = tt
+may_begin agent left (TakeOf g) h = absurd h
+may_begin agent left RunOf h = absurd h
+may_begin agent left (FinishOf g) h = absurd h
 
-may_try : (left inner : ℕ) (from : Savepoint) (p : PlainInstr) → IsNotAgents p → MayStandIn (Running left inner from) p
-may_try left inner from (Push v) h = tt
-may_try left inner from (Load i) h = tt
-may_try left inner from (Store i) h = tt
-may_try left inner from Pop h = tt
-may_try left inner from (Jump to) h = tt
-may_try left inner from (JumpFalse to) h = tt
-may_try left inner from (CoreOf op n span) h = tt
-may_try left inner from (CallOf f n) h = tt
-may_try left inner from Return h = tt
-may_try left inner from (MakeVector n span) h = tt
-may_try left inner from (PrintOf n) h = tt
-may_try left inner from (TxBegin span) h = tt
-may_try left inner from TxEnd h = tt
-may_try left inner from (LookOf f span) h = tt
-may_try left inner from (PutOf f span) h = tt
-may_try left inner from (OpenOf f n span) h = tt
-may_try left inner from (CloseOf f span) h = tt
-may_try left inner from (SendOf f n span) h = tt
-may_try left inner from Halt h = tt
-may_try left inner from (TakeOf g) h = absurd h
-may_try left inner from RunOf h = absurd h
-may_try left inner from (FinishOf g) h = absurd h
+may_try : (agent : Bool) (left inner : ℕ) (from : Savepoint) (p : PlainInstr) → IsNotAgents p → MayStandIn agent (Running left inner from) p
+may_try agent left inner from (Push v) h = tt
+may_try agent left inner from (Load i) h = tt
+may_try agent left inner from (Store i) h = tt
+may_try agent left inner from Pop h = tt
+may_try agent left inner from (Jump to) h = tt
+may_try agent left inner from (JumpFalse to) h = tt
+may_try agent left inner from (CoreOf op n span) h = tt
+may_try agent left inner from (CallOf f n) h = tt
+may_try agent left inner from Return h = tt
+may_try agent left inner from (MakeVector n span) h = tt
+may_try agent left inner from (PrintOf n) h = tt
+may_try agent left inner from (TxBegin span) h = tt
+may_try agent left inner from TxEnd h = tt
+may_try agent left inner from (LookOf f span) h = tt
+may_try agent left inner from (PutOf f span) h = tt
+may_try agent left inner from (OpenOf f n span) h = tt
+may_try agent left inner from (CloseOf f span) h = tt
+may_try agent left inner from (SendOf f n span) h = tt
+may_try agent left inner from Halt h = tt
+may_try agent left inner from (TakeOf g) h = absurd h
+may_try agent left inner from RunOf h = absurd h
+may_try agent left inner from (FinishOf g) h = absurd h
 
 both_ways : (b : Bool) → b ≡ true → b ≡ false → ⊥
 both_ways true h g = false≢true (sym g)
@@ -264,7 +266,117 @@ not_false : (b : Bool) → (b ≡ false → ⊥) → b ≡ true
 not_false true h = refl
 not_false false h = absurd (h refl)
 
-module _ (code : PlainCode) (main : CodeBody) (kinds : List FunctionKind) where
+-- what holds of the action that an actor runs, while its function runs: a thread runs none, an agent one that isn't over
+abbrev pub Acts : Bool → Option InHand → Type 0
+Acts false None = Unit {0}
+Acts false (Some h) = ⊥
+Acts true None = ⊥
+Acts true (Some h) = h.fault ≡ None
+
+acts_may : (b : Bool) (o : Option InHand) → Acts b o → MayRun b o
+acts_may false None h = tt
+acts_may false (Some x) h = absurd h
+acts_may true None h = absurd h
+acts_may true (Some x) h = refl
+
+may_true : (o : Option InHand) → MayRun true o
+may_true None = tt
+may_true (Some x) = refl
+
+acts_agent : (b : Bool) (x : InHand) → Acts b (Some x) → b ≡ true
+acts_agent false x h = absurd h
+acts_agent true x h = refl
+
+no_fault : (b : Bool) (x : InHand) → Acts b (Some x) → x.fault ≡ None
+no_fault false x h = absurd h
+no_fault true x h = h
+
+-- an action that holds more sends
+acts_held : (b : Bool) (o : Option InHand) (xs : List Action) → Acts b o → Acts b (now_holding xs o)
+acts_held false None xs h = tt
+acts_held false (Some x) xs h = absurd h
+acts_held true None xs h = absurd h
+acts_held true (Some x) xs h = h
+
+turns_so : (b : Bool) (o : Option InHand) (i : Option PlainInstr) → Acts b o → RunsOne None i → TakesTurns b o i
+turns_so false o i h n = tt
+turns_so true None i h n = absurd h
+turns_so true (Some x) i h n = subst (λ t. RunsOne t i) (sym h) n
+
+-- what an agent runs between its functions: it takes an action, runs it, or hands one in that is over with a fault
+abbrev pub RestsAt : ℕ → Option InHand → Type 0
+RestsAt zero None = Unit {0}
+RestsAt zero (Some h) = ⊥
+RestsAt (suc zero) None = ⊥
+RestsAt (suc zero) (Some h) = h.fault ≡ None
+RestsAt (suc (suc zero)) None = ⊥
+RestsAt (suc (suc zero)) (Some h) = HasFault h.fault
+RestsAt (suc (suc (suc n))) o = ⊥
+
+over_fault : (o : Option InHand) → RestsAt (suc (suc zero)) o → HasFault (fault_in o)
+over_fault None h = absurd h
+over_fault (Some x) h = h
+
+-- no instruction of a thread or a function takes an action
+runs_one : (p : PlainInstr) → IsNotAgents p → RunsOne None (Some p)
+runs_one (Push v) h = tt
+runs_one (Load i) h = tt
+runs_one (Store i) h = tt
+runs_one Pop h = tt
+runs_one (Jump to) h = tt
+runs_one (JumpFalse to) h = tt
+runs_one (CoreOf op n span) h = tt
+runs_one (CallOf f n) h = tt
+runs_one Return h = tt
+runs_one (MakeVector n span) h = tt
+runs_one (PrintOf n) h = tt
+runs_one (TxBegin span) h = tt
+runs_one TxEnd h = tt
+runs_one (LookOf f span) h = tt
+runs_one (PutOf f span) h = tt
+runs_one (OpenOf f n span) h = tt
+runs_one (CloseOf f span) h = tt
+runs_one (SendOf f n span) h = tt
+runs_one Halt h = tt
+runs_one (TakeOf g) h = absurd h
+runs_one RunOf h = absurd h
+runs_one (FinishOf g) h = absurd h
+
+abbrev NotAgents : Option PlainInstr → Type 0
+NotAgents None = Unit {0}
+NotAgents (Some p) = IsNotAgents p
+
+abbrev IsSend : Option PlainInstr → Type 0
+IsSend (Some (SendOf f n span)) = Unit {0}
+IsSend _ = ⊥
+
+-- a step after which this holds of the state
+abbrev StepKeeps : {A : Type 0} → (ActorState → Type 0) → StepResult A → Type 0
+StepKeeps P (Continue a s) = P s
+StepKeeps P (Redo s) = P s
+StepKeeps P (Break f s) = P s
+StepKeeps P (Await s) = Unit {0}
+StepKeeps P Malformed = Unit {0}
+
+read_keeps : {A : Type 0} (P : ActorState → Type 0) (x : Reading A) (s : ActorState) → P s → StepKeeps P (read_as x s)
+read_keeps P (Says a) s h = h
+read_keeps P SaysRetry s h = h
+read_keeps P SaysNothing s h = tt
+
+received_keeps : {A : Type 0} (P : ActorState → Type 0) (reads : Reply → Reading A) (q : Ask) (s : ActorState) (todo : List Exchange) → ((t : List Exchange) → P (record s { todo = t })) → StepKeeps P (heard reads (receives q s todo))
+received_keeps P reads q s [] h = tt
+received_keeps P reads q s (x ∷ xs) h = go (same_ask q x.ask)
+  where
+    go : (b : Bool) → StepKeeps P (heard reads (if b then Replied x.reply (record s { todo = xs }) else Unreplied (record s { wants = Some q })))
+    go true = read_keeps P (reads x.reply) (record s { todo = xs }) (h xs)
+    go false = tt
+
+heard_keeps : {A : Type 0} (P : ActorState → Type 0) (reads : Reply → Reading A) (q : Ask) (s : ActorState) → ((t : List Exchange) → P (record s { todo = t })) → StepKeeps P (heard reads (asks q s))
+unfolding asks
+heard_keeps P reads q s h = received_keeps P reads q s s.todo h
+
+-- The main body is a thread's, or an agent's own.
+module _ (code : PlainCode) (agent : Bool) (g : CellId) (main : PlainBody) (kinds : List FunctionKind) where
   abbrev fs : Functions
   fs = record { parameters = parameters_of code.functions; kinds = kinds }
 
@@ -275,7 +387,7 @@ module _ (code : PlainCode) (main : CodeBody) (kinds : List FunctionKind) where
   ks = code.constants
 
   abbrev tc : ThreadCode
-  tc = thread_code code main
+  tc = record { functions = function_codes code; validators = validators_of code.cells; main = main }
 
   -- a body with its table of stages
   pub record Body (n : ℕ) (owner : Owner) : Type 0 where
@@ -301,11 +413,22 @@ module _ (code : PlainCode) (main : CodeBody) (kinds : List FunctionKind) where
     pub pure : IsPureOwner owner
     pub here : stage_at body.stages at ≡ Some (typed.plain 0)
 
+  -- a place of a typed body
+  abbrev Coded : ℕ → ℕ → Type 0
+  Coded n at = (st : typed.Stage) × At n at st
+
+  -- where an agent hands its action in
+  abbrev Aside : ℕ → ℕ → Type 0
+  Aside n at = (agent ≡ true) × (n ≡ 0) × (at ≡ 2)
+
   abbrev Somewhere : ℕ → ℕ → Type 0
-  Somewhere n at = (st : typed.Stage) × At n at st
+  Somewhere n at = Coded n at ⊎ Aside n at
+
+  pure_coded : (n at : ℕ) → PureAt n at → Coded n at
+  pure_coded n at p = (typed.plain 0, record { owner = p.owner; body = p.body; here = p.here })
 
   pure_somewhere : (n at : ℕ) → PureAt n at → Somewhere n at
-  pure_somewhere n at p = (typed.plain 0, record { owner = p.owner; body = p.body; here = p.here })
+  pure_somewhere n at p = inl (pure_coded n at p)
 
   not_impure : (owner : Owner) → IsPureOwner owner → IsImpure owner → ⊥
   not_impure a_thread g i = g
@@ -337,7 +460,11 @@ module _ (code : PlainCode) (main : CodeBody) (kinds : List FunctionKind) where
   CommutingPure (Some k) = IsPureCallee kinds k.callee
 
   abbrev StateOk : ActorState → Type 0
-  StateOk s = CommutesPure s.done.commutes × CommutingPure s.commuting × IsThreads s.acting
+  StateOk s = CommutesPure s.done.commutes × CommutingPure s.commuting × Acts agent s.acting
+
+  -- what is commuted is pure
+  abbrev PureState : ActorState → Type 0
+  PureState s = CommutesPure s.done.commutes × CommutingPure s.commuting
 
   abbrev EndHere : ℕ → ℕ → Type 0
   EndHere n at = EndThere (fetch tc n at)
@@ -369,8 +496,19 @@ module _ (code : PlainCode) (main : CodeBody) (kinds : List FunctionKind) where
   abbrev Holds : Configuration → Type 0
   Holds c = Somewhere c.body c.place × FramesAt c.frames × DoingOk c c.doing × StateOk c.state
 
+  -- an agent at its own body, outside every function
+  abbrev Rests : Configuration → Type 0
+  Rests c = (agent ≡ true) × (c.body ≡ 0) × RestsAt c.place c.state.acting × (c.doing ≡ Outside) × FramesAt c.frames × PureState c.state
+
+  -- an action whose function isn't there
+  abbrev Lost : Configuration → Type 0
+  Lost c = (fetch tc c.body c.place ≡ None) × Acts agent c.state.acting
+
+  abbrev HoldsAny : Configuration → Type 0
+  HoldsAny c = Holds c ⊎ (Rests c ⊎ Lost c)
+
   abbrev Lands : Turned Configuration → Type 0
-  Lands (Unfinished d) = Holds d
+  Lands (Unfinished d) = HoldsAny d
   Lands (Ended s) = Unit {0}
   Lands (Failed f s) = Unit {0}
   Lands (Asking s) = Unit {0}
@@ -435,9 +573,16 @@ module _ (code : PlainCode) (main : CodeBody) (kinds : List FunctionKind) where
       then_ok (heard views (asks (ask.View (commuted s.done)) s)) (λ x s1. viewed x.0 (paired (commuted s.done) x.1) s1) (heard_ok views (ask.View (commuted s.done)) s h)
       (λ x s1 h1. viewed_ok x.0 (paired (commuted s.done) x.1) s1 h1)
 
+  landed_ok : (v : Verdict) (s : ActorState) → StateOk s → StepOk (landed v s)
+  landed_ok Landed s h = (h.0, h.1, acts_held agent s.acting s.done.sends h.2)
+  landed_ok Outdated s h = h
+  landed_ok Undone s h = h
+  landed_ok Denied s h = h
+
   commit_ok : (ws : Writes) (s : ActorState) → StateOk s → StepOk (commit ws s)
   unfolding commit
-  commit_ok ws s h = heard_ok commit_verdict _ s h
+  commit_ok ws s h =
+      then_ok (heard commit_verdict (asks (ask.Commit s.at (set_writes s.done) s.done.ensures s.view ws (sends_of_commit (held_in s.acting) s.done.sends)) s)) landed (heard_ok commit_verdict _ s h) landed_ok
 
   peek_ok : (d : CellId) (s : ActorState) → StateOk s → StepOk (peek d s)
   unfolding peek
@@ -527,11 +672,23 @@ module _ (code : PlainCode) (main : CodeBody) (kinds : List FunctionKind) where
 
   send_action_ok : (inside : Bool) (x : Action) (s : ActorState) → StateOk s → StepOk (send_action inside x s)
   send_action_ok true x s h = h
-  send_action_ok false x s h = or_hold s.acting h.2
+  send_action_ok false x s h = or_hold s.acting
     where
-      or_hold : (o : Option InHand) → IsThreads o → StepOk (send_or_hold o x s)
-      or_hold None k = send_now_ok x s h
-      or_hold (Some y) k = absurd k
+      or_hold : (o : Option InHand) → StepOk (send_or_hold o x s)
+      or_hold None = send_now_ok x s h
+      or_hold (Some y) = (h.0, h.1, acts_held agent s.acting (x ∷ []) h.2)
+
+  finish_pure : (k : CellId) (new : Result Value Fault) (sends : List Action) (s : ActorState) → PureState s → StepKeeps PureState (finish k new sends s)
+  unfolding finish
+  finish_pure k new sends s h = heard_keeps PureState taken_back (ask.Finish k new sends) s (λ t. h)
+
+  -- a state in which no action runs
+  abbrev Unacting : ActorState → Type 0
+  Unacting s = PureState s × (s.acting ≡ None)
+
+  take_pure : (k : CellId) (s : ActorState) → Unacting s → StepKeeps Unacting (take_action k s)
+  unfolding take_action
+  take_pure k s h = heard_keeps Unacting handed_out (ask.Take k) s (λ t. h)
 
   send_ok : (inside : Bool) (span : Span) (cell : Value) (f : Callee) (vs : List Value) (s : ActorState) → StateOk s → StepOk (send_to inside span cell f vs s)
   send_ok inside span cell f vs s h =
@@ -577,27 +734,51 @@ module _ (code : PlainCode) (main : CodeBody) (kinds : List FunctionKind) where
 
   -- ---- turns
 
-  told_lands : (x : StepResult (Unit {0})) (f : Fault) → Lands (told x (λ s. Failed f s))
-  told_lands (Continue u s) f = tt
-  told_lands (Break g s) f = tt
-  told_lands (Redo s) f = tt
-  told_lands (Await s) f = tt
-  told_lands Malformed f = tt
+  -- an action that is over is handed in by its agent
+  fails_over : (o : Option InHand) → Acts agent o → (f : Fault) (s : ActorState) → PureState s → Lands (fails_with o f s)
+  fails_over None k f s h = tt
+  fails_over (Some x) k f s h = inr (inl (acts_agent agent x k, refl, tt, refl, tt, h))
 
-  over_lands : (o : Option InHand) → IsThreads o → (f : Fault) (s : ActorState) → Lands (ends_with o f s)
-  over_lands None h f s = tt
-  over_lands (Some x) h f s = absurd h
+  fails_land : (f : Fault) (s : ActorState) → StateOk s → Lands (fails_with s.acting f s)
+  fails_land f s h = fails_over s.acting h.2 f s (h.0, h.1)
+
+  -- where it was handed in, the agent begins again
+  rests_told : agent ≡ true → (x : StepResult (Unit {0})) → StepKeeps PureState x → Lands (told x (λ s. Unfinished (first_place [] (rested s))))
+  rests_told e (Continue u s) h = inr (inl (e, refl, tt, refl, tt, h))
+  rests_told e (Break f s) h = tt
+  rests_told e (Redo s) h = tt
+  rests_told e (Await s) h = tt
+  rests_told e Malformed h = tt
+
+  told_lands : (x : StepResult (Unit {0})) (f : Fault) → StepOk x → Lands (told x (λ s. fails_with s.acting f s))
+  told_lands (Continue u s) f h = fails_land f s h
+  told_lands (Break g s) f h = tt
+  told_lands (Redo s) f h = tt
+  told_lands (Await s) f h = tt
+  told_lands Malformed f h = tt
+
+  fail_ok : (s : ActorState) → StateOk s → StepOk (fail s)
+  unfolding fail
+  fail_ok s h = heard_ok just_done (ask.Fail s.at s.view) s h
+
+  break_ok : (w : SwapInHand) (s : ActorState) → StateOk s → StepOk (break_swap w s)
+  unfolding break_swap
+  break_ok w s h = heard_ok just_done (ask.Broke w.cell w.at) s h
+
+  over_lands : (o : Option InHand) → Acts agent o → (f : Fault) (s : ActorState) → PureState s → Lands (ends_with o f s)
+  over_lands None k f s h = tt
+  over_lands (Some x) k f s h = rests_told (acts_agent agent x k) (finish x.agent (Err f) [] s) (finish_pure x.agent (Err f) [] s h)
 
   raise_lands : (c : Configuration) (doing : Activity) → DoingOk c doing → (f : Fault) (s : ActorState) → StateOk s → Lands (raise doing f s)
-  raise_lands c Outside ok f s h = over_lands s.acting h.2 f s
-  raise_lands c (Restarting left) ok f s h = tt
-  raise_lands c (Running left inner from) ok f s h = told_lands (fail s) f
-  raise_lands c (Applying left from work values) ok f s h = told_lands (fail s) f
-  raise_lands c (Swapping swap from) ok f s h = told_lands (break_swap swap s) f
+  raise_lands c Outside ok f s h = over_lands s.acting h.2 f s (h.0, h.1)
+  raise_lands c (Restarting left) ok f s h = fails_land f s h
+  raise_lands c (Running left inner from) ok f s h = told_lands (fail s) f (fail_ok s h)
+  raise_lands c (Applying left from work values) ok f s h = told_lands (fail s) f (fail_ok s h)
+  raise_lands c (Swapping swap from) ok f s h = told_lands (break_swap swap s) f (break_ok swap s h)
 
   rerun_lands : (left : ℕ) (from : Savepoint) (s : ActorState) → SavedAt from → StateOk s → Lands (rerun left from s)
-  rerun_lands zero from s g h = tt
-  rerun_lands (suc left) from s g h = (g.0, g.1, tt, h)
+  rerun_lands zero from s g h = fails_land (fault_at RetryLimit from.span) s h
+  rerun_lands (suc left) from s g h = inl (g.0, g.1, tt, h)
 
   retried_lands : (c : Configuration) (doing : Activity) (s : ActorState) → DoingOk c doing → StateOk s → Lands (retried doing s)
   retried_lands c Outside s ok h = tt
@@ -650,9 +831,10 @@ module _ (code : PlainCode) (main : CodeBody) (kinds : List FunctionKind) where
   choose_at P (Cell d) x y h g = h
 
   -- what is known of all bodies
-  module _ (functions : (f : ℕ) (kind : FunctionKind) → nth kinds f ≡ Some kind → Body (suc f) (a_function kind)) (valid : (k : ℕ) (f : Callee) → validator_at tc.validators k ≡ Some f → IsPureCallee kinds f) where
+  module _ (functions : (f : ℕ) (kind : FunctionKind) → nth kinds f ≡ Some kind → Body (suc f) (a_function kind)) (valid : (k : ℕ) (f : Callee) → validator_at tc.validators k ≡ Some f → IsPureCallee kinds f)
+      (own : agent ≡ true → main ≡ agent_body g) (unkinded : (f : ℕ) → nth kinds f ≡ None → nth tc.functions f ≡ None) where
     function_at : (f : ℕ) (kind : FunctionKind) → nth kinds f ≡ Some kind → Somewhere (suc f) 0
-    function_at f kind e = let b = functions f kind e in (typed.plain 0, record { owner = a_function kind; body = b; here = b.staging.first })
+    function_at f kind e = let b = functions f kind e in inl (typed.plain 0, record { owner = a_function kind; body = b; here = b.staging.first })
 
     pure_function_at : (f : ℕ) → IsPureFunction kinds f → PureAt (suc f) 0
     pure_function_at f p = let b = functions f p.0 p.1 in record { owner = a_function p.0; body = b; pure = p.2; here = b.staging.first }
@@ -680,8 +862,8 @@ module _ (code : PlainCode) (main : CodeBody) (kinds : List FunctionKind) where
 
       validates_land : (f : Callee) → IsPureCallee kinds f → (v : Value) (span : Span) → MayValidate v → Lands (validates tc f v span c)
       validates_land (callee.Core op) p v span calls =
-          on_lands c c.doing h.2 (step_of (core op (v ∷ [])) span c.state) _ (result_ok (core op (v ∷ [])) span c.state h.3) (λ answer s q. (h.0, h.1, state_ok c (answered answer s) c.doing h.2, q))
-      validates_land (callee.Function f) p v span calls = (pure_somewhere (suc f) 0 (pure_function_at f p), (h.0, h.1), calls f (pure_function_at f p), h.3)
+          on_lands c c.doing h.2 (step_of (core op (v ∷ [])) span c.state) _ (result_ok (core op (v ∷ [])) span c.state h.3) (λ answer s q. inl (h.0, h.1, state_ok c (answered answer s) c.doing h.2, q))
+      validates_land (callee.Function f) p v span calls = inl (pure_somewhere (suc f) 0 (pure_function_at f p), (h.0, h.1), calls f (pure_function_at f p), h.3)
 
       accepted_lands : (o : Option Bool) (f : Callee) → IsPureCallee kinds f → (v : Value) (span : Span) (go : Configuration → Turned Configuration) → MayValidate v → NextLands go → Lands (where_accepted tc o f v span c go)
       accepted_lands None f p v span go calls k = validates_land f p v span calls
@@ -699,11 +881,11 @@ module _ (code : PlainCode) (main : CodeBody) (kinds : List FunctionKind) where
       MayApply = (d : Configuration) → PlaceIn EndHere d → DoingOk d c.doing
 
       decided_lands : Somewhere c.body (c.place + 1) → (left : ℕ) (from : Savepoint) → SavedAt from → (v : Verdict) (s : ActorState) → StateOk s → Lands (decided v left from c s)
-      decided_lands next left from g Landed s q = (next, h.1, tt, q)
-      decided_lands next zero from g Outdated s q = tt
-      decided_lands next (suc left) from g Outdated s q = (h.0, h.1, g, q)
+      decided_lands next left from g Landed s q = inl (next, h.1, tt, q)
+      decided_lands next zero from g Outdated s q = fails_land (fault_at RetryLimit from.span) s q
+      decided_lands next (suc left) from g Outdated s q = inl (h.0, h.1, g, q)
       decided_lands next left from g Undone s q = rerun_lands left from s g q
-      decided_lands next left from g Denied s q = tt
+      decided_lands next left from g Denied s q = fails_land (fault_at AgentFailed from.span) s q
 
       lands_land : Somewhere c.body (c.place + 1) → (left : ℕ) (from : Savepoint) (values : Writes) → SavedAt from → Lands (lands left from values c)
       lands_land next left from values g =
@@ -711,9 +893,9 @@ module _ (code : PlainCode) (main : CodeBody) (kinds : List FunctionKind) where
 
       applies_land : EndHere c.body c.place → MayApply → (f : Callee) (left : ℕ) (from : Savepoint) (k : Commute) (work : List Task) (values : Writes) → IsPureCallee kinds f → SavedAt from → TasksPure work → Lands (applies tc f left from k work values c)
       applies_land end may (callee.Core op) left from k work values p g w =
-          on_lands c c.doing h.2 (step_of (core op (arguments_of k values)) from.span c.state) _ (result_ok (core op (arguments_of k values)) from.span c.state h.3) (λ v s q. (h.0, h.1, (g, w, inl end), q))
+          on_lands c c.doing h.2 (step_of (core op (arguments_of k values)) from.span c.state) _ (result_ok (core op (arguments_of k values)) from.span c.state h.3) (λ v s q. inl (h.0, h.1, (g, w, inl end), q))
       applies_land end may (callee.Function f) left from k work values p g w =
-          (pure_somewhere (suc f) 0 (pure_function_at f p), (h.0, h.1), may (called tc f (arguments_of k values) to_commutes c.place c.stack c) (inr (pure_function_at f p, inl end)), h.3)
+          inl (pure_somewhere (suc f) 0 (pure_function_at f p), (h.0, h.1), may (called tc f (arguments_of k values) to_commutes c.place c.stack c) (inr (pure_function_at f p, inl end)), h.3)
 
     works_land : (work : List Task) (left : ℕ) (from : Savepoint) (values : Writes) → SavedAt from → TasksPure work → (c : Configuration) (h : Holds c) → Somewhere c.body (c.place + 1) → EndHere c.body c.place → MayApply c h → Lands (works tc left from work values c)
     works_land [] left from values g w c h next end may = lands_land c h next left from values g
@@ -726,12 +908,12 @@ module _ (code : PlainCode) (main : CodeBody) (kinds : List FunctionKind) where
     module _ (c : Configuration) (h : Holds c) where
       settles_land : Somewhere c.body (c.place + 1) → EndHere c.body c.place → MayApply c h → (cs : List CellId) (left : ℕ) (from : Savepoint) → SavedAt from → Lands (settles tc cs left from c)
       settles_land next end may [] left from g = works_land (tasks_of tc.validators c.state.done) left from [] g (tasks_pure c.state.done h.3.0) c h next end may
-      settles_land next end may (d ∷ cs) left from g = on_lands c c.doing h.2 (view c.state) _ (view_ok c.state h.3) (λ values s q. (h.0, h.1, (g, tasks_pure s.done q.0, inl end), q))
+      settles_land next end may (d ∷ cs) left from g = on_lands c c.doing h.2 (view c.state) _ (view_ok c.state h.3) (λ values s q. inl (h.0, h.1, (g, tasks_pure s.done q.0, inl end), q))
 
       ends_land : Somewhere c.body (c.place + 1) → EndHere c.body c.place → (doing : Activity) → c.doing ≡ doing → DoingOk c doing → Lands (ends tc doing c)
       ends_land next end Outside e ok = tt
       ends_land next end (Restarting left) e ok = tt
-      ends_land next end (Running left (suc inner) from) e ok = (next, h.1, ok, h.3)
+      ends_land next end (Running left (suc inner) from) e ok = inl (next, h.1, ok, h.3)
       ends_land next end (Running left zero from) e ok = settles_land next end (λ d p. subst (DoingOk d) (sym e) ok) (commuted c.state.done) left from ok
       ends_land next end (Applying left from work values) e ok = works_land work left from values ok.0 ok.1 c h next end (λ d p. subst (DoingOk d) (sym e) (ok.0, ok.1, p))
       ends_land next end (Swapping swap from) e ok = tt
@@ -739,8 +921,8 @@ module _ (code : PlainCode) (main : CodeBody) (kinds : List FunctionKind) where
       -- ---- swaps
 
       swap_decided_lands : Somewhere c.body (c.place + 1) → (from : Savepoint) → SavedAt from → (w : Value) (rest : List Value) (v : Verdict) (t s : ActorState) → StateOk s → Lands (swap_decided v from w rest (record c { state = t }) s)
-      swap_decided_lands next from g w rest Landed t s q = (next, h.1, tt, q)
-      swap_decided_lands next from g w rest Outdated t s q = (g.0, g.1, tt, q)
+      swap_decided_lands next from g w rest Landed t s q = inl (next, h.1, tt, q)
+      swap_decided_lands next from g w rest Outdated t s q = inl (g.0, g.1, tt, q)
       swap_decided_lands next from g w rest Undone t s q = tt
       swap_decided_lands next from g w rest Denied t s q = tt
 
@@ -764,22 +946,22 @@ module _ (code : PlainCode) (main : CodeBody) (kinds : List FunctionKind) where
 
       module _ (free : (d : Configuration) → DoingOk d c.doing) where
         gives_lands : Somewhere c.body (c.place + 1) → (rest : List Value) (r : StepResult Value) → StepOk r → Lands (gives c rest r)
-        gives_lands next rest r p = on_lands c c.doing h.2 r (λ v s. Unfinished (ahead (v ∷ rest) s c)) p (λ v s q. (next, h.1, free (ahead (v ∷ rest) s c), q))
+        gives_lands next rest r p = on_lands c c.doing h.2 r (λ v s. Unfinished (ahead (v ∷ rest) s c)) p (λ v s q. inl (next, h.1, free (ahead (v ∷ rest) s c), q))
 
         begins_lands : Somewhere c.body (c.place + 1) → (span : Span) (doing : Activity) → DoingOk c doing → Lands (begins doing span c)
-        begins_lands next span Outside ok = on_lands c c.doing h.2 (begin c.state) _ (begin_ok c.state h.3) (λ u s q. (next, h.1, (h.0, h.1), q))
-        begins_lands next span (Restarting left) ok = on_lands c c.doing h.2 (begin c.state) _ (begin_ok c.state h.3) (λ u s q. (next, h.1, (h.0, h.1), q))
-        begins_lands next span (Running left inner from) ok = (next, h.1, ok, h.3)
+        begins_lands next span Outside ok = on_lands c c.doing h.2 (begin c.state) _ (begin_ok c.state h.3) (λ u s q. inl (next, h.1, (h.0, h.1), q))
+        begins_lands next span (Restarting left) ok = on_lands c c.doing h.2 (begin c.state) _ (begin_ok c.state h.3) (λ u s q. inl (next, h.1, (h.0, h.1), q))
+        begins_lands next span (Running left inner from) ok = inl (next, h.1, ok, h.3)
         begins_lands next span (Applying left from work values) ok = tt
         begins_lands next span (Swapping swap from) ok = tt
 
         opens_ref_lands : Somewhere c.body (c.place + 1) → (u : RefUpdate) → UpdatePure u → (span : Span) (vs : List Value) (cell : Value) (rest : List Value) → Lands (opens_ref u span vs cell rest c)
         opens_ref_lands next u p span vs cell rest =
-            on_lands c c.doing h.2 (open_update u (is_inside c.doing) span cell vs c.state) _ (open_ok u p (is_inside c.doing) span cell vs c.state h.3) (λ v s q. (next, h.1, free (ahead (push_all vs (v ∷ cell ∷ rest)) s c), q))
+            on_lands c c.doing h.2 (open_update u (is_inside c.doing) span cell vs c.state) _ (open_ok u p (is_inside c.doing) span cell vs c.state h.3) (λ v s q. inl (next, h.1, free (ahead (push_all vs (v ∷ cell ∷ rest)) s c), q))
 
         opens_atom_lands : SwapHere c.body (c.place + 1) → (doing : Activity) (span : Span) (vs : List Value) (cell : Value) (rest : List Value) → Lands (opens_atom doing span vs cell rest c)
         opens_atom_lands next Outside span vs cell rest =
-            on_lands c c.doing h.2 (open_swap false span cell c.state) _ (open_swap_ok false span cell c.state h.3) (λ o s q. ((next.0, next.1), h.1, ((h.0, h.1), inl next), q))
+            on_lands c c.doing h.2 (open_swap false span cell c.state) _ (open_swap_ok false span cell c.state h.3) (λ o s q. inl (inl (next.0, next.1), h.1, ((h.0, h.1), inl next), q))
         opens_atom_lands next (Restarting left) span vs cell rest = tt
         opens_atom_lands next (Running left inner from) span vs cell rest = tt
         opens_atom_lands next (Applying left from work values) span vs cell rest = tt
@@ -811,9 +993,9 @@ module _ (code : PlainCode) (main : CodeBody) (kinds : List FunctionKind) where
             go instr.Halt x = absurd x
 
         opens_land : (t n : ℕ) (f : OpenForm) → At c.body (c.place + 1) (typed.opened t n f) → (span : Span) (vs : List Value) (cell : Value) (rest : List Value) → Lands (opens f span vs cell rest c)
-        opens_land t n open_form.Alter next span vs cell rest = opens_ref_lands (typed.opened t n open_form.Alter, next) Alters tt span vs cell rest
+        opens_land t n open_form.Alter next span vs cell rest = opens_ref_lands (inl (typed.opened t n open_form.Alter, next)) Alters tt span vs cell rest
         opens_land t n (open_form.Commute k) next span vs cell rest =
-            opens_ref_lands (typed.opened t n (open_form.Commute k), next) (Commutes k) (opened_pure c.body (c.place + 1) t n k next) span vs cell rest
+            opens_ref_lands (inl (typed.opened t n (open_form.Commute k), next)) (Commutes k) (opened_pure c.body (c.place + 1) t n k next) span vs cell rest
         opens_land t n (open_form.Swap k) next span vs cell rest = opens_atom_lands (typed.opened t n (open_form.Swap k), next, refl) c.doing span vs cell rest
 
         puts_land : (f : PutForm) → Somewhere c.body (c.place + 1) → (span : Span) (w cell : Value) (rest : List Value) → Lands (puts tc f span w cell rest c)
@@ -822,7 +1004,7 @@ module _ (code : PlainCode) (main : CodeBody) (kinds : List FunctionKind) where
             on_lands c c.doing h.2 (cell_at (form.Put Reset) (is_inside c.doing) span cell c.state) _ (result_ok (cell_of (rule (form.Put Reset)) (is_inside c.doing) cell) span c.state h.3)
             (λ a s q. valid_lands c h (validator_at tc.validators a.number) (valid a.number) w span (λ c1. gives c1 rest (assign_cell Reset (is_inside c.doing) span w a c1.state)) (λ n p. free (called tc n (w ∷ []) to_validation c.place c.stack c))
             (λ t p. on_lands c c.doing h.2 (assign_cell Reset (is_inside c.doing) span w a t) (λ v s1. Unfinished (ahead (v ∷ rest) s1 (record c { state = t }))) (assign_cell_ok Reset (is_inside c.doing) span w a t p)
-            (λ v s1 q1. (next, h.1, free (ahead (v ∷ rest) s1 (record c { state = t })), q1))))
+            (λ v s1 q1. inl (next, h.1, free (ahead (v ∷ rest) s1 (record c { state = t })), q1))))
 
         closes_land : (f : UpdateForm) → Somewhere c.body (c.place + 1) → (span : Span) (w cell : Value) (rest : List Value) → Lands (closes tc f span w cell rest c)
         closes_land update.Alter next span w cell rest = gives_lands next rest (close_update span cell w c.state) (close_ok span cell w c.state h.3)
@@ -834,32 +1016,32 @@ module _ (code : PlainCode) (main : CodeBody) (kinds : List FunctionKind) where
 
         returns_land : (frames : List Frame) → FramesAt frames → (v : Value) → Lands (returns_to frames v c)
         returns_land [] g v = tt
-        returns_land (f ∷ frames) g v = (
+        returns_land (f ∷ frames) g v = inl (
           g.0,
           g.1,
           after_ok (returned f frames v) f.awaits v c.doing (free (returned f frames v)),
           returned_ok f.awaits v c.state h.3,
         )
 
-        module _ (a : Somewhere c.body c.place) where
+        module _ (a : Coded c.body c.place) where
           abbrev ss : Stages
           ss = a.1.body.stages
 
           abbrev there : (to : ℕ) (st : typed.Stage) → LeadsTo ss to st → Somewhere c.body to
-          there to st e = (st, record { owner = a.1.owner; body = a.1.body; here = e })
+          there to st e = inl (st, record { owner = a.1.owner; body = a.1.body; here = e })
 
           -- an instruction at a place in transactions of its own
           plain_lands : (t : ℕ) (i : Instr) (span : Span) → FitsStage fs a.1.owner ss c.place (typed.plain t) i → (EndThere (Some (plain_instr ps ks i span)) → EndHere c.body c.place) → Lands (act tc (Some (plain_instr ps ks i span)) c)
-          plain_lands t (instr.Const k) span x en = (there (c.place + 1) (typed.plain t) x, h.1, free (ahead (slice_index_or ks k Nil ∷ c.stack) c.state c), h.3)
+          plain_lands t (instr.Const k) span x en = inl (there (c.place + 1) (typed.plain t) x, h.1, free (ahead (slice_index_or ks k Nil ∷ c.stack) c.state c), h.3)
           plain_lands t (instr.Local k) span x en = gives_lands (there (c.place + 1) (typed.plain t) x) c.stack (found (nth c.locals k) c.state) (found_ok (nth c.locals k) c.state h.3)
-          plain_lands t (instr.Store k) span x en = top_lands c.stack _ (λ v rest. (there (c.place + 1) (typed.plain t) x, h.1, free (record (ahead rest c.state c) { locals = put c.locals k v }), h.3))
-          plain_lands t instr.Pop span x en = top_lands c.stack _ (λ v rest. (there (c.place + 1) (typed.plain t) x, h.1, free (ahead rest c.state c), h.3))
-          plain_lands t (instr.Jump to) span x en = (there to (typed.plain t) x, h.1, free (record c { place = to }), h.3)
+          plain_lands t (instr.Store k) span x en = top_lands c.stack _ (λ v rest. inl (there (c.place + 1) (typed.plain t) x, h.1, free (record (ahead rest c.state c) { locals = put c.locals k v }), h.3))
+          plain_lands t instr.Pop span x en = top_lands c.stack _ (λ v rest. inl (there (c.place + 1) (typed.plain t) x, h.1, free (ahead rest c.state c), h.3))
+          plain_lands t (instr.Jump to) span x en = inl (there to (typed.plain t) x, h.1, free (record c { place = to }), h.3)
           plain_lands t (instr.JumpFalse to) span x en =
-              top_lands c.stack _ (λ v rest. (choose_at (Somewhere c.body) v (c.place + 1) to (there (c.place + 1) (typed.plain t) x.1) (there to (typed.plain t) x.0), h.1, free (record c { place = choose v (c.place + 1) to; stack = rest }), h.3))
+              top_lands c.stack _ (λ v rest. inl (choose_at (Somewhere c.body) v (c.place + 1) to (there (c.place + 1) (typed.plain t) x.1) (there to (typed.plain t) x.0), h.1, free (record c { place = choose v (c.place + 1) to; stack = rest }), h.3))
           plain_lands t (instr.Core op n) span x en =
               args_land n c.stack [] _ (λ vs rest. gives_lands (there (c.place + 1) (typed.plain t) x) rest (step_of (core op vs) span c.state) (result_ok (core op vs) span c.state h.3))
-          plain_lands t (instr.Call f) span x en = args_land (slice_index_or ps f 0) c.stack [] _ (λ vs rest. call_lands (there (c.place + 1) (typed.plain t) x.1) f (function_at f x.0.0 x.0.1) vs rest)
+          plain_lands t (instr.Call f) span x en = args_land (slice_index_or ps f 0) c.stack [] _ (λ vs rest. inl (call_lands (there (c.place + 1) (typed.plain t) x.1) f (function_at f x.0.0 x.0.1) vs rest))
           plain_lands t instr.Return span x en = top_lands c.stack _ (λ v rest. returns_land c.frames h.1 v)
           plain_lands t (instr.Vector n) span x en =
               args_land n c.stack [] _ (λ vs rest. gives_lands (there (c.place + 1) (typed.plain t) x) rest (step_of (vector_of vs) span c.state) (result_ok (vector_of vs) span c.state h.3))
@@ -871,7 +1053,7 @@ module _ (code : PlainCode) (main : CodeBody) (kinds : List FunctionKind) where
               two_land c.stack _ (λ w cell rest. puts_land f (there (c.place + 1) (typed.plain t) x.1) span w cell rest)
           plain_lands t instr.TxBegin span x en = begins_lands (there (c.place + 1) (typed.plain (suc t)) x.1) span c.doing h.2
           plain_lands t instr.TxEnd span x en = ends_land (there (c.place + 1) (typed.plain (t - 1)) x.1) (en tt) c.doing refl h.2
-          plain_lands t (instr.Open f n) span x en = args_of_land n c.stack _ (λ vs cell rest. opens_land t n f (there (c.place + 1) (typed.opened t n f) x.1).1 span vs cell rest)
+          plain_lands t (instr.Open f n) span x en = args_of_land n c.stack _ (λ vs cell rest. opens_land t n f (record { owner = a.1.owner; body = a.1.body; here = x.1 }) span vs cell rest)
           plain_lands t (instr.Close f) span x en = absurd x
           plain_lands t (instr.Send f n) span x en =
               args_of_land n c.stack _ (λ vs cell rest. gives_lands (there (c.place + 1) (typed.plain t) x.2) rest (send_to (is_inside c.doing) span cell f vs c.state) (send_ok (is_inside c.doing) span cell f vs c.state h.3))
@@ -881,7 +1063,7 @@ module _ (code : PlainCode) (main : CodeBody) (kinds : List FunctionKind) where
           opened_lands : (t n : ℕ) (by : OpenForm) (i : Instr) (span : Span) → FitsStage fs a.1.owner ss c.place (typed.opened t n by) i → Lands (act tc (Some (plain_instr ps ks i span)) c)
           opened_lands t n by (instr.Core op m) span x =
               args_land m c.stack [] _ (λ vs rest. gives_lands (there (c.place + 1) (typed.applied t (form_of by)) x.2) rest (step_of (core op vs) span c.state) (result_ok (core op vs) span c.state h.3))
-          opened_lands t n by (instr.Call f) span x = args_land (slice_index_or ps f 0) c.stack [] _ (λ vs rest. call_lands (there (c.place + 1) (typed.applied t (form_of by)) x.3) f (function_at f x.1.0 x.1.1) vs rest)
+          opened_lands t n by (instr.Call f) span x = args_land (slice_index_or ps f 0) c.stack [] _ (λ vs rest. inl (call_lands (there (c.place + 1) (typed.applied t (form_of by)) x.3) f (function_at f x.1.0 x.1.1) vs rest))
           opened_lands t n by (instr.Const k) span x = absurd x
           opened_lands t n by (instr.Local k) span x = absurd x
           opened_lands t n by (instr.Store k) span x = absurd x
@@ -922,10 +1104,10 @@ module _ (code : PlainCode) (main : CodeBody) (kinds : List FunctionKind) where
           applied_lands t by (instr.Send f m) span x = absurd x
           applied_lands t by instr.Halt span x = absurd x
 
-          any_lands : (st : typed.Stage) (i : Instr) (span : Span) → FitsStage fs a.1.owner ss c.place st i → (EndThere (Some (plain_instr ps ks i span)) → EndHere c.body c.place) → Lands (act tc (Some (plain_instr ps ks i span)) c)
-          any_lands (typed.plain t) i span x en = plain_lands t i span x en
-          any_lands (typed.opened t n by) i span x en = opened_lands t n by i span x
-          any_lands (typed.applied t by) i span x en = applied_lands t by i span x
+          each_lands : (st : typed.Stage) (i : Instr) (span : Span) → FitsStage fs a.1.owner ss c.place st i → (EndThere (Some (plain_instr ps ks i span)) → EndHere c.body c.place) → Lands (act tc (Some (plain_instr ps ks i span)) c)
+          each_lands (typed.plain t) i span x en = plain_lands t i span x en
+          each_lands (typed.opened t n by) i span x en = opened_lands t n by i span x
+          each_lands (typed.applied t by) i span x en = applied_lands t by i span x
 
           free_lands : Lands (turn tc c)
           free_lands =
@@ -934,7 +1116,7 @@ module _ (code : PlainCode) (main : CodeBody) (kinds : List FunctionKind) where
             where
               go : (i : Instr) → FitsStage fs a.1.owner ss c.place a.0 i → (o : Option PlainInstr) → fetch tc c.body c.place ≡ o → Fetched ps ks o (Some i) → Lands (act tc o c)
               go i x None e f = tt
-              go i x (Some p) e f = subst (λ q. Lands (act tc (Some q) c)) (sym f.1) (any_lands a.0 i f.0 x (λ z. subst EndThere (sym (e ∙ ap (λ q. Some q) f.1)) z))
+              go i x (Some p) e f = subst (λ q. Lands (act tc (Some q) c)) (sym f.1) (each_lands a.0 i f.0 x (λ z. subst EndThere (sym (e ∙ ap (λ q. Some q) f.1)) z))
 
       -- ---- in a pure callee of a commute or a swap
 
@@ -946,7 +1128,7 @@ module _ (code : PlainCode) (main : CodeBody) (kinds : List FunctionKind) where
 
         pure_gives : PureAt c.body (c.place + 1) → (rest : List Value) (r : StepResult Value) → StepOk r → Lands (gives c rest r)
         pure_gives next rest r q =
-            on_lands c c.doing h.2 r (λ v s. Unfinished (ahead (v ∷ rest) s c)) q (λ v s k. (pure_somewhere c.body (c.place + 1) next, h.1, stays (ahead (v ∷ rest) s c) next refl, k))
+            on_lands c c.doing h.2 r (λ v s. Unfinished (ahead (v ∷ rest) s c)) q (λ v s k. inl (pure_somewhere c.body (c.place + 1) next, h.1, stays (ahead (v ∷ rest) s c) next refl, k))
 
         pure_moved : (d : Configuration) → PureAt d.body d.place → d.frames ≡ c.frames → StateOk d.state → d.doing ≡ c.doing → Holds d
         pure_moved d next e k i = (pure_somewhere d.body d.place next, subst FramesAt (sym e) h.1, subst (DoingOk d) (sym i) (stays d next e), k)
@@ -964,7 +1146,7 @@ module _ (code : PlainCode) (main : CodeBody) (kinds : List FunctionKind) where
 
         pure_returns : (frames : List Frame) → c.frames ≡ frames → FramesAt frames → (v : Value) → Lands (returns_to frames v c)
         pure_returns [] e g v = tt
-        pure_returns (f ∷ frames) e g v = (
+        pure_returns (f ∷ frames) e g v = inl (
           g.0,
           g.1,
           after_ok (returned f frames v) f.awaits v c.doing (returns (returned f frames v) f frames e refl refl refl),
@@ -972,14 +1154,14 @@ module _ (code : PlainCode) (main : CodeBody) (kinds : List FunctionKind) where
         )
 
         pure_instr : (i : Instr) (span : Span) → FitsStage fs p.owner p.body.stages c.place (typed.plain 0) i → Lands (act tc (Some (plain_instr ps ks i span)) c)
-        pure_instr (instr.Const k) span x = pure_moved (ahead (slice_index_or ks k Nil ∷ c.stack) c.state c) (pure_there (c.place + 1) x) refl h.3 refl
+        pure_instr (instr.Const k) span x = inl (pure_moved (ahead (slice_index_or ks k Nil ∷ c.stack) c.state c) (pure_there (c.place + 1) x) refl h.3 refl)
         pure_instr (instr.Local k) span x = pure_gives (pure_there (c.place + 1) x) c.stack (found (nth c.locals k) c.state) (found_ok (nth c.locals k) c.state h.3)
-        pure_instr (instr.Store k) span x = top_lands c.stack _ (λ v rest. pure_moved (record (ahead rest c.state c) { locals = put c.locals k v }) (pure_there (c.place + 1) x) refl h.3 refl)
-        pure_instr instr.Pop span x = top_lands c.stack _ (λ v rest. pure_moved (ahead rest c.state c) (pure_there (c.place + 1) x) refl h.3 refl)
-        pure_instr (instr.Jump to) span x = pure_moved (record c { place = to }) (pure_there to x) refl h.3 refl
-        pure_instr (instr.JumpFalse to) span x = top_lands c.stack _ (λ v rest. pure_moved (record c { place = choose v (c.place + 1) to; stack = rest }) (choose_at (PureAt c.body) v (c.place + 1) to (pure_there (c.place + 1) x.1) (pure_there to x.0)) refl h.3 refl)
+        pure_instr (instr.Store k) span x = top_lands c.stack _ (λ v rest. inl (pure_moved (record (ahead rest c.state c) { locals = put c.locals k v }) (pure_there (c.place + 1) x) refl h.3 refl))
+        pure_instr instr.Pop span x = top_lands c.stack _ (λ v rest. inl (pure_moved (ahead rest c.state c) (pure_there (c.place + 1) x) refl h.3 refl))
+        pure_instr (instr.Jump to) span x = inl (pure_moved (record c { place = to }) (pure_there to x) refl h.3 refl)
+        pure_instr (instr.JumpFalse to) span x = top_lands c.stack _ (λ v rest. inl (pure_moved (record c { place = choose v (c.place + 1) to; stack = rest }) (choose_at (PureAt c.body) v (c.place + 1) to (pure_there (c.place + 1) x.1) (pure_there to x.0)) refl h.3 refl))
         pure_instr (instr.Core op n) span x = args_land n c.stack [] _ (λ vs rest. pure_gives (pure_there (c.place + 1) x) rest (step_of (core op vs) span c.state) (result_ok (core op vs) span c.state h.3))
-        pure_instr (instr.Call f) span x = args_land (slice_index_or ps f 0) c.stack [] _ (λ vs rest. pure_calls (pure_there (c.place + 1) x.1) f (pure_function_at f (callee_pure 0 f x.0)) vs rest)
+        pure_instr (instr.Call f) span x = args_land (slice_index_or ps f 0) c.stack [] _ (λ vs rest. inl (pure_calls (pure_there (c.place + 1) x.1) f (pure_function_at f (callee_pure 0 f x.0)) vs rest))
         pure_instr instr.Return span x = top_lands c.stack _ (λ v rest. pure_returns c.frames refl h.1 v)
         pure_instr (instr.Vector n) span x = args_land n c.stack [] _ (λ vs rest. pure_gives (pure_there (c.place + 1) x) rest (step_of (vector_of vs) span c.state) (result_ok (vector_of vs) span c.state h.3))
         pure_instr (instr.Print n) span x = absurd (not_impure p.owner p.pure x.0)
@@ -1012,12 +1194,12 @@ module _ (code : PlainCode) (main : CodeBody) (kinds : List FunctionKind) where
         swap_there t by e l = (typed.applied t by, record { owner = w.1.owner; body = w.1.body; here = l }, e)
 
         swap_gives : SwapHere c.body (c.place + 1) → (rest : List Value) (r : StepResult Value) → StepOk r → Lands (gives c rest r)
-        swap_gives next rest r q = on_lands c c.doing h.2 r (λ v s. Unfinished (ahead (v ∷ rest) s c)) q (λ v s k. ((next.0, next.1), h.1, stays (ahead (v ∷ rest) s c) next, k))
+        swap_gives next rest r q = on_lands c c.doing h.2 r (λ v s. Unfinished (ahead (v ∷ rest) s c)) q (λ v s k. inl (inl (next.0, next.1), h.1, stays (ahead (v ∷ rest) s c) next, k))
 
         swap_calls : SwapHere c.body (c.place + 1) → (f : ℕ) → PureAt (suc f) 0 → (vs rest : List Value) → Holds (called tc f vs to_stack (c.place + 1) rest c)
         swap_calls next f q vs rest = (
           pure_somewhere (suc f) 0 q,
-          ((next.0, next.1), h.1),
+          (inl (next.0, next.1), h.1),
           calls (called tc f vs to_stack (c.place + 1) rest c) (record { body = c.body; place = c.place + 1; stack = rest; locals = c.locals; awaits = to_stack }) q next refl,
           h.3,
         )
@@ -1034,7 +1216,7 @@ module _ (code : PlainCode) (main : CodeBody) (kinds : List FunctionKind) where
         swap_opened t n by e (instr.JumpFalse to) span x = absurd x
         swap_opened t n by e (instr.Core op m) span x =
             args_land m c.stack [] _ (λ vs rest. swap_gives (swap_there t (form_of by) e x.2) rest (step_of (core op vs) span c.state) (result_ok (core op vs) span c.state h.3))
-        swap_opened t n by e (instr.Call f) span x = args_land (slice_index_or ps f 0) c.stack [] _ (λ vs rest. swap_calls (swap_there t (form_of by) e x.3) f (pure_function_at f x.1) vs rest)
+        swap_opened t n by e (instr.Call f) span x = args_land (slice_index_or ps f 0) c.stack [] _ (λ vs rest. inl (swap_calls (swap_there t (form_of by) e x.3) f (pure_function_at f x.1) vs rest))
         swap_opened t n by e instr.Return span x = absurd x
         swap_opened t n by e (instr.Vector m) span x = absurd x
         swap_opened t n by e (instr.Print m) span x = absurd x
@@ -1064,7 +1246,7 @@ module _ (code : PlainCode) (main : CodeBody) (kinds : List FunctionKind) where
         swap_applied t by e instr.TxBegin span x = absurd x
         swap_applied t by e instr.TxEnd span x = absurd x
         swap_applied t by e (instr.Open f n) span x = absurd x
-        swap_applied t by e (instr.Close f) span x = two_land c.stack _ (λ v cell rest. subst (λ g. Lands (closes tc g span v cell rest c)) (sym e ∙ x.0) (closes_swap_lands (typed.plain t, record { owner = w.1.owner; body = w.1.body; here = x.1 }) c.doing h.2 v rest (swap_validates v)))
+        swap_applied t by e (instr.Close f) span x = two_land c.stack _ (λ v cell rest. subst (λ g. Lands (closes tc g span v cell rest c)) (sym e ∙ x.0) (closes_swap_lands (inl (typed.plain t, record { owner = w.1.owner; body = w.1.body; here = x.1 })) c.doing h.2 v rest (swap_validates v)))
         swap_applied t by e (instr.Send f n) span x = absurd x
         swap_applied t by e instr.Halt span x = absurd x
 
@@ -1084,7 +1266,7 @@ module _ (code : PlainCode) (main : CodeBody) (kinds : List FunctionKind) where
 
       -- ---- at the end of a transaction
 
-      end_next : (a : Somewhere c.body c.place) (i : Instr) (span : Span) → IsEnd (plain_instr ps ks i span) → FitsStage fs a.1.owner a.1.body.stages c.place a.0 i → Somewhere c.body (c.place + 1)
+      end_next : (a : Coded c.body c.place) (i : Instr) (span : Span) → IsEnd (plain_instr ps ks i span) → FitsStage fs a.1.owner a.1.body.stages c.place a.0 i → Somewhere c.body (c.place + 1)
       end_next a (instr.Const k) span e x = absurd e
       end_next a (instr.Local k) span e x = absurd e
       end_next a (instr.Store k) span e x = absurd e
@@ -1102,7 +1284,7 @@ module _ (code : PlainCode) (main : CodeBody) (kinds : List FunctionKind) where
       end_next a instr.TxEnd span e x = after a.0 x
         where
           after : (st : typed.Stage) → FitsStage fs a.1.owner a.1.body.stages c.place st instr.TxEnd → Somewhere c.body (c.place + 1)
-          after (typed.plain t) y = (typed.plain (t - 1), record { owner = a.1.owner; body = a.1.body; here = y.1 })
+          after (typed.plain t) y = inl (typed.plain (t - 1), record { owner = a.1.owner; body = a.1.body; here = y.1 })
           after (typed.opened t n by) y = absurd y
           after (typed.applied t by) y = absurd y
       end_next a (instr.Open f n) span e x = absurd e
@@ -1110,29 +1292,73 @@ module _ (code : PlainCode) (main : CodeBody) (kinds : List FunctionKind) where
       end_next a (instr.Send f n) span e x = absurd e
       end_next a instr.Halt span e x = absurd e
 
-      end_lands : EndHere c.body c.place → Lands (turn tc c)
-      end_lands end =
-          let a = h.0 in
+      end_lands : Coded c.body c.place → EndHere c.body c.place → Lands (turn tc c)
+      end_lands a end =
           let x = a.1.body.staging.fits c.place a.0 a.1.here in
           go x.0 x.2 (fetch tc c.body c.place) end (subst (λ o. Fetched ps ks (fetch tc c.body c.place) o) x.1 (a.1.body.fetches c.place))
         where
-          go : (i : Instr) → FitsStage fs h.0.1.owner h.0.1.body.stages c.place h.0.0 i → (o : Option PlainInstr) → EndThere o → Fetched ps ks o (Some i) → Lands (act tc o c)
+          go : (i : Instr) → FitsStage fs a.1.owner a.1.body.stages c.place a.0 i → (o : Option PlainInstr) → EndThere o → Fetched ps ks o (Some i) → Lands (act tc o c)
           go i x None e f = absurd e
-          go i x (Some q) e f = subst (λ r. Lands (act tc (Some r) c)) (sym (is_end q e)) (ends_land (end_next h.0 i f.0 (subst IsEnd f.1 e) x) end c.doing refl h.2)
+          go i x (Some q) e f = subst (λ r. Lands (act tc (Some r) c)) (sym (is_end q e)) (ends_land (end_next a i f.0 (subst IsEnd f.1 e) x) end c.doing refl h.2)
 
       -- ---- all
 
-      pub lands_all : Lands (turn tc c)
-      lands_all = go c.doing refl h.2
+      -- an agent hands its action in
+      aside_fetch : (n at : ℕ) → Aside n at → fetch tc n at ≡ Some (FinishOf g)
+      aside_fetch n at x = subst (λ i. fetch tc i at ≡ Some (FinishOf g)) (sym x.1) (subst (λ j. nth main.instrs j ≡ Some (FinishOf g)) (sym x.2) (ap (λ b. nth b.instrs 2) (own x.0)))
+
+      not_own : (n at : ℕ) → Coded n at → NotAgents (fetch tc n at)
+      not_own n at a =
+          let x = a.1.body.staging.fits at a.0 a.1.here in
+          go x.0 (fetch tc n at) (subst (λ o. Fetched ps ks (fetch tc n at) o) x.1 (a.1.body.fetches at))
+        where
+          go : (i : Instr) (o : Option PlainInstr) → Fetched ps ks o (Some i) → NotAgents o
+          go i None f = tt
+          go i (Some p) f = subst IsNotAgents (sym f.1) (not_agents ps ks i f.0)
+
+      -- it does so in no commute phase and no swap, whose callees return there
+      not_aside : (n at : ℕ) → Aside n at → Coded n at → ⊥
+      not_aside n at x a = subst NotAgents (aside_fetch n at x) (not_own n at a)
+
+      not_ended : (n at : ℕ) → Aside n at → PlaceIn EndHere (record c { body = n; place = at }) → ⊥
+      not_ended n at x (inl end) = subst EndThere (aside_fetch n at x) end
+      not_ended n at x (inr p) = not_aside n at x (pure_coded n at p.0)
+
+      not_swapped : (n at : ℕ) → Aside n at → PlaceIn SwapHere (record c { body = n; place = at }) → ⊥
+      not_swapped n at x (inl w) = not_aside n at x (w.0, w.1)
+      not_swapped n at x (inr p) = not_aside n at x (pure_coded n at p.0)
+
+      hands_lands : agent ≡ true → ((d : Configuration) → DoingOk d c.doing) → (o : Option InHand) → Acts agent o → Lands (hands_in tc g o (fault_in o) c)
+      hands_lands e free None k = absurd (subst (λ b. Acts b None) e k)
+      hands_lands e free (Some x) k = subst (λ t. Lands (hands_in tc g (Some x) t c)) (sym (no_fault agent x k)) (top_lands c.stack _ (λ v rest. finish_lands v))
+        where
+          finish_lands : (v : Value) → Lands (finishes tc g (Some x) v c)
+          finish_lands v =
+              valid_lands c h (validator_at tc.validators x.action.agent.number) (valid x.action.agent.number) v x.action.span (λ c1. told (finish g (Ok v) x.sends c1.state) (λ s. Unfinished (first_place [] (rested s))))
+              (λ n p. free (called tc n (v ∷ []) to_validation c.place c.stack c))
+              (λ s q. rests_told e (finish g (Ok v) x.sends s) (finish_pure g (Ok v) x.sends s (q.0, q.1)))
+
+      aside_lands : Aside c.body c.place → Lands (turn tc c)
+      aside_lands x = subst (λ i. Lands (act tc i c)) (sym (aside_fetch c.body c.place x)) (go c.doing refl h.2)
+        where
+          go : (doing : Activity) → c.doing ≡ doing → DoingOk c doing → Lands (hands_in tc g c.state.acting (fault_in c.state.acting) c)
+          go Outside e ok = hands_lands x.0 (λ d. subst (DoingOk d) (sym e) tt) c.state.acting h.3.2
+          go (Restarting left) e ok = hands_lands x.0 (λ d. subst (DoingOk d) (sym e) tt) c.state.acting h.3.2
+          go (Running left inner from) e ok = hands_lands x.0 (λ d. subst (DoingOk d) (sym e) ok) c.state.acting h.3.2
+          go (Applying left from work values) e ok = absurd (not_ended c.body c.place x ok.2)
+          go (Swapping swap from) e ok = absurd (not_swapped c.body c.place x ok.1)
+
+      coded_lands : Coded c.body c.place → Lands (turn tc c)
+      coded_lands a = go c.doing refl h.2
         where
           go : (doing : Activity) → c.doing ≡ doing → DoingOk c doing → Lands (turn tc c)
-          go Outside e ok = free_lands (λ d. subst (DoingOk d) (sym e) tt) h.0
-          go (Restarting left) e ok = free_lands (λ d. subst (DoingOk d) (sym e) tt) h.0
-          go (Running left inner from) e ok = free_lands (λ d. subst (DoingOk d) (sym e) ok) h.0
+          go Outside e ok = free_lands (λ d. subst (DoingOk d) (sym e) tt) a
+          go (Restarting left) e ok = free_lands (λ d. subst (DoingOk d) (sym e) tt) a
+          go (Running left inner from) e ok = free_lands (λ d. subst (DoingOk d) (sym e) ok) a
           go (Applying left from work values) e ok = phase ok.2
             where
               phase : PlaceIn EndHere c → Lands (turn tc c)
-              phase (inl end) = end_lands end
+              phase (inl end) = end_lands a end
               phase (inr p) =
                   pure_lands p.0 (λ d q i. subst (DoingOk d) (sym e) (ok.0, ok.1, inr (q, subst (CalleeIn EndHere) (sym i) p.1)))
                   (λ d f q r i. subst (DoingOk d) (sym e) (ok.0, ok.1, inr (q, subst (CalleeIn EndHere) (sym i) (inr (r, p.1)))))
@@ -1154,6 +1380,13 @@ module _ (code : PlainCode) (main : CodeBody) (kinds : List FunctionKind) where
                   back : (d : Configuration) (f : Frame) (frames : List Frame) → d.body ≡ f.body → d.place ≡ f.place → d.frames ≡ frames → CalleeIn SwapHere (f ∷ frames) → PlaceIn SwapHere d
                   back d f frames j k l (inl home) = inl (subst (λ n. SwapHere n d.place) (sym j) (subst (λ at. SwapHere f.body at) (sym k) home))
                   back d f frames j k l (inr q) = inr (subst (λ n. PureAt n d.place) (sym j) (subst (λ at. PureAt f.body at) (sym k) q.0), subst (CalleeIn SwapHere) (sym l) q.1)
+
+      pub lands_all : Lands (turn tc c)
+      lands_all = by h.0
+        where
+          by : Somewhere c.body c.place → Lands (turn tc c)
+          by (inl a) = coded_lands a
+          by (inr x) = aside_lands x
 
       -- ---- which instruction stands here
 
@@ -1189,11 +1422,11 @@ module _ (code : PlainCode) (main : CodeBody) (kinds : List FunctionKind) where
       pure_plain owner g stages at (instr.Send f n) span x = absurd (not_impure owner g x.0.0)
       pure_plain owner g stages at instr.Halt span x = tt
 
-      swap_plain : (swap : SwapInHand) (from : Savepoint) (st : typed.Stage) → SwapStage st → (owner : Owner) (stages : Stages) (at : ℕ) (i : Instr) (span : Span) → FitsStage fs owner stages at st i → MayStandIn (Swapping swap from) (plain_instr ps ks i span)
+      swap_plain : (swap : SwapInHand) (from : Savepoint) (st : typed.Stage) → SwapStage st → (owner : Owner) (stages : Stages) (at : ℕ) (i : Instr) (span : Span) → FitsStage fs owner stages at st i → MayStandIn agent (Swapping swap from) (plain_instr ps ks i span)
       swap_plain swap from (typed.plain t) e owner stages at i span x = absurd e
       swap_plain swap from (typed.opened t n by) e owner stages at i span x = go i x
         where
-          go : (i : Instr) → FitsStage fs owner stages at (typed.opened t n by) i → MayStandIn (Swapping swap from) (plain_instr ps ks i span)
+          go : (i : Instr) → FitsStage fs owner stages at (typed.opened t n by) i → MayStandIn agent (Swapping swap from) (plain_instr ps ks i span)
           go (instr.Const k) x = absurd x
           go (instr.Local k) x = absurd x
           go (instr.Store k) x = absurd x
@@ -1215,7 +1448,7 @@ module _ (code : PlainCode) (main : CodeBody) (kinds : List FunctionKind) where
           go instr.Halt x = absurd x
       swap_plain swap from (typed.applied t by) e owner stages at i span x = go i x
         where
-          go : (i : Instr) → FitsStage fs owner stages at (typed.applied t by) i → MayStandIn (Swapping swap from) (plain_instr ps ks i span)
+          go : (i : Instr) → FitsStage fs owner stages at (typed.applied t by) i → MayStandIn agent (Swapping swap from) (plain_instr ps ks i span)
           go (instr.Const k) x = absurd x
           go (instr.Local k) x = absurd x
           go (instr.Store k) x = absurd x
@@ -1236,39 +1469,166 @@ module _ (code : PlainCode) (main : CodeBody) (kinds : List FunctionKind) where
           go (instr.Send f n) x = absurd x
           go instr.Halt x = absurd x
 
-      pub may_all : MayStandHere c.doing (fetch tc c.body c.place)
-      may_all = go c.doing h.2
+      coded_may : Coded c.body c.place → MayStandHere agent c.doing (fetch tc c.body c.place)
+      coded_may a = go c.doing h.2
         where
-          here : (doing : Activity) (o : Option PlainInstr) → OfThere (MayStandIn doing) o → MayStandHere doing o
+          here : (doing : Activity) (o : Option PlainInstr) → OfThere (MayStandIn agent doing) o → MayStandHere agent doing o
           here doing None x = tt
           here doing (Some p) x = x
 
           plainly : (P : PlainInstr → Type 0) → ((p : PlainInstr) → IsNotAgents p → P p) → OfThere P (fetch tc c.body c.place)
-          plainly P k = fetched_so P c.body c.place h.0.1.owner h.0.1.body h.0.0 h.0.1.here (λ i span x. k (plain_instr ps ks i span) (not_agents ps ks i span)) (fetch tc c.body c.place) refl
+          plainly P k = fetched_so P c.body c.place a.1.owner a.1.body a.0 a.1.here (λ i span x. k (plain_instr ps ks i span) (not_agents ps ks i span)) (fetch tc c.body c.place) refl
 
           purely : (P : PlainInstr → Type 0) → PureAt c.body c.place → ((p : PlainInstr) → IsPurePlain p → P p) → OfThere P (fetch tc c.body c.place)
           purely P q k = fetched_so P c.body c.place q.owner q.body (typed.plain 0) q.here (λ i span x. k (plain_instr ps ks i span) (pure_plain q.owner q.pure q.body.stages c.place i span x)) (fetch tc c.body c.place) refl
 
-          at_end : (left : ℕ) (from : Savepoint) (work : List Task) (values : Writes) (o : Option PlainInstr) → EndThere o → MayStandHere (Applying left from work values) o
+          at_end : (left : ℕ) (from : Savepoint) (work : List Task) (values : Writes) (o : Option PlainInstr) → EndThere o → MayStandHere agent (Applying left from work values) o
           at_end left from work values None e = tt
-          at_end left from work values (Some p) e = subst (MayStandIn (Applying left from work values)) (sym (is_end p e)) tt
+          at_end left from work values (Some p) e = subst (MayStandIn agent (Applying left from work values)) (sym (is_end p e)) tt
 
-          go : (doing : Activity) → DoingOk c doing → MayStandHere doing (fetch tc c.body c.place)
-          go Outside ok = here Outside (fetch tc c.body c.place) (plainly (MayStandIn Outside) may_outside)
-          go (Restarting left) ok = here (Restarting left) (fetch tc c.body c.place) (plainly (MayStandIn (Restarting left)) (may_begin left))
-          go (Running left inner from) ok = here (Running left inner from) (fetch tc c.body c.place) (plainly (MayStandIn (Running left inner from)) (may_try left inner from))
+          go : (doing : Activity) → DoingOk c doing → MayStandHere agent doing (fetch tc c.body c.place)
+          go Outside ok = here Outside (fetch tc c.body c.place) (plainly (MayStandIn agent Outside) (may_outside agent))
+          go (Restarting left) ok = here (Restarting left) (fetch tc c.body c.place) (plainly (MayStandIn agent (Restarting left)) (may_begin agent left))
+          go (Running left inner from) ok = here (Running left inner from) (fetch tc c.body c.place) (plainly (MayStandIn agent (Running left inner from)) (may_try agent left inner from))
           go (Applying left from work values) ok = phase ok.2
             where
-              phase : PlaceIn EndHere c → MayStandHere (Applying left from work values) (fetch tc c.body c.place)
+              phase : PlaceIn EndHere c → MayStandHere agent (Applying left from work values) (fetch tc c.body c.place)
               phase (inl end) = at_end left from work values (fetch tc c.body c.place) end
-              phase (inr p) = here (Applying left from work values) (fetch tc c.body c.place) (purely (MayStandIn (Applying left from work values)) p.0 (may_apply left from work values))
+              phase (inr p) = here (Applying left from work values) (fetch tc c.body c.place) (purely (MayStandIn agent (Applying left from work values)) p.0 (may_apply agent left from work values))
           go (Swapping swap from) ok = phase ok.1
             where
-              phase : PlaceIn SwapHere c → MayStandHere (Swapping swap from) (fetch tc c.body c.place)
+              phase : PlaceIn SwapHere c → MayStandHere agent (Swapping swap from) (fetch tc c.body c.place)
               phase (inl w) =
                   here (Swapping swap from) (fetch tc c.body c.place)
-                  (fetched_so (MayStandIn (Swapping swap from)) c.body c.place w.1.owner w.1.body w.0 w.1.here (λ i span x. swap_plain swap from w.0 w.2 w.1.owner w.1.body.stages c.place i span x) (fetch tc c.body c.place) refl)
-              phase (inr p) = here (Swapping swap from) (fetch tc c.body c.place) (purely (MayStandIn (Swapping swap from)) p.0 (may_swap swap from))
+                  (fetched_so (MayStandIn agent (Swapping swap from)) c.body c.place w.1.owner w.1.body w.0 w.1.here (λ i span x. swap_plain swap from w.0 w.2 w.1.owner w.1.body.stages c.place i span x) (fetch tc c.body c.place) refl)
+              phase (inr p) = here (Swapping swap from) (fetch tc c.body c.place) (purely (MayStandIn agent (Swapping swap from)) p.0 (may_swap agent swap from))
+
+      aside_may : Aside c.body c.place → MayStandHere agent c.doing (fetch tc c.body c.place)
+      aside_may x = subst (λ i. MayStandHere agent c.doing i) (sym (aside_fetch c.body c.place x)) (subst (λ b. MayHandIn b c.doing) (sym x.0) (go c.doing h.2))
+        where
+          go : (doing : Activity) → DoingOk c doing → MayHandIn true doing
+          go Outside ok = tt
+          go (Restarting left) ok = tt
+          go (Running left inner from) ok = tt
+          go (Applying left from work values) ok = absurd (not_ended c.body c.place x ok.2)
+          go (Swapping swap from) ok = absurd (not_swapped c.body c.place x ok.1)
+
+      pub may_all : MayStandHere agent c.doing (fetch tc c.body c.place)
+      may_all = by h.0
+        where
+          by : Somewhere c.body c.place → MayStandHere agent c.doing (fetch tc c.body c.place)
+          by (inl a) = coded_may a
+          by (inr x) = aside_may x
+
+      pub turns_all : TakesTurns agent c.state.acting (fetch tc c.body c.place)
+      turns_all = turns_so agent c.state.acting (fetch tc c.body c.place) h.3.2 (by h.0)
+        where
+          one : (o : Option PlainInstr) → NotAgents o → RunsOne None o
+          one None x = tt
+          one (Some p) x = runs_one p x
+
+          by : Somewhere c.body c.place → RunsOne None (fetch tc c.body c.place)
+          by (inl a) = one (fetch tc c.body c.place) (not_own c.body c.place a)
+          by (inr x) = subst (RunsOne None) (sym (aside_fetch c.body c.place x)) tt
+
+    -- ---- an agent at its own body
+
+    module _ (c : Configuration) (r : Rests c) where
+      own_fetch : (at : ℕ) → c.place ≡ at → fetch tc c.body c.place ≡ nth (agent_body g).instrs at
+      own_fetch at e = subst (λ i. fetch tc i c.place ≡ nth (agent_body g).instrs at) (sym r.1) (ap (λ j. nth main.instrs j) e ∙ ap (λ b. nth b.instrs at) (own r.0))
+
+      own_doing : (d : Configuration) → DoingOk d c.doing
+      own_doing d = subst (DoingOk d) (sym r.3) tt
+
+      started_lands : c.place ≡ 0 → (o : Option Taken) (s : ActorState) → Unacting s → Lands (started g o c s)
+      started_lands e None s k = inr (inl (r.0, r.1, subst (λ j. RestsAt j s.acting) (sym e) (subst (RestsAt 0) (sym k.1) tt), r.3, r.4, k.0))
+      started_lands e (Some t) s k = inr (inl (r.0, r.1, subst (λ j. RestsAt (j + 1) (Some (record { agent = g; action = t.action; sends = []; fault = None }))) (sym e) refl, r.3, r.4, k.0))
+
+      takes_lands : c.place ≡ 0 → c.state.acting ≡ None → Lands (act tc (Some (TakeOf g)) c)
+      takes_lands e n = subst (λ d. Lands (on d (take_action g c.state) (λ o s. started g o c s))) (sym r.3) (go (take_action g c.state) (take_pure g c.state (r.5, n)))
+        where
+          go : (x : StepResult (Option Taken)) → StepKeeps Unacting x → Lands (on Outside x (λ o s. started g o c s))
+          go (Continue o s) k = started_lands e o s k
+          go (Break f s) k = subst (λ o. Lands (ends_with o f s)) (sym k.1) tt
+          go (Redo s) k = tt
+          go (Await s) k = tt
+          go Malformed k = tt
+
+      acts_here : (x : InHand) → c.state.acting ≡ Some x → x.fault ≡ None → Acts agent c.state.acting
+      acts_here x e n = subst (Acts agent) (sym e) (subst (λ b. Acts b (Some x)) (sym r.0) n)
+
+      aside_next : c.place ≡ 1 → Somewhere c.body (c.place + 1)
+      aside_next e = inr (r.0, r.1, ap (λ j. j + 1) e)
+
+      callee_lands : c.place ≡ 1 → Acts agent c.state.acting → (f : Callee) (x : Action) (v : Value) (rest : List Value) → Lands (runs_callee tc f x v rest c)
+      callee_lands e k (callee.Core op) x v rest =
+          on_lands c c.doing (own_doing c) (step_of (core op (v ∷ x.args)) x.span c.state) (λ w s. Unfinished (ahead (w ∷ rest) s c)) (result_ok (core op (v ∷ x.args)) x.span c.state (r.5.0, r.5.1, k))
+          (λ w s q. inl (aside_next e, r.4, own_doing (ahead (w ∷ rest) s c), q))
+      callee_lands e k (callee.Function f) x v rest = go (nth kinds f) refl
+        where
+          go : (o : Option FunctionKind) → nth kinds f ≡ o → Lands (Unfinished (called tc f (v ∷ x.args) to_stack (c.place + 1) rest c))
+          go (Some kind) i = inl (function_at f kind i, (aside_next e, r.4), own_doing (called tc f (v ∷ x.args) to_stack (c.place + 1) rest c), (r.5.0, r.5.1, k))
+          go None i = inr (inr (ap (λ b. instr_at b 0) (unkinded f i), k))
+
+      runs_lands : c.place ≡ 1 → (o : Option InHand) → c.state.acting ≡ o → RestsAt 1 o → (v : Value) (rest : List Value) → Lands (runs tc o v rest c)
+      runs_lands e None i h v rest = tt
+      runs_lands e (Some x) i h v rest = callee_lands e (acts_here x i h) x.action.callee x.action v rest
+
+      faulty_lands : (o : Option InHand) (k : Option Fault) → HasFault k → Lands (hands_in tc g o k c)
+      faulty_lands o None h = absurd h
+      faulty_lands o (Some f) h = rests_told r.0 (finish g (Err f) [] c.state) (finish_pure g (Err f) [] c.state r.5)
+
+      none_acts : (o : Option InHand) → RestsAt 0 o → o ≡ None
+      none_acts None h = refl
+      none_acts (Some x) h = absurd h
+
+      abbrev OwnLands : Option PlainInstr → Type 0
+      OwnLands i = Lands (act tc i c)
+
+      pub rests_land : Lands (turn tc c)
+      rests_land = go c.place refl r.2
+        where
+          go : (at : ℕ) → c.place ≡ at → RestsAt at c.state.acting → Lands (turn tc c)
+          go zero e h = subst OwnLands (sym (own_fetch zero e)) (takes_lands e (none_acts c.state.acting h))
+          go (suc zero) e h = subst OwnLands (sym (own_fetch (suc zero) e)) (top_lands c.stack _ (λ v rest. runs_lands e c.state.acting refl h v rest))
+          go (suc (suc zero)) e h = subst OwnLands (sym (own_fetch (suc (suc zero)) e)) (faulty_lands c.state.acting (fault_in c.state.acting) (over_fault c.state.acting h))
+          go (suc (suc (suc n))) e h = absurd h
+
+      pub rests_may : MayStandHere agent c.doing (fetch tc c.body c.place)
+      rests_may = go c.place refl r.2
+        where
+          there : (i : Option PlainInstr) → MayStandHere true Outside i → fetch tc c.body c.place ≡ i → MayStandHere agent c.doing (fetch tc c.body c.place)
+          there i h e = subst (λ o. MayStandHere agent c.doing o) (sym e) (subst (λ b. MayStandHere b c.doing i) (sym r.0) (subst (λ d. MayStandHere true d i) (sym r.3) h))
+
+          go : (at : ℕ) → c.place ≡ at → RestsAt at c.state.acting → MayStandHere agent c.doing (fetch tc c.body c.place)
+          go zero e h = there (Some (TakeOf g)) tt (own_fetch zero e)
+          go (suc zero) e h = there (Some RunOf) tt (own_fetch (suc zero) e)
+          go (suc (suc zero)) e h = there (Some (FinishOf g)) tt (own_fetch (suc (suc zero)) e)
+          go (suc (suc (suc n))) e h = absurd h
+
+      pub rests_turn : TakesTurns agent c.state.acting (fetch tc c.body c.place)
+      rests_turn = go c.place refl c.state.acting r.2
+        where
+          there : (i : Option PlainInstr) (o : Option InHand) → TakesTurns true o i → fetch tc c.body c.place ≡ i → TakesTurns agent o (fetch tc c.body c.place)
+          there i o h e = subst (TakesTurns agent o) (sym e) (subst (λ b. TakesTurns b o i) (sym r.0) h)
+
+          go : (at : ℕ) → c.place ≡ at → (o : Option InHand) → RestsAt at o → TakesTurns agent o (fetch tc c.body c.place)
+          go zero e None h = there (Some (TakeOf g)) None tt (own_fetch zero e)
+          go zero e (Some x) h = absurd h
+          go (suc zero) e None h = absurd h
+          go (suc zero) e (Some x) h = there (Some RunOf) (Some x) (subst (λ t. RunsOne t (Some RunOf)) (sym h) tt) (own_fetch (suc zero) e)
+          go (suc (suc zero)) e None h = absurd h
+          go (suc (suc zero)) e (Some x) h = there (Some (FinishOf g)) (Some x) tt (own_fetch (suc (suc zero)) e)
+          go (suc (suc (suc n))) e o h = absurd h
+
+      pub rests_send : IsSend (fetch tc c.body c.place) → ⊥
+      rests_send i = go c.place refl r.2
+        where
+          go : (at : ℕ) → c.place ≡ at → RestsAt at c.state.acting → ⊥
+          go zero e h = subst IsSend (own_fetch zero e) i
+          go (suc zero) e h = subst IsSend (own_fetch (suc zero) e) i
+          go (suc (suc zero)) e h = subst IsSend (own_fetch (suc (suc zero)) e) i
+          go (suc (suc (suc n))) e h = h
 
     given_ok : (xs : List Exchange) (c : Configuration) (doing : Activity) → DoingOk c doing → DoingOk (given xs c) doing
     given_ok xs c Outside ok = ok
@@ -1277,25 +1637,58 @@ module _ (code : PlainCode) (main : CodeBody) (kinds : List FunctionKind) where
     given_ok xs c (Applying left from work values) ok = ok
     given_ok xs c (Swapping swap from) ok = ok
 
-    known_all : Body 0 a_thread → KnownCode tc
-    known_all b = record {
-      Holds = Holds;
-      opens = ((typed.plain 0, record { owner = a_thread; body = b; here = b.staging.first }), tt, tt, (tt, tt, tt));
-      may = λ c k. may_all c k;
-      threads = λ c k. k.3.2;
-      given = λ xs c k. (k.0, k.1, given_ok xs c c.doing k.2, k.3);
-      keeps = λ c d k e. subst Lands e (lands_all c k);
+    any_may : (c : Configuration) → HoldsAny c → MayStandHere agent c.doing (fetch tc c.body c.place)
+    any_may c (inl h) = may_all c h
+    any_may c (inr (inl r)) = rests_may c r
+    any_may c (inr (inr l)) = subst (λ i. MayStandHere agent c.doing i) (sym l.0) tt
+
+    any_runs : (c : Configuration) → HoldsAny c → MayRun agent c.state.acting
+    any_runs c (inl h) = acts_may agent c.state.acting h.3.2
+    any_runs c (inr (inl r)) = subst (λ b. MayRun b c.state.acting) (sym r.0) (may_true c.state.acting)
+    any_runs c (inr (inr l)) = acts_may agent c.state.acting l.1
+
+    any_turns : (c : Configuration) → HoldsAny c → TakesTurns agent c.state.acting (fetch tc c.body c.place)
+    any_turns c (inl h) = turns_all c h
+    any_turns c (inr (inl r)) = rests_turn c r
+    any_turns c (inr (inr l)) = turns_so agent c.state.acting (fetch tc c.body c.place) l.1 (subst (RunsOne None) (sym l.0) tt)
+
+    any_given : (xs : List Exchange) (c : Configuration) → HoldsAny c → HoldsAny (given xs c)
+    any_given xs c (inl h) = inl (h.0, h.1, given_ok xs c c.doing h.2, h.3)
+    any_given xs c (inr (inl r)) = inr (inl r)
+    any_given xs c (inr (inr l)) = inr (inr l)
+
+    any_lands : (c : Configuration) → HoldsAny c → Lands (turn tc c)
+    any_lands c (inl h) = lands_all c h
+    any_lands c (inr (inl r)) = rests_land c r
+    any_lands c (inr (inr l)) = subst (λ i. Lands (act tc i c)) (sym l.0) tt
+
+    known_all : HoldsAny (opening tc []) → KnownCode agent tc
+    known_all opens = record {
+      Holds = HoldsAny;
+      opens = opens;
+      may = any_may;
+      runs = any_runs;
+      turns = any_turns;
+      given = any_given;
+      keeps = λ c d k e. subst Lands e (any_lands c k);
     }
 
-    pub stands_all : Body 0 a_thread → StandingCode tc
-    stands_all b = standing_code tc (known_all b)
+    pub stands_all : HoldsAny (opening tc []) → StandingActor agent tc
+    stands_all opens = standing_actor agent tc (known_all opens)
+
+    -- a thread begins at its own body, which is typed
+    pub thread_opens : Acts agent None → Body 0 a_thread → HoldsAny (opening tc [])
+    thread_opens k b = inl (inl (typed.plain 0, record { owner = a_thread; body = b; here = b.staging.first }), tt, tt, (tt, tt, k))
+
+    pub agent_opens : agent ≡ true → HoldsAny (opening tc [])
+    agent_opens e = inr (inl (e, refl, tt, refl, tt, (tt, tt)))
 
     abbrev callee_or : PlainInstr → Option Callee
     callee_or (SendOf f m span) = Some f
     callee_or _ = None
 
-    staged_send : (st : typed.Stage) (i : Instr) (f : Callee) (m : ℕ) (span : Span) → Fetched ps ks (Some (SendOf f m span)) (Some i) → (owner : Owner) (stages : Stages) (at : ℕ) → FitsStage fs owner stages at st i → IsPureCallee kinds f
-    staged_send (typed.plain t) (instr.Send g k) f m span e owner stages at h = subst (IsPureCallee kinds) (ap (callee_in g) (sym (ap callee_or e.1))) h.1
+    staged_send : (st : typed.Stage) (i : Instr) (f : Callee) (m : ℕ) (span : Span) → Fetched ps ks (Some (SendOf f m span)) (Some i) → (owner : Owner) (stages : Stages) (at : ℕ) → FitsStage fs owner stages at st i → MayBeSent kinds f
+    staged_send (typed.plain t) (instr.Send g k) f m span e owner stages at h = subst (MayBeSent kinds) (ap (callee_in g) (sym (ap callee_or e.1))) h.1
       where
         callee_in : Callee → Option Callee → Callee
         callee_in g None = g
@@ -1321,19 +1714,27 @@ module _ (code : PlainCode) (main : CodeBody) (kinds : List FunctionKind) where
     staged_send st (instr.Close u) f m span e owner stages at h = absurd (subst is_some (ap callee_or e.1) tt)
     staged_send st instr.Halt f m span e owner stages at h = absurd (subst is_some (ap callee_or e.1) tt)
 
-    -- a send's callee is pure, wherever the code comes to one
-    send_pure : (n at : ℕ) (f : Callee) (m : ℕ) (span : Span) → Somewhere n at → fetch tc n at ≡ Some (SendOf f m span) → IsPureCallee kinds f
+    -- a send's callee may be sent, wherever the code comes to one
+    send_pure : (n at : ℕ) (f : Callee) (m : ℕ) (span : Span) → Coded n at → fetch tc n at ≡ Some (SendOf f m span) → MayBeSent kinds f
     send_pure n at f m span a e =
         let w = a.1 in
         let fit = w.body.staging.fits at a.0 w.here in
         staged_send a.0 fit.0 f m span (subst (Fetched ps ks (Some (SendOf f m span))) fit.1 (subst (λ o. Fetched ps ks o (nth w.body.body.instrs at)) e (w.body.fetches at))) w.owner w.body.stages at fit.2
 
-    pub sends_pure : Body 0 a_thread → (m : ℕ) (xs : List Exchange) (c : Configuration) → run tc m (opening tc xs) ≡ Unfinished c → (f : Callee) (n : ℕ) (span : Span) → fetch tc c.body c.place ≡ Some (SendOf f n span) → IsPureCallee kinds f
+    any_sends : (c : Configuration) → HoldsAny c → (f : Callee) (n : ℕ) (span : Span) → fetch tc c.body c.place ≡ Some (SendOf f n span) → MayBeSent kinds f
+    any_sends c (inl h) f n span i = by h.0
+      where
+        by : Somewhere c.body c.place → MayBeSent kinds f
+        by (inl a) = send_pure c.body c.place f n span a i
+        by (inr x) = absurd (subst IsSend (sym i ∙ aside_fetch c h c.body c.place x) tt)
+    any_sends c (inr (inl r)) f n span i = absurd (rests_send c r (subst IsSend (sym i) tt))
+    any_sends c (inr (inr l)) f n span i = absurd (subst IsSend (sym i ∙ l.0) tt)
+
+    pub sends_pure : HoldsAny (opening tc []) → (m : ℕ) (xs : List Exchange) (c : Configuration) → run tc m (opening tc xs) ≡ Unfinished c → (f : Callee) (n : ℕ) (span : Span) → fetch tc c.body c.place ≡ Some (SendOf f n span) → MayBeSent kinds f
     unfolding known_all
-    sends_pure b m xs c e f n span i =
-        let k = known_all b in
-        let h = run_known tc k m (opening tc xs) c (k.given xs (opening tc []) k.opens) e in
-        send_pure c.body c.place f n span h.0 i
+    sends_pure opens m xs c e f n span i =
+        let k = known_all opens in
+        any_sends c (run_known tc agent k m (opening tc xs) c (k.given xs (opening tc []) k.opens) e) f n span i
 
   -- ---- the bodies of well-typed code
 
@@ -1376,17 +1777,77 @@ module _ (code : PlainCode) (main : CodeBody) (kinds : List FunctionKind) where
       callee_in g (Some x) = x
   typed_validators (Some g ∷ vs) h (suc k) f e = typed_validators vs h.2 k f e
 
-  pub typed_stands_of : (function_rooms thread_rooms : List ℕ) (i : ℕ) → nth code.threads i ≡ Some main → WellTypedValidators fs tc.validators → WellTypedFunctions fs 0 ks code.functions kinds function_rooms → WellTypedThreads fs ks code.threads thread_rooms → StandingCode tc
-  typed_stands_of function_rooms thread_rooms i e validators functions threads =
-      let t = typed_thread code.threads thread_rooms threads i main e in
-      stands_all
-      (λ f kind k. (let x = typed_function 0 code.functions kinds function_rooms functions f kind k in record { body = x.0; stages = x.1.0; staging = x.1.1; fetches = x.2 }))
-      (typed_validators tc.validators validators)
-      (record { body = main; stages = t.0; staging = t.1; fetches = λ at. fetched ps ks main.instrs main.spans at })
+  -- no code is where there is no kind
+  pub no_function : (n : ℕ) (bs : List CodeBody) (kds : List FunctionKind) (rooms : List ℕ) → WellTypedFunctions fs n ks bs kds rooms → (f : ℕ) → nth kds f ≡ None → nth (plain_bodies ps ks bs) f ≡ None
+  no_function n [] kds rooms h f e = refl
+  no_function n (b ∷ bs) [] rooms h f e = absurd h
+  no_function n (b ∷ bs) (k ∷ kds) [] h f e = absurd h
+  no_function n (b ∷ bs) (k ∷ kds) (room ∷ rooms) h zero e = absurd (subst is_some e tt)
+  no_function n (b ∷ bs) (k ∷ kds) (room ∷ rooms) h (suc f) e = no_function (suc n) bs kds rooms h.2 f e
+
+  pub typed_bodies : (rooms : List ℕ) → WellTypedFunctions fs 0 ks code.functions kinds rooms → (f : ℕ) (kind : FunctionKind) → nth kinds f ≡ Some kind → Body (suc f) (a_function kind)
+  typed_bodies rooms h f kind e = let x = typed_function 0 code.functions kinds rooms h f kind e in record { body = x.0; stages = x.1.0; staging = x.1.1; fetches = x.2 }
+
+module _ (code : PlainCode) (function_rooms thread_rooms : List ℕ) (well : WellTyped code function_rooms thread_rooms) where
+  -- ---- threads
+
+  module _ (i : ℕ) (b : CodeBody) (e : nth code.threads i ≡ Some b) where
+    abbrev main_of : PlainBody
+    main_of = plain_body (parameters_of code.functions) code.constants b
+
+    thread_body : (g : CellId) → Body code false g main_of well.kinds 0 a_thread
+    thread_body g =
+        let t = typed_thread code false g main_of well.kinds code.threads thread_rooms well.threads i b e in
+        record { body = b; stages = t.0; staging = t.1; fetches = λ at. fetched (parameters_of code.functions) code.constants b.instrs b.spans at }
+
+    -- the instructions of a thread are where they may be
+    pub thread_stands : CellId → StandingCode (thread_code code b)
+    thread_stands g =
+        stands_all code false g main_of well.kinds (typed_bodies code false g main_of well.kinds function_rooms well.functions) (typed_validators code false g main_of well.kinds (validators_of code.cells) well.validators)
+        (λ t. absurd (false≢true t)) (no_function code false g main_of well.kinds 0 code.functions well.kinds function_rooms well.functions)
+        (thread_opens code false g main_of well.kinds (typed_bodies code false g main_of well.kinds function_rooms well.functions) (typed_validators code false g main_of well.kinds (validators_of code.cells) well.validators)
+        (λ t. absurd (false≢true t)) (no_function code false g main_of well.kinds 0 code.functions well.kinds function_rooms well.functions) tt (thread_body g))
+
+    -- what it sends may be sent
+    pub thread_sends : CellId → (m : ℕ) (xs : List Exchange) (c : Configuration) → run (thread_code code b) m (opening (thread_code code b) xs) ≡ Unfinished c
+        → (f : Callee) (n : ℕ) (span : Span) → fetch (thread_code code b) c.body c.place ≡ Some (SendOf f n span) → MayBeSent well.kinds f
+    thread_sends g =
+        sends_pure code false g main_of well.kinds (typed_bodies code false g main_of well.kinds function_rooms well.functions) (typed_validators code false g main_of well.kinds (validators_of code.cells) well.validators)
+        (λ t. absurd (false≢true t)) (no_function code false g main_of well.kinds 0 code.functions well.kinds function_rooms well.functions)
+        (thread_opens code false g main_of well.kinds (typed_bodies code false g main_of well.kinds function_rooms well.functions) (typed_validators code false g main_of well.kinds (validators_of code.cells) well.validators)
+        (λ t. absurd (false≢true t)) (no_function code false g main_of well.kinds 0 code.functions well.kinds function_rooms well.functions) tt (thread_body g))
+
+  -- ---- agents
+
+  module _ (g : CellId) where
+    -- the instructions of an agent's code are where they may be
+    pub agent_stands : StandingActor true (agent_code (library_of code) g)
+    agent_stands =
+        stands_all code true g (agent_body g) well.kinds (typed_bodies code true g (agent_body g) well.kinds function_rooms well.functions) (typed_validators code true g (agent_body g) well.kinds (validators_of code.cells) well.validators)
+        (λ t. refl) (no_function code true g (agent_body g) well.kinds 0 code.functions well.kinds function_rooms well.functions)
+        (agent_opens code true g (agent_body g) well.kinds (typed_bodies code true g (agent_body g) well.kinds function_rooms well.functions) (typed_validators code true g (agent_body g) well.kinds (validators_of code.cells) well.validators)
+        (λ t. refl) (no_function code true g (agent_body g) well.kinds 0 code.functions well.kinds function_rooms well.functions) refl)
+
+    -- what it sends may be sent
+    pub agent_sends : (m : ℕ) (xs : List Exchange) (c : Configuration) → run (agent_code (library_of code) g) m (opening (agent_code (library_of code) g) xs) ≡ Unfinished c
+        → (f : Callee) (n : ℕ) (span : Span) → fetch (agent_code (library_of code) g) c.body c.place ≡ Some (SendOf f n span) → MayBeSent well.kinds f
+    agent_sends =
+        sends_pure code true g (agent_body g) well.kinds (typed_bodies code true g (agent_body g) well.kinds function_rooms well.functions) (typed_validators code true g (agent_body g) well.kinds (validators_of code.cells) well.validators)
+        (λ t. refl) (no_function code true g (agent_body g) well.kinds 0 code.functions well.kinds function_rooms well.functions)
+        (agent_opens code true g (agent_body g) well.kinds (typed_bodies code true g (agent_body g) well.kinds function_rooms well.functions) (typed_validators code true g (agent_body g) well.kinds (validators_of code.cells) well.validators)
+        (λ t. refl) (no_function code true g (agent_body g) well.kinds 0 code.functions well.kinds function_rooms well.functions) refl)
+
+-- any agent
+some_agent : CellId
+some_agent = record { number = 0; kind = Agent }
 
 -- the instructions of each thread of well-typed code stand where they may
 pub typed_stands : TypedStands
-typed_stands code function_rooms thread_rooms i b well e = typed_stands_of code b well.kinds function_rooms thread_rooms i e well.validators well.functions well.threads
+typed_stands code function_rooms thread_rooms i b well e = thread_stands code function_rooms thread_rooms well i b e some_agent
+
+-- and those of each agent
+pub typed_agents_stand : (code : PlainCode) (function_rooms thread_rooms : List ℕ) (g : CellId) → WellTyped code function_rooms thread_rooms → StandingActor true (agent_code (library_of code) g)
+typed_agents_stand code function_rooms thread_rooms g well = agent_stands code function_rooms thread_rooms well g
 
 -- ---- all actors
 
@@ -1408,7 +1869,7 @@ is_unfinished Stuck = ⊥
 none_stands : StandingCode (code_or_none None)
 unfolding unfinished_or
 none_stands zero xs c e =
-    subst (λ d. MayStandHere d.doing (fetch (code_or_none None) d.body d.place) × IsThreads d.state.acting) (ap (unfinished_or (opening (code_or_none None) xs)) e) (tt, tt)
+    subst (λ d. MayStandHere false d.doing (fetch (code_or_none None) d.body d.place) × MayRun false d.state.acting × TakesTurns false d.state.acting (fetch (code_or_none None) d.body d.place)) (ap (unfinished_or (opening (code_or_none None) xs)) e) (tt, tt, tt)
 none_stands (suc m) xs c e = absurd (subst is_unfinished (sym e) tt)
 
 abbrev mapped : (CodeBody → ThreadCode) → Option CodeBody → Option ThreadCode

@@ -1,5 +1,5 @@
 -- An instruction keeps an actor's values to those that name defined cells alone, and so its asks.
-use Rattle.std.proofs.Common.{◌≡◌, ◌≤◌, ℕ, zero, suc, ◌-◌, nat_le, nat_lt, ◌==◌, Bool, true, false, not, ◌&&◌, ◌||◌, List, [], ◌∷◌, ◌++◌, length, map, Option, Some, None, Result, Ok, Err, refl, sym, ap, ◌∙◌, subst, arith, if◌then◌else◌, ◌⊎◌, inl, inr}
+use Rattle.std.proofs.Common.{◌≡◌, ◌≤◌, ℕ, zero, suc, ◌-◌, ◌+◌, nat_le, nat_lt, ◌==◌, Bool, true, false, not, ◌&&◌, ◌||◌, List, [], ◌∷◌, ◌++◌, length, map, Option, Some, None, Result, Ok, Err, refl, sym, ap, ◌∙◌, subst, arith, if◌then◌else◌, ◌⊎◌, inl, inr}
 use Rattle.std.proofs.lemmas.Bool.{false≢true}
 use Rattle.std.proofs.lemmas.Bool.Decides.{nat_tests}
 use Rattle.txs_world_protocol.specs.Ask.{Writes, buffered, with_write, Exchange, same_ask}
@@ -7,7 +7,7 @@ use Rattle.txs_world_protocol.specs.declared.ask.Ask.{Ask}
 use Rattle.txs_world_protocol.specs.declared.ask.Ask.TheVariants as ask
 use Rattle.txs_world_protocol.specs.declared.ask.Reply.{Reply}
 use Rattle.txs_world_protocol.specs.declared.ask.Reply.TheVariants as reply
-use Rattle.txs_frame.specs.Frame.{PlainTxFrame, empty_frame, with_cell, with_cells, has_number, outside_of, writes_to, refs_of, is_commuted, commuted, set_writes, ensure_ref, commutes_of, by_ref, phase_work, written}
+use Rattle.txs_frame.specs.Frame.{PlainTxFrame, empty_frame, with_cell, with_cells, has_number, outside_of, writes_to, refs_of, is_commuted, commuted, set_writes, ensure_ref, commutes_of, by_ref, phase_work, written, sends_of_commit}
 use Rattle.txs_frame.specs.Phase.{with_validation, validations, tasks_of, first_of, to_write}
 use Rattle.txs_frame.specs.declared.frame.Commute.{Commute}
 use Rattle.txs_frame.specs.declared.phase.Task.{Task}
@@ -22,7 +22,7 @@ use Rattle.txs_value_cell.specs.declared.action.Action.{Action}
 use Rattle.txs_value_cell.specs.declared.cell.CellDefinition.{CellDefinition}
 use Rattle.txs_value_base.specs.declared.fault.Fault.{Fault}
 use Rattle.txs_value_base.specs.declared.fault.FaultKind.{FaultKind}
-use Rattle.txs_value_base.specs.declared.fault.FaultKind.TheVariants.{SetAfterCommute, InvalidState}
+use Rattle.txs_value_base.specs.declared.fault.FaultKind.TheVariants.{SetAfterCommute, InvalidState, AgentFailed, RetryLimit}
 use Rattle.txs_value_base.specs.declared.fault.Span.{Span}
 use Rattle.txs_value_cell.specs.declared.form.CellForm.TheVariants as form
 use Rattle.txs_value_cell.specs.declared.form.FormRule.{FormRule}
@@ -39,22 +39,26 @@ use Rattle.txs_value_data.specs.declared.value.CellKind.{CellKind}
 use Rattle.txs_value_data.specs.declared.value.CellKind.TheVariants.{Ref, Atom, Agent}
 use Rattle.txs_value_data.specs.declared.value.Value.{Value}
 use Rattle.txs_value_data.specs.declared.value.Value.TheVariants.{Nil, Truth, Int, Key, Text, Vector, Cell}
-use Rattle.txs_code_meaning.specs.ActorState.{ActorState, Reception, Replied, Unreplied, receives, asks, StepResult, Continue, Break, Redo, Await, Malformed, on_step, step_of, Reading, Says, SaysRetry, SaysNothing, read_as, heard, read_point, just_done, value_there, newest_value, views, Verdict, Landed, Outdated, Undone, Denied, commit_verdict, opened, swap_verdict, send_verdict, Taken, handed_out, begun, begin, fail, buffered_or, look, with_first, paired, viewed, view, commit, peek, SwapInHand, open_atom, close_swap, break_swap, reset_atom, sent, send_now, take_action, finish, read_cell, read, set_own, assign_cell, assign, RefUpdate, Alters, Commutes, update_form, kept_open, open_update, close_own, close_update, open_swap, send_action, send_to, print, InHand, send_or_hold, now_holding, cell_at}
-use Rattle.txs_code_meaning.specs.Machine.{PlainInstr, Push, Load, Store, Pop, Jump, JumpFalse, CoreOf, CallOf, Return, MakeVector, PrintOf, TxBegin, TxEnd, LookOf, PutOf, OpenOf, CloseOf, SendOf, Halt, TakeOf, RunOf, FinishOf, PlainBody, ThreadCode, fetch, nils, locals_of, Destination, to_stack, to_commutes, to_validation, Frame, Savepoint, Activity, Outside, Restarting, Running, Applying, Swapping, is_inside, Configuration, ahead, staying, saved, value_or_nil, arguments_of, Turned, Ended, Failed, Asking, Unfinished, Stuck, told, raise, rerun, retried, on, found, on_top, on_args, on_args_of, on_two, push_all, put, gives, starts, begins, decided, lands, settles, applies, ends, applied, stack_after, doing_after, returns_to, opens_ref, opens_atom, opens, swap_decided, closes_swap, closes, started, runs_callee, runs, act, turn, ends_with, rested, first_place, answered, validates, where_accepted, where_valid, works, puts, finishes, state_after}
+use Rattle.txs_code_meaning.specs.ActorState.{ActorState, Reception, Replied, Unreplied, receives, asks, StepResult, Continue, Break, Redo, Await, Malformed, on_step, step_of, Reading, Says, SaysRetry, SaysNothing, read_as, heard, read_point, just_done, value_there, newest_value, views, Verdict, Landed, Outdated, Undone, Denied, commit_verdict, opened, swap_verdict, send_verdict, Taken, handed_out, begun, begin, fail, buffered_or, look, with_first, paired, viewed, view, commit, peek, SwapInHand, open_atom, close_swap, break_swap, reset_atom, sent, send_now, take_action, finish, read_cell, read, set_own, assign_cell, assign, RefUpdate, Alters, Commutes, update_form, kept_open, open_update, close_own, close_update, open_swap, send_action, send_to, print, InHand, send_or_hold, now_holding, cell_at, held_in, landed, taken_back}
+use Rattle.txs_code_meaning.specs.Machine.{PlainInstr, Push, Load, Store, Pop, Jump, JumpFalse, CoreOf, CallOf, Return, MakeVector, PrintOf, TxBegin, TxEnd, LookOf, PutOf, OpenOf, CloseOf, SendOf, Halt, TakeOf, RunOf, FinishOf, PlainBody, ThreadCode, fetch, nils, locals_of, Destination, to_stack, to_commutes, to_validation, Frame, Savepoint, Activity, Outside, Restarting, Running, Applying, Swapping, is_inside, Configuration, ahead, staying, saved, value_or_nil, arguments_of, Turned, Ended, Failed, Asking, Unfinished, Stuck, told, raise, rerun, retried, on, found, on_top, on_args, on_args_of, on_two, push_all, put, gives, starts, begins, decided, lands, settles, applies, ends, applied, stack_after, doing_after, returns_to, opens_ref, opens_atom, opens, swap_decided, closes_swap, closes, started, runs_callee, runs, act, turn, ends_with, rested, first_place, answered, validates, where_accepted, where_valid, works, puts, finishes, state_after, fails_with, hands_in, fault_in}
 use Rattle.txs_code_meaning.specs.declared.instr.OpenForm.{OpenForm}
 use Rattle.txs_code_meaning.specs.declared.instr.OpenForm.TheVariants as open_form
 use Rattle.txs_world_book.proofs.Outcomes.{both}
 use Rattle.txs_world.proofs.Merging.{joined, refs_from, refs_has, refs_with}
-use Rattle.txs_world_book.specs.Book.{has_cell, has_ref, has_agent, cells_in, are_refs, has_refs}
+use Rattle.txs_world_book.specs.Book.{has_cell, has_ref, has_agent, cells_in, are_refs, has_refs, may_send}
 use Rattle.txs_world_book.specs.Served.{cells_of}
 use Rattle.txs_world.specs.Store.{is_among, are_apart}
 use Rattle.txs_world_book.specs.declared.cell.StoreCell.{StoreCell}
 use Rattle.txs_theorem_runs.specs.Lawful.{IsKnown, CodeIsKnown}
 use Rattle.txs_theorem_runs.specs.Shared.{has_atom}
 use Rattle.txs_theorem_runs.specs.Staged.{redoes_some}
-use Rattle.txs_theorem_runs.specs.Standing.{MayStandIn, MayStandHere}
+use Rattle.txs_theorem_runs.specs.Standing.{IsOwn, MayStandIn, MayStandHere}
 use Rattle.txs_theorem_runs.proofs.CoreKnown.{AllKnown, AnswerKnown, core_known, vector_known}
 use Rattle.txs_theorem_runs.proofs.Ending.{IsUnviewedEnd, WhereUnviewed, WhereViewed, unviewed_so, viewed_so, put_viewed, tasks_redo_none}
+
+-- the agents that an actor's own instructions name are the actor's
+abbrev pub Names : (CellId → Type 0) → ThreadCode → Type 0
+Names Own code = (b at : ℕ) (k : CellId) → (fetch code b at ≡ Some (TakeOf k) → Own k) × (fetch code b at ≡ Some (FinishOf k) → Own k)
 
 module _ (cells : List CellDefinition) where
   abbrev store : List StoreCell
@@ -122,13 +126,13 @@ module _ (cells : List CellDefinition) where
   TodoKnown [] = Unit {0}
   TodoKnown (x ∷ xs) = ReplyKnown x.reply × TodoKnown xs
 
-  -- an agent's action that is run
-  abbrev pub ActingKnown : Option InHand → Type 0
-  ActingKnown None = Unit {0}
-  ActingKnown (Some x) = AllKnown cells x.action.args
+  -- an agent's action that is run; of its agent it says that the actor has it
+  abbrev pub ActingKnown : (CellId → Type 0) → Option InHand → Type 0
+  ActingKnown Own None = Unit {0}
+  ActingKnown Own (Some x) = AllKnown cells x.action.args × SendsKnown x.sends × Own x.agent
 
-  abbrev pub StateKnown : ActorState → Type 0
-  StateKnown s = WorkKnown s.done × CommutingKnown s.commuting × TodoKnown s.todo × ActingKnown s.acting
+  abbrev pub StateKnown : (CellId → Type 0) → ActorState → Type 0
+  StateKnown Own s = WorkKnown s.done × CommutingKnown s.commuting × TodoKnown s.todo × ActingKnown Own s.acting
 
   abbrev pub FramesKnown : List Frame → Type 0
   FramesKnown [] = Unit {0}
@@ -300,6 +304,16 @@ module _ (cells : List CellDefinition) where
   sends_append [] ys h g = g
   sends_append (x ∷ xs) ys h g = (h.0, sends_append xs ys h.1 g)
 
+  -- an action that holds more sends
+  hold_known : (Own : CellId → Type 0) (xs : List Action) (o : Option InHand) → ActingKnown Own o → SendsKnown xs → ActingKnown Own (now_holding xs o)
+  hold_known Own xs None h k = tt
+  hold_known Own xs (Some y) h k = (h.0, sends_append y.sends xs h.1 k, h.2)
+
+  -- what a commit sends
+  commit_sends : (o : Option (List Action)) (xs : List Action) → SendsKnown xs → SendsKnown (sends_of_commit o xs)
+  commit_sends None xs h = h
+  commit_sends (Some ys) xs h = tt
+
   commutes_among : (n : ℕ) (ks : List Commute) → CommutesKnown ks → CommutesKnown (commutes_of n ks)
   commutes_among n [] h = tt
   commutes_among n (k ∷ ks) h = go (commutes_among n ks h.1) (k.cell.number == n)
@@ -458,13 +472,13 @@ module _ (cells : List CellDefinition) where
   RedoIn (Swapping swap from) i w = ⊥
 
   -- Tidy says that the instructions stand where they may, Fresh that the try at hand has no view but its read point, and Clean that the
-  -- turn doesn't begin at a transaction's end with a view
-  module _ (Tidy Fresh Clean : Type 0) (code : ThreadCode) where
+  -- turn doesn't begin at a transaction's end with a view; Own says of an agent that the actor is the agent's
+  module _ (Tidy Fresh Clean : Type 0) (Own : CellId → Type 0) (code : ThreadCode) where
     abbrev pub ConfigurationStands : Type 0 → Configuration → Type 0
     ConfigurationStands X c = ApartIn c.doing c.state.done × (FreshIn X c.doing c.state ⊎ RedoIn c.doing (fetch code c.body c.place) c.state.done)
 
     abbrev pub ConfigurationKnown : Type 0 → Configuration → Type 0
-    ConfigurationKnown X c = AllKnown cells c.stack × AllKnown cells c.locals × FramesKnown c.frames × ActivityKnown c.doing × StateKnown c.state × (Tidy → ConfigurationStands X c)
+    ConfigurationKnown X c = AllKnown cells c.stack × AllKnown cells c.locals × FramesKnown c.frames × ActivityKnown c.doing × StateKnown Own c.state × (Tidy → ConfigurationStands X c)
 
     -- an ask that names cells of the program
     abbrev pub AskKnown : Ask → Type 0
@@ -475,8 +489,8 @@ module _ (cells : List CellDefinition) where
     AskKnown (ask.Fail p q) = Fresh → q ≡ p
     AskKnown (ask.Peek c) = has_cell store c ≡ true
     AskKnown (ask.Send x) = ActionKnown x
-    AskKnown (ask.Take g) = Unit {0}
-    AskKnown (ask.Finish g new sends) = ResultKnown new × SendsKnown sends
+    AskKnown (ask.Take g) = Own g
+    AskKnown (ask.Finish g new sends) = ResultKnown new × SendsKnown sends × (may_send new sends ≡ true) × Own g
     AskKnown (ask.OpenAt c) = has_atom cells c ≡ true
     AskKnown (ask.CloseAt c p v) = (has_atom cells c ≡ true) × IsKnown cells v
     AskKnown (ask.Broke c p) = has_atom cells c ≡ true
@@ -494,9 +508,9 @@ module _ (cells : List CellDefinition) where
 
     -- a state in the middle of a turn
     abbrev MidKnown : ActorState → Type 0
-    MidKnown s = WorkKnown s.done × CommutingKnown s.commuting × TodoKnown s.todo × (Fresh → s.view ≡ s.at) × ActingKnown s.acting
+    MidKnown s = WorkKnown s.done × CommutingKnown s.commuting × TodoKnown s.todo × (Fresh → s.view ≡ s.at) × ActingKnown Own s.acting
 
-    known_of : (s : ActorState) → MidKnown s → StateKnown s
+    known_of : (s : ActorState) → MidKnown s → StateKnown Own s
     known_of s h = (h.0, h.1, h.2, h.4)
 
     free_apart : (doing : Activity) (w : PlainTxFrame) → (Tidy → IsFree doing) → Tidy → ApartIn doing w
@@ -506,40 +520,40 @@ module _ (cells : List CellDefinition) where
     free_apart (Applying left from work values) w h t = absurd (h t)
     free_apart (Swapping swap from) w h t = tt
 
-    look_free : (f : LookForm) (span : Span) (doing : Activity) → MayStandIn doing (LookOf f span) → IsFree doing
-    look_free f span Outside h = tt
-    look_free f span (Restarting left) h = tt
-    look_free f span (Running left inner from) h = tt
-    look_free f span (Applying left from work values) h = h
-    look_free f span (Swapping swap from) h = tt
+    look_free : (b : Bool) (f : LookForm) (span : Span) (doing : Activity) → MayStandIn b doing (LookOf f span) → IsFree doing
+    look_free b f span Outside h = tt
+    look_free b f span (Restarting left) h = tt
+    look_free b f span (Running left inner from) h = tt
+    look_free b f span (Applying left from work values) h = h
+    look_free b f span (Swapping swap from) h = tt
 
-    put_free : (f : PutForm) (span : Span) (doing : Activity) → MayStandIn doing (PutOf f span) → IsFree doing
-    put_free f span Outside h = tt
-    put_free f span (Restarting left) h = tt
-    put_free f span (Running left inner from) h = tt
-    put_free f span (Applying left from work values) h = h
-    put_free f span (Swapping swap from) h = tt
+    put_free : (b : Bool) (f : PutForm) (span : Span) (doing : Activity) → MayStandIn b doing (PutOf f span) → IsFree doing
+    put_free b f span Outside h = tt
+    put_free b f span (Restarting left) h = tt
+    put_free b f span (Running left inner from) h = tt
+    put_free b f span (Applying left from work values) h = h
+    put_free b f span (Swapping swap from) h = tt
 
-    open_free : (f : OpenForm) (n : ℕ) (span : Span) (doing : Activity) → MayStandIn doing (OpenOf f n span) → IsFree doing
-    open_free f n span Outside h = tt
-    open_free f n span (Restarting left) h = tt
-    open_free f n span (Running left inner from) h = tt
-    open_free f n span (Applying left from work values) h = h
-    open_free f n span (Swapping swap from) h = tt
+    open_free : (b : Bool) (f : OpenForm) (n : ℕ) (span : Span) (doing : Activity) → MayStandIn b doing (OpenOf f n span) → IsFree doing
+    open_free b f n span Outside h = tt
+    open_free b f n span (Restarting left) h = tt
+    open_free b f n span (Running left inner from) h = tt
+    open_free b f n span (Applying left from work values) h = h
+    open_free b f n span (Swapping swap from) h = tt
 
-    close_free : (f : UpdateForm) (span : Span) (doing : Activity) → MayStandIn doing (CloseOf f span) → IsFree doing
-    close_free f span Outside h = tt
-    close_free f span (Restarting left) h = tt
-    close_free f span (Running left inner from) h = tt
-    close_free f span (Applying left from work values) h = h
-    close_free f span (Swapping swap from) h = tt
+    close_free : (b : Bool) (f : UpdateForm) (span : Span) (doing : Activity) → MayStandIn b doing (CloseOf f span) → IsFree doing
+    close_free b f span Outside h = tt
+    close_free b f span (Restarting left) h = tt
+    close_free b f span (Running left inner from) h = tt
+    close_free b f span (Applying left from work values) h = h
+    close_free b f span (Swapping swap from) h = tt
 
-    send_free : (f : Callee) (n : ℕ) (span : Span) (doing : Activity) → MayStandIn doing (SendOf f n span) → IsFree doing
-    send_free f n span Outside h = tt
-    send_free f n span (Restarting left) h = tt
-    send_free f n span (Running left inner from) h = tt
-    send_free f n span (Applying left from work values) h = h
-    send_free f n span (Swapping swap from) h = tt
+    send_free : (b : Bool) (f : Callee) (n : ℕ) (span : Span) (doing : Activity) → MayStandIn b doing (SendOf f n span) → IsFree doing
+    send_free b f n span Outside h = tt
+    send_free b f n span (Restarting left) h = tt
+    send_free b f n span (Running left inner from) h = tt
+    send_free b f n span (Applying left from work values) h = h
+    send_free b f n span (Swapping swap from) h = tt
 
     -- ---- the cells of forms
 
@@ -606,7 +620,7 @@ module _ (cells : List CellDefinition) where
     read_known P SaysNothing s k h = tt
 
     received_known : {B : Type 0} (P : B → Type 0) (reads : Reply → Reading B) → ((r : Reply) → ReplyKnown r → ReadingKnown P (reads r))
-        → (q : Ask) (s : ActorState) (todo : List Exchange) → AskKnown q → WorkKnown s.done → CommutingKnown s.commuting → TodoKnown todo → (Fresh → s.view ≡ s.at) → ActingKnown s.acting → StepKnown P (heard reads (receives q s todo))
+        → (q : Ask) (s : ActorState) (todo : List Exchange) → AskKnown q → WorkKnown s.done → CommutingKnown s.commuting → TodoKnown todo → (Fresh → s.view ≡ s.at) → ActingKnown Own s.acting → StepKnown P (heard reads (receives q s todo))
     received_known P reads k q s [] a w o h f y = a
     received_known P reads k q s (x ∷ xs) a w o h f y = go (same_ask q x.ask)
       where
@@ -849,13 +863,27 @@ module _ (cells : List CellDefinition) where
     unfolding send_now
     send_now_known x s k h = then_known Anything (IsKnown cells) (heard send_verdict (asks (ask.Send x) s)) (sent x) (heard_known Anything send_verdict says_sent (ask.Send x) s k h) (λ v s1 i h1. sent_known x v s1 k h1)
 
-    take_known : (g : CellId) (s : ActorState) → MidKnown s → StepKnown TakenKnown (take_action g s)
+    take_known : (g : CellId) (s : ActorState) → Own g → MidKnown s → StepKnown TakenKnown (take_action g s)
     unfolding take_action
-    take_known g s h = heard_known TakenKnown handed_out says_handed (ask.Take g) s tt h
+    take_known g s mine h = heard_known TakenKnown handed_out says_handed (ask.Take g) s mine h
 
-    finish_known : (g : CellId) (new : Result Value Fault) (s : ActorState) → ResultKnown new → MidKnown s → StepKnown Anything (finish g new s)
+    says_taken : (r : Reply) → ReplyKnown r → ReadingKnown Anything (taken_back r)
+    says_taken (reply.At p) h = tt
+    says_taken (reply.Is v) h = tt
+    says_taken (reply.Views p vs) h = tt
+    says_taken reply.Done h = tt
+    says_taken (reply.Retry c) h = tt
+    says_taken (reply.Changed c) h = tt
+    says_taken (reply.AgentIsFailed g) h = tt
+    says_taken (reply.Action n x v) h = tt
+    says_taken reply.Idle h = tt
+    says_taken (reply.Opened p v) h = tt
+    says_taken reply.Full h = tt
+    says_taken reply.Memory h = tt
+
+    finish_known : (g : CellId) (new : Result Value Fault) (sends : List Action) (s : ActorState) → ResultKnown new → SendsKnown sends → may_send new sends ≡ true → Own g → MidKnown s → StepKnown Anything (finish g new sends s)
     unfolding finish
-    finish_known g new s k h = heard_known Anything just_done says_done (ask.Finish g new []) s (k, tt) h
+    finish_known g new sends s k ks may mine h = heard_known Anything taken_back says_taken (ask.Finish g new sends) s (k, ks, may, mine) h
 
     -- ---- forms
 
@@ -946,13 +974,9 @@ module _ (cells : List CellDefinition) where
         (agent_there x.agent k.0, (record { values = h.0.values; ensures = h.0.ensures; commutes = h.0.commutes; sends = sends_append s.done.sends (x ∷ []) h.0.sends (k, tt) }, h.1, h.2, h.3, h.4))
     send_action_known false x s k h = or_hold s.acting
       where
-        held : (o : Option InHand) → ActingKnown o → ActingKnown (now_holding x o)
-        held None g = g
-        held (Some y) g = g
-
         or_hold : (o : Option InHand) → StepKnown (IsKnown cells) (send_or_hold o x s)
         or_hold None = send_now_known x s k h
-        or_hold (Some y) = (agent_there x.agent k.0, (h.0, h.1, h.2, h.3, held s.acting h.4))
+        or_hold (Some y) = (agent_there x.agent k.0, (h.0, h.1, h.2, h.3, hold_known Own (x ∷ []) s.acting h.4 (k, tt)))
 
     send_known : (inside : Bool) (span : Span) (cell : Value) (f : Callee) (vs : List Value) (s : ActorState) → IsKnown cells cell → AllKnown cells vs → MidKnown s → StepKnown (IsKnown cells) (send_to inside span cell f vs s)
     send_known inside span cell f vs s kc k h =
@@ -1023,19 +1047,23 @@ module _ (cells : List CellDefinition) where
     told_known (Await s) go h k = h
     told_known Malformed go h k = tt
 
-    over_known : (o : Option InHand) (f : Fault) (s : ActorState) → MidKnown s → TurnKnown (ends_with o f s)
-    over_known None f s h = tt
-    over_known (Some x) f s h = told_known (finish x.agent (Err f) s) _ (finish_known x.agent (Err f) s tt h) (λ s1 h1. (tt, tt, tt, tt, (h1.0, h1.1, h1.2, tt), λ t. (tt, inl tt)))
+    over_known : (o : Option InHand) (f : Fault) (s : ActorState) → s.acting ≡ o → MidKnown s → TurnKnown (ends_with o f s)
+    over_known None f s e h = tt
+    over_known (Some x) f s e h = told_known (finish x.agent (Err f) [] s) _ (finish_known x.agent (Err f) [] s tt tt refl (subst (ActingKnown Own) e h.4).2 h) (λ s1 h1. (tt, tt, tt, tt, (h1.0, h1.1, h1.2, tt), λ t. (tt, inl tt)))
+
+    fails_known : (o : Option InHand) (f : Fault) (s : ActorState) → s.acting ≡ o → MidKnown s → TurnKnown (fails_with o f s)
+    fails_known None f s e h = tt
+    fails_known (Some x) f s e h = (tt, tt, tt, tt, (h.0, h.1, h.2, subst (ActingKnown Own) e h.4), λ t. (tt, inl tt))
 
     raise_known : (doing : Activity) (f : Fault) (s : ActorState) → ActivityKnown doing → MidKnown s → TurnKnown (raise doing f s)
-    raise_known Outside f s g h = over_known s.acting f s h
-    raise_known (Restarting left) f s g h = tt
-    raise_known (Running left inner from) f s g h = told_known (fail s) _ (fail_known s h) (λ s1 h1. tt)
-    raise_known (Applying left from work values) f s g h = told_known (fail s) _ (fail_known s h) (λ s1 h1. tt)
-    raise_known (Swapping swap from) f s g h = told_known (break_swap swap s) _ (break_swap_known swap s g.0 h) (λ s1 h1. tt)
+    raise_known Outside f s g h = over_known s.acting f s refl h
+    raise_known (Restarting left) f s g h = fails_known s.acting f s refl h
+    raise_known (Running left inner from) f s g h = told_known (fail s) _ (fail_known s h) (λ s1 h1. fails_known s1.acting f s1 refl h1)
+    raise_known (Applying left from work values) f s g h = told_known (fail s) _ (fail_known s h) (λ s1 h1. fails_known s1.acting f s1 refl h1)
+    raise_known (Swapping swap from) f s g h = told_known (break_swap swap s) _ (break_swap_known swap s g.0 h) (λ s1 h1. fails_known s1.acting f s1 refl h1)
 
     rerun_known : (left : ℕ) (from : Savepoint) (s : ActorState) → SavepointKnown from → MidKnown s → TurnKnown (rerun left from s)
-    rerun_known zero from s g h = tt
+    rerun_known zero from s g h = fails_known s.acting (fault_at RetryLimit from.span) s refl h
     rerun_known (suc left) from s g h = (g.0, g.1, g.2, tt, known_of s h, λ t. (tt, inl tt))
 
     retried_known : (doing : Activity) (s : ActorState) → ActivityKnown doing → MidKnown s → TurnKnown (retried doing s)
@@ -1128,17 +1156,17 @@ module _ (cells : List CellDefinition) where
         rerun_lies xs t = rerun_known left from (record c.state { todo = xs }) g (h.4.0, h.4.1, t, start, h.4.3)
 
         again_lies : (n : ℕ) (xs : List Exchange) → TodoKnown xs → TurnKnown (decided Outdated n from c (record c.state { todo = xs }))
-        again_lies zero xs t = tt
+        again_lies zero xs t = fails_known c.state.acting (fault_at RetryLimit from.span) (record c.state { todo = xs }) refl (h.4.0, h.4.1, t, start, h.4.3)
         again_lies (suc n) xs t = (h.0, h.1, h.2, g, (h.4.0, h.4.1, t, h.4.3), λ y. (tt, end y))
 
-        landed_heard : (r : Reply) (xs : List Exchange) → ReplyKnown r → TodoKnown xs → TurnKnown (on c.doing (heard commit_verdict (Replied r (record c.state { todo = xs }))) (λ verdict s. decided verdict left from c s))
+        landed_heard : (r : Reply) (xs : List Exchange) → ReplyKnown r → TodoKnown xs → TurnKnown (on c.doing (on_step (heard commit_verdict (Replied r (record c.state { todo = xs }))) landed) (λ verdict s. decided verdict left from c s))
         landed_heard (reply.At p) xs kr t = tt
         landed_heard (reply.Is v) xs kr t = tt
         landed_heard (reply.Views p vs) xs kr t = tt
-        landed_heard reply.Done xs kr t = (h.0, h.1, h.2, tt, (h.4.0, h.4.1, t, h.4.3), λ y. (tt, inl tt))
+        landed_heard reply.Done xs kr t = (h.0, h.1, h.2, tt, (h.4.0, h.4.1, t, hold_known Own c.state.done.sends c.state.acting h.4.3 h.4.0.sends), λ y. (tt, inl tt))
         landed_heard (reply.Retry d) xs kr t = rerun_lies xs t
         landed_heard (reply.Changed d) xs kr t = again_lies left xs t
-        landed_heard (reply.AgentIsFailed a) xs kr t = tt
+        landed_heard (reply.AgentIsFailed a) xs kr t = fails_known c.state.acting (fault_at AgentFailed from.span) (record c.state { todo = xs }) refl (h.4.0, h.4.1, t, start, h.4.3)
         landed_heard (reply.Action n x v) xs kr t = tt
         landed_heard reply.Idle xs kr t = tt
         landed_heard (reply.Opened p v) xs kr t = tt
@@ -1148,8 +1176,8 @@ module _ (cells : List CellDefinition) where
         lands_known : TurnKnown (lands left from values c)
         unfolding commit
         lands_known =
-            asked_known c.state h.4.2 (ask.Commit c.state.at (set_writes c.state.done) c.state.done.ensures c.state.view values c.state.done.sends) (λ o. on c.doing (heard commit_verdict o) (λ verdict s. decided verdict left from c s))
-            (set_known c.state.done h.4.0, h.4.0.ensures, k, h.4.0.sends, (λ t. apart_of c.state.done (cells_in values) (u t)), start) landed_heard
+            asked_known c.state h.4.2 (ask.Commit c.state.at (set_writes c.state.done) c.state.done.ensures c.state.view values (sends_of_commit (held_in c.state.acting) c.state.done.sends)) (λ o. on c.doing (on_step (heard commit_verdict o) landed) (λ verdict s. decided verdict left from c s))
+            (set_known c.state.done h.4.0, h.4.0.ensures, k, commit_sends (held_in c.state.acting) c.state.done.sends h.4.0.sends, (λ t. apart_of c.state.done (cells_in values) (u t)), start) landed_heard
 
       -- a commute that is applied again, where the tasks of this end are done
       applies_known : (f : Callee) (left : ℕ) (from : Savepoint) (k : Commute) (work : List Task) (values : Writes)
@@ -1382,7 +1410,7 @@ module _ (cells : List CellDefinition) where
       after_fresh to_commutes v t f = applied_fresh v c.doing f
       after_fresh to_validation v t f = still_fresh c.doing c.state (answered v c.state) f (runs_fresh t) start
 
-      after_state : (awaits : Destination) (v : Value) → StateKnown (state_after awaits v c.state)
+      after_state : (awaits : Destination) (v : Value) → StateKnown Own (state_after awaits v c.state)
       after_state to_stack v = h.4
       after_state to_commutes v = h.4
       after_state to_validation v = h.4
@@ -1451,29 +1479,46 @@ module _ (cells : List CellDefinition) where
 
       -- ---- an agent's own instructions
 
-      started_known : (Tidy → ⊥) → (g : CellId) (o : Option Taken) (s : ActorState) → TakenKnown o → MidKnown s → TurnKnown (started g o c s)
-      started_known never g None s k q = (h.0, h.1, h.2, h.3, known_of s q, λ t. absurd (never t))
-      started_known never g (Some y) s k q = ((k.1, h.0), h.1, h.2, h.3, (q.0, q.1, q.2, k.0), λ t. absurd (never t))
+      -- outside every transaction nothing is to be said
+      own_stands : (b : Bool) (doing : Activity) (i : Option PlainInstr) (s : ActorState) → IsOwn b doing → ApartIn doing s.done × (FreshIn Clean doing s ⊎ RedoIn doing i s.done)
+      own_stands true Outside i s may = (tt, inl tt)
+      own_stands true (Restarting left) i s may = absurd may
+      own_stands true (Running left inner from) i s may = absurd may
+      own_stands true (Applying left from work values) i s may = absurd may
+      own_stands true (Swapping swap from) i s may = absurd may
+      own_stands false doing i s may = absurd may
+
+      started_known : (b : Bool) → (Tidy → IsOwn b c.doing) → (g : CellId) (o : Option Taken) (s : ActorState) → Own g → TakenKnown o → MidKnown s → TurnKnown (started g o c s)
+      started_known b may g None s mine k q = (h.0, h.1, h.2, h.3, known_of s q, λ t. own_stands b c.doing (fetch code c.body c.place) s (may t))
+      started_known b may g (Some y) s mine k q = ((k.1, h.0), h.1, h.2, h.3, (q.0, q.1, q.2, (k.0, tt, mine)), λ t. own_stands b c.doing (fetch code c.body (c.place + 1)) (record s { acting = Some (record { agent = g; action = y.action; sends = []; fault = None }) }) (may t))
 
       runs_callee_known : (Tidy → FreshIn Clean c.doing c.state) → (f : Callee) (x : Action) (v : Value) (rest : List Value) → AllKnown cells x.args → IsKnown cells v → AllKnown cells rest → TurnKnown (runs_callee code f x v rest c)
       runs_callee_known fr (callee.Core op) x v rest ka k kr = result_lies fr rest (core op (v ∷ x.args)) x.span kr (core_known cells op (v ∷ x.args) (k, ka))
       runs_callee_known fr (callee.Function f) x v rest ka k kr = (tt, locals_known (nth code.functions f) (v ∷ x.args) (k, ka), (kr, h.1, h.2), h.3, h.4, λ t. ((h.5 t).0, inl (fr t)))
 
-      runs_known : (Tidy → FreshIn Clean c.doing c.state) → (o : Option InHand) (v : Value) (rest : List Value) → ActingKnown o → IsKnown cells v → AllKnown cells rest → TurnKnown (runs code o v rest c)
+      runs_known : (Tidy → FreshIn Clean c.doing c.state) → (o : Option InHand) (v : Value) (rest : List Value) → ActingKnown Own o → IsKnown cells v → AllKnown cells rest → TurnKnown (runs code o v rest c)
       runs_known fr None v rest g k kr = tt
-      runs_known fr (Some x) v rest g k kr = runs_callee_known fr x.action.callee x.action v rest g k kr
+      runs_known fr (Some x) v rest g k kr = runs_callee_known fr x.action.callee x.action v rest g.0 k kr
 
-      finishes_known : (Tidy → FreshIn Clean c.doing c.state) → (g : CellId) (o : Option InHand) (v : Value) → IsKnown cells v → TurnKnown (finishes code g o v c)
-      finishes_known fr g None v k = tt
-      finishes_known fr g (Some x) v k =
-          valid_known c h start runs_fresh clean fr v k x.action.span (validator_at code.validators x.action.agent.number) (λ c1. told (finish g (Ok v) c1.state) (λ s. Unfinished (first_place [] (rested s))))
-          (λ o. told_known (finish g (Ok v) (record c.state { accepted = o })) _ (finish_known g (Ok v) (record c.state { accepted = o }) k mid) (λ s q. (tt, tt, tt, tt, (q.0, q.1, q.2, tt), λ t. (tt, inl tt))))
+      finishes_known : (Tidy → FreshIn Clean c.doing c.state) → (g : CellId) → Own g → (o : Option InHand) (v : Value) → ActingKnown Own o → IsKnown cells v → TurnKnown (finishes code g o v c)
+      finishes_known fr g mine None v ka k = tt
+      finishes_known fr g mine (Some x) v ka k =
+          valid_known c h start runs_fresh clean fr v k x.action.span (validator_at code.validators x.action.agent.number) (λ c1. told (finish g (Ok v) x.sends c1.state) (λ s. Unfinished (first_place [] (rested s))))
+          (λ o. told_known (finish g (Ok v) x.sends (record c.state { accepted = o })) _ (finish_known g (Ok v) x.sends (record c.state { accepted = o }) k ka.1 refl mine mid) (λ s q. (tt, tt, tt, tt, (q.0, q.1, q.2, tt), λ t. (tt, inl tt))))
+
+      hands_known : (Tidy → FreshIn Clean c.doing c.state) → (g : CellId) → Own g → (k : Option Fault) → TurnKnown (hands_in code g c.state.acting k c)
+      hands_known fr g mine None = top_known c.stack _ h.0 (λ v rest kv kr. finishes_known fr g mine c.state.acting v h.4.3 kv)
+      hands_known fr g mine (Some f) = told_known (finish g (Err f) [] c.state) _ (finish_known g (Err f) [] c.state tt tt refl mine mid) (λ s q. (tt, tt, tt, tt, (q.0, q.1, q.2, tt), λ t. (tt, inl tt)))
 
       -- ---- an instruction
 
       -- a constant is known
       abbrev InstrKnown : Option PlainInstr → Type 0
       InstrKnown o = (v : Value) → o ≡ Some (Push v) → IsKnown cells v
+
+      -- an agent's own instruction is the actor's
+      abbrev InstrOwn : Option PlainInstr → Type 0
+      InstrOwn o = (k : CellId) → (o ≡ Some (TakeOf k) → Own k) × (o ≡ Some (FinishOf k) → Own k)
 
       -- but at the end of a transaction a try has no view but its read point
       fresh_or : (i : Option PlainInstr) → fetch code c.body c.place ≡ i → (IsEnd i → ⊥) → Tidy → FreshIn Clean c.doing c.state
@@ -1492,35 +1537,35 @@ module _ (cells : List CellDefinition) where
           go (Applying left from work values) (inr x) cl = absurd x
           go (Swapping swap from) (inr x) cl = absurd x
 
-      act_known : (i : Option PlainInstr) → fetch code c.body c.place ≡ i → InstrKnown i → (Tidy → MayStandHere c.doing i) → TurnKnown (act code i c)
-      act_known None e i m = tt
-      act_known (Some (Push v)) e i m = ((i v refl, h.0), h.1, h.2, h.3, h.4, λ t. ((h.5 t).0, inl (fresh_or (Some (Push v)) e (λ x. x) t)))
-      act_known (Some (Load n)) e i m = found_lies (fresh_or (Some (Load n)) e (λ x. x)) (nth c.locals n) (nth_known c.locals n h.1)
-      act_known (Some (Store n)) e i m = top_known c.stack _ h.0 (λ v rest kv kr. (kr, put_in c.locals n v h.1 kv, h.2, h.3, h.4, λ t. ((h.5 t).0, inl (fresh_or (Some (Store n)) e (λ x. x) t))))
-      act_known (Some Pop) e i m = top_known c.stack _ h.0 (λ v rest kv kr. (kr, h.1, h.2, h.3, h.4, λ t. ((h.5 t).0, inl (fresh_or (Some Pop) e (λ x. x) t))))
-      act_known (Some (Jump to)) e i m = (h.0, h.1, h.2, h.3, h.4, λ t. ((h.5 t).0, inl (fresh_or (Some (Jump to)) e (λ x. x) t)))
-      act_known (Some (JumpFalse to)) e i m = top_known c.stack _ h.0 (λ v rest kv kr. (kr, h.1, h.2, h.3, h.4, λ t. ((h.5 t).0, inl (fresh_or (Some (JumpFalse to)) e (λ x. x) t))))
-      act_known (Some (CoreOf op n span)) e i m = args_known n c.stack [] _ h.0 tt (λ vs rest kvs kr. result_lies (fresh_or (Some (CoreOf op n span)) e (λ x. x)) rest (core op vs) span kr (core_known cells op vs kvs))
-      act_known (Some (CallOf f n)) e i m = args_known n c.stack [] _ h.0 tt (λ vs rest kvs kr. (tt, locals_known (nth code.functions f) vs kvs, (kr, h.1, h.2), h.3, h.4, λ t. ((h.5 t).0, inl (fresh_or (Some (CallOf f n)) e (λ x. x) t))))
-      act_known (Some Return) e i m = top_known c.stack _ h.0 (λ v rest kv kr. returns_known (fresh_or (Some Return) e (λ x. x)) c.frames v h.2 kv)
-      act_known (Some (MakeVector n span)) e i m = args_known n c.stack [] _ h.0 tt (λ vs rest kvs kr. result_lies (fresh_or (Some (MakeVector n span)) e (λ x. x)) rest (vector_of vs) span kr (vector_known cells vs kvs))
-      act_known (Some (PrintOf n)) e i m = args_known n c.stack [] _ h.0 tt (λ vs rest kvs kr. print_lies (fresh_or (Some (PrintOf n)) e (λ x. x)) (is_inside c.doing) vs rest kr)
-      act_known (Some (TxBegin span)) e i m = begins_known span c.doing h.3 clean (fresh_or (Some (TxBegin span)) e (λ x. x))
-      act_known (Some TxEnd) e i m = ends_known c.doing refl (subst IsEnd (sym e) tt) h.3 (λ t. (h.5 t).0) clean (λ t. (h.5 t).1)
-      act_known (Some (LookOf f span)) e i m =
-          top_known c.stack _ h.0 (λ cell rest kc kr. gives_known (λ t. look_free f span c.doing (m t)) (fresh_or (Some (LookOf f span)) e (λ x. x)) rest (read f (is_inside c.doing) span cell c.state) kr (read_form_known f (is_inside c.doing) span cell c.state kc mid))
-      act_known (Some (PutOf f span)) e i m =
-          two_known c.stack _ h.0 (λ w cell rest kw kc kr. puts_known (λ t. put_free f span c.doing (m t)) (fresh_or (Some (PutOf f span)) e (λ x. x)) f span w cell rest kw kc kr)
-      act_known (Some (OpenOf f n span)) e i m =
-          args_of_known n c.stack _ h.0 (λ vs cell rest kvs kc kr. opens_known (λ t. open_free f n span c.doing (m t)) (fresh_or (Some (OpenOf f n span)) e (λ x. x)) f span vs cell rest kvs kc kr)
-      act_known (Some (CloseOf f span)) e i m =
-          two_known c.stack _ h.0 (λ w cell rest kw kc kr. closes_known (λ t. close_free f span c.doing (m t)) (fresh_or (Some (CloseOf f span)) e (λ x. x)) f span w cell rest kw kc kr)
-      act_known (Some (SendOf f n span)) e i m =
-          args_of_known n c.stack _ h.0 (λ vs cell rest kvs kc kr. gives_known (λ t. send_free f n span c.doing (m t)) (fresh_or (Some (SendOf f n span)) e (λ x. x)) rest (send_to (is_inside c.doing) span cell f vs c.state) kr (send_known (is_inside c.doing) span cell f vs c.state kc kvs mid))
-      act_known (Some Halt) e i m = tt
-      act_known (Some (TakeOf g)) e i m = on_known TakenKnown c.doing (take_action g c.state) (λ o s. started g o c s) h.3 (take_known g c.state mid) (λ o s k q. started_known m g o s k q)
-      act_known (Some RunOf) e i m = top_known c.stack _ h.0 (λ v rest kv kr. runs_known (fresh_or (Some RunOf) e (λ x. x)) c.state.acting v rest h.4.3 kv kr)
-      act_known (Some (FinishOf g)) e i m = top_known c.stack _ h.0 (λ v rest kv kr. finishes_known (fresh_or (Some (FinishOf g)) e (λ x. x)) g c.state.acting v kv)
+      act_known : (b : Bool) (i : Option PlainInstr) → fetch code c.body c.place ≡ i → InstrKnown i → InstrOwn i → (Tidy → MayStandHere b c.doing i) → TurnKnown (act code i c)
+      act_known b None e i own m = tt
+      act_known b (Some (Push v)) e i own m = ((i v refl, h.0), h.1, h.2, h.3, h.4, λ t. ((h.5 t).0, inl (fresh_or (Some (Push v)) e (λ x. x) t)))
+      act_known b (Some (Load n)) e i own m = found_lies (fresh_or (Some (Load n)) e (λ x. x)) (nth c.locals n) (nth_known c.locals n h.1)
+      act_known b (Some (Store n)) e i own m = top_known c.stack _ h.0 (λ v rest kv kr. (kr, put_in c.locals n v h.1 kv, h.2, h.3, h.4, λ t. ((h.5 t).0, inl (fresh_or (Some (Store n)) e (λ x. x) t))))
+      act_known b (Some Pop) e i own m = top_known c.stack _ h.0 (λ v rest kv kr. (kr, h.1, h.2, h.3, h.4, λ t. ((h.5 t).0, inl (fresh_or (Some Pop) e (λ x. x) t))))
+      act_known b (Some (Jump to)) e i own m = (h.0, h.1, h.2, h.3, h.4, λ t. ((h.5 t).0, inl (fresh_or (Some (Jump to)) e (λ x. x) t)))
+      act_known b (Some (JumpFalse to)) e i own m = top_known c.stack _ h.0 (λ v rest kv kr. (kr, h.1, h.2, h.3, h.4, λ t. ((h.5 t).0, inl (fresh_or (Some (JumpFalse to)) e (λ x. x) t))))
+      act_known b (Some (CoreOf op n span)) e i own m = args_known n c.stack [] _ h.0 tt (λ vs rest kvs kr. result_lies (fresh_or (Some (CoreOf op n span)) e (λ x. x)) rest (core op vs) span kr (core_known cells op vs kvs))
+      act_known b (Some (CallOf f n)) e i own m = args_known n c.stack [] _ h.0 tt (λ vs rest kvs kr. (tt, locals_known (nth code.functions f) vs kvs, (kr, h.1, h.2), h.3, h.4, λ t. ((h.5 t).0, inl (fresh_or (Some (CallOf f n)) e (λ x. x) t))))
+      act_known b (Some Return) e i own m = top_known c.stack _ h.0 (λ v rest kv kr. returns_known (fresh_or (Some Return) e (λ x. x)) c.frames v h.2 kv)
+      act_known b (Some (MakeVector n span)) e i own m = args_known n c.stack [] _ h.0 tt (λ vs rest kvs kr. result_lies (fresh_or (Some (MakeVector n span)) e (λ x. x)) rest (vector_of vs) span kr (vector_known cells vs kvs))
+      act_known b (Some (PrintOf n)) e i own m = args_known n c.stack [] _ h.0 tt (λ vs rest kvs kr. print_lies (fresh_or (Some (PrintOf n)) e (λ x. x)) (is_inside c.doing) vs rest kr)
+      act_known b (Some (TxBegin span)) e i own m = begins_known span c.doing h.3 clean (fresh_or (Some (TxBegin span)) e (λ x. x))
+      act_known b (Some TxEnd) e i own m = ends_known c.doing refl (subst IsEnd (sym e) tt) h.3 (λ t. (h.5 t).0) clean (λ t. (h.5 t).1)
+      act_known b (Some (LookOf f span)) e i own m =
+          top_known c.stack _ h.0 (λ cell rest kc kr. gives_known (λ t. look_free b f span c.doing (m t)) (fresh_or (Some (LookOf f span)) e (λ x. x)) rest (read f (is_inside c.doing) span cell c.state) kr (read_form_known f (is_inside c.doing) span cell c.state kc mid))
+      act_known b (Some (PutOf f span)) e i own m =
+          two_known c.stack _ h.0 (λ w cell rest kw kc kr. puts_known (λ t. put_free b f span c.doing (m t)) (fresh_or (Some (PutOf f span)) e (λ x. x)) f span w cell rest kw kc kr)
+      act_known b (Some (OpenOf f n span)) e i own m =
+          args_of_known n c.stack _ h.0 (λ vs cell rest kvs kc kr. opens_known (λ t. open_free b f n span c.doing (m t)) (fresh_or (Some (OpenOf f n span)) e (λ x. x)) f span vs cell rest kvs kc kr)
+      act_known b (Some (CloseOf f span)) e i own m =
+          two_known c.stack _ h.0 (λ w cell rest kw kc kr. closes_known (λ t. close_free b f span c.doing (m t)) (fresh_or (Some (CloseOf f span)) e (λ x. x)) f span w cell rest kw kc kr)
+      act_known b (Some (SendOf f n span)) e i own m =
+          args_of_known n c.stack _ h.0 (λ vs cell rest kvs kc kr. gives_known (λ t. send_free b f n span c.doing (m t)) (fresh_or (Some (SendOf f n span)) e (λ x. x)) rest (send_to (is_inside c.doing) span cell f vs c.state) kr (send_known (is_inside c.doing) span cell f vs c.state kc kvs mid))
+      act_known b (Some Halt) e i own m = tt
+      act_known b (Some (TakeOf g)) e i own m = on_known TakenKnown c.doing (take_action g c.state) (λ o s. started g o c s) h.3 (take_known g c.state ((own g).0 refl) mid) (λ o s k q. started_known b m g o s ((own g).0 refl) k q)
+      act_known b (Some RunOf) e i own m = top_known c.stack _ h.0 (λ v rest kv kr. runs_known (fresh_or (Some RunOf) e (λ x. x)) c.state.acting v rest h.4.3 kv kr)
+      act_known b (Some (FinishOf g)) e i own m = hands_known (fresh_or (Some (FinishOf g)) e (λ x. x)) g ((own g).1 refl) (fault_in c.state.acting)
 
-      pub turn_known : CodeIsKnown cells code → (Tidy → MayStandHere c.doing (fetch code c.body c.place)) → TurnKnown (turn code c)
-      turn_known i m = act_known (fetch code c.body c.place) refl (i c.body c.place) m
+      pub turn_known : (b : Bool) → CodeIsKnown cells code → Names Own code → (Tidy → MayStandHere b c.doing (fetch code c.body c.place)) → TurnKnown (turn code c)
+      turn_known b i own m = act_known b (fetch code c.body c.place) refl (i c.body c.place) (own c.body c.place) m

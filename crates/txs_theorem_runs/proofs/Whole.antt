@@ -1,5 +1,5 @@
 -- Every run is explained.
-use Rattle.std.proofs.Common.{◌≡◌, ℕ, zero, suc, List, [], ◌∷◌, length, map, take, Option, Some, None, refl, sym, subst, ◌∙◌, ap, arith}
+use Rattle.std.proofs.Common.{◌≡◌, ℕ, zero, suc, Bool, true, false, inl, List, [], ◌∷◌, length, map, take, Option, Some, None, refl, sym, subst, ◌∙◌, ap, arith}
 use Rattle.txs_world_protocol.specs.declared.ask.Ask.{Ask}
 use Rattle.txs_world_protocol.specs.declared.ask.Ask.TheVariants as ask
 use Rattle.txs_world_protocol.specs.declared.ask.Reply.{Reply}
@@ -21,9 +21,9 @@ use Rattle.txs_world.specs.Laws.{ServeKeeps, DoneIsUndisturbed, StoreStands}
 use Rattle.txs_world_book.specs.Served.{cells_of}
 use Rattle.txs_world.specs.Store.{serve}
 use Rattle.txs_theorem_runs.specs.Shared.{untouched, store_of}
-use Rattle.txs_theorem_runs.specs.Stages.{Stage, Idle, phase_of}
+use Rattle.txs_theorem_runs.specs.Stages.{Stage, first_stage, phase_of}
 use Rattle.txs_theorem_runs.specs.Told.{Entry, exchange_of, EntryHolds, AllHold, history_of}
-use Rattle.txs_theorem_runs.specs.Staged.{IsStaged}
+use Rattle.txs_theorem_runs.specs.Staged.{IsStaged, StandsIn}
 use Rattle.txs_theorem_runs.specs.Explains.{outcome_at, CommitUndisturbed, CommitsUndisturbed, ActorExplained, BooksStand, RunExplained, code_or_none, code_of, ProgramExplained}
 use Rattle.txs_theorem_runs.specs.Invariant.{ActorInvariant, SharedStands, RunInvariant, OpeningHolds, InvariantExplains}
 use Rattle.txs_theorem_runs.specs.Run.{Actor, State, Play, opens, play, plays_from}
@@ -43,15 +43,19 @@ FreshStands = (cells : List CellDefinition) (threads : ℕ) → StoreStands (sto
 pub opening_holds : FreshStands → OpeningHolds
 opening_holds fresh cells threads codes = record {
   shared = record { store = fresh cells threads; atoms = λ c h. record { few = omega arith; each = tt }; by_threads = λ c h. tt };
-  actors = λ a known. record { stage = Idle; ran = refl; told = record { hold = tt; staged = refl; traced = λ n. refl }; staged = (refl, refl) };
+  actors = λ agent a known. record { stage = first_stage agent; ran = refl; told = record { hold = tt; staged = refl; traced = λ n. refl }; staged = (refl, opens_so agent (codes a)) };
 }
+  where
+    opens_so : (agent : Bool) (code : ThreadCode) → StandsIn agent (first_stage agent) (opening code [])
+    opens_so false code = refl
+    opens_so true code = inl refl
 
-consumed : (st : Stage) (o : Turned Configuration) → IsStaged st o → Consumed (outcome_at o)
-consumed st (Ended s) h = h
-consumed st (Failed f s) h = h
-consumed st (Asking s) h = absurd h
-consumed st (Unfinished c) h = h.0
-consumed st Stuck h = tt
+consumed : (agent : Bool) (st : Stage) (o : Turned Configuration) → IsStaged agent st o → Consumed (outcome_at o)
+consumed agent st (Ended s) h = h
+consumed agent st (Failed f s) h = h
+consumed agent st (Asking s) h = absurd h
+consumed agent st (Unfinished c) h = h.0
+consumed agent st Stuck h = tt
 
 then_outcome : (o : Turned Configuration) → and_then o stated ≡ outcome_at o
 then_outcome (Ended s) = refl
@@ -105,11 +109,11 @@ pub all_undisturbed : DoneIsUndisturbed → (cells : List CellDefinition) (threa
 all_undisturbed done cells threads books a [] h = tt
 all_undisturbed done cells threads books a (e ∷ es) h = (entry_undisturbed done cells threads books a e.ask e.reply e.at h.0, all_undisturbed done cells threads books a es h.1)
 
-pub actor_explained : Lower → (cells : List CellDefinition) (threads : ℕ) (code : ThreadCode) (books : ℕ → List Event) (a : ℕ) (x : Actor) → ActorInvariant cells threads code books a x → ActorExplained cells code books a x
+pub actor_explained : Lower → (cells : List CellDefinition) (threads : ℕ) (code : ThreadCode) (books : ℕ → List Event) (a : ℕ) (x : Actor) → ActorInvariant cells threads false code books a x → ActorExplained cells code books a x
 actor_explained by cells threads code books a x k =
     let xs = map exchange_of x.entries in
     let seen = history_of cells books a x.entries in
-    let f : RepliesFit cells Out xs seen = by.fit cells Out xs seen (phase_of cells books k.stage) (told_fits by.stays cells threads books a x.entries k.stage k.told) in
+    let f : RepliesFit cells Out xs seen = by.fit cells Out xs seen (phase_of cells books k.stage) (told_fits by.stays cells threads books a x.entries k.stage k.told.hold k.told.staged) in
     let e : target code x.turns xs ≡ outcome_at x.at = exec_run code x.turns (opening code xs) ∙ ap (λ o. and_then o stated) k.ran ∙ then_outcome x.at in
     record {
       ran = k.ran;
@@ -117,8 +121,8 @@ actor_explained by cells threads code books a x k =
       traced = k.told.traced;
       undisturbed = all_undisturbed by.done cells threads books a x.entries k.told.hold;
       means = λ p same follows. subst (λ (o : Outcome). Explained o (thread_meaning p x.turns seen)) e
-          (follows.explained xs seen x.turns (subst (λ ds. RepliesFit ds Out xs seen) (sym same) f) (subst (λ (o : Outcome). Consumed o) (sym e) (consumed k.stage x.at k.staged)));
-      noted = λ p same follows. follows.noted xs seen x.turns (subst (λ ds. RepliesFit ds Out xs seen) (sym same) f) (subst (λ (o : Outcome). Consumed o) (sym e) (consumed k.stage x.at k.staged));
+          (follows.explained xs seen x.turns (subst (λ ds. RepliesFit ds Out xs seen) (sym same) f) (subst (λ (o : Outcome). Consumed o) (sym e) (consumed false k.stage x.at k.staged)));
+      noted = λ p same follows. follows.noted xs seen x.turns (subst (λ ds. RepliesFit ds Out xs seen) (sym same) f) (subst (λ (o : Outcome). Consumed o) (sym e) (consumed false k.stage x.at k.staged));
     }
 
 books_stand : (cells : List CellDefinition) (threads : ℕ) (st : State) → SharedStands cells threads st.shared → BooksStand cells threads st.shared
@@ -127,7 +131,7 @@ books_stand cells threads st h = record { legal = h.store.legal; undisturbed = h
 pub invariant_explains : Lower → InvariantExplains
 invariant_explains by cells threads codes st h = record {
   books = books_stand cells threads st h.shared;
-  actors = λ a known. actor_explained by cells threads (codes a) st.shared.books a (st.actors a) (h.actors a known);
+  actors = λ a known. actor_explained by cells threads (codes a) st.shared.books a (st.actors a) (h.actors false a known);
 }
 
 all_hold : ServeKeeps → (cells : List CellDefinition) (threads : ℕ) (codes : ℕ → ThreadCode) (ys : List Play) (st : State) → RunInvariant cells threads codes st → RunInvariant cells threads codes (plays_from cells threads codes ys st)

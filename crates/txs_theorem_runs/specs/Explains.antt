@@ -18,7 +18,7 @@ use Rattle.txs_theorem_threads.specs.FollowsAll.{source_of, FollowsAll}
 use Rattle.txs_theorem_threads.specs.Noted.{AreNoted, txs_of}
 use Rattle.txs_theorem_threads.specs.RepliesFit.{Out, RepliesFit, Explained}
 use Rattle.txs_world_book.specs.Atom.{LegalAtom}
-use Rattle.txs_world_book.specs.Book.{Each, Legal, Undisturbed, Untouched, cells_in}
+use Rattle.txs_world_book.specs.Book.{Each, Legal, Undisturbed, Untouched, cells_in, actors}
 use Rattle.txs_world_book.specs.Served.{cells_of}
 use Rattle.txs_theorem_runs.specs.Shared.{Shared, has_atom}
 use Rattle.txs_theorem_runs.specs.Told.{Entry, exchange_of, trace_of, TraceHolds, history_of}
@@ -52,18 +52,18 @@ pub record ActorExplained (cells : List CellDefinition) (code : ThreadCode) (boo
   pub traced : TraceHolds books a (trace_of cells books a x.entries)
   pub undisturbed : CommitsUndisturbed books x.entries
   pub means : (p : ThreadSource) → p.cells ≡ cells → Follows code p → Explained (outcome_at x.at) (thread_meaning p x.turns (history_of cells books a x.entries))
-  pub noted : (p : ThreadSource) → p.cells ≡ cells → Follows code p → AreNoted (map exchange_of x.entries) (txs_of (thread_meaning p x.turns (history_of cells books a x.entries)))
+  pub noted : (p : ThreadSource) → p.cells ≡ cells → Follows code p → AreNoted None (map exchange_of x.entries) (txs_of (thread_meaning p x.turns (history_of cells books a x.entries)))
 
--- a book whose events are those of threads, of which there are so many
-abbrev pub AreThreads : ℕ → List Event → Type 0
-AreThreads threads book = Each (λ done e. e.actor < threads) [] book
+-- a book whose events are those of actors, of which there are so many
+abbrev pub AreActors : ℕ → List Event → Type 0
+AreActors n book = Each (λ done e. e.actor < n) [] book
 
--- the books of a run are legal, no ref that a commit wrote was written between its view and its place, and what is done with atoms is done by threads
+-- the books of a run are legal, no ref that a commit wrote was written between its view and its place, and what is done with atoms is done by threads and agents
 pub record BooksStand (cells : List CellDefinition) (threads : ℕ) (sh : Shared) : Type 0 where
   pub legal : Legal (cells_of cells) threads (sh.books 0)
   pub undisturbed : Undisturbed (sh.books 0)
   pub atoms : (c : CellId) → has_atom cells c ≡ true → LegalAtom c (sh.books (home cells c))
-  pub by_threads : (c : CellId) → has_atom cells c ≡ true → AreThreads threads (sh.books (home cells c))
+  pub by_threads : (c : CellId) → has_atom cells c ≡ true → AreActors (actors threads (cells_of cells)) (sh.books (home cells c))
 
 -- A run holds: its books are legal, and each actor whose code asks in its stages is explained.
 pub record RunHolds (cells : List CellDefinition) (threads : ℕ) (codes : ℕ → ThreadCode) (st : State) : Type 0 where
@@ -90,7 +90,7 @@ pub record ProgramExplains (p : PlainProgram) (st : State) : Type 0 where
   pub threads : (i : ℕ) (t : PlainThread) → nth p.threads i ≡ Some t
       → Explained (outcome_at (st.actors i).at) (thread_meaning (source_of p t) (st.actors i).turns (history_of p.cells st.shared.books i (st.actors i).entries))
   pub noted : (i : ℕ) (t : PlainThread) → nth p.threads i ≡ Some t
-      → AreNoted (map exchange_of (st.actors i).entries) (txs_of (thread_meaning (source_of p t) (st.actors i).turns (history_of p.cells st.shared.books i (st.actors i).entries)))
+      → AreNoted None (map exchange_of (st.actors i).entries) (txs_of (thread_meaning (source_of p t) (st.actors i).turns (history_of p.cells st.shared.books i (st.actors i).entries)))
   pub traced : (i : ℕ) (t : PlainThread) → nth p.threads i ≡ Some t → TraceHolds st.shared.books i (trace_of p.cells st.shared.books i (st.actors i).entries)
   pub undisturbed : (i : ℕ) (t : PlainThread) → nth p.threads i ≡ Some t → CommitsUndisturbed st.shared.books (st.actors i).entries
 

@@ -1,20 +1,21 @@
 -- Which asks of a run are lawful.
-use Rattle.std.specs.Prelude.{◌≡◌, ℕ, true, nat_lt, List, map, Some}
+use Rattle.std.specs.Prelude.{◌≡◌, ℕ, true, not, nat_lt, List, map, Some}
 use Rattle.txs_world_protocol.specs.declared.ask.Ask.{Ask}
 use Rattle.txs_value_data.specs.PlainValue.{PlainValue, nil, truth, int, key, text, vector, cell, PlainValues, end, more}
 use Rattle.txs_value_data.specs.View.{plain_of}
 use Rattle.txs_value_cell.specs.declared.cell.CellDefinition.{CellDefinition}
+use Rattle.txs_value_data.specs.declared.value.CellId.{CellId}
 use Rattle.txs_value_data.specs.declared.value.Value.{Value}
 use Rattle.txs_code_meaning.specs.ActorState.{ActorState}
-use Rattle.txs_code_meaning.specs.Machine.{ThreadCode, fetch, Push, Configuration, Unfinished, Asking, turn}
+use Rattle.txs_code_meaning.specs.Machine.{ThreadCode, fetch, Push, Configuration, Unfinished, Asking, turn, TakeOf, FinishOf}
 use Rattle.txs_code_meaning.specs.PlainCode.{CodeBody, PlainCode, thread_code}
 use Rattle.txs_code_meaning.specs.WellTyped.{WellTyped}
 use Rattle.txs_value_base.specs.Places.{nth}
-use Rattle.txs_world_book.specs.Book.{has_cell, opening}
+use Rattle.txs_world_book.specs.Book.{has_cell, actors, opening, has_agent, actor_of}
 use Rattle.txs_world_book.specs.Served.{cells_of}
 use Rattle.txs_theorem_runs.specs.Explains.{code_of}
 use Rattle.txs_theorem_runs.specs.Shared.{book_for, may_ask}
-use Rattle.txs_theorem_runs.specs.Standing.{StandingCode}
+use Rattle.txs_theorem_runs.specs.Standing.{StandingActor, StandingCode}
 use Rattle.txs_theorem_runs.specs.Run.{State, Play, plays}
 
 -- all cells inside a plain value are among the defined ones
@@ -45,19 +46,23 @@ CodeIsKnown cells code = (b at : ℕ) (v : Value) → fetch code b at ≡ Some (
 abbrev pub OpeningIsKnown : List CellDefinition → Type 0
 OpeningIsKnown cells = (k : ℕ) → IsKnown cells (opening (cells_of cells) k)
 
--- what a thread's next instruction asks, it may ask, where its code's instructions are where they may be
+-- an agent's own instructions name this agent alone
+abbrev pub NamesOwn : CellId → ThreadCode → Type 0
+NamesOwn g code = (b at : ℕ) (h : CellId) → (fetch code b at ≡ Some (TakeOf h) → h ≡ g) × (fetch code b at ≡ Some (FinishOf h) → h ≡ g)
+
+-- what an actor's next instruction asks, it may ask, where its code's instructions are where they may be: so it is of threads and of agents' actors
 abbrev pub AsksAreLawful : List CellDefinition → ℕ → (ℕ → ThreadCode) → State → Type 0
 AsksAreLawful cells threads codes st =
     (a : ℕ) (c : Configuration) (s : ActorState) (q : Ask)
-    → nat_lt a threads ≡ true → StandingCode (codes a)
+    → nat_lt a (actors threads (cells_of cells)) ≡ true → StandingActor (not (nat_lt a threads)) (codes a)
     → (st.actors a).at ≡ Unfinished c → turn (codes a) c ≡ Asking s → s.wants ≡ Some q
     → may_ask cells threads st.shared.taken a q (st.shared.books (book_for cells q)) ≡ true
 
--- where codes and opening values name defined cells alone, so that no thread of the run is stopped for what it asks
+-- where codes and opening values name defined cells alone, and each agent's code its own agent, so that no actor of the run is stopped for what it asks
 abbrev pub RunAsksLawful : Type 0
 RunAsksLawful =
     (cells : List CellDefinition) (threads : ℕ) (codes : ℕ → ThreadCode) (ys : List Play)
-    → OpeningIsKnown cells → ((a : ℕ) → CodeIsKnown cells (codes a))
+    → OpeningIsKnown cells → ((a : ℕ) → CodeIsKnown cells (codes a)) → ((g : CellId) → has_agent (cells_of cells) g ≡ true → NamesOwn g (codes (actor_of threads (cells_of cells) g)))
     → AsksAreLawful cells threads codes (plays cells threads codes ys)
 
 -- the instructions of each thread of well-typed code are where they may be

@@ -7,13 +7,13 @@ use Rattle.txs_value_cell.specs.declared.cell.CellDefinition.{CellDefinition}
 use Rattle.txs_tree_meaning.specs.Thread.{thread_meaning}
 use Rattle.txs_tree_meaning.specs.Tree.{PlainThread, PlainProgram}
 use Rattle.txs_code_meaning.specs.Machine.{ThreadCode, Library}
-use Rattle.txs_code_meaning.specs.PlainCode.{PlainCode, thread_code}
+use Rattle.txs_code_meaning.specs.PlainCode.{PlainCode, thread_code, library_of}
 use Rattle.txs_code_meaning.specs.WellTyped.{WellTyped}
 use Rattle.txs_theorem_threads.specs.FollowsAgent.{FollowsAgents}
 use Rattle.txs_theorem_threads.specs.FollowsAll.{source_of, FollowsAll}
 use Rattle.txs_theorem_threads.specs.Noted.{txs_of}
-use Rattle.txs_theorem_threads.specs.Sends.{CodesSendSound}
-use Rattle.txs_theorem_runs.specs.Agents.{RunsAgents, AgentsExplain}
+use Rattle.txs_theorem_threads.specs.Sends.{CodesSendSound, AgentsSendSound}
+use Rattle.txs_theorem_runs.specs.Agents.{AgentsStaged, RunsAgents, AgentsExplain}
 use Rattle.txs_theorem_runs.specs.Explains.{ProgramExplains}
 use Rattle.txs_theorem_runs.specs.Refused.{RefusalsUndisturbed}
 use Rattle.txs_theorem_runs.specs.Run.{Actor, State, Play, plays}
@@ -55,13 +55,13 @@ pub record ReportExplained (p : PlainProgram) (functions : Library) (st : State)
 abbrev pub CodesStaged : List ThreadCode → Type 0
 CodesStaged codes = (i : ℕ) (code : ThreadCode) → nth codes i ≡ Some code → StagedCode code
 
--- so does the code of each thread of well-typed code
+-- so does the code of each thread and each agent of well-typed code
 abbrev pub TypedAreStaged : Type 0
-TypedAreStaged = (code : PlainCode) (function_rooms thread_rooms : List ℕ) → WellTyped code function_rooms thread_rooms → CodesStaged (map (thread_code code) code.threads)
+TypedAreStaged = (code : PlainCode) (function_rooms thread_rooms : List ℕ) → WellTyped code function_rooms thread_rooms → CodesStaged (map (thread_code code) code.threads) × AgentsStaged (library_of code)
 
 -- A report is explained of each run of a program's threads and agents, where their code follows the program, asks in its stages, and sends only what a program may send
 abbrev pub RunReported : Type 0
 RunReported =
     (p : PlainProgram) (threads : List ThreadCode) (functions : Library) (codes : ℕ → ThreadCode) (ys : List Play)
-    → FollowsAll threads p → FollowsAgents functions p.functions → CodesStaged threads → CodesSendSound p.functions threads → RunsProgram p threads functions codes
+    → FollowsAll threads p → FollowsAgents functions p.cells p.functions → CodesStaged threads → AgentsStaged functions → CodesSendSound p.functions threads → AgentsSendSound p.functions functions → RunsProgram p threads functions codes
     → ReportExplained p functions (plays p.cells (length p.threads) codes ys)

@@ -13,7 +13,7 @@ use Rattle.txs_value_cell.specs.declared.cell.CellDefinition.{CellDefinition}
 use Rattle.txs_value_data.specs.declared.value.CellId.{CellId}
 use Rattle.txs_value_data.specs.declared.value.CellKind.TheVariants.{Atom}
 use Rattle.txs_world_book.specs.Atom.{PlainAtom, atom_after, atom_newest, closes}
-use Rattle.txs_world_book.specs.Book.{has_cell, may_name, opening, after}
+use Rattle.txs_world_book.specs.Book.{has_cell, may_name, opening, after, actors}
 use Rattle.txs_world_book.specs.History.{at_of, view_of}
 use Rattle.txs_world.specs.Store.{PlainStore, store_with, none_taken, is_lawful, serve, taken_after}
 use Rattle.txs_world_book.specs.Served.{cells_of, Served, served, adds}
@@ -74,10 +74,10 @@ may_close book a (Some p) = may_name true book a p
 
 -- whether the actor may ask this, where there are so many threads, and these are the events of the book for the ask
 abbrev pub may_ask : List CellDefinition → ℕ → List Bool → ℕ → Ask → List Event → Bool
-may_ask cells threads taken a (ask.Peek c) book = nat_lt a threads && has_cell (cells_of cells) c
-may_ask cells threads taken a (ask.OpenAt c) book = nat_lt a threads && has_atom cells c
-may_ask cells threads taken a (ask.CloseAt c p v) book = nat_lt a threads && (has_atom cells c && may_close book a p)
-may_ask cells threads taken a (ask.Broke c p) book = nat_lt a threads && (has_atom cells c && may_name true book a p)
+may_ask cells threads taken a (ask.Peek c) book = nat_lt a (actors threads (cells_of cells)) && has_cell (cells_of cells) c
+may_ask cells threads taken a (ask.OpenAt c) book = nat_lt a (actors threads (cells_of cells)) && has_atom cells c
+may_ask cells threads taken a (ask.CloseAt c p v) book = nat_lt a (actors threads (cells_of cells)) && (has_atom cells c && may_close book a p)
+may_ask cells threads taken a (ask.Broke c p) book = nat_lt a (actors threads (cells_of cells)) && (has_atom cells c && may_name true book a p)
 may_ask cells threads taken a q book = is_lawful (store_with (cells_of cells) threads book taken) a q
 
 -- what is shared after an ask was served so

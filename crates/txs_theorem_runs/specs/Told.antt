@@ -10,7 +10,7 @@ use Rattle.txs_value_base.specs.Places.{nth}
 use Rattle.txs_value_cell.specs.declared.cell.CellDefinition.{CellDefinition}
 use Rattle.txs_world_book.specs.Served.{Served}
 use Rattle.txs_theorem_runs.specs.Shared.{book_for, serve_on, may_ask, seen_in}
-use Rattle.txs_theorem_runs.specs.Stages.{Stage, Idle, AsksIn, stage_after}
+use Rattle.txs_theorem_runs.specs.Stages.{Stage, AsksIn, first_stage, stage_after}
 
 -- an ask with its reply, and how many events its book had when it was served
 pub record Entry : Type 0 where
@@ -63,10 +63,10 @@ abbrev pub AllHold : List CellDefinition → ℕ → (ℕ → List Event) → �
 AllHold cells threads books a [] = Unit {0}
 AllHold cells threads books a (e ∷ es) = EntryHolds cells threads books a e × AllHold cells threads books a es
 
--- each ask comes in its stage, from one stage to another
-abbrev pub AreStaged : Stage → List Entry → Stage → Type 0
-AreStaged st [] end = st ≡ end
-AreStaged st (e ∷ es) end = AsksIn st e.ask × AreStaged (stage_after st e.ask e.reply) es end
+-- each ask comes in its stage, from one stage to another; the truth value says whether the actor is an agent's
+abbrev pub AreStaged : Bool → Stage → List Entry → Stage → Type 0
+AreStaged agent st [] end = st ≡ end
+AreStaged agent st (e ∷ es) end = AsksIn agent st e.ask × AreStaged agent (stage_after st e.ask e.reply) es end
 
 -- the place of the event that an entry added, before other places
 abbrev pub adding : List CellDefinition → (ℕ → List Event) → ℕ → Entry → List Place → List Place
@@ -102,9 +102,9 @@ seen_of cells books [] = []
 seen_of cells books (p ∷ ps) = seen_before cells books p (nth (books p.book) p.at) (seen_of cells books ps)
 
 -- These books answered an actor these entries, up to a stage: each holds, each ask comes in its stage, and the events that they added are the actor's, each once and in order.
-pub record ToldBy (cells : List CellDefinition) (threads : ℕ) (books : ℕ → List Event) (a : ℕ) (es : List Entry) (stage : Stage) : Type 0 where
+pub record ToldBy (cells : List CellDefinition) (threads : ℕ) (books : ℕ → List Event) (agent : Bool) (a : ℕ) (es : List Entry) (stage : Stage) : Type 0 where
   pub hold : AllHold cells threads books a es
-  pub staged : AreStaged Idle es stage
+  pub staged : AreStaged agent (first_stage agent) es stage
   pub traced : TraceHolds books a (trace_of cells books a es)
 
 -- what an actor did, with the worlds: the events that its entries added

@@ -1,7 +1,7 @@
 //! What the sources of threads say of runs over what they share. Each law is the contract of a function of its own, which does nothing when it
 //! runs.
 
-ghost use Rattle.txs_theorem_runs.specs.Agents.{ConsumesActions, RunActsMean};
+ghost use Rattle.txs_theorem_runs.specs.Agents.{RunActsMean};
 ghost use Rattle.txs_theorem_runs.specs.Explains.{RunExplained, ProgramExplained};
 ghost use Rattle.txs_theorem_runs.specs.Invariant.{OpeningHolds, PlayHolds, InvariantExplains};
 ghost use Rattle.txs_theorem_runs.specs.Lawful.{RunAsksLawful, TypedStands, TypedActorsStand};
@@ -48,8 +48,8 @@ pub fn every_actor_has_printed()
     replies_fit();
 }
 
-/// Where the constants of all code and the opening values name defined cells alone, every ask of a thread
-/// whose instructions are where they may be is lawful: so it is not stopped for what it asks.
+/// Where the constants of all code and the opening values name defined cells alone, and each agent's code its own agent, every ask of a
+/// thread or an agent whose instructions are where they may be is lawful. So it is not stopped for what it asks.
 pub fn every_ask_is_lawful()
     ensures { RunAsksLawful }
 {
@@ -71,7 +71,7 @@ pub fn typed_actors_stand()
     ensures { TypedActorsStand }
 {}
 
-/// So the code of each thread of well-typed code asks at most once a turn, and each ask comes in its stage.
+/// So the code of each thread and each agent of well-typed code asks at most once a turn, and each ask comes in its stage.
 pub fn typed_threads_are_staged()
     ensures { TypedAreStaged }
 {}
@@ -121,19 +121,18 @@ pub fn alone_history()
     history_of_whole();
 }
 
-/// A turn that asks for an action, or hands one in, continues with any reply, and has consumed it.
-pub fn actions_are_consumed()
-    ensures { ConsumesActions }
-{}
-
-/// Each action that an agent hands in is what its callee means on the state that the agent found, of the action that was the first in
-/// its mail; where the action has a meaning, the agent's code comes to hand it in. What the threads send a program may send. An agent
-/// never ends, and prints nothing.
+/// What each agent's actor did means what its actions mean: of each act the first in its mail, on the state that the agent found and on
+/// what its actor did since the act before it, with what was printed and what it sends. What all code sends a program may send. An agent
+/// never ends.
 pub fn every_action_means()
     ensures { RunActsMean }
 {
-    action_stays();
+    unwritten_stays();
     serve_keeps();
+    done_is_undisturbed();
+    refused_is_undisturbed();
+    action_stays();
+    replies_fit();
 }
 
 /// What a transaction set or ensured wasn't written before its commit was refused, nor what it commuted since its view; the agent is that

@@ -1,5 +1,5 @@
 -- A covered transaction is serial.
-use Rattle.std.proofs.Common.{◌≡◌, ℕ, Bool, true, false, ◌||◌, ◌==◌, List, [], ◌∷◌, length, refl, sym, ap, ◌∙◌, subst}
+use Rattle.std.proofs.Common.{◌≡◌, ℕ, Bool, true, false, ◌||◌, ◌==◌, List, [], ◌∷◌, length, refl, sym, ap, ◌∙◌, subst, Option}
 use Rattle.std.specs.Prelude.{not}
 use Rattle.std.proofs.lemmas.Bool.{eqb-true, false≢true}
 use Rattle.txs_world_protocol.specs.Ask.{Writes}
@@ -62,8 +62,8 @@ met_suits functions n x R sound marks met =
     (tree_carried n functions sound marks R R (length functions) (calls_carried n functions sound marks R R (length functions)) x.body true x.wanted x.locals tx_start (body_within functions x.body (length x.locals) met.body_sound) met.body_marked) in
     subst (Stays q R R P tx_start) met.means h.2 tt
 
-module _ (functions : List PlainFunction) (validators : Validators) (n : ℕ) (x : TxRun) (R C : World) (writes : Writes) (sends : List Action) (sound : SoundFunctions [] functions) (marks : MarkedFunctions functions)
-    (did : Committed functions validators n x R C writes sends) (covered : is_covered x.state ≡ true) (agree : AgreeOn x.state.done R C) where
+module _ (functions : List PlainFunction) (validators : Validators) (held : Option (List Action)) (n : ℕ) (x : TxRun) (R C : World) (writes : Writes) (sends : List Action) (sound : SoundFunctions [] functions) (marks : MarkedFunctions functions)
+    (did : Committed functions validators held n x R C writes sends) (covered : is_covered x.state ≡ true) (agree : AgreeOn x.state.done R C) where
   abbrev q : Applies (Unit {0})
   q = quietly n functions (length functions) nowhere
 
@@ -96,7 +96,7 @@ module _ (functions : List PlainFunction) (validators : Validators) (n : ℕ) (x
   goes : Goes q R C P x.wanted (Completes x.result x.state) (meaning C)
   goes = subst (λ z. Goes q R C P x.wanted z (meaning C)) did.met.means (body_carried.1 [] near_start)
 
-  pub serial : IsSerial functions validators n x C writes sends
+  pub serial : IsSerial functions validators n x C writes x.state.done.sends
   serial =
       let r = goes fine in record {
         result = r.0;
@@ -106,9 +106,9 @@ module _ (functions : List PlainFunction) (validators : Validators) (n : ℕ) (x
             ap (λ (ws : Writes). bind (commute_writes (purely n functions) x.state.done C tt) (λ vs u. if_accepted (purely n functions) validators nowhere (merged ws vs) u))
             (sym (alike_sets (loose x.state.done.sets x.state.done.commutes) x.state.done.sets (λ k h. set_tight x.state.done.sets x.state.done.commutes k h) x.state.done.values r.1 r.4.alike))
             ∙ did.writes_same;
-        sends_same = did.sends_same;
+        sends_same = refl;
         result_same = λ w. sym (r.3 w);
       }
 
 pub covered_is_serial : CoveredIsSerial
-covered_is_serial functions validators n x R C writes sends sound marks did covered agree = serial functions validators n x R C writes sends sound marks did covered agree
+covered_is_serial functions validators n held x R C writes sends sound marks did covered agree = serial functions validators held n x R C writes sends sound marks did covered agree

@@ -180,7 +180,7 @@ module _ (n : ℕ) (functions : List PlainFunction) (sound : SoundFunctions [] f
           (tree_carried cell inside true env s p.0 k.1)
           (λ c s1. bind_carried q R C P w s1 (eval_all (in_transaction R) (callR b) n inside args env s1) (λ xs. eval_all (in_transaction C) (callC b) n inside args env (moved xs s1))
           (λ vs s2. (in_transaction R).send inside m c callee vs s2) (λ vs s2. (in_transaction C).send inside m c callee vs s2)
-          (all_carried args inside env s1 p.2 k.2) (λ vs s2. sends w inside m c callee vs s2))
+          (all_carried args inside env s1 p.1 k.2) (λ vs s2. sends w inside m c callee vs s2))
 
       all_carried : (es : Trees) (inside : Bool) (env : List Value) (s : TxState) → KeepAll (within functions b) inside es → MarkedAll es → Carried q R C P true s (eval_all (in_transaction R) (callR b) n inside es env s) (λ xs. eval_all (in_transaction C) (callC b) n inside es env (moved xs s))
       all_carried none inside env s p k = value_carried q R C P true s []

@@ -101,7 +101,7 @@ quiet_alike n functions cf cg = record {
   look = λ form inside m c s t q i r. tt;
   put = λ form inside m c v s t q i h r. tt;
   update = λ form inside m c callee vs s t q i p h r. tt;
-  send = λ inside m c callee vs s t i p r. tt;
+  send = λ inside m c callee vs s t i r. tt;
   dosync = λ inside m e env s t i p h a r. tt;
 }
 
@@ -136,7 +136,7 @@ tx_alike R n functions cf cg = record {
   look = λ form inside m c s t may i r. from_same TxState (λ u. (in_transaction R).look form inside m c u) s t r;
   put = λ form inside m c w s t may i a r. from_same TxState (λ u. on_cell (form_of.Put form) true m.span c (λ d t1. tx_put form m.span d w t1) u) s t r;
   update = λ form inside m c callee vs s t may i p a r. from_alike TxState _ _ (update_alike R form m callee vs _ _ (a (λ f. tt)) c) s t r;
-  send = λ inside m c callee vs s t i p r. from_same TxState (λ u. (in_transaction R).send inside m c callee vs u) s t r;
+  send = λ inside m c callee vs s t i r. from_same TxState (λ u. (in_transaction R).send inside m c callee vs u) s t r;
   dosync = λ inside m e env s t i p b a r. b tt s t r;
 }
 

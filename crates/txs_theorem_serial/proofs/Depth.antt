@@ -55,7 +55,7 @@ module _ (n : ℕ) (functions : List PlainFunction) (sound : SoundFunctions [] f
     look = λ form inside m c s t q i r. refl;
     put = λ form inside m c v s t q i h r. refl;
     update = λ form inside m c callee vs s t q i p h r. refl;
-    send = λ inside m c callee vs s t i p r. refl;
+    send = λ inside m c callee vs s t i r. refl;
     dosync = λ inside m e env s t i p h a r. refl;
   }
 

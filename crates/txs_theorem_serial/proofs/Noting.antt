@@ -1,4 +1,4 @@
--- A thread notes a transaction for each commit and each refusal that it eats.
+-- A thread, or an action, notes a transaction for each commit and each refusal that it eats.
 use Rattle.std.proofs.Common.{◌≡◌, ◌≤◌, ℕ, zero, suc, ◌+◌, ◌==◌, ◌&&◌, Bool, true, false, List, [], ◌∷◌, ◌++◌, length, length-append, take, Option, Some, None, Result, Ok, Err, nat_eq, refl, sym, ap, ◌∙◌, subst, arith, if◌then◌else◌}
 use Rattle.std.proofs.lemmas.Bool.{eqb-true, false≢true}
 use Rattle.std.proofs.lemmas.List.{append_assoc, append-nil}
@@ -21,7 +21,7 @@ use Rattle.txs_value_cell.specs.declared.form.PutForm.TheVariants.{RefSet, Reset
 use Rattle.txs_value_cell.specs.declared.form.UpdateForm.{UpdateForm}
 use Rattle.txs_value_cell.specs.declared.form.UpdateForm.TheVariants.{Alter, Commute, Swap}
 use Rattle.txs_frame.specs.declared.frame.Commute.{Commute as CommuteOf}
-use Rattle.txs_frame.specs.Frame.{PlainTxFrame, set_writes, commuted, phase_work}
+use Rattle.txs_frame.specs.Frame.{PlainTxFrame, set_writes, commuted, phase_work, sends_of_commit}
 use Rattle.txs_value_apply.specs.Core.{core, vector_of}
 use Rattle.txs_value_apply.specs.Truth.{choose}
 use Rattle.txs_value_base.specs.Places.{nth, fault_at}
@@ -29,23 +29,25 @@ use Rattle.txs_value_base.specs.declared.fault.FaultKind.{FaultKind}
 use Rattle.txs_value_base.specs.declared.fault.FaultKind.TheVariants.{AgentFailed}
 use Rattle.txs_value_base.specs.declared.fault.Span.{Span}
 use Rattle.txs_value_base.specs.declared.op.Callee.{Callee}
+use Rattle.txs_value_base.specs.declared.op.Callee.TheVariants.{Core as CoreOp, Function}
 use Rattle.txs_value_data.specs.Limits.{reruns}
 use Rattle.txs_value_data.specs.declared.value.CellId.{CellId}
 use Rattle.txs_value_data.specs.declared.value.Value.{Value}
 use Rattle.txs_value_data.specs.declared.value.Value.TheVariants.{Nil, Truth, Int, Key, Text, Vector, Cell}
 use Rattle.txs_tree_meaning.specs.Known.{known}
-use Rattle.txs_tree_meaning.specs.Meaning.{Completion, Completes, Recurs, Faults, Retries, Waits, OutOfTurns, Invalid, bind, again, closed, give, result_of, allowed, Applies, turns, apply, eval, eval_all, eval_let, eval_do, call_at}
+use Rattle.txs_tree_meaning.specs.Meaning.{Completion, Completes, Recurs, Faults, Retries, Waits, OutOfTurns, Invalid, bind, again, give, result_of, allowed, Applies, turns, apply, eval, eval_all, eval_let, eval_do, call_at}
 use Rattle.txs_tree_meaning.specs.Pure.{nowhere}
 use Rattle.txs_tree_meaning.specs.Sound.{Zone, in_function, in_thread, in_dosync, SoundTree, SoundAll, SoundLet, SoundDo, SoundFunctions, SoundCells}
-use Rattle.txs_tree_meaning.specs.Thread.{TxRun, ThreadState, with_tx, eats, meant, reads, resets, faulted, faultless, swaps, sends, sends_or_holds, over, Transacting, run_of, ends_tx, is_retry, uneaten, eats_tx, Surroundings, thread_look, thread_put, thread_update, on_events, thread_meaning}
+use Rattle.txs_tree_meaning.specs.Thread.{TxRun, ThreadState, from_events, body_in, applies_in, action_meaning, with_tx, holding, eats, meant, reads, resets, faulted, faultless, swaps, sends, sends_or_holds, over, Transacting, run_of, ends_tx, is_retry, uneaten, eats_tx, Surroundings, thread_look, thread_put, thread_update, on_events, thread_meaning, accepts}
 use Rattle.txs_tree_meaning.specs.Transaction.{TxState, value_or, valued, merged, redone, judged, validated, accepted, if_accepted, final_writes, tx_meaning}
 use Rattle.txs_tree_meaning.specs.Tree.{Mark, Tree, Const, Local, If, Do, Let, Loop, Recur, Core, Call, VectorOf, Println, Dosync, Look, Put, Update, Send, Trees, none, more, count, PlainFunction}
 use Rattle.txs_tree_meaning.proofs.Callable.{both, function_at, nth-take, tree-widened}
 use Rattle.txs_theorem_threads.specs.Noted.{IsNone}
+use Rattle.txs_theorem_threads.proofs.Account.{begin_of, sends_begin, begin_with}
 use Rattle.txs_theorem_threads.proofs.Accepted.{AllValidators, validator_such, validators_pure, validated_carried, made_carried, final_carried}
 use Rattle.txs_theorem_threads.proofs.Callees.{IsPure, sound_pure}
 use Rattle.txs_theorem_threads.proofs.Quiet.{carried, IsQuiet, quietly, callee_carried, AllCommutes}
-use Rattle.txs_theorem_serial.specs.Laws.{ThreadsNote}
+use Rattle.txs_theorem_serial.specs.Laws.{ThreadsNote, ActionsNote}
 use Rattle.txs_tree_meaning.specs.Marked.{Marked, MarkedAll, MarkedDo, MarkedFunctions}
 use Rattle.txs_theorem_serial.specs.Serial.{purely, Met, Committed, RunOf, RunsOf, Noted, EndsNoted}
 use Rattle.txs_theorem_serial.proofs.Alone.{met_suits}
@@ -72,13 +74,14 @@ Any a = Unit {0}
 abbrev given : Writes → Completion (Unit {0}) Writes
 given ws = Completes ws tt
 
-module _ (cells : List CellDefinition) (functions : List PlainFunction) (n : ℕ) where
+-- the sends that are held where it begins say whether it holds any
+module _ (cells : List CellDefinition) (functions : List PlainFunction) (from : Option (List Action)) (n : ℕ) where
   abbrev validators : Validators
   validators = validators_of cells
 
   -- ---- transactions of more events
 
-  run_on : (k : EventKind) (R Q C : World) (rest next : List TxRun → Type 0) (xs ys : List TxRun) → ((zs : List TxRun) → rest zs → next (zs ++ ys)) → RunOf functions validators n k R Q C rest xs → RunOf functions validators n k R Q C next (xs ++ ys)
+  run_on : (k : EventKind) (R Q C : World) (rest next : List TxRun → Type 0) (xs ys : List TxRun) → ((zs : List TxRun) → rest zs → next (zs ++ ys)) → RunOf functions validators from n k R Q C rest xs → RunOf functions validators from n k R Q C next (xs ++ ys)
   run_on (event.Read c) R Q C rest next xs ys h r = h xs r
   run_on (event.Commit at view ws sends) R Q C rest next [] ys h r = absurd r
   run_on (event.Commit at view ws sends) R Q C rest next (x ∷ xs) ys h r = (r.0, h xs r.1)
@@ -92,51 +95,58 @@ module _ (cells : List CellDefinition) (functions : List PlainFunction) (n : ℕ
   run_on (event.Swap new) R Q C rest next xs ys h r = h xs r
   run_on (event.Broke at) R Q C rest next xs ys h r = h xs r
 
-  runs_both : (es fs : List SeenEvent) (xs ys : List TxRun) → RunsOf functions validators n es xs → RunsOf functions validators n fs ys → RunsOf functions validators n (es ++ fs) (xs ++ ys)
+  runs_both : (es fs : List SeenEvent) (xs ys : List TxRun) → RunsOf functions validators from n es xs → RunsOf functions validators from n fs ys → RunsOf functions validators from n (es ++ fs) (xs ++ ys)
   runs_both [] fs [] ys h k = k
   runs_both [] fs (x ∷ xs) ys h k = absurd h
-  runs_both (e ∷ es) fs xs ys h k = run_on e.kind e.R e.Q e.C (λ zs. RunsOf functions validators n es zs) (λ zs. RunsOf functions validators n (es ++ fs) zs) xs ys (λ zs r. runs_both es fs zs ys r k) h
+  runs_both (e ∷ es) fs xs ys h k = run_on e.kind e.R e.Q e.C (λ zs. RunsOf functions validators from n es zs) (λ zs. RunsOf functions validators from n (es ++ fs) zs) xs ys (λ zs r. runs_both es fs zs ys r k) h
 
   module _ (es0 : List SeenEvent) where
     abbrev NotedIn : List SeenEvent → List TxRun → Type 0
-    NotedIn todo txs = Noted functions validators n es0 todo txs
+    NotedIn todo txs = Noted functions validators from n es0 todo txs
 
     abbrev NotedAt : ThreadState → Type 0
-    NotedAt t = NotedIn t.todo t.txs
+    NotedAt t = (begin_of t.held ≡ from) × NotedIn t.todo t.txs
+
+    -- the same with these events to come
+    abbrev NotedWith : List SeenEvent → ThreadState → Type 0
+    NotedWith es t = NotedAt (record t { todo = es })
 
     -- one more event is eaten, with its transaction, if it is such a one
-    abbrev Next : EventKind → World → World → World → List SeenEvent → List TxRun → Type 0
-    Next k R Q C es txs = (xs : List TxRun) → RunOf functions validators n k R Q C IsNone xs → NotedIn es (txs ++ xs)
+    abbrev Next : EventKind → World → World → World → ThreadState → Type 0
+    Next k R Q C t = (begin_of t.held ≡ from) × ((xs : List TxRun) → RunOf functions validators from n k R Q C IsNone xs → NotedIn t.todo (t.txs ++ xs))
 
-    next_event : (e : SeenEvent) (es : List SeenEvent) (txs : List TxRun) → NotedIn (e ∷ es) txs → Next e.kind e.R e.Q e.C es txs
-    next_event e es txs h xs r = record {
-      eaten = h.eaten ++ e ∷ [];
-      split = h.split ∙ sym (append_assoc h.eaten (e ∷ []) es);
-      runs = runs_both h.eaten (e ∷ []) txs xs h.runs r;
-    }
+    next_event : (e : SeenEvent) (es : List SeenEvent) (t : ThreadState) → NotedWith (e ∷ es) t → Next e.kind e.R e.Q e.C (record t { todo = es })
+    next_event e es t h = (
+      h.0,
+      λ xs r. record {
+        eaten = h.1.eaten ++ e ∷ [];
+        split = h.1.split ∙ sym (append_assoc h.1.eaten (e ∷ []) es);
+        runs = runs_both h.1.eaten (e ∷ []) t.txs xs h.1.runs r;
+      },
+    )
 
     -- an event without a transaction
-    without : (k : EventKind) (R Q C : World) (es : List SeenEvent) (txs : List TxRun) → Next k R Q C es txs → RunOf functions validators n k R Q C IsNone [] → NotedIn es txs
-    without k R Q C es txs next r = subst (λ xs. NotedIn es xs) (append-nil txs) (next [] r)
+    without : (k : EventKind) (R Q C : World) (t : ThreadState) → Next k R Q C t → RunOf functions validators from n k R Q C IsNone [] → NotedAt t
+    without k R Q C t next r = (next.0, subst (λ xs. NotedIn t.todo xs) (append-nil t.txs) (next.1 [] r))
 
-    -- wherever it is, the events that were eaten have their transactions
+    -- wherever it is, the events that were eaten have their transactions; where it waits, all were eaten
     abbrev Reaches : {A : Type 0} → (A → Type 0) → Completion ThreadState A → Type 0
     Reaches P (Completes a t) = P a × NotedAt t
     Reaches P (Recurs vs t) = NotedAt t
     Reaches P (Faults f t) = NotedAt t
     Reaches P (Retries t) = NotedAt t
-    Reaches P (Waits t) = NotedAt t
+    Reaches P (Waits t) = NotedAt t × (t.todo ≡ [])
     Reaches P (OutOfTurns t) = NotedAt t
     Reaches P Invalid = Unit {0}
 
-    -- the same at an event that is being eaten: where turns don't suffice, the transactions are still these
+    -- the same at an event that is being eaten: where turns don't suffice, the transactions are still these; there nothing waits
     abbrev Within : {A : Type 0} → List TxRun → Completion ThreadState A → Type 0
     Within txs (Completes a t) = NotedAt t
     Within txs (Recurs vs t) = NotedAt t
     Within txs (Faults f t) = NotedAt t
     Within txs (Retries t) = NotedAt t
-    Within txs (Waits t) = NotedAt t
-    Within txs (OutOfTurns t) = t.txs ≡ txs
+    Within txs (Waits t) = ⊥
+    Within txs (OutOfTurns t) = (begin_of t.held ≡ from) × (t.txs ≡ txs)
     Within txs Invalid = Unit {0}
 
     within_reaches : (l : List SeenEvent) (txs : List TxRun) (c : Completion ThreadState Value) → NotedIn l txs → Within txs c → Reaches Any (uneaten l c)
@@ -144,8 +154,8 @@ module _ (cells : List CellDefinition) (functions : List PlainFunction) (n : ℕ
     within_reaches l txs (Recurs vs t) g h = h
     within_reaches l txs (Faults f t) g h = h
     within_reaches l txs (Retries t) g h = h
-    within_reaches l txs (Waits t) g h = h
-    within_reaches l txs (OutOfTurns t) g h = subst (NotedIn l) (sym h) g
+    within_reaches l txs (Waits t) g h = absurd h
+    within_reaches l txs (OutOfTurns t) g h = (h.0, subst (NotedIn l) (sym h.1) g)
     within_reaches l txs Invalid g h = tt
 
     abbrev Many : ℕ → List Value → Type 0
@@ -205,20 +215,20 @@ module _ (cells : List CellDefinition) (functions : List PlainFunction) (n : ℕ
 
     -- ---- forms outside transactions
 
-    eats_reaches : (book : ℕ) (go : SeenEvent → ThreadState → Completion ThreadState Value) → ((e : SeenEvent) (t : ThreadState) → Next e.kind e.R e.Q e.C t.todo t.txs → Within t.txs (go e t)) → (es : List SeenEvent) (t : ThreadState) → NotedIn es t.txs → NotedAt t → Reaches Any (eats book go es t)
-    eats_reaches book go h [] t g here = here
-    eats_reaches book go h (e ∷ es) t g here = of_book (e.book == book)
+    eats_reaches : (book : ℕ) (go : SeenEvent → ThreadState → Completion ThreadState Value) → ((e : SeenEvent) (t : ThreadState) → Next e.kind e.R e.Q e.C t → Within t.txs (go e t)) → (es : List SeenEvent) (t : ThreadState) → t.todo ≡ es → NotedWith es t → NotedAt t → Reaches Any (eats book go es t)
+    eats_reaches book go h [] t to g here = (here, to)
+    eats_reaches book go h (e ∷ es) t to g here = of_book (e.book == book)
       where
         of_book : (b : Bool) → Reaches Any (if b then uneaten (e ∷ es) (go e (record t { todo = es })) else Invalid)
-        of_book true = within_reaches (e ∷ es) t.txs (go e (record t { todo = es })) g (h e (record t { todo = es }) (next_event e es t.txs g))
+        of_book true = within_reaches (e ∷ es) t.txs (go e (record t { todo = es })) g.1 (h e (record t { todo = es }) (next_event e es t g))
         of_book false = tt
 
-    read_reaches : (c : CellId) (k : EventKind) (R Q C : World) (t : ThreadState) → Next k R Q C t.todo t.txs → Within t.txs (reads c k C t)
-    read_reaches c (event.Read d) R Q C t next = meant_within (same_cell c d) (C c.number) t.txs t (without (event.Read d) R Q C t.todo t.txs next tt)
+    read_reaches : (c : CellId) (k : EventKind) (R Q C : World) (t : ThreadState) → Next k R Q C t → Within t.txs (reads c k C t)
+    read_reaches c (event.Read d) R Q C t next = meant_within (same_cell c d) (C c.number) t.txs t (without (event.Read d) R Q C t next tt)
     read_reaches c _ R Q C t next = tt
 
-    reset_reaches : (v : Value) (k : EventKind) (R Q C : World) (t : ThreadState) → Next k R Q C t.todo t.txs → Within t.txs (resets v k t)
-    reset_reaches v (event.Swap new) R Q C t next = meant_within (same_value v new) v t.txs t (without (event.Swap new) R Q C t.todo t.txs next tt)
+    reset_reaches : (v : Value) (k : EventKind) (R Q C : World) (t : ThreadState) → Next k R Q C t → Within t.txs (resets v k t)
+    reset_reaches v (event.Swap new) R Q C t next = meant_within (same_value v new) v t.txs t (without (event.Swap new) R Q C t next tt)
     reset_reaches v _ R Q C t next = tt
 
     -- a swap, whose callee is pure
@@ -229,7 +239,7 @@ module _ (cells : List CellDefinition) (functions : List PlainFunction) (n : ℕ
       swap_to new t g (Faults e u) w = tt
       swap_to new t g (Retries u) w = tt
       swap_to new t g (Waits u) w = absurd w
-      swap_to new t g (OutOfTurns u) w = refl
+      swap_to new t g (OutOfTurns u) w = (g.0, refl)
       swap_to new t g Invalid w = tt
 
       swap_breaks : (t : ThreadState) → NotedAt t → (z : Completion (Unit {0}) Value) → IsQuiet z → Within {A = Value} t.txs (faulted (carried t z) (λ y t1. Faults y t1))
@@ -238,24 +248,24 @@ module _ (cells : List CellDefinition) (functions : List PlainFunction) (n : ℕ
       swap_breaks t g (Faults e u) w = g
       swap_breaks t g (Retries u) w = tt
       swap_breaks t g (Waits u) w = absurd w
-      swap_breaks t g (OutOfTurns u) w = refl
+      swap_breaks t g (OutOfTurns u) w = (g.0, refl)
       swap_breaks t g Invalid w = tt
 
-      swap_reaches : (k : EventKind) (R Q C : World) (t : ThreadState) → Next k R Q C t.todo t.txs → Within t.txs (swaps c f k R C t)
+      swap_reaches : (k : EventKind) (R Q C : World) (t : ThreadState) → Next k R Q C t → Within t.txs (swaps c f k R C t)
       swap_reaches (event.Swap new) R Q C t next =
           let p = pure (C c.number) t in
-          subst (λ z. Within t.txs (faultless z (λ v t1. meant (same_value v new) v t1))) (sym p.0) (swap_to new t (without (event.Swap new) R Q C t.todo t.txs next tt) (q (C c.number)) p.1)
+          subst (λ z. Within t.txs (faultless z (λ v t1. meant (same_value v new) v t1))) (sym p.0) (swap_to new t (without (event.Swap new) R Q C t next tt) (q (C c.number)) p.1)
       swap_reaches (event.Broke at) R Q C t next =
           let p = pure (R c.number) t in
-          subst (λ z. Within t.txs (faulted z (λ y t1. Faults y t1))) (sym p.0) (swap_breaks t (without (event.Broke at) R Q C t.todo t.txs next tt) (q (R c.number)) p.1)
+          subst (λ z. Within t.txs (faulted z (λ y t1. Faults y t1))) (sym p.0) (swap_breaks t (without (event.Broke at) R Q C t next tt) (q (R c.number)) p.1)
       swap_reaches _ R Q C t next = tt
 
-    send_reaches : (a : Action) (span : Span) (k : EventKind) (R Q C : World) (t : ThreadState) → Next k R Q C t.todo t.txs → Within t.txs (sends a span k t)
-    send_reaches a span (event.Send b) R Q C t next = meant_within (same_action a b) (Cell a.agent) t.txs t (without (event.Send b) R Q C t.todo t.txs next tt)
+    send_reaches : (a : Action) (span : Span) (k : EventKind) (R Q C : World) (t : ThreadState) → Next k R Q C t → Within t.txs (sends a span k t)
+    send_reaches a span (event.Send b) R Q C t next = meant_within (same_action a b) (Cell a.agent) t.txs t (without (event.Send b) R Q C t next tt)
     send_reaches a span (event.SendRefused g) R Q C t next = test (same_cell a.agent g)
       where
         test : (b : Bool) → Within {A = Value} t.txs (if b then Faults (fault_at AgentFailed span) t else Invalid)
-        test true = without (event.SendRefused g) R Q C t.todo t.txs next tt
+        test true = without (event.SendRefused g) R Q C t next tt
         test false = tt
     send_reaches a span _ R Q C t next = tt
 
@@ -338,107 +348,115 @@ module _ (cells : List CellDefinition) (functions : List PlainFunction) (n : ℕ
             ap (λ z. bind z (λ vs s1. if_accepted (purely n functions) validators nowhere (merged (set_writes w) vs) s1)) (redone_deeper (phase_work w) (valued (commuted w) C) r.0 r.2)
             ∙ ap (λ z. bind z (λ u s1. Completes all s1)) (accepted_deeper all k.2) ∙ k.3
 
-        commit_meant : (writes : Writes) (sent : List Action) (R C : World) (ws : Writes) (v : Value) (s : TxState) → d.on R ≡ Completes v s → final_writes q validators m.span s.done C tt ≡ Completes ws tt → (same_writes ws writes && same_actions s.done.sends sent) ≡ true → Committed functions validators n (run_of d v s) R C writes sent
-        commit_meant writes sent R C ws v s h k same =
-            let parts = both (same_writes ws writes) (same_actions s.done.sends sent) same in record {
+        commit_meant : (writes : Writes) (sent : List Action) (R C : World) (ws : Writes) (v : Value) (s : TxState) (o : Option (List Action)) → begin_of o ≡ from → d.on R ≡ Completes v s → final_writes q validators m.span s.done C tt ≡ Completes ws tt → (same_writes ws writes && same_actions (sends_of_commit o s.done.sends) sent) ≡ true
+            → Committed functions validators from n (run_of d v s) R C writes sent
+        commit_meant writes sent R C ws v s o begins h k same =
+            let parts = both (same_writes ws writes) (same_actions (sends_of_commit o s.done.sends) sent) same in record {
               met = met R v s h;
               writes_same = finals_deeper s.done C ws k ∙ ap (λ (l : Writes). given l) (same_writes-sound ws writes parts.0);
-              sends_same = sends_equal s.done.sends sent parts.1;
+              sends_same = sym (ap (λ p. sends_of_commit p s.done.sends) begins) ∙ sym (sends_begin o s.done.sends) ∙ sends_equal (sends_of_commit o s.done.sends) sent parts.1;
             }
 
         suits : (R : World) (v : Value) (s : TxState) → d.on R ≡ Completes v s → AllCommutes (IsPure (known functions)) s.done.commutes
         suits R v s h = met_suits functions n (run_of d v s) R sound marks (met R v s h)
 
         -- a commit
-        module _ (at view : ℕ) (writes : Writes) (sent : List Action) (R Q C : World) (t : ThreadState) (next : Next (event.Commit at view writes sent) R Q C t.todo t.txs) where
+        module _ (at view : ℕ) (writes : Writes) (sent : List Action) (R Q C : World) (t : ThreadState) (next : Next (event.Commit at view writes sent) R Q C t) where
+          -- what the event says is that of the run
+          abbrev told : Writes → TxState → ThreadState → Bool
+          told ws s t1 = same_writes ws writes && same_actions (sends_of_commit t1.held s.done.sends) sent
+
+          abbrev landed : Value → TxState → ThreadState → ThreadState
+          landed v s t1 = holding s.done.sends (with_tx (run_of d v s) t1)
+
           commit_ends : (z : Completion TxState Value) → d.on R ≡ z
-              → Within {A = Value} t.txs (over t z (λ v s. faultless (final_writes f validators m.span s.done C t) (λ ws t1. meant (same_writes ws writes && same_actions s.done.sends sent) v (with_tx (run_of d v s) t1))) (λ g. Invalid))
+              → Within {A = Value} t.txs (over t z (λ v s. faultless (final_writes f validators m.span s.done C t) (λ ws t1. meant (told ws s t1) v (landed v s t1))) (λ g. Invalid))
           commit_ends (Completes v s) h =
-              subst (λ y. Within {A = Value} t.txs (faultless y (λ ws t1. meant (same_writes ws writes && same_actions s.done.sends sent) v (with_tx (run_of d v s) t1)))) (sym (finals s.done (suits R v s h) C t)) (after (final_writes q validators m.span s.done C tt) refl)
+              subst (λ y. Within {A = Value} t.txs (faultless y (λ ws t1. meant (told ws s t1) v (landed v s t1)))) (sym (finals s.done (suits R v s h) C t)) (after (final_writes q validators m.span s.done C tt) refl)
             where
-              tested : (ws : Writes) → final_writes q validators m.span s.done C tt ≡ Completes ws tt → (c : Bool) → (same_writes ws writes && same_actions s.done.sends sent) ≡ c → Within {A = Value} t.txs (meant c v (with_tx (run_of d v s) t))
-              tested ws k true e = next (run_of d v s ∷ []) (commit_meant writes sent R C ws v s h k e, tt)
+              tested : (ws : Writes) → final_writes q validators m.span s.done C tt ≡ Completes ws tt → (c : Bool) → told ws s t ≡ c → Within {A = Value} t.txs (meant c v (landed v s t))
+              tested ws k true e = (begin_with s.done.sends t.held ∙ next.0, next.1 (run_of d v s ∷ []) (commit_meant writes sent R C ws v s t.held next.0 h k e, tt))
               tested ws k false e = tt
 
-              after : (y : Completion (Unit {0}) Writes) → final_writes q validators m.span s.done C tt ≡ y → Within {A = Value} t.txs (faultless (carried t y) (λ ws t1. meant (same_writes ws writes && same_actions s.done.sends sent) v (with_tx (run_of d v s) t1)))
-              after (Completes ws tt) k = tested ws k (same_writes ws writes && same_actions s.done.sends sent) refl
+              after : (y : Completion (Unit {0}) Writes) → final_writes q validators m.span s.done C tt ≡ y → Within {A = Value} t.txs (faultless (carried t y) (λ ws t1. meant (told ws s t1) v (landed v s t1)))
+              after (Completes ws tt) k = tested ws k (told ws s t) refl
               after (Recurs vs u) k = tt
               after (Faults g u) k = tt
               after (Retries u) k = tt
               after (Waits u) k = absurd (subst IsQuiet k (quiet_finals s.done (suits R v s h) C t))
-              after (OutOfTurns u) k = refl
+              after (OutOfTurns u) k = (next.0, refl)
               after Invalid k = tt
           commit_ends (Recurs vs s) h = tt
           commit_ends (Faults g s) h = tt
           commit_ends (Retries s) h = tt
           commit_ends (Waits s) h = tt
-          commit_ends (OutOfTurns s) h = refl
+          commit_ends (OutOfTurns s) h = (next.0, refl)
           commit_ends Invalid h = tt
 
         -- a failure
-        module _ (at view : ℕ) (R Q C : World) (t : ThreadState) (next : Next (event.Fail at view) R Q C t.todo t.txs) where
+        module _ (at view : ℕ) (R Q C : World) (t : ThreadState) (next : Next (event.Fail at view) R Q C t) where
           here : NotedAt t
-          here = without (event.Fail at view) R Q C t.todo t.txs next tt
+          here = without (event.Fail at view) R Q C t next tt
 
           fail_ends : (z : Completion TxState Value) → d.on R ≡ z → Within {A = Value} t.txs (over t z (λ v s. faulted (final_writes f validators m.span s.done Q t) (λ g t1. Faults g t1)) (λ g. Faults g t))
-          fail_ends (Completes v s) h = subst (λ y. Within {A = Value} t.txs (faulted y (λ g t1. Faults g t1))) (sym (finals s.done (suits R v s h) Q t)) (after (final_writes q validators m.span s.done Q tt))
+          fail_ends (Completes v s) h = subst (λ y. Within {A = Value} t.txs (faulted y (λ g t1. Faults g t1))) (sym (finals s.done (suits R v s h) Q t)) (after (final_writes q validators m.span s.done Q tt) refl)
             where
-              after : (y : Completion (Unit {0}) Writes) → Within {A = Value} t.txs (faulted (carried t y) (λ g t1. Faults g t1))
-              after (Completes ws u) = tt
-              after (Recurs vs u) = tt
-              after (Faults g u) = here
-              after (Retries u) = tt
-              after (Waits u) = here
-              after (OutOfTurns u) = refl
-              after Invalid = tt
+              after : (y : Completion (Unit {0}) Writes) → final_writes q validators m.span s.done Q tt ≡ y → Within {A = Value} t.txs (faulted (carried t y) (λ g t1. Faults g t1))
+              after (Completes ws u) k = tt
+              after (Recurs vs u) k = tt
+              after (Faults g u) k = here
+              after (Retries u) k = tt
+              after (Waits u) k = absurd (subst IsQuiet k (quiet_finals s.done (suits R v s h) Q t))
+              after (OutOfTurns u) k = (next.0, refl)
+              after Invalid k = tt
           fail_ends (Recurs vs s) h = tt
           fail_ends (Faults g s) h = here
           fail_ends (Retries s) h = tt
           fail_ends (Waits s) h = tt
-          fail_ends (OutOfTurns s) h = refl
+          fail_ends (OutOfTurns s) h = (next.0, refl)
           fail_ends Invalid h = tt
 
         -- a refusal
-        module _ (at view : ℕ) (agent : CellId) (R Q C : World) (t : ThreadState) (next : Next (event.Refused at view agent) R Q C t.todo t.txs) where
+        module _ (at view : ℕ) (agent : CellId) (R Q C : World) (t : ThreadState) (next : Next (event.Refused at view agent) R Q C t) where
           refused_ends : (z : Completion TxState Value) → d.on R ≡ z → Within {A = Value} t.txs (over t z (λ v s. faultless (final_writes f validators m.span s.done Q t) (λ ws t1. Faults (fault_at AgentFailed d.mark.span) (with_tx (run_of d v s) t1))) (λ g. Invalid))
           refused_ends (Completes v s) h =
               subst (λ y. Within {A = Value} t.txs (faultless y (λ ws t1. Faults (fault_at AgentFailed d.mark.span) (with_tx (run_of d v s) t1)))) (sym (finals s.done (suits R v s h) Q t)) (after (final_writes q validators m.span s.done Q tt) refl)
             where
               after : (y : Completion (Unit {0}) Writes) → final_writes q validators m.span s.done Q tt ≡ y → Within {A = Value} t.txs (faultless (carried t y) (λ ws t1. Faults (fault_at AgentFailed d.mark.span) (with_tx (run_of d v s) t1)))
-              after (Completes ws tt) k = next (run_of d v s ∷ []) (record { met = met R v s h; writes = ws; writes_there = finals_deeper s.done Q ws k }, tt)
+              after (Completes ws tt) k = (next.0, next.1 (run_of d v s ∷ []) (record { met = met R v s h; writes = ws; writes_there = finals_deeper s.done Q ws k }, tt))
               after (Recurs vs u) k = tt
               after (Faults g u) k = tt
               after (Retries u) k = tt
               after (Waits u) k = absurd (subst IsQuiet k (quiet_finals s.done (suits R v s h) Q t))
-              after (OutOfTurns u) k = refl
+              after (OutOfTurns u) k = (next.0, refl)
               after Invalid k = tt
           refused_ends (Recurs vs s) h = tt
           refused_ends (Faults g s) h = tt
           refused_ends (Retries s) h = tt
           refused_ends (Waits s) h = tt
-          refused_ends (OutOfTurns s) h = refl
+          refused_ends (OutOfTurns s) h = (next.0, refl)
           refused_ends Invalid h = tt
 
-        ends_reaches : (k : EventKind) (R Q C : World) (t : ThreadState) → Next k R Q C t.todo t.txs → Within {A = Value} t.txs (ends_tx d f k R Q C t)
+        ends_reaches : (k : EventKind) (R Q C : World) (t : ThreadState) → Next k R Q C t → Within {A = Value} t.txs (ends_tx d f k R Q C t)
         ends_reaches (event.Commit at view writes sent) R Q C t next = commit_ends at view writes sent R Q C t next (d.on R) refl
         ends_reaches (event.Fail at view) R Q C t next = fail_ends at view R Q C t next (d.on R) refl
         ends_reaches (event.Refused at view agent) R Q C t next = refused_ends at view agent R Q C t next (d.on R) refl
         ends_reaches _ R Q C t next = tt
 
         -- a retry has no transaction
-        retry_none : (k : EventKind) (R Q C : World) → is_retry k ≡ true → RunOf functions validators n k R Q C IsNone []
+        retry_none : (k : EventKind) (R Q C : World) → is_retry k ≡ true → RunOf functions validators from n k R Q C IsNone []
         retry_none (event.Retry since c commute) R Q C h = tt
         retry_none _ R Q C h = absurd (false≢true h)
 
-        eats_tx_reaches : (k : ℕ) (es : List SeenEvent) (t : ThreadState) → NotedIn es t.txs → Reaches Any (eats_tx k d f es t)
+        eats_tx_reaches : (k : ℕ) (es : List SeenEvent) (t : ThreadState) → NotedWith es t → Reaches Any (eats_tx k d f es t)
         eats_tx_reaches zero es t g = g
-        eats_tx_reaches (suc k) [] t g = g
+        eats_tx_reaches (suc k) [] t g = (g, refl)
         eats_tx_reaches (suc k) (e1 ∷ es) t g = of_book (e1.book == 0) (is_retry e1.kind) refl (λ g1. eats_tx_reaches k es t g1)
           where
-            of_book : (own again : Bool) → is_retry e1.kind ≡ again → (NotedIn es t.txs → Reaches Any (eats_tx k d f es t)) → Reaches Any (if own then (if again then eats_tx k d f es t else uneaten (e1 ∷ es) (ends_tx d f e1.kind e1.R e1.Q e1.C (record t { todo = es }))) else Invalid)
-            of_book true true h rest = rest (without e1.kind e1.R e1.Q e1.C es t.txs (next_event e1 es t.txs g) (retry_none e1.kind e1.R e1.Q e1.C h))
+            of_book : (own again : Bool) → is_retry e1.kind ≡ again → (NotedWith es t → Reaches Any (eats_tx k d f es t)) → Reaches Any (if own then (if again then eats_tx k d f es t else uneaten (e1 ∷ es) (ends_tx d f e1.kind e1.R e1.Q e1.C (record t { todo = es }))) else Invalid)
+            of_book true true h rest = rest (without e1.kind e1.R e1.Q e1.C (record t { todo = es }) (next_event e1 es t g) (retry_none e1.kind e1.R e1.Q e1.C h))
             of_book true false h rest =
-                within_reaches (e1 ∷ es) t.txs (ends_tx d f e1.kind e1.R e1.Q e1.C (record t { todo = es })) g (ends_reaches e1.kind e1.R e1.Q e1.C (record t { todo = es }) (next_event e1 es t.txs g))
+                within_reaches (e1 ∷ es) t.txs (ends_tx d f e1.kind e1.R e1.Q e1.C (record t { todo = es })) g.1 (ends_reaches e1.kind e1.R e1.Q e1.C (record t { todo = es }) (next_event e1 es t g))
             of_book false again h rest = tt
 
       -- ---- forms
@@ -453,18 +471,18 @@ module _ (cells : List CellDefinition) (functions : List PlainFunction) (n : ℕ
             allowed_reaches (may_stand (rule (form_of.Look form)).stands false) _ (on_reaches (cell_of (rule (form_of.Look form)) false v) m.span (thread_look x form) t g (λ c. look_at form c))
           where
             look_at : (form1 : LookForm) (c : CellId) → Reaches Any (thread_look x form1 c t)
-            look_at Deref c = eats_reaches (home cells c) (λ e t1. reads c e.kind e.C t1) (λ e t1 next. read_reaches c e.kind e.R e.Q e.C t1 next) t.todo t g g
+            look_at Deref c = eats_reaches (home cells c) (λ e t1. reads c e.kind e.C t1) (λ e t1 next. read_reaches c e.kind e.R e.Q e.C t1 next) t.todo t refl g g
             look_at Ensure c = tt
 
         -- what a pure meaning leads to
-        carried_reaches : (z : Completion (Unit {0}) Value) (go : Value → ThreadState → Completion ThreadState Value) (t : ThreadState) → NotedAt t → ((v : Value) → Reaches Any (go v t)) → Reaches Any (bind (carried t z) go)
-        carried_reaches (Completes v u) go t g h = h v
-        carried_reaches (Recurs vs u) go t g h = tt
-        carried_reaches (Faults e u) go t g h = g
-        carried_reaches (Retries u) go t g h = g
-        carried_reaches (Waits u) go t g h = g
-        carried_reaches (OutOfTurns u) go t g h = g
-        carried_reaches Invalid go t g h = tt
+        carried_reaches : (z : Completion (Unit {0}) Value) (go : Value → ThreadState → Completion ThreadState Value) (t : ThreadState) → IsQuiet z → NotedAt t → ((v : Value) → Reaches Any (go v t)) → Reaches Any (bind (carried t z) go)
+        carried_reaches (Completes v u) go t w g h = h v
+        carried_reaches (Recurs vs u) go t w g h = tt
+        carried_reaches (Faults e u) go t w g h = g
+        carried_reaches (Retries u) go t w g h = absurd w
+        carried_reaches (Waits u) go t w g h = absurd w
+        carried_reaches (OutOfTurns u) go t w g h = g
+        carried_reaches Invalid go t w g h = tt
 
         puts : (form : PutForm) (inside : Bool) (m : Mark) (v w : Value) (t : ThreadState) → NotedAt t → Reaches Any ((on_events x b).put form inside m v w (apply (call b inside) m.span) t)
         puts form inside m v w t g =
@@ -480,8 +498,8 @@ module _ (cells : List CellDefinition) (functions : List PlainFunction) (n : ℕ
                 in
                 let go : Value → ThreadState → Completion ThreadState Value = λ u t1. eats (home cells c) (λ e t2. resets u e.kind t2) t1.todo t1 in
                 subst (λ z. Reaches Any (bind z go)) (sym one.0)
-                (carried_reaches (validated (quietly n functions b m.span) o m.span w tt) go t g
-                (λ u. eats_reaches (home cells c) (λ e t1. resets u e.kind t1) (λ e t1 next. reset_reaches u e.kind e.R e.Q e.C t1 next) t.todo t g g))
+                (carried_reaches (validated (quietly n functions b m.span) o m.span w tt) go t one.1 g
+                (λ u. eats_reaches (home cells c) (λ e t1. resets u e.kind t1) (λ e t1 next. reset_reaches u e.kind e.R e.Q e.C t1 next) t.todo t refl g g))
 
         updates : (form : UpdateForm) (inside : Bool) (m : Mark) (v : Value) (callee : Callee) → IsPure (known functions) callee → (vs : List Value) (t : ThreadState) → NotedAt t → Reaches Any ((on_events x b).update form inside m v callee vs (apply (call b inside) m.span) t)
         updates form inside m v callee pure vs t g =
@@ -497,7 +515,7 @@ module _ (cells : List CellDefinition) (functions : List PlainFunction) (n : ℕ
                 eats_reaches (home cells c) (λ e t1. swaps c go e.kind e.R e.C t1)
                 (λ e t1 next. swap_reaches c go (λ u. bind (q callee (u ∷ vs) tt) (λ w s1. validated q o m.span w s1))
                 (λ u t2. made_carried (IsPure (known functions)) t2 (apply (call b inside) m.span) q (λ c1 us p. callee_carried (on_events x) n inside functions sound b m.span c1 us t2 p) o
-                (validator_such (IsPure (known functions)) validators c.number all_valid) m.span callee (u ∷ vs) pure) e.kind e.R e.Q e.C t1 next) t.todo t g g
+                (validator_such (IsPure (known functions)) validators c.number all_valid) m.span callee (u ∷ vs) pure) e.kind e.R e.Q e.C t1 next) t.todo t refl g g
 
         sent : (inside : Bool) (m : Mark) (v : Value) (callee : Callee) (vs : List Value) (t : ThreadState) → NotedAt t → Reaches Any ((on_events x b).send inside m v callee vs t)
         sent inside m v callee vs t g =
@@ -505,8 +523,8 @@ module _ (cells : List CellDefinition) (functions : List PlainFunction) (n : ℕ
           where
             send_at : (c : CellId) (o : Option (List Action)) → Reaches Any (sends_or_holds o (record { agent = c; callee = callee; args = vs; span = m.span }) m.span t)
             send_at c None =
-                eats_reaches 0 (λ e t2. sends (record { agent = c; callee = callee; args = vs; span = m.span }) m.span e.kind t2) (λ e t1 next. send_reaches (record { agent = c; callee = callee; args = vs; span = m.span }) m.span e.kind e.R e.Q e.C t1 next) t.todo t g g
-            send_at c (Some held) = (tt, g)
+                eats_reaches 0 (λ e t2. sends (record { agent = c; callee = callee; args = vs; span = m.span }) m.span e.kind t2) (λ e t1 next. send_reaches (record { agent = c; callee = callee; args = vs; span = m.span }) m.span e.kind e.R e.Q e.C t1 next) t.todo t refl g g
+            send_at c (Some held) = (tt, (begin_with (record { agent = c; callee = callee; args = vs; span = m.span } ∷ []) t.held ∙ g.0, g.1))
 
         -- ---- trees
 
@@ -587,20 +605,65 @@ module _ (cells : List CellDefinition) (functions : List PlainFunction) (n : ℕ
       calls_reach zero le inside f vs t g = tt
       calls_reach (suc b) le inside f vs t g = call_reaches b (omega (arith, le)) (calls_reach b (omega (arith, le))) inside f vs t g
 
-      main_reaches : (main : Tree) → SoundTree (known functions) in_thread 0 None main → Marked false main → Reaches Any (closed (eval (on_events x (length functions)) (call (length functions)) n false main [] (record { todo = es0; printed = []; held = None; txs = [] })))
-      main_reaches main h r =
-          let start : ThreadState = record { todo = es0; printed = []; held = None; txs = [] } in
-          again_reaches Any (eval (on_events x (length functions)) (call (length functions)) n false main [] start) (λ vs t. Invalid)
-          (tree_reaches (length functions) (omega arith) (calls_reach (length functions) (omega arith)) main false false in_thread 0 None h r [] refl start (record { eaten = []; split = refl; runs = tt })) (λ vs t g. tt)
+      -- where it begins
+      abbrev start : ThreadState
+      start = from_events from es0
 
-ended : (cells : List CellDefinition) (functions : List PlainFunction) (n : ℕ) (es : List SeenEvent) (c : Completion ThreadState Value) → Reaches cells functions n es Any c → EndsNoted functions (validators_of cells) n es c
-ended cells functions n es (Completes v t) h = h.1
-ended cells functions n es (Recurs vs t) h = tt
-ended cells functions n es (Faults f t) h = h
-ended cells functions n es (Retries t) h = tt
-ended cells functions n es (Waits t) h = h
-ended cells functions n es (OutOfTurns t) h = h
-ended cells functions n es Invalid h = tt
+      module _ (begins : begin_of from ≡ from) where
+        noted_first : NotedAt start
+        noted_first = (begins, record { eaten = []; split = refl; runs = tt })
+
+        main_reaches : (main : Tree) → SoundTree (known functions) in_thread 0 None main → Marked false main → Reaches Any (body_in x from main [] es0)
+        main_reaches main h r =
+            again_reaches Any (eval (on_events x (length functions)) (call (length functions)) n false main [] start) (λ vs t. Invalid)
+            (tree_reaches (length functions) (omega arith) (calls_reach (length functions) (omega arith)) main false false in_thread 0 None h r [] refl start noted_first) (λ vs t g. tt)
+
+        -- a callee, outside every transaction
+        applied_reaches : (span : Span) (c : Callee) (vs : List Value) (t : ThreadState) → NotedAt t → Reaches Any (applies_in x span c vs t)
+        applied_reaches span (CoreOp op) vs t g = result_reaches (core op vs) span t g
+        applied_reaches span (Function f) vs t g = calls_reach (length functions) (omega arith) false f vs t g
+
+        judged_reaches : (answer : Value) (span : Span) (v : Value) (t : ThreadState) → NotedAt t → Reaches Any (judged answer span v t)
+        judged_reaches Nil span v t g = g
+        judged_reaches (Truth false) span v t g = g
+        judged_reaches (Truth true) span v t g = (tt, g)
+        judged_reaches (Int z) span v t g = (tt, g)
+        judged_reaches (Key bs) span v t g = (tt, g)
+        judged_reaches (Text bs) span v t g = (tt, g)
+        judged_reaches (Vector vs) span v t g = (tt, g)
+        judged_reaches (Cell c) span v t g = (tt, g)
+
+        accepted_reaches : (span : Span) (o : Option Callee) (v : Value) (t : ThreadState) → NotedAt t → Reaches Any (validated (applies_in x span) o span v t)
+        accepted_reaches span None v t g = (tt, g)
+        accepted_reaches span (Some c) v t g =
+            bind_reaches Any Any (applies_in x span c (v ∷ []) t) (λ answer t1. judged answer span v t1) (applied_reaches span c (v ∷ []) t g) (λ answer t1 p g1. judged_reaches answer span v t1 g1)
+
+        action_reaches : (a : Action) (v : Value) → Reaches Any (bind (applies_in x a.span a.callee (v ∷ a.args) start) (λ w t. accepts x (applies_in x a.span) a.agent a.span w t))
+        action_reaches a v =
+            bind_reaches Any Any (applies_in x a.span a.callee (v ∷ a.args) start) (λ w t. accepts x (applies_in x a.span) a.agent a.span w t) (applied_reaches a.span a.callee (v ∷ a.args) start noted_first)
+            (λ w t p g. accepted_reaches a.span (validator_at validators a.agent.number) w t g)
+
+ended : (cells : List CellDefinition) (functions : List PlainFunction) (from : Option (List Action)) (n : ℕ) (es : List SeenEvent) (c : Completion ThreadState Value) → Reaches cells functions from n es Any c → EndsNoted functions (validators_of cells) from n es c
+ended cells functions from n es (Completes v t) h = h.1.1
+ended cells functions from n es (Recurs vs t) h = tt
+ended cells functions from n es (Faults f t) h = h.1
+ended cells functions from n es (Retries t) h = tt
+ended cells functions from n es (Waits t) h = h.0.1
+ended cells functions from n es (OutOfTurns t) h = h.1
+ended cells functions from n es Invalid h = tt
 
 pub threads_note : ThreadsNote
-threads_note p n es sound marks marked = ended p.cells p.functions n es (thread_meaning p n es) (main_reaches p.cells p.functions n es sound.functions marks sound.cells p.main sound.main marked)
+threads_note p n es sound marks marked = ended p.cells p.functions None n es (thread_meaning p n es) (main_reaches p.cells p.functions None n es sound.functions marks sound.cells refl p.main sound.main marked)
+
+pub actions_note : ActionsNote
+actions_note cells functions n a v es sound sound_cells marks fits = ended cells functions (Some []) n es (action_meaning cells functions n a v es) (action_reaches cells functions (Some []) n es sound marks sound_cells refl a v)
+
+-- where an action's meaning is a value it holds sends
+pub action_holds : (cells : List CellDefinition) (functions : List PlainFunction) (n : ℕ) (a : Action) (v : Value) (es : List SeenEvent) → SoundFunctions [] functions → SoundCells (known functions) cells → MarkedFunctions functions
+    → (w : Value) (t : ThreadState) → action_meaning cells functions n a v es ≡ Completes w t → begin_of t.held ≡ Some []
+action_holds cells functions n a v es sound sound_cells marks w t e = (subst (λ c. Reaches cells functions (Some []) n es Any c) e (action_reaches cells functions (Some []) n es sound marks sound_cells refl a v)).1.0
+
+-- where it waits it has eaten all
+pub action_waits : (cells : List CellDefinition) (functions : List PlainFunction) (n : ℕ) (a : Action) (v : Value) (es : List SeenEvent) → SoundFunctions [] functions → SoundCells (known functions) cells → MarkedFunctions functions
+    → (t : ThreadState) → action_meaning cells functions n a v es ≡ Waits t → t.todo ≡ []
+action_waits cells functions n a v es sound sound_cells marks t e = (subst (λ c. Reaches cells functions (Some []) n es Any c) e (action_reaches cells functions (Some []) n es sound marks sound_cells refl a v)).1

@@ -1,12 +1,12 @@
 -- When a committed transaction is one that ran alone at the place of its commit.
-use Rattle.std.specs.Prelude.{◌≡◌, ℕ, Bool, true, ◌&&◌, ◌||◌, not, List, [], ◌∷◌, ◌++◌, length, None}
+use Rattle.std.specs.Prelude.{◌≡◌, ℕ, Bool, true, ◌&&◌, ◌||◌, not, List, [], ◌∷◌, ◌++◌, length, Option, None}
 use Rattle.txs_world_protocol.specs.Ask.{Writes}
 use Rattle.txs_world_protocol.specs.SeenEvent.{SeenEvent}
 use Rattle.txs_world_protocol.specs.declared.event.EventKind.{EventKind}
 use Rattle.txs_world_protocol.specs.declared.event.EventKind.TheVariants.{Read, Commit, Retry, Fail, Refused, Send, SendRefused, Act, Swap, Broke}
 use Rattle.txs_value_cell.specs.Cells.{World, Validators}
 use Rattle.txs_value_cell.specs.declared.action.Action.{Action}
-use Rattle.txs_frame.specs.Frame.{PlainTxFrame, has_number}
+use Rattle.txs_frame.specs.Frame.{PlainTxFrame, has_number, sends_of_commit}
 use Rattle.txs_theorem_threads.specs.Noted.{IsNone, Front}
 use Rattle.txs_tree_meaning.specs.Known.{known}
 use Rattle.txs_tree_meaning.specs.Meaning.{Completion, Completes, Recurs, Faults, Retries, Waits, OutOfTurns, Invalid, Applies}
@@ -52,11 +52,12 @@ pub record Met (functions : List PlainFunction) (n : ℕ) (x : TxRun) (R : World
   pub body_marked : Marked x.wanted x.body
   pub means : tx_meaning n functions (length functions) x.body x.locals R ≡ Completes x.result x.state
 
--- It was committed: on the world R it did what it did, and with its commutes on the world C it gives these writes, and these sends.
-pub record Committed (functions : List PlainFunction) (validators : Validators) (n : ℕ) (x : TxRun) (R C : World) (writes : Writes) (sends : List Action) : Type 0 where
+-- It was committed: on the world R it did what it did, and with its commutes on the world C it gives these writes, and the commit's sends are its own; in an
+-- action, which holds them, the commit sends nothing.
+pub record Committed (functions : List PlainFunction) (validators : Validators) (held : Option (List Action)) (n : ℕ) (x : TxRun) (R C : World) (writes : Writes) (sends : List Action) : Type 0 where
   pub met : Met functions n x R
   pub writes_same : final_writes (purely n functions) validators nowhere x.state.done C tt ≡ Completes writes tt
-  pub sends_same : x.state.done.sends ≡ sends
+  pub sends_same : sends_of_commit held x.state.done.sends ≡ sends
 
 -- It was refused: on the world R it did what it did, and its commutes have values on the world Q.
 pub record Declined (functions : List PlainFunction) (validators : Validators) (n : ℕ) (x : TxRun) (R Q : World) : Type 0 where
@@ -68,38 +69,38 @@ pub record Declined (functions : List PlainFunction) (validators : Validators) (
 abbrev pub AgreeOn : PlainTxFrame → World → World → Type 0
 AgreeOn w R C = (k : ℕ) → is_held w k ≡ true → R k ≡ C k
 
--- ---- the transactions of a thread
+-- ---- the transactions of a thread, or of an action
 
 -- the transaction of an event that is a commit or a refusal, and those of the events after it
-abbrev pub RunOf : List PlainFunction → Validators → ℕ → EventKind → World → World → World → (List TxRun → Type 0) → List TxRun → Type 0
-RunOf functions validators n (Read c) R Q C rest xs = rest xs
-RunOf functions validators n (Commit at view ws sends) R Q C rest xs = Front (λ x. Committed functions validators n x R C ws sends) rest xs
-RunOf functions validators n (Retry since c commute) R Q C rest xs = rest xs
-RunOf functions validators n (Fail at view) R Q C rest xs = rest xs
-RunOf functions validators n (Refused at view g) R Q C rest xs = Front (λ x. Declined functions validators n x R Q) rest xs
-RunOf functions validators n (Send x) R Q C rest xs = rest xs
-RunOf functions validators n (SendRefused g) R Q C rest xs = rest xs
-RunOf functions validators n (Act g k new sends) R Q C rest xs = rest xs
-RunOf functions validators n (Swap new) R Q C rest xs = rest xs
-RunOf functions validators n (Broke at) R Q C rest xs = rest xs
+abbrev pub RunOf : List PlainFunction → Validators → Option (List Action) → ℕ → EventKind → World → World → World → (List TxRun → Type 0) → List TxRun → Type 0
+RunOf functions validators held n (Read c) R Q C rest xs = rest xs
+RunOf functions validators held n (Commit at view ws sends) R Q C rest xs = Front (λ x. Committed functions validators held n x R C ws sends) rest xs
+RunOf functions validators held n (Retry since c commute) R Q C rest xs = rest xs
+RunOf functions validators held n (Fail at view) R Q C rest xs = rest xs
+RunOf functions validators held n (Refused at view g) R Q C rest xs = Front (λ x. Declined functions validators n x R Q) rest xs
+RunOf functions validators held n (Send x) R Q C rest xs = rest xs
+RunOf functions validators held n (SendRefused g) R Q C rest xs = rest xs
+RunOf functions validators held n (Act g k new sends) R Q C rest xs = rest xs
+RunOf functions validators held n (Swap new) R Q C rest xs = rest xs
+RunOf functions validators held n (Broke at) R Q C rest xs = rest xs
 
--- these are the transactions of these events, one for each commit and each refusal, in order
-abbrev pub RunsOf : List PlainFunction → Validators → ℕ → List SeenEvent → List TxRun → Type 0
-RunsOf functions validators n [] xs = IsNone xs
-RunsOf functions validators n (e ∷ es) xs = RunOf functions validators n e.kind e.R e.Q e.C (λ ys. RunsOf functions validators n es ys) xs
+-- these are the transactions of these events, one for each commit and each refusal, in order; an action holds its sends, and a thread none
+abbrev pub RunsOf : List PlainFunction → Validators → Option (List Action) → ℕ → List SeenEvent → List TxRun → Type 0
+RunsOf functions validators held n [] xs = IsNone xs
+RunsOf functions validators held n (e ∷ es) xs = RunOf functions validators held n e.kind e.R e.Q e.C (λ ys. RunsOf functions validators held n es ys) xs
 
--- A thread has eaten these events, before those to come, and these are their transactions.
-pub record Noted (functions : List PlainFunction) (validators : Validators) (n : ℕ) (es todo : List SeenEvent) (txs : List TxRun) : Type 0 where
+-- A thread or an action has eaten these events, before those to come, and these are their transactions.
+pub record Noted (functions : List PlainFunction) (validators : Validators) (held : Option (List Action)) (n : ℕ) (es todo : List SeenEvent) (txs : List TxRun) : Type 0 where
   pub eaten : List SeenEvent
   pub split : es ≡ eaten ++ todo
-  pub runs : RunsOf functions validators n eaten txs
+  pub runs : RunsOf functions validators held n eaten txs
 
--- so it is where a thread ends, waits, or needs more turns
-abbrev pub EndsNoted : List PlainFunction → Validators → ℕ → List SeenEvent → Completion ThreadState Value → Type 0
-EndsNoted functions validators n es (Completes v t) = Noted functions validators n es t.todo t.txs
-EndsNoted functions validators n es (Recurs vs t) = Unit {0}
-EndsNoted functions validators n es (Faults f t) = Noted functions validators n es t.todo t.txs
-EndsNoted functions validators n es (Retries t) = Unit {0}
-EndsNoted functions validators n es (Waits t) = Noted functions validators n es t.todo t.txs
-EndsNoted functions validators n es (OutOfTurns t) = Noted functions validators n es t.todo t.txs
-EndsNoted functions validators n es Invalid = Unit {0}
+-- so it is where it ends, waits, or needs more turns
+abbrev pub EndsNoted : List PlainFunction → Validators → Option (List Action) → ℕ → List SeenEvent → Completion ThreadState Value → Type 0
+EndsNoted functions validators held n es (Completes v t) = Noted functions validators held n es t.todo t.txs
+EndsNoted functions validators held n es (Recurs vs t) = Unit {0}
+EndsNoted functions validators held n es (Faults f t) = Noted functions validators held n es t.todo t.txs
+EndsNoted functions validators held n es (Retries t) = Unit {0}
+EndsNoted functions validators held n es (Waits t) = Noted functions validators held n es t.todo t.txs
+EndsNoted functions validators held n es (OutOfTurns t) = Noted functions validators held n es t.todo t.txs
+EndsNoted functions validators held n es Invalid = Unit {0}

@@ -1,7 +1,7 @@
 //! When committed transactions are as if they had run one after the other.
 #![tactic(auto)]
 
-ghost use Rattle.txs_theorem_serial.specs.Laws.{CommitsSerial, CoveredIsSerial, RunsAreSerial, ThreadsNote};
+ghost use Rattle.txs_theorem_serial.specs.Laws.{ActionsNote, CommitsSerial, CoveredIsSerial, RunsAreSerial, ThreadsNote};
 
 /// A covered transaction is serial.
 pub fn covered_is_serial()
@@ -11,6 +11,11 @@ pub fn covered_is_serial()
 /// Where a thread ends, waits, or needs more turns, each commit and refusal that it has eaten has its transaction.
 pub fn threads_note()
     ensures { ThreadsNote }
+{}
+
+/// The same of an action that a program may send: it holds its sends, and its commits send nothing.
+pub fn actions_note()
+    ensures { ActionsNote }
 {}
 
 /// Of what a thread did each covered transaction is serial, at the place of its commit.

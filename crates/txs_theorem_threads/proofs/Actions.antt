@@ -1,42 +1,55 @@
--- Code of sound functions that does what they mean follows the actions that agents run.
-use Rattle.std.proofs.Common.{ℕ, zero, suc, Bool, true, false, List, [], Option, Some, None, Result, Ok, Err, refl, sym, ap, subst, arith, length, ◌≡◌, ◌≤◌, ◌∷◌, ◌++◌, ◌∙◌, if◌then◌else◌}
-use Rattle.txs_world_protocol.proofs.AskLemmas.{same_ask-itself}
+-- Code that does what actions mean on any replies follows each action that an agent runs.
+use Rattle.std.proofs.Common.{ℕ, zero, suc, Bool, true, false, List, [], Option, Some, None, Result, Ok, Err, refl, sym, ap, subst, arith, length, ◌≡◌, ◌≤◌, ◌+◌, ◌∷◌, ◌++◌, ◌∙◌}
+use Rattle.std.proofs.lemmas.Bool.{false≢true}
+use Rattle.std.proofs.lemmas.List.{append_assoc, append-nil}
+use Rattle.txs_world_protocol.proofs.AskLemmas.{same_ask-sound}
 use Rattle.txs_world_protocol.specs.Ask.{Exchange, same_ask}
+use Rattle.txs_world_protocol.specs.SeenEvent.{SeenEvent}
 use Rattle.txs_world_protocol.specs.declared.ask.Ask.{Ask}
 use Rattle.txs_world_protocol.specs.declared.ask.Ask.TheVariants.{Take, Finish}
-use Rattle.txs_world_protocol.specs.declared.ask.Reply.{Reply}
-use Rattle.txs_world_protocol.specs.declared.ask.Reply.TheVariants as reply
 use Rattle.txs_value_apply.specs.Core.{core}
-use Rattle.txs_value_apply.specs.Truth.{choose}
-use Rattle.txs_value_base.specs.Places.{fault_at}
-use Rattle.txs_value_cell.specs.Cells.{Validators, validator_at}
+use Rattle.txs_value_cell.specs.Cells.{World}
 use Rattle.txs_value_cell.specs.declared.action.Action.{Action}
+use Rattle.txs_value_cell.specs.declared.cell.CellDefinition.{CellDefinition}
 use Rattle.txs_value_base.specs.declared.fault.Fault.{Fault}
 use Rattle.txs_value_base.specs.declared.fault.FaultKind.{FaultKind}
-use Rattle.txs_value_base.specs.declared.fault.FaultKind.TheVariants.{InvalidState}
 use Rattle.txs_value_base.specs.declared.fault.Span.{Span}
 use Rattle.txs_value_base.specs.declared.op.Callee.{Callee}
 use Rattle.txs_value_base.specs.declared.op.Callee.TheVariants.{Core as CoreOp, Function}
 use Rattle.txs_value_data.specs.declared.value.CellId.{CellId}
 use Rattle.txs_value_data.specs.declared.value.Value.{Value}
-use Rattle.txs_value_data.specs.declared.value.Value.TheVariants.{Nil, Truth, Int, Key, Text, Vector, Cell}
-use Rattle.txs_tree_meaning.specs.Known.{is_pure, known}
-use Rattle.txs_tree_meaning.specs.Meaning.{Completion, Completes, Recurs, Faults, Retries, Waits, OutOfTurns, Invalid, bind, result_of}
+use Rattle.txs_tree_meaning.specs.Known.{known}
+use Rattle.txs_tree_meaning.specs.Meaning.{Completion, Completes, Recurs, Faults, Retries, Waits, OutOfTurns, Invalid, result_of}
 use Rattle.txs_tree_meaning.specs.Pure.{nowhere}
-use Rattle.txs_tree_meaning.specs.Sound.{SoundFunctions, SoundCallee, SoundValidator}
-use Rattle.txs_tree_meaning.specs.Transaction.{judged, validated}
+use Rattle.txs_tree_meaning.specs.Sound.{SoundFunctions, SoundCells}
+use Rattle.txs_tree_meaning.specs.Thread.{ThreadState, from_events, action_meaning}
 use Rattle.txs_tree_meaning.specs.Tree.{PlainFunction}
-use Rattle.txs_code_meaning.specs.ActorState.{ActorState, Reception, Replied, Unreplied, receives, asks, heard, step_of, just_done, handed_out, take_action, finish}
-use Rattle.txs_code_meaning.specs.Machine.{Library, ThreadCode, agent_code, Outside, Configuration, first_place, Turned, Ended, Failed, Asking, Unfinished, Stuck, Outcome, and_then, told, rested, raise, on, answered, where_accepted, where_valid, gives, to_stack, to_validation, called, started, runs_callee, turn, exec}
-use Rattle.txs_code_meaning.specs.Opening.{fresh}
-use Rattle.txs_theorem_threads.proofs.Grows.{GrowsTo, Later, later}
+use Rattle.txs_code_meaning.specs.ActorState.{ActorState, InHand, held_in}
+use Rattle.txs_code_meaning.specs.Machine.{Library, ThreadCode, agent_code, Configuration, Ended, Failed, Asking, Unfinished, Stuck, Outcome, exec}
+use Rattle.txs_theorem_threads.proofs.Account.{Account, IsBeside, begin_of, account_link, plain_splits, WaitedBehind, EatenBehind, waited_on, waited_eaten_behind}
+use Rattle.txs_theorem_threads.proofs.Ends.{consumed_later, consumed_over}
+use Rattle.txs_theorem_threads.proofs.Fitted.{if_belongs, fits_of}
+use Rattle.txs_theorem_threads.proofs.Follow.{none_left}
+use Rattle.txs_theorem_threads.proofs.Grows.{GrowsTo}
 use Rattle.txs_theorem_threads.proofs.Longer.{longer}
+use Rattle.txs_theorem_threads.proofs.Loops.{up_to, needs_turns}
 use Rattle.txs_theorem_threads.proofs.Meant.{callee_proper}
-use Rattle.txs_theorem_threads.proofs.Quiet.{quietly}
-use Rattle.txs_theorem_threads.specs.ActionsBehave.{acting, ComesTo, CallComes, ActionsBehave, SoundValidators, SoundFollowsAgents}
-use Rattle.txs_theorem_threads.specs.Behaves.{IsOver, IsProper}
+use Rattle.txs_theorem_threads.proofs.MoreEvents.{settled_action, action_needs}
+use Rattle.txs_theorem_threads.proofs.Noting.{noting, noted_so}
+use Rattle.txs_theorem_threads.proofs.Related.{Related}
+use Rattle.txs_theorem_threads.proofs.Sound.{action_meant}
+use Rattle.txs_theorem_threads.proofs.Threads.{action_related}
+use Rattle.txs_theorem_threads.proofs.Whole.{nothing_after, grown, grown_over}
+use Rattle.txs_theorem_threads.proofs.Worlds.{IsOwn, WantsOwn}
+use Rattle.txs_theorem_threads.specs.ActionsBehave.{action_source, handed, IsUnanswered, AsksWith, EndsAs, ActionBehaves, SoundFollowsAgents}
+use Rattle.txs_theorem_threads.specs.Behaves.{IsMeant, IsProper, HasEnded, IsOver, outcome_of}
+use Rattle.txs_theorem_threads.specs.EndsSo.{NeedsTurns, HasSettled, in_hand}
 use Rattle.txs_theorem_threads.specs.Follows.{PureIsMeant}
-use Rattle.txs_theorem_threads.specs.FollowsAgent.{new_of, action_meaning, SoundAction, HandsOut, AgentFits, AgentTold, taking, AsksNext, IsRunning, GoesOn, FollowsAgent}
+use Rattle.txs_theorem_threads.specs.FollowsAgent.{SoundAction, IsBetween, taken_at, IsHandedIn, MeansAsked, PrintedBehind, ActionExplained, IsAsking, FollowsAction}
+use Rattle.txs_theorem_threads.specs.Noted.{AreNoted, txs_of}
+use Rattle.txs_theorem_threads.specs.PrintsSo.{HasPrintedSo}
+use Rattle.txs_theorem_threads.specs.RepliesFit.{Phase, Out, In, Viewed, WithSwap, belongs, PhaseFits, Halt, Going, Stopped, Short, Rerun, halted, HasWaited, HasEaten, HasEatenAll, Consumed}
+use Rattle.txs_theorem_threads.specs.RepliesFitTo.{RepliesFitTo}
 
 -- ---- pure callees have an answer
 
@@ -49,389 +62,398 @@ pub pure_meant : PureIsMeant
 pure_meant functions n (CoreOp op) vs sound h = operation_proper (core op vs) nowhere
 pure_meant functions n (Function f) vs sound h = callee_proper functions sound n nowhere (Function f) vs h
 
--- ---- asks
+-- ---- lists
 
-answered_with : (q : Ask) (s : ActorState) (x : Exchange) (xs : List Exchange) → s.todo ≡ x ∷ xs → x.ask ≡ q → asks q s ≡ Replied x.reply (record s { todo = xs })
-unfolding asks
-answered_with q s x xs e h =
-    ap (receives q s) e
-    ∙ ap (λ b. if b then Replied x.reply (record s { todo = xs }) else Unreplied (record s { wants = Some q })) (ap (same_ask q) h ∙ same_ask-itself q)
+abbrev rest_of : List ℕ → List ℕ
+rest_of [] = []
+rest_of (x ∷ xs) = xs
 
-unanswered : (q : Ask) (s : ActorState) → s.todo ≡ [] → asks q s ≡ Unreplied (record s { wants = Some q })
-unfolding asks
-unanswered q s e = ap (receives q s) e
+-- what comes behind the same is the same
+same_behind : (xs ys zs : List ℕ) → xs ++ ys ≡ xs ++ zs → ys ≡ zs
+same_behind [] ys zs e = e
+same_behind (x ∷ xs) ys zs e = same_behind xs ys zs (ap rest_of e)
 
--- one is there
-abbrev AnyLeft : List Exchange → Type 0
-AnyLeft [] = ⊥
-AnyLeft (x ∷ xs) = Unit {0}
+-- ---- no exchange of an action hands it in
 
-abbrev result_in : Ask → Result Value Fault → Result Value Fault
-result_in (Finish g new sends) old = new
-result_in _ old = old
+no_phase : (ph : Phase) (g : CellId) (new : Result Value Fault) (sends : List Action) → belongs ph (Finish g new sends) ≡ true → ⊥
+no_phase Out g new sends e = false≢true e
+no_phase (In R) g new sends e = false≢true e
+no_phase (Viewed R Q) g new sends e = false≢true e
+no_phase (WithSwap c W) g new sends e = false≢true e
 
-abbrev wanted : Option Ask → Result Value Fault → Result Value Fault
-wanted None old = old
-wanted (Some q) old = result_in q old
+no_finish : (cells : List CellDefinition) (ph : Phase) (xs : List Exchange) (es : List SeenEvent) (end : Phase) → RepliesFitTo cells ph xs es end → (g : CellId) (new : Result Value Fault) (sends : List Action) → IsUnanswered (Finish g new sends) xs
+no_finish cells ph [] es end f g new sends = tt
+no_finish cells ph (x ∷ xs) es end f g new sends = by (same_ask (Finish g new sends) x.ask) refl
+  where
+    by : (b : Bool) → same_ask (Finish g new sends) x.ask ≡ b → same_ask (Finish g new sends) x.ask ≡ false
+    by false e = e
+    by true e = absurd (no_phase ph g new sends (subst (λ q. belongs ph q ≡ true) (sym (same_ask-sound (Finish g new sends) x.ask e)) f.0))
 
--- a result that is asked to be handed in is told by the ask
-finish_same : {g : CellId} (new old : Result Value Fault) → Some (Finish g new []) ≡ Some (Finish g old []) → new ≡ old
-finish_same new old e = ap (λ o. wanted o old) e
+-- ---- an action's tree and what the action means
 
--- ---- what asks next
+none_left_to : (cells : List CellDefinition) (ph : Phase) (xs : List Exchange) (es : List SeenEvent) (end : Phase) → RepliesFitTo cells ph xs es end → xs ≡ [] → es ++ [] ≡ []
+none_left_to cells ph xs es end f e = none_left cells ph xs es (fits_of cells ph xs es end f) e
 
-asks_over : (q : Ask) (o : Outcome) → AsksNext q o → IsOver o
-asks_over q (Asking s) h = tt
-asks_over q (Ended s) h = absurd h
-asks_over q (Failed f s) h = absurd h
-asks_over q (Unfinished s) h = absurd h
-asks_over q Stuck h = absurd h
+-- the events are those of the exchanges, up to a phase
+abbrev fitting : (cells : List CellDefinition) → List ℕ → Phase → Account cells
+fitting cells before end = record {
+  before = before;
+  from = Some [];
+  fits = λ txs ph xs es. RepliesFitTo cells ph xs es end;
+  splits = plain_splits cells (Some []) (λ ph xs es. RepliesFitTo cells ph xs es end) (λ ph x xs es h. if_belongs (belongs ph x.ask) (PhaseFits cells ph x.ask x.reply (λ ph1 es1. RepliesFitTo cells ph1 xs es1 end) es) h.1);
+  tail = [];
+  waits = λ s o. WantsOwn s.wants × (s.todo ≡ [] → WaitedBehind before s.printed o);
+  short = λ s o. s.todo ≡ [] → EatenBehind before s.printed o;
+  waits_loose = λ s h o. (h.0, λ e. absurd (h.1 e));
+  short_loose = λ s h o e. absurd (h e);
+  short_here = λ s t es f td pr e. (td ∙ none_left_to cells Out s.todo es end f e, pr);
+  waiting = λ txs ph s es y own f h. (own, λ e. subst (λ l. WaitedBehind before s.printed (halted (y l))) (sym (none_left_to cells ph s.todo es end f e)) (waited_on before s.printed txs (halted (y [])) h));
+  shortage = λ txs ph s es y f h ends e.
+      subst (λ l. EatenBehind before s.printed (halted (y l))) (sym (none_left_to cells ph s.todo es end f e)) (waited_eaten_behind before s.printed (halted (y [])) (waited_on before s.printed txs (halted (y [])) h));
+}
 
--- the validator of each cell is sound
-validator_sound : (functions : List PlainFunction) (vs : Validators) (k : ℕ) → SoundValidators functions vs → SoundValidator (known functions) (validator_at vs k)
-validator_sound functions [] k h = tt
-validator_sound functions (o ∷ vs) zero h = h.0
-validator_sound functions (o ∷ vs) (suc k) h = validator_sound functions vs k h.1
+-- The tree's end on replies and the action's on events, where these bytes were printed before: the same value or fault, with the same sends held,
+-- and what is left fits; and what needs events or turns has eaten all.
+abbrev AgreesTo : List CellDefinition → List ℕ → Phase → Completion ActorState Value → Completion ThreadState Value → Type 0
+AgreesTo cells before end (Completes v s) r = (t : ThreadState) × (r ≡ Completes v t) × IsBeside before (Some []) s t × RepliesFitTo cells Out s.todo t.todo end
+AgreesTo cells before end (Recurs vs s) r = Unit {0}
+AgreesTo cells before end (Faults f s) r = (t : ThreadState) × (r ≡ Faults f t) × (before ++ t.printed ≡ s.printed) × (ph : Phase) × RepliesFitTo cells ph s.todo t.todo end
+AgreesTo cells before end (Retries s) r = Unit {0}
+AgreesTo cells before end (Waits s) r = WantsOwn s.wants × (s.todo ≡ [] → WaitedBehind before s.printed (halted r))
+AgreesTo cells before end (OutOfTurns s) r = s.todo ≡ [] → EatenBehind before s.printed (halted r)
+AgreesTo cells before end Invalid r = Unit {0}
 
-module _ (code : Library) (functions : List PlainFunction) (sound : SoundFunctions [] functions) (valid : SoundValidators functions code.validators) (behave : ActionsBehave code functions) (g : CellId) where
+left_to : (cells : List CellDefinition) (ph end : Phase) (xs : List Exchange) (ls es : List SeenEvent) → ls ≡ es ++ [] → RepliesFitTo cells ph xs es end → RepliesFitTo cells ph xs ls end
+left_to cells ph end xs ls es e f = subst (λ l. RepliesFitTo cells ph xs l end) (sym (e ∙ append-nil es)) f
+
+agrees_to : (cells : List CellDefinition) (before : List ℕ) (end : Phase) (x : Completion ActorState Value) (y : Completion ThreadState Value) → Related (account_link cells (fitting cells before end)) x y → AgreesTo cells before end x y
+agrees_to cells before end (Completes v s) (Completes w t) h = (t, ap (λ u. Completes u t) (sym h.0), h.1.0, left_to cells Out end s.todo t.todo h.1.1 h.1.2 h.1.3)
+agrees_to cells before end (Completes v s) _ h = absurd h
+agrees_to cells before end (Recurs vs s) y h = tt
+agrees_to cells before end (Faults f s) (Faults g t) h = (t, ap (λ u. Faults u t) (sym h.0), h.1.0, h.1.1, left_to cells h.1.1 end s.todo t.todo h.1.2 h.1.3 h.1.4)
+agrees_to cells before end (Faults f s) _ h = absurd h
+agrees_to cells before end (Retries s) y h = tt
+agrees_to cells before end (Waits s) y h = h
+agrees_to cells before end (OutOfTurns s) y h = h
+agrees_to cells before end Invalid y h = tt
+
+-- ---- what is asked at the end
+
+asked_over : (q : Ask) (left : List Exchange) (out : List ℕ) (o : Outcome) → AsksWith q left out o → IsOver o
+asked_over q left out (Ended s) h = absurd h
+asked_over q left out (Failed f s) h = absurd h
+asked_over q left out (Asking s) h = tt
+asked_over q left out (Unfinished s) h = absurd h
+asked_over q left out Stuck h = absurd h
+
+asked_asks : (q : Ask) (left : List Exchange) (out : List ℕ) (o : Outcome) → AsksWith q left out o → IsAsking o
+asked_asks q left out (Ended s) h = absurd h
+asked_asks q left out (Failed f s) h = absurd h
+asked_asks q left out (Asking s) h = tt
+asked_asks q left out (Unfinished s) h = absurd h
+asked_asks q left out Stuck h = absurd h
+
+-- where all exchanges are consumed, none is left
+asked_none : (q : Ask) (left : List Exchange) (out : List ℕ) (o : Outcome) → AsksWith q left out o → Consumed o → left ≡ []
+asked_none q left out (Ended s) h c = absurd h
+asked_none q left out (Failed f s) h c = absurd h
+asked_none q left out (Asking s) h c = sym h.0 ∙ c
+asked_none q left out (Unfinished s) h c = absurd h
+asked_none q left out Stuck h c = absurd h
+
+-- what grew to it, once all were consumed, leaves none, and printed a part
+asked_grown : (q : Ask) (left : List Exchange) (out : List ℕ) (o : Outcome) (s : ActorState) → AsksWith q left out o → GrowsTo s o → s.todo ≡ [] → (left ≡ []) × (rest : List ℕ) × (out ≡ s.printed ++ rest)
+asked_grown q left out (Ended u) s h g e = absurd h
+asked_grown q left out (Failed f u) s h g e = absurd h
+asked_grown q left out (Asking u) s h g e = (sym h.0 ∙ nothing_after g.done u.todo (sym g.eats ∙ e), g.more, sym h.2 ∙ g.prints)
+asked_grown q left out (Unfinished u) s h g e = absurd h
+asked_grown q left out Stuck s h g e = absurd h
+
+-- an action's value has the sends that it holds
+some_held : (o : Option InHand) (held : Option (List Action)) → held_in o ≡ held → begin_of held ≡ Some [] → held ≡ Some (handed o)
+some_held (Some h) held e f = sym e
+some_held None held e f = absurd (subst IsThere (ap begin_of e ∙ f) tt)
+  where
+    IsThere : Option (List Action) → Type 0
+    IsThere None = Unit {0}
+    IsThere (Some l) = ⊥
+
+-- what was printed behind some bytes
+waited_out : (before whole : List ℕ) (h : Halt ThreadState) → WaitedBehind before whole h → (out : List ℕ) × (whole ≡ before ++ out) × HasWaited out h
+waited_out before whole Going h = absurd h
+waited_out before whole (Stopped t) h = (t.printed, sym h.1, (h.0, refl))
+waited_out before whole (Short t) h = absurd h
+waited_out before whole (Rerun t) h = absurd h
+
+printed_same : (before whole out : List ℕ) (h : Halt ThreadState) → EatenBehind before whole h → HasEaten out h → whole ≡ before ++ out
+printed_same before whole out Going a b = absurd a
+printed_same before whole out (Stopped t) a b = sym a.1 ∙ ap (λ l. before ++ l) b.1
+printed_same before whole out (Short t) a b = sym a.1 ∙ ap (λ l. before ++ l) b.1
+printed_same before whole out (Rerun t) a b = absurd a
+
+eaten_all : (before whole out : List ℕ) (r : Completion ThreadState Value) → whole ≡ before ++ out → EatenBehind before whole (halted r) → HasEatenAll out r
+eaten_all before whole out (Completes v t) e h = absurd h
+eaten_all before whole out (Recurs vs t) e h = absurd h
+eaten_all before whole out (Faults f t) e h = absurd h
+eaten_all before whole out (Retries t) e h = absurd h
+eaten_all before whole out (Waits t) e h = (h.0, same_behind before t.printed out (h.1 ∙ e))
+eaten_all before whole out (OutOfTurns t) e h = (h.0, same_behind before t.printed out (h.1 ∙ e))
+eaten_all before whole out Invalid e h = absurd h
+
+own_means : (g : CellId) (wants : Option Ask) (out : List ℕ) (r : Completion ThreadState Value) → WantsOwn wants → HasWaited out (halted r) → MeansAsked g wants out r
+own_means g None out r own h = absurd own
+own_means g (Some (Finish k new sends)) out r own h = absurd own
+own_means g (Some _) out r own h = h
+
+-- ---- where the machine is over
+
+module _ (cells : List CellDefinition) (g : CellId) (before : List ℕ) (end : Phase) (r : Completion ThreadState Value) where
+  gave : (v : Value) (u : ActorState) (o : Outcome) → (a : AgreesTo cells before end (Completes v u) r) → AsksWith (Finish g (Ok v) (handed u.acting)) u.todo u.printed o → Consumed o → ActionExplained g before o r
+  gave v u (Ended s) a k c = absurd k
+  gave v u (Failed f s) a k c = absurd k
+  gave v u (Asking s) a k c =
+      let t : ThreadState = a.0 in
+      let rest : RepliesFitTo cells Out [] t.todo end = subst (λ l. RepliesFitTo cells Out l t.todo end) (sym k.0 ∙ c) a.3 in
+      let in_hand_now : IsHandedIn (Ok v) (handed u.acting) t.printed r = (t, a.1, rest.0, refl, some_held u.acting t.held a.2.1 a.2.2) in
+      (t.printed, k.2 ∙ sym a.2.0, subst (λ w. MeansAsked g w t.printed r) (sym k.1) (refl, in_hand_now))
+  gave v u (Unfinished s) a k c = absurd k
+  gave v u Stuck a k c = absurd k
+
+  faulted : (f : Fault) (u : ActorState) (o : Outcome) → (a : AgreesTo cells before end (Faults f u) r) → AsksWith (Finish g (Err f) []) u.todo u.printed o → Consumed o → ActionExplained g before o r
+  faulted f u (Ended s) a k c = absurd k
+  faulted f u (Failed y s) a k c = absurd k
+  faulted f u (Asking s) a k c =
+      let t : ThreadState = a.0 in
+      let rest : RepliesFitTo cells a.3 [] t.todo end = subst (λ l. RepliesFitTo cells a.3 l t.todo end) (sym k.0 ∙ c) a.4 in
+      let in_hand_now : IsHandedIn (Err f) [] t.printed r = (t, a.1, rest.0, refl, refl) in
+      (t.printed, k.2 ∙ sym a.2, subst (λ w. MeansAsked g w t.printed r) (sym k.1) (refl, in_hand_now))
+  faulted f u (Unfinished s) a k c = absurd k
+  faulted f u Stuck a k c = absurd k
+
+  waited : (u : ActorState) → AgreesTo cells before end (Waits u) r → u.todo ≡ [] → ActionExplained g before (Asking u) r
+  waited u a e =
+      let w = waited_out before u.printed (halted r) (a.1 e) in
+      (w.0, w.1, own_means g u.wants w.0 r a.0 w.2)
+
+  over_explained : (x : Completion ActorState Value) (o : Outcome) → IsMeant x → IsOver o → EndsAs g x o → Consumed o → AgreesTo cells before end x r → ActionExplained g before o r
+  over_explained (Completes v u) o m over h c a = gave v u o a (h (no_finish cells Out u.todo a.0.todo end a.3 g (Ok v) (handed u.acting))) c
+  over_explained (Recurs vs u) o m over h c a = absurd m
+  over_explained (Faults f u) o m over h c a = faulted f u o a (h (no_finish cells a.3 u.todo a.0.todo end a.4 g (Err f) [])) c
+  over_explained (Retries u) o m over h c a = absurd m
+  over_explained (Waits u) o m over h c a = subst (λ z. ActionExplained g before z r) (sym h) (waited u a (subst Consumed h c))
+  over_explained (OutOfTurns u) o m over h c a = absurd (subst IsOver h over)
+  over_explained Invalid o m over h c a = absurd m
+
+-- ---- an action on exchanges that fit its events
+
+module _ (code : Library) (cells : List CellDefinition) (functions : List PlainFunction) (sound : SoundFunctions [] functions) (valid : SoundCells (known functions) cells) (g : CellId) (a : Action) (sent : SoundAction functions a)
+    (behaves : ActionBehaves code cells functions g a) (v : Value) (s : ActorState) (between : IsBetween s) (todo : List Exchange) (es : List SeenEvent) (end : Phase) (fits : RepliesFitTo cells Out todo es end) where
   abbrev acts : ThreadCode
   acts = agent_code code g
 
-  -- the state while the action is run
-  abbrev holding : Action → ActorState → ActorState
-  holding a s = record s { acting = Some (record { agent = g; action = a; sends = [] }) }
+  abbrev start : Configuration
+  start = taken_at g a v s todo
 
-  -- the action's result is handed in
-  abbrev finishes : Result Value Fault → ActorState → Turned Configuration
-  finishes new s = told (finish g new s) (λ s1. Unfinished (first_place [] (rested s1)))
+  -- the tree on the replies, and what it means on their events, for a bound on loops; and the machine after so many turns
+  abbrev tree : ℕ → Completion ActorState Value
+  tree n = action_source cells functions g a v s n todo
 
-  -- what an action means, where these are the cells' validators
-  abbrev meaning_of : ℕ → Action → Value → Option (Result Value Fault)
-  meaning_of n a v = action_meaning n functions code.validators a v
+  abbrev means : ℕ → Completion ThreadState Value
+  means n = action_meaning cells functions n a v es
 
-  -- ---- an action that is run
+  abbrev comes : ℕ → Outcome
+  comes m = exec acts m start
 
-  module _ (n : ℕ) (a : Action) (v : Value) (s : ActorState) where
-    -- a turn, and what it comes to by what the action means
-    abbrev TurnRuns : Turned Configuration → Option (Result Value Fault) → Type 0
-    TurnRuns t (Some new) = (k : ℕ) → (j : ℕ) × (k ≤ j) × (and_then t (exec acts j) ≡ and_then (finishes new (holding a s)) (exec acts k))
-    TurnRuns t None = (j : ℕ) × (n ≤ j) × (and_then t (exec acts j) ≡ Unfinished (holding a s))
+  begins : (l : List SeenEvent) → IsBeside s.printed (Some []) start.state (from_events (Some []) l)
+  begins l = (append-nil s.printed, refl, refl)
 
-    -- what the action comes to where the callee gave this value
-    abbrev accepts : Option Callee → Value → Completion (Unit {0}) Value
-    accepts o w = validated (quietly n functions (length functions) a.span) o a.span w tt
+  agreed : (n : ℕ) → AgreesTo cells s.printed end (tree n) (means n)
+  agreed n =
+      subst (λ l. AgreesTo cells s.printed end (tree n) (action_meaning cells functions n a v l)) (append-nil es)
+      (agrees_to cells s.printed end (tree n) (action_meaning cells functions n a v (es ++ []))
+      (action_related cells functions sound valid (fitting cells s.printed end) n g a v s todo es sent (begins (es ++ []), es, refl, fits)))
 
-    -- the action is handed in with this value, where the validator has accepted it
-    abbrev at_finish : Value → ActorState → Configuration
-    at_finish w u = acting g a 2 (w ∷ []) u
+  meant : (n : ℕ) → IsMeant (tree n)
+  meant n = action_meant cells functions sound valid g a sent v s n todo es (fits_of cells Out todo es end fits)
 
-    abbrev hands_over : Value → Configuration → Turned Configuration
-    hands_over w c1 = finishes (Ok w) c1.state
+  -- where the tree has ended
+  ends : (n : ℕ) (x : Completion ActorState Value) → tree n ≡ x → HasEnded x → (j : ℕ) × EndsAs g x (comes j)
+  ends n x q h = subst (λ y. (j : ℕ) × EndsAs g y (comes j)) q (behaves.follows v s todo n between (subst HasEnded (sym q) h))
 
-    -- what a validator's answer makes of a value
-    abbrev verdict : Value → Bool → Result Value Fault
-    verdict w true = Ok w
-    verdict w false = Err (fault_at InvalidState a.span)
+  -- and what the machine is over with
+  only : (m : ℕ) (o : Outcome) → comes m ≡ o → IsOver o → EndsAs g (tree m) o
+  only m o e over = subst (λ z. EndsAs g (tree m) z) e (behaves.only v s todo m between (subst IsOver (sym e) over) (meant m))
 
-    judged_verdict : (w answer : Value) (u : Unit {0}) → new_of (judged answer a.span w u) ≡ Some (verdict w (choose answer true false))
-    judged_verdict w Nil u = refl
-    judged_verdict w (Truth true) u = refl
-    judged_verdict w (Truth false) u = refl
-    judged_verdict w (Int z) u = refl
-    judged_verdict w (Key bs) u = refl
-    judged_verdict w (Text bs) u = refl
-    judged_verdict w (Vector vs) u = refl
-    judged_verdict w (Cell c) u = refl
+  -- a value is handed in, and so is a fault
+  gives : (n : ℕ) (w : Value) (u : ActorState) → tree n ≡ Completes w u → AgreesTo cells s.printed end (Completes w u) (means n) → (j : ℕ) × AsksWith (Finish g (Ok w) (handed u.acting)) u.todo u.printed (comes j)
+  gives n w u q b = let r = ends n (Completes w u) q tt in (r.0, r.1 (no_finish cells Out u.todo b.0.todo end b.3 g (Ok w) (handed u.acting)))
 
-    -- an answer that was looked at is there no longer
-    looked_at : s.accepted ≡ None → record (holding a s) { accepted = None } ≡ holding a s
-    looked_at clean = ap (λ o. record (holding a s) { accepted = o }) (sym clean)
+  breaks : (n : ℕ) (f : Fault) (u : ActorState) → tree n ≡ Faults f u → AgreesTo cells s.printed end (Faults f u) (means n) → (j : ℕ) × AsksWith (Finish g (Err f) []) u.todo u.printed (comes j)
+  breaks n f u q b = let r = ends n (Faults f u) q tt in (r.0, r.1 (no_finish cells b.3 u.todo b.0.todo end b.4 g (Err f) []))
 
-    -- the turn that looks at the answer
-    decides : s.accepted ≡ None → (f : Callee) (w : Value) (b : Bool)
-        → where_accepted acts (Some b) f w a.span (at_finish w (record s { accepted = Some b })) (hands_over w) ≡ finishes (verdict w b) (holding a s)
-    decides clean f w true = ap (λ u. finishes (Ok w) u) (looked_at clean)
-    decides clean f w false = ap (λ u. finishes (Err (fault_at InvalidState a.span)) u) (looked_at clean)
+  -- ---- the machine runs, and has consumed all exchanges
 
-    -- from the answer on
-    answer_runs : s.accepted ≡ None → (f : Callee) (w answer : Value) → validator_at code.validators a.agent.number ≡ Some f → (k : ℕ)
-        → exec acts (suc k) (at_finish w (answered answer s)) ≡ and_then (finishes (verdict w (choose answer true false)) (holding a s)) (exec acts k)
-    answer_runs clean f w answer there k =
-        ap (λ o. and_then (where_valid acts o w a.span (at_finish w (answered answer s)) (hands_over w)) (exec acts k)) there
-        ∙ ap (λ t. and_then t (exec acts k)) (decides clean f w (choose answer true false))
+  module _ (m : ℕ) (s1 : ActorState) (e : comes m ≡ Unfinished s1) (c : s1.todo ≡ []) where
+    -- what the machine comes to grows from here
+    to_asked : (q : Ask) (left : List Exchange) (out : List ℕ) (j : ℕ) → AsksWith q left out (comes j) → (left ≡ []) × (rest : List ℕ) × (out ≡ s1.printed ++ rest)
+    to_asked q left out j k = asked_grown q left out (comes j) s1 k (grown_over acts start m s1 (comes j) (asked_over q left out (comes j) k) e (j, refl)) c
 
-    operation_validates : s.accepted ≡ None → (f : Callee) (w : Value) → validator_at code.validators a.agent.number ≡ Some f → (r : Result Value FaultKind)
-        → TurnRuns (on Outside (step_of r a.span (holding a s)) (λ answer u. Unfinished (record (at_finish w s) { state = answered answer u }))) (new_of (bind (result_of r a.span tt) (λ answer u. judged answer a.span w u)))
-    operation_validates clean f w there (Ok answer) =
-        subst (TurnRuns (Unfinished (at_finish w (answered answer s)))) (sym (judged_verdict w answer tt)) (λ k. (suc k, omega arith, answer_runs clean f w answer there k))
-    operation_validates clean f w there (Err e) = λ k. (k, omega arith, refl)
+    to_waiting : (u : ActorState) → tree m ≡ Waits u → GrowsTo s1 (Asking u)
+    to_waiting u q = let r = ends m (Waits u) q tt in grown_over acts start m s1 (Asking u) tt e (r.0, r.1)
 
-    function_validates : s.accepted ≡ None → (f : Callee) (w : Value) → validator_at code.validators a.agent.number ≡ Some f → (c : Configuration) (z : Completion (Unit {0}) Value) → IsProper z → ((y : Fault) → raise c.doing y c.state ≡ finishes (Err y) (holding a s))
-        → c.state ≡ holding a s → CallComes acts n c (λ answer. at_finish w (answered answer s)) z → TurnRuns (Unfinished c) (new_of (bind z (λ answer u. judged answer a.span w u)))
-    function_validates clean f w there c (Completes answer u) p d e h =
-        subst (TurnRuns (Unfinished c)) (sym (judged_verdict w answer u)) (λ k. let b = h (suc k) in (b.0, omega (arith, b.1), b.2 ∙ answer_runs clean f w answer there k))
-    function_validates clean f w there c (Recurs vs u) p d e h = absurd p
-    function_validates clean f w there c (Faults y u) p d e h = λ k. let b = h k in (b.0, b.1, b.2 ∙ ap (λ t. and_then t (exec acts k)) (d y))
-    function_validates clean f w there c (Retries u) p d e h = absurd p
-    function_validates clean f w there c (Waits u) p d e h = absurd p
-    function_validates clean f w there c (OutOfTurns u) p d e h = (h.0, h.1, h.2 ∙ ap (λ t. Unfinished t) e)
-    function_validates clean f w there c Invalid p d e h = absurd p
+    to_running : (u : ActorState) → tree m ≡ OutOfTurns u → GrowsTo s1 (Unfinished u)
+    to_running u q = let r = behaves.goes_on v s todo m u between q in grown acts start m r.0 s1 (Unfinished u) r.1 e r.2
 
-    -- the agent's validator on what the callee gave
-    validator_runs : s.accepted ≡ None → (w : Value) (o : Option Callee) → validator_at code.validators a.agent.number ≡ o → SoundValidator (known functions) o → TurnRuns (where_valid acts o w a.span (at_finish w s) (hands_over w)) (new_of (accepts o w))
-    validator_runs clean w None there h = λ k. (k, omega arith, refl)
-    validator_runs clean w (Some (CoreOp op)) there h =
-        subst (λ x. TurnRuns (where_accepted acts x (CoreOp op) w a.span (at_finish w s) (hands_over w)) (new_of (accepts (Some (CoreOp op)) w))) (sym clean) (operation_validates clean (CoreOp op) w there (core op (w ∷ [])))
-    validator_runs clean w (Some (Function f)) there h =
-        subst (λ x. TurnRuns (where_accepted acts x (Function f) w a.span (at_finish w s) (hands_over w)) (new_of (accepts (Some (Function f)) w))) (sym clean)
-        (function_validates clean (Function f) w there (called acts f (w ∷ []) to_validation 2 (w ∷ []) (at_finish w s)) (quietly n functions (length functions) a.span (Function f) (w ∷ []) tt)
-        (callee_proper functions sound n a.span (Function f) (w ∷ []) h) (λ y. refl) refl (behave.validators g a f n w s (ap is_pure h.found ∙ h.pure)))
+    -- what was printed so far
+    so_far : (out : List ℕ) × (s1.printed ≡ s.printed ++ out)
+    so_far = let b : GrowsTo start.state (Unfinished s1) = grown acts start 0 m start.state (Unfinished s1) (omega arith) refl e in (b.more, b.prints)
 
-    -- one turn more
-    after_turn : (c : Configuration) (o : Option (Result Value Fault)) → TurnRuns (turn acts c) o → TurnRuns (Unfinished c) o
-    after_turn c (Some new) h = λ k. let b = h k in (suc b.0, omega (arith, b.1), b.2)
-    after_turn c None h = (suc h.0, omega (arith, h.1), h.2)
+    -- and behind it
+    further : (out rest : List ℕ) → out ≡ s1.printed ++ rest → out ≡ s.printed ++ (so_far.0 ++ rest)
+    further out rest k = k ∙ ap (λ l. l ++ rest) so_far.1 ∙ append_assoc s.printed so_far.0 rest
 
-    -- turns that lead there before
-    after_call : (c d : Configuration) (o : Option (Result Value Fault)) → ComesTo acts c (Unfinished d) → TurnRuns (Unfinished d) o → TurnRuns (Unfinished c) o
-    after_call c d (Some new) h r = λ k. let b = r k in let e = h b.0 in (e.0, omega (arith, b.1, e.1), e.2 ∙ b.2)
-    after_call c d None h r = let e = h r.0 in (e.0, omega (arith, r.1, e.1), e.2 ∙ r.2)
+    abbrev EatsAll : Completion ThreadState Value → Type 0
+    EatsAll r = PrintedBehind s.printed s1.printed (λ out. (rest : List ℕ) × HasEatenAll (out ++ rest) r)
 
-    -- the agent's validator
-    abbrev own_validator : Option Callee
-    own_validator = validator_at code.validators a.agent.number
+    runs_so : (x : Completion ActorState Value) → tree m ≡ x → IsMeant x → AgreesTo cells s.printed end x (means m) → EatsAll (means m)
+    runs_so (Completes w u) q k b =
+        let r = gives m w u q b in
+        let t : ThreadState = b.0 in
+        let l = to_asked (Finish g (Ok w) (handed u.acting)) u.todo u.printed r.0 r.1 in
+        let none : RepliesFitTo cells Out [] t.todo end = subst (λ y. RepliesFitTo cells Out y t.todo end) l.0 b.3 in
+        let told : HasEatenAll (so_far.0 ++ l.1) (Completes w t) = (none.0, same_behind s.printed t.printed (so_far.0 ++ l.1) (b.2.0 ∙ further u.printed l.1 l.2)) in
+        (so_far.0, so_far.1, (l.1, subst (HasEatenAll (so_far.0 ++ l.1)) (sym b.1) told))
+    runs_so (Recurs vs u) q k b = absurd k
+    runs_so (Faults f u) q k b =
+        let r = breaks m f u q b in
+        let t : ThreadState = b.0 in
+        let l = to_asked (Finish g (Err f) []) u.todo u.printed r.0 r.1 in
+        let none : RepliesFitTo cells b.3 [] t.todo end = subst (λ y. RepliesFitTo cells b.3 y t.todo end) l.0 b.4 in
+        let told : HasEatenAll (so_far.0 ++ l.1) (Faults f t) = (none.0, same_behind s.printed t.printed (so_far.0 ++ l.1) (b.2 ∙ further u.printed l.1 l.2)) in
+        (so_far.0, so_far.1, (l.1, subst (HasEatenAll (so_far.0 ++ l.1)) (sym b.1) told))
+    runs_so (Retries u) q k b = absurd k
+    runs_so (Waits u) q k b =
+        let l = to_waiting u q in
+        let none = nothing_after l.done u.todo (sym l.eats ∙ c) in
+        (so_far.0, so_far.1, (l.more, eaten_all s.printed u.printed (so_far.0 ++ l.more) (means m) (further u.printed l.more l.prints) (waited_eaten_behind s.printed u.printed (halted (means m)) (b.1 none))))
+    runs_so (OutOfTurns u) q k b =
+        let l = to_running u q in
+        let none = nothing_after l.done u.todo (sym l.eats ∙ c) in
+        (so_far.0, so_far.1, (l.more, eaten_all s.printed u.printed (so_far.0 ++ l.more) (means m) (further u.printed l.more l.prints) (b none)))
+    runs_so Invalid q k b = absurd k
 
-    value_runs : s.accepted ≡ None → (w : Value) → TurnRuns (Unfinished (at_finish w s)) (new_of (accepts own_validator w))
-    value_runs clean w =
-        after_turn (at_finish w s) (new_of (accepts own_validator w)) (validator_runs clean w own_validator refl (validator_sound functions code.validators a.agent.number valid))
+    -- the tree has consumed all exchanges, too
+    tree_consumed : (x : Completion ActorState Value) → tree m ≡ x → IsMeant x → AgreesTo cells s.printed end x (means m) → Consumed (outcome_of x)
+    tree_consumed (Completes w u) q k b = let r = gives m w u q b in (to_asked (Finish g (Ok w) (handed u.acting)) u.todo u.printed r.0 r.1).0
+    tree_consumed (Recurs vs u) q k b = absurd k
+    tree_consumed (Faults f u) q k b = let r = breaks m f u q b in (to_asked (Finish g (Err f) []) u.todo u.printed r.0 r.1).0
+    tree_consumed (Retries u) q k b = absurd k
+    tree_consumed (Waits u) q k b = let l = to_waiting u q in nothing_after l.done u.todo (sym l.eats ∙ c)
+    tree_consumed (OutOfTurns u) q k b = let l = to_running u q in nothing_after l.done u.todo (sym l.eats ∙ c)
+    tree_consumed Invalid q k b = absurd k
 
-    -- what follows the callee
-    abbrev then_accepts : Completion (Unit {0}) Value → Option (Result Value Fault)
-    then_accepts z = new_of (bind z (λ w u. validated (quietly n functions (length functions) a.span) own_validator a.span w u))
+  -- ---- what is explained
 
-    operation_runs : s.accepted ≡ None → (r : Result Value FaultKind) → TurnRuns (gives (acting g a 1 (v ∷ []) s) [] (step_of r a.span (holding a s))) (then_accepts (result_of r a.span tt))
-    operation_runs clean (Ok w) = value_runs clean w
-    operation_runs clean (Err e) = λ k. (k, omega arith, refl)
+  explained_at : (m : ℕ) (o : Outcome) → comes m ≡ o → Consumed o → ActionExplained g s.printed o (means m)
+  explained_at m (Unfinished s1) e c = runs_so m s1 e c (tree m) refl (meant m) (agreed m)
+  explained_at m (Ended s1) e c = over_explained cells g s.printed end (means m) (tree m) (Ended s1) (meant m) tt (only m (Ended s1) e tt) c (agreed m)
+  explained_at m (Failed f s1) e c = over_explained cells g s.printed end (means m) (tree m) (Failed f s1) (meant m) tt (only m (Failed f s1) e tt) c (agreed m)
+  explained_at m (Asking s1) e c = over_explained cells g s.printed end (means m) (tree m) (Asking s1) (meant m) tt (only m (Asking s1) e tt) c (agreed m)
+  explained_at m Stuck e c = over_explained cells g s.printed end (means m) (tree m) Stuck (meant m) tt (only m Stuck e tt) c (agreed m)
 
-    function_runs : s.accepted ≡ None → (c : Configuration) (z : Completion (Unit {0}) Value) → IsProper z → ((y : Fault) → raise c.doing y c.state ≡ finishes (Err y) (holding a s)) → c.state ≡ holding a s → CallComes acts n c (λ w. at_finish w s) z → TurnRuns (Unfinished c) (then_accepts z)
-    function_runs clean c (Completes w tt) p d e h = after_call c (at_finish w s) (new_of (accepts own_validator w)) h (value_runs clean w)
-    function_runs clean c (Recurs vs u) p d e h = absurd p
-    function_runs clean c (Faults y u) p d e h = λ k. let b = h k in (b.0, b.1, b.2 ∙ ap (λ t. and_then t (exec acts k)) (d y))
-    function_runs clean c (Retries u) p d e h = absurd p
-    function_runs clean c (Waits u) p d e h = absurd p
-    function_runs clean c (OutOfTurns u) p d e h = (h.0, h.1, h.2 ∙ ap (λ t. Unfinished t) e)
-    function_runs clean c Invalid p d e h = absurd p
+  -- ---- the transactions
 
-    callee_runs : s.accepted ≡ None → (c : Callee) → SoundCallee (known functions) c (suc (length a.args)) → TurnRuns (runs_callee acts c a v [] (acting g a 1 (v ∷ []) s)) (then_accepts (quietly n functions (length functions) a.span c (v ∷ a.args) tt))
-    callee_runs clean (CoreOp op) h = operation_runs clean (core op (v ∷ a.args))
-    callee_runs clean (Function f) h =
-        function_runs clean (called acts f (v ∷ a.args) to_stack 2 [] (acting g a 1 [] s)) (quietly n functions (length functions) a.span (Function f) (v ∷ a.args) tt)
-        (callee_proper functions sound n a.span (Function f) (v ∷ a.args) h) (λ y. refl) refl (behave.calls g a f n (v ∷ a.args) s (ap is_pure h.found ∙ h.pure))
+  over_consumed : (m : ℕ) (o : Outcome) (x : Completion ActorState Value) → IsMeant x → IsOver o → EndsAs g x o → Consumed o → AgreesTo cells s.printed end x (means m) → Consumed (outcome_of x)
+  over_consumed m o (Completes w u) k over h c b = asked_none (Finish g (Ok w) (handed u.acting)) u.todo u.printed o (h (no_finish cells Out u.todo b.0.todo end b.3 g (Ok w) (handed u.acting))) c
+  over_consumed m o (Recurs vs u) k over h c b = absurd k
+  over_consumed m o (Faults f u) k over h c b = asked_none (Finish g (Err f) []) u.todo u.printed o (h (no_finish cells b.3 u.todo b.0.todo end b.4 g (Err f) [])) c
+  over_consumed m o (Retries u) k over h c b = absurd k
+  over_consumed m o (Waits u) k over h c b = subst Consumed h c
+  over_consumed m o (OutOfTurns u) k over h c b = absurd (subst IsOver h over)
+  over_consumed m o Invalid k over h c b = absurd k
 
-    -- an action that was taken is run, by what it means
-    abbrev Runs : Option (Result Value Fault) → Type 0
-    Runs o = TurnRuns (Unfinished (acting g a 1 (v ∷ []) s)) o
+  consumed_too : (m : ℕ) (o : Outcome) → comes m ≡ o → Consumed o → Consumed (outcome_of (tree m))
+  consumed_too m (Unfinished s1) e c = tree_consumed m s1 e c (tree m) refl (meant m) (agreed m)
+  consumed_too m (Ended s1) e c = over_consumed m (Ended s1) (tree m) (meant m) tt (only m (Ended s1) e tt) c (agreed m)
+  consumed_too m (Failed f s1) e c = over_consumed m (Failed f s1) (tree m) (meant m) tt (only m (Failed f s1) e tt) c (agreed m)
+  consumed_too m (Asking s1) e c = over_consumed m (Asking s1) (tree m) (meant m) tt (only m (Asking s1) e tt) c (agreed m)
+  consumed_too m Stuck e c = over_consumed m Stuck (tree m) (meant m) tt (only m Stuck e tt) c (agreed m)
 
-    runs : s.accepted ≡ None → SoundAction functions a → Runs (meaning_of n a v)
-    runs clean h = after_turn (acting g a 1 (v ∷ []) s) (meaning_of n a v) (callee_runs clean a.callee h)
+  noted_at : (m : ℕ) → Consumed (comes m) → AreNoted (Some []) todo (txs_of (means m))
+  noted_at m c =
+      subst (λ l. AreNoted (Some []) todo (txs_of (action_meaning cells functions m a v l))) (append-nil es)
+      (noted_so cells s.printed (Some []) todo (tree m) (action_meaning cells functions m a v (es ++ []))
+      (action_related cells functions sound valid (noting cells s.printed (Some []) todo) m g a v s todo es sent (begins (es ++ []), es, refl, (fits_of cells Out todo es end fits, ([], refl, tt)))) (meant m) (consumed_too m (comes m) refl c))
 
-  -- ---- exchanges, one action after the other
+  -- ---- what is printed
 
-  -- the agent takes the action that is handed out
-  takes : (s : ActorState) (x : Exchange) (xs : List Exchange) (number : ℕ) (a : Action) (v : Value) → s.todo ≡ x ∷ xs → x.ask ≡ Take g → x.reply ≡ reply.Action number a v → (m : ℕ) → exec acts (suc m) (first_place [] s) ≡ exec acts m (acting g a 1 (v ∷ []) (record s { todo = xs }))
-  unfolding take_action
-  takes s x xs number a v e h r m =
-      let going : Reception → Outcome = λ y. and_then (on Outside (heard handed_out y) (λ o s1. started g o (first_place [] s) s1)) (exec acts m) in
-      ap going (answered_with (Take g) s x xs e h) ∙ ap (λ y. going (Replied y (record s { todo = xs }))) r
+  module _ (m n : ℕ) (out : List ℕ) (c : Consumed (comes m)) (le : m ≤ n) (eaten : HasEaten out (halted (means n))) where
+    prints_at : (x : Completion ActorState Value) → tree n ≡ x → IsMeant x → AgreesTo cells s.printed end x (means n) → (j : ℕ) × (n ≤ j) × HasPrintedSo (s.printed ++ out) (comes j)
+    prints_at (Completes w u) q k b = absurd (subst (λ r. HasEaten out (halted r)) b.1 eaten)
+    prints_at (Recurs vs u) q k b = absurd k
+    prints_at (Faults f u) q k b = absurd (subst (λ r. HasEaten out (halted r)) b.1 eaten)
+    prints_at (Retries u) q k b = absurd k
+    prints_at (Waits u) q k b =
+        let r = ends n (Waits u) q tt in
+        let none : u.todo ≡ [] = consumed_over acts start m r.0 (Asking u) tt r.1 c in
+        let there : comes (r.0 + n) ≡ Asking u = longer acts r.0 (r.0 + n) (omega arith) start (Asking u) tt r.1 in
+        let same = printed_same s.printed u.printed out (halted (means n)) (waited_eaten_behind s.printed u.printed (halted (means n)) (b.1 none)) eaten in
+        (r.0 + n, omega arith, subst (HasPrintedSo (s.printed ++ out)) (sym there) (none, same))
+    prints_at (OutOfTurns u) q k b =
+        let r = behaves.goes_on v s todo n u between q in
+        let none : u.todo ≡ [] = consumed_later acts start m r.0 (comes m) (Unfinished u) (omega (arith, le, r.1)) refl r.2 c in
+        (r.0, r.1, subst (HasPrintedSo (s.printed ++ out)) (sym r.2) (none, printed_same s.printed u.printed out (halted (means n)) (b none) eaten))
+    prints_at Invalid q k b = absurd k
 
-  -- the result is handed in, where no exchange is left
-  asks_last : (new : Result Value Fault) (s : ActorState) (next : Configuration → Outcome) → s.todo ≡ [] → and_then (finishes new s) next ≡ Asking (record s { wants = Some (Finish g new []) })
-  unfolding finish
-  asks_last new s next e = ap (λ y. and_then (told (heard just_done y) (λ s1. Unfinished (first_place [] (rested s1)))) next) (unanswered (Finish g new []) s e)
+  -- ---- it ends
 
-  -- where one is left
-  abbrev finished : Result Value Fault → ActorState → Exchange → List Exchange → Bool → (Configuration → Outcome) → Outcome
-  finished new s y xs true next = next (first_place [] (rested (record s { todo = xs })))
-  finished new s y xs false next = Asking (record s { wants = Some (Finish g new []) })
+  module _ (Q : World) (m n k b : ℕ) (m_below : m ≤ b) (n_below : n ≤ b) (k_below : k ≤ b) (c : Consumed (comes m)) (enough : NeedsTurns (action_meaning cells functions k a v (es ++ in_hand cells Q end)) → ⊥) where
+    abbrev EndsHere : Type 0
+    EndsHere = (j : ℕ) × IsAsking (comes j) × ActionExplained g s.printed (comes j) (means n)
 
-  asks_next : (new : Result Value Fault) (s : ActorState) (y : Exchange) (xs : List Exchange) (next : Configuration → Outcome) → s.todo ≡ y ∷ xs → y.reply ≡ reply.Done → and_then (finishes new s) next ≡ finished new s y xs (same_ask (Finish g new []) y.ask) next
-  unfolding finish asks
-  asks_next new s y xs next e r = ap going (ap (receives (Finish g new []) s) e) ∙ test (same_ask (Finish g new []) y.ask)
-    where
-      going : Reception → Outcome
-      going h = and_then (told (heard just_done h) (λ s1. Unfinished (first_place [] (rested s1)))) next
+    -- the tree has turns enough
+    never_short : (u : ActorState) → tree b ≡ OutOfTurns u → ⊥
+    never_short u q =
+        let r = behaves.goes_on v s todo b u between q in
+        let none : u.todo ≡ [] = consumed_later acts start m r.0 (comes m) (Unfinished u) (omega (arith, m_below, r.1)) refl r.2 c in
+        let y = action_meaning cells functions b a v (es ++ in_hand cells Q end) in
+        let link = action_related cells functions sound valid (up_to cells s.printed (Some []) end Q) b g a v s todo es sent (begins (es ++ in_hand cells Q end), es, refl, fits) in
+        enough (action_needs cells functions sound a v (es ++ in_hand cells Q end) k b k_below (needs_turns y (subst (λ x. Related (account_link cells (up_to cells s.printed (Some []) end Q)) x y) q link none)))
 
-      test : (b : Bool) → going (if b then Replied y.reply (record s { todo = xs }) else Unreplied (record s { wants = Some (Finish g new []) })) ≡ finished new s y xs b next
-      test true = ap (λ z. going (Replied z (record s { todo = xs }))) r
-      test false = refl
+    ended_by : (j : ℕ) (x : Completion ActorState Value) → IsMeant x → IsAsking (comes j) → IsOver (comes j) → EndsAs g x (comes j) → AgreesTo cells s.printed end x (means n) → EndsHere
+    ended_by j x t asks over h d = (j, asks, over_explained cells g s.printed end (means n) x (comes j) t over h (consumed_over acts start m j (comes j) over refl c) d)
 
-  -- ---- what the agent's code comes to
+    ends_at : (x : Completion ActorState Value) → tree b ≡ x → IsMeant x → AgreesTo cells s.printed end x (means b) → AgreesTo cells s.printed end x (means n) → EndsHere
+    ends_at (Completes w u) q t f d =
+        let l = ends b (Completes w u) q tt in
+        let asked = l.1 (no_finish cells Out u.todo f.0.todo end f.3 g (Ok w) (handed u.acting)) in
+        ended_by l.0 (Completes w u) tt (asked_asks (Finish g (Ok w) (handed u.acting)) u.todo u.printed (comes l.0) asked) (asked_over (Finish g (Ok w) (handed u.acting)) u.todo u.printed (comes l.0) asked) l.1 d
+    ends_at (Recurs vs u) q t f d = absurd t
+    ends_at (Faults y u) q t f d =
+        let l = ends b (Faults y u) q tt in
+        let asked = l.1 (no_finish cells f.3 u.todo f.0.todo end f.4 g (Err y) []) in
+        ended_by l.0 (Faults y u) tt (asked_asks (Finish g (Err y) []) u.todo u.printed (comes l.0) asked) (asked_over (Finish g (Err y) []) u.todo u.printed (comes l.0) asked) l.1 d
+    ends_at (Retries u) q t f d = absurd t
+    ends_at (Waits u) q t f d =
+        let l = ends b (Waits u) q tt in
+        ended_by l.0 (Waits u) tt (subst IsAsking (sym l.1) tt) (subst IsOver (sym l.1) tt) l.1 d
+    ends_at (OutOfTurns u) q t f d = absurd (never_short u q)
+    ends_at Invalid q t f d = absurd t
 
-  -- what it asks next, it asks for good
-  settled : (q : Ask) (c : Configuration) (m j : ℕ) → m ≤ j → AsksNext q (exec acts m c) → exec acts m c ≡ exec acts j c
-  settled q c m j le h = sym (longer acts m j le c (exec acts m c) (asks_over q (exec acts m c) h) refl)
-
-  -- an action before the next ask has a result, which is handed in
-  through : (q : Ask) (m : ℕ) (a : Action) (v : Value) (s : ActorState) → s.accepted ≡ None → SoundAction functions a → AsksNext q (exec acts m (acting g a 1 (v ∷ []) s)) → (new : Result Value Fault) × (meaning_of m a v ≡ Some new) × AsksNext q (and_then (finishes new (holding a s)) (exec acts m))
-  through q m a v s clean h next = go (meaning_of m a v) refl (runs m a v s clean h)
-    where
-      go : (o : Option (Result Value Fault)) → meaning_of m a v ≡ o → Runs m a v s o → (new : Result Value Fault) × (meaning_of m a v ≡ Some new) × AsksNext q (and_then (finishes new (holding a s)) (exec acts m))
-      go (Some new) e r = let b = r m in (new, e, subst (AsksNext q) (settled q (acting g a 1 (v ∷ []) s) m b.0 b.1 next ∙ b.2) next)
-      go None e r = absurd (subst (AsksNext q) (settled q (acting g a 1 (v ∷ []) s) m r.0 r.1 next ∙ r.2) next)
-
-  -- the action that a take hands out
-  handed : (r : Reply) → HandsOut functions r → (number : ℕ) × (a : Action) × (v : Value) × (r ≡ reply.Action number a v) × SoundAction functions a
-  handed (reply.Action number a v) h = (number, a, v, refl, h)
-  handed _ h = absurd h
-
-  -- the result is the one that was handed in, and the agent begins again
-  begins_again : (q : Ask) (new : Result Value Fault) (s : ActorState) (y : Exchange) (xs : List Exchange) (next : Configuration → Outcome) → s.todo ≡ y ∷ xs → y.reply ≡ reply.Done → AsksNext q (and_then (finishes new s) next)
-      → (same_ask (Finish g new []) y.ask ≡ true) × AsksNext q (next (first_place [] (rested (record s { todo = xs }))))
-  begins_again q new s y xs next e r h = go (same_ask (Finish g new []) y.ask) refl (subst (AsksNext q) (asks_next new s y xs next e r) h)
-    where
-      go : (b : Bool) → same_ask (Finish g new []) y.ask ≡ b → AsksNext q (finished new s y xs b next) → (same_ask (Finish g new []) y.ask ≡ true) × AsksNext q (next (first_place [] (rested (record s { todo = xs }))))
-      go true z k = (z, k)
-      go false z k = absurd (subst AnyLeft (sym e ∙ k.0) tt)
-
-  -- an action that was finished before the next ask
-  passes : (q : Ask) (x y : Exchange) (zs : List Exchange) (number m : ℕ) (a : Action) (v : Value) (s : ActorState) → s.accepted ≡ None → SoundAction functions a → s.todo ≡ x ∷ y ∷ zs → x.ask ≡ Take g → x.reply ≡ reply.Action number a v → y.reply ≡ reply.Done
-      → AsksNext q (exec acts (suc m) (first_place [] s)) → (new : Result Value Fault) × (meaning_of m a v ≡ Some new) × (same_ask (Finish g new []) y.ask ≡ true) × AsksNext q (exec acts m (first_place [] (rested (record s { todo = zs }))))
-  passes q x y zs number m a v s clean sa e f r d h = go (through q m a v (record s { todo = y ∷ zs }) clean sa (subst (AsksNext q) (takes s x (y ∷ zs) number a v e f r m) h))
-    where
-      go : (new : Result Value Fault) × (meaning_of m a v ≡ Some new) × AsksNext q (and_then (finishes new (holding a (record s { todo = y ∷ zs }))) (exec acts m))
-          → (new : Result Value Fault) × (meaning_of m a v ≡ Some new) × (same_ask (Finish g new []) y.ask ≡ true) × AsksNext q (exec acts m (first_place [] (rested (record s { todo = zs }))))
-      go w = let z = begins_again q w.0 (holding a (record s { todo = y ∷ zs })) y zs (exec acts m) refl d w.2 in (w.0, w.1, z.0, z.1)
-
-  -- the same where more exchanges come after it
-  comes_to_pass : (P : Outcome → Type 0) (x y : Exchange) (zs : List Exchange) (number m : ℕ) (a : Action) (v : Value) (new : Result Value Fault) (t : ActorState) → t.accepted ≡ None → SoundAction functions a → t.todo ≡ x ∷ y ∷ zs → x.ask ≡ Take g → x.reply ≡ reply.Action number a v → y.reply ≡ reply.Done
-      → meaning_of m a v ≡ Some new → same_ask (Finish g new []) y.ask ≡ true → (i : ℕ) → P (exec acts i (first_place [] (rested (record t { todo = zs })))) → (j : ℕ) × (i ≤ j) × P (exec acts j (first_place [] t))
-  comes_to_pass P x y zs number m a v new t clean sa e f r d means same i h = go (subst (Runs m a v (record t { todo = y ∷ zs })) means (runs m a v (record t { todo = y ∷ zs }) clean sa))
-    where
-      go : ComesTo acts (acting g a 1 (v ∷ []) (record t { todo = y ∷ zs })) (finishes new (holding a (record t { todo = y ∷ zs }))) → (j : ℕ) × (i ≤ j) × P (exec acts j (first_place [] t))
-      go run =
-          let b = run i in
-          let there : exec acts (suc b.0) (first_place [] t) ≡ exec acts i (first_place [] (rested (record t { todo = zs }))) =
-          takes t x (y ∷ zs) number a v e f r b.0 ∙ b.2 ∙ asks_next new (holding a (record t { todo = y ∷ zs })) y zs (exec acts i) refl d
-          ∙ ap (λ w. finished new (holding a (record t { todo = y ∷ zs })) y zs w (exec acts i)) same in
-          (suc b.0, omega (arith, b.1), subst P (sym there) h)
-
-  only_from : (done : List Exchange) → AgentFits functions g done → (number m : ℕ) (a : Action) (v : Value) (new : Result Value Fault) → SoundAction functions a → (s : ActorState) → s.accepted ≡ None → s.todo ≡ done ++ taking g number a v ∷ []
-      → AsksNext (Finish g new []) (exec acts m (first_place [] s)) → (n : ℕ) × (meaning_of n a v ≡ Some new)
-  only_from done fits number zero a v new sa s clean e h = absurd h
-  only_from [] fits number (suc m) a v new sa s clean e h = go (through (Finish g new []) m a v (record s { todo = [] }) clean sa (subst (AsksNext (Finish g new [])) (takes s (taking g number a v) [] number a v e refl refl m) h))
-    where
-      go : (r : Result Value Fault) × (meaning_of m a v ≡ Some r) × AsksNext (Finish g new []) (and_then (finishes r (holding a (record s { todo = [] }))) (exec acts m)) → (n : ℕ) × (meaning_of n a v ≡ Some new)
-      go w =
-          let z : AsksNext (Finish g new []) (Asking (record (holding a s) { todo = []; wants = Some (Finish g w.0 []) })) = subst (AsksNext (Finish g new [])) (asks_last w.0 (holding a (record s { todo = [] })) (exec acts m) refl) w.2 in
-          (m, w.1 ∙ ap Some (finish_same w.0 new z.1))
-  only_from (x ∷ []) fits number (suc m) a v new sa s clean e h = absurd fits
-  only_from (x ∷ y ∷ done) fits number (suc m) a v new sa s clean e h =
-      let out = handed x.reply fits.1 in
-      let r = passes (Finish g new []) x y (done ++ taking g number a v ∷ []) out.0 m out.1 out.2 s clean out.4 e fits.0 out.3 fits.4 h in
-      only_from done fits.5 number m a v new sa (rested (record s { todo = done ++ taking g number a v ∷ [] })) clean refl r.3
-
-  -- what an agent comes to on an action that it took alone, it comes to where it had finished others before
-  module _ (P : Outcome → Type 0) (least number : ℕ) (a : Action) (v : Value) (alone : (u : ActorState) → u.accepted ≡ None → u.todo ≡ taking g number a v ∷ [] → (j : ℕ) × (least ≤ j) × P (exec acts j (first_place [] u))) where
-    comes_from : (done : List Exchange) → AgentFits functions g done → (m : ℕ) (s t : ActorState) → s.accepted ≡ None → t.accepted ≡ None → s.todo ≡ done → t.todo ≡ done ++ taking g number a v ∷ []
-        → AsksNext (Take g) (exec acts m (first_place [] s)) → (j : ℕ) × (least ≤ j) × P (exec acts j (first_place [] t))
-    comes_from done fits zero s t cs ct e f h = absurd h
-    comes_from [] fits (suc m) s t cs ct e f h = alone t ct f
-    comes_from (x ∷ []) fits (suc m) s t cs ct e f h = absurd fits
-    comes_from (x ∷ y ∷ done) fits (suc m) s t cs ct e f h =
-        let out = handed x.reply fits.1 in
-        let r = passes (Take g) x y done out.0 m out.1 out.2 s cs out.4 e fits.0 out.3 fits.4 h in
-        let later = comes_from done fits.5 m (rested (record s { todo = done })) (rested (record t { todo = done ++ taking g number a v ∷ [] })) cs ct refl refl r.3 in
-        let there = comes_to_pass P x y (done ++ taking g number a v ∷ []) out.0 m out.1 out.2 r.0 t ct out.4 f fits.0 out.3 fits.4 r.1 r.2 later.0 later.2 in
-        (there.0, omega (arith, later.1, there.1), there.2)
-
-  -- an action with a result: it is handed in
-  hands_in : (number n : ℕ) (a : Action) (v : Value) (new : Result Value Fault) → SoundAction functions a → meaning_of n a v ≡ Some new → (u : ActorState) → u.accepted ≡ None → u.todo ≡ taking g number a v ∷ [] → (j : ℕ) × (0 ≤ j) × AsksNext (Finish g new []) (exec acts j (first_place [] u))
-  hands_in number n a v new sa means u clean f = go (subst (Runs n a v (record u { todo = [] })) means (runs n a v (record u { todo = [] }) clean sa))
-    where
-      go : ComesTo acts (acting g a 1 (v ∷ []) (record u { todo = [] })) (finishes new (holding a (record u { todo = [] }))) → (j : ℕ) × (0 ≤ j) × AsksNext (Finish g new []) (exec acts j (first_place [] u))
-      go run =
-          let b = run 0 in
-          let there : exec acts (suc b.0) (first_place [] u) ≡ Asking (record (holding a u) { todo = []; wants = Some (Finish g new []) }) =
-          takes u (taking g number a v) [] number a v f refl refl b.0 ∙ b.2 ∙ asks_last new (holding a (record u { todo = [] })) (exec acts 0) refl in
-          (suc b.0, omega arith, subst (AsksNext (Finish g new [])) (sym there) (refl, refl))
-
-  -- an action that needs more turns: it is still run after as many
-  is_running : (number n : ℕ) (a : Action) (v : Value) → SoundAction functions a → meaning_of n a v ≡ None → (u : ActorState) → u.accepted ≡ None → u.todo ≡ taking g number a v ∷ [] → (j : ℕ) × (n ≤ j) × IsRunning (exec acts j (first_place [] u))
-  is_running number n a v sa means u clean f = go (subst (Runs n a v (record u { todo = [] })) means (runs n a v (record u { todo = [] }) clean sa))
-    where
-      go : (j : ℕ) × (n ≤ j) × (exec acts j (acting g a 1 (v ∷ []) (record u { todo = [] })) ≡ Unfinished (holding a (record u { todo = [] }))) → (j : ℕ) × (n ≤ j) × IsRunning (exec acts j (first_place [] u))
-      go run = (suc run.0, omega (arith, run.1), subst IsRunning (sym (takes u (taking g number a v) [] number a v f refl refl run.0 ∙ run.2)) refl)
-
-  -- ---- it goes on
-
-  nothing_before : (xs ys : List ℕ) → [] ≡ xs ++ ys → xs ≡ []
-  nothing_before [] ys e = refl
-  nothing_before (x ∷ xs) ys e = absurd (subst IsNothing e tt)
-    where
-      IsNothing : List ℕ → Type 0
-      IsNothing [] = Unit {0}
-      IsNothing (y ∷ zs) = ⊥
-
-  -- what goes on later goes on before
-  goes_before : (m j : ℕ) → m ≤ j → (c : Configuration) → GoesOn (exec acts j c) → GoesOn (exec acts m c)
-  goes_before m j le c h = go (exec acts m c) (exec acts j c) (later acts m j le c) (λ o over e. longer acts m j le c o over e) h
-    where
-      unfinished : (s : ActorState) (p : Outcome) → GrowsTo s p → GoesOn p → s.printed ≡ []
-      unfinished s (Ended t) l h = absurd h
-      unfinished s (Failed f t) l h = absurd h
-      unfinished s (Asking t) l h = nothing_before s.printed l.more (sym h ∙ l.prints)
-      unfinished s (Unfinished t) l h = nothing_before s.printed l.more (sym h ∙ l.prints)
-      unfinished s Stuck l h = absurd h
-
-      go : (o p : Outcome) → Later o p → ((q : Outcome) → IsOver q → o ≡ q → p ≡ q) → GoesOn p → GoesOn o
-      go (Ended s) p l e h = subst GoesOn (e (Ended s) tt refl) h
-      go (Failed f s) p l e h = subst GoesOn (e (Failed f s) tt refl) h
-      go (Asking s) p l e h = subst GoesOn (e (Asking s) tt refl) h
-      go (Unfinished s) p l e h = unfinished s p l h
-      go Stuck p l e h = subst GoesOn (e Stuck tt refl) h
-
-  -- with no exchange left, the agent asks for an action
-  asks_take : (s : ActorState) (m : ℕ) → s.todo ≡ [] → exec acts (suc m) (first_place [] s) ≡ Asking (record s { wants = Some (Take g) })
-  unfolding take_action
-  asks_take s m e = ap (λ y. and_then (on Outside (heard handed_out y) (λ o s1. started g o (first_place [] s) s1)) (exec acts m)) (unanswered (Take g) s e)
-
-  -- an action that was taken is run, and what it comes to is handed in
-  acted : (x : Exchange) (xs : List Exchange) (m : ℕ) (s : ActorState) → s.accepted ≡ None → s.todo ≡ x ∷ xs → s.printed ≡ [] → x.ask ≡ Take g → HandsOut functions x.reply
-      → ((a : Action) (new : Result Value Fault) → GoesOn (and_then (finishes new (holding a (record s { todo = xs }))) (exec acts m))) → GoesOn (exec acts (suc m) (first_place [] s))
-  acted x xs m s clean e p a h next =
-      let out = handed x.reply h in
-      subst GoesOn (sym (takes s x xs out.0 out.1 out.2 e a out.3 m)) (go out.1 out.2 (meaning_of m out.1 out.2) (runs m out.1 out.2 (record s { todo = xs }) clean out.4))
-    where
-      go : (y : Action) (v : Value) (o : Option (Result Value Fault)) → Runs m y v (record s { todo = xs }) o → GoesOn (exec acts m (acting g y 1 (v ∷ []) (record s { todo = xs })))
-      go y v (Some new) r = let b = r m in goes_before m b.0 b.1 (acting g y 1 (v ∷ []) (record s { todo = xs })) (subst GoesOn (sym b.2) (next y new))
-      go y v None r = goes_before m r.0 r.1 (acting g y 1 (v ∷ []) (record s { todo = xs })) (subst GoesOn (sym r.2) p)
-
-  -- the result is handed in, where an exchange is left
-  handed_in : (new : Result Value Fault) (m : ℕ) (s : ActorState) (y : Exchange) (xs : List Exchange) → s.printed ≡ [] → y.reply ≡ reply.Done → GoesOn (exec acts m (first_place [] (rested (record s { todo = xs }))))
-      → GoesOn (and_then (finishes new (record s { todo = y ∷ xs })) (exec acts m))
-  handed_in new m s y xs p r h = subst GoesOn (sym (asks_next new (record s { todo = y ∷ xs }) y xs (exec acts m) refl r)) (go (same_ask (Finish g new []) y.ask))
-    where
-      go : (z : Bool) → GoesOn (finished new (record s { todo = y ∷ xs }) y xs z (exec acts m))
-      go true = h
-      go false = p
-
-  goes_from : (told : List Exchange) → AgentTold functions g told → (m : ℕ) (s : ActorState) → s.accepted ≡ None → s.todo ≡ told → s.printed ≡ [] → GoesOn (exec acts m (first_place [] s))
-  goes_from told h zero s clean e p = p
-  goes_from [] h (suc m) s clean e p = subst GoesOn (sym (asks_take s m e)) p
-  goes_from (x ∷ []) h (suc m) s clean e p = acted x [] m s clean e p h.0 h.1 (λ a new. subst GoesOn (sym (asks_last new (holding a (record s { todo = [] })) (exec acts m) refl)) p)
-  goes_from (x ∷ y ∷ told) h (suc m) s clean e p =
-      let rest = goes_from told h.5 m (rested (record s { todo = told })) clean refl p in
-      acted x (y ∷ told) m s clean e p h.0 h.1 (λ a new. handed_in new m (holding a s) y told p h.4 rest)
-
-  agent_follows : FollowsAgent code functions g
-  agent_follows = record {
-    goes_on = λ told m h. goes_from told h m (fresh told) refl refl refl;
-    only = λ done number m a v new fits sa h. only_from done fits number m a v new sa (fresh (done ++ taking g number a v ∷ [])) refl refl h;
-    ends_so = λ done number m n a v new fits sa h means.
-        let r = comes_from (AsksNext (Finish g new [])) 0 number a v (hands_in number n a v new sa means) done fits m (fresh done) (fresh (done ++ taking g number a v ∷ [])) refl refl refl refl h in
-        (r.0, r.2);
-    runs_on = λ done number m n a v fits sa h means. comes_from IsRunning n number a v (is_running number n a v sa means) done fits m (fresh done) (fresh (done ++ taking g number a v ∷ [])) refl refl refl refl h;
-  }
+  ends_so_at : (Q : World) (m n k : ℕ) → Consumed (comes m) → HasSettled (means n) → (NeedsTurns (action_meaning cells functions k a v (es ++ in_hand cells Q end)) → ⊥) → (j : ℕ) × IsAsking (comes j) × ActionExplained g s.printed (comes j) (means n)
+  ends_so_at Q m n k c settled enough =
+      let b = m + (n + k) in
+      ends_at Q m n k b (omega arith) (omega arith) (omega arith) c enough (tree b) refl (meant b) (agreed b)
+      (subst (λ y. AgreesTo cells s.printed end (tree b) y) (settled_action cells functions sound a v es n b (omega arith) settled) (agreed b))
 
 pub sound_follows_agents : SoundFollowsAgents
-sound_follows_agents code functions sound valid behave g = agent_follows code functions sound valid behave g
+sound_follows_agents code cells functions sound valid same behaves = record {
+  validators = same;
+  actions = λ g a of sent. record {
+    explained = λ v s todo es end m between fits c. explained_at code cells functions sound valid g a sent (behaves g a of sent) v s between todo es end fits m _ refl c;
+    noted = λ v s todo es end m between fits c. noted_at code cells functions sound valid g a sent (behaves g a of sent) v s between todo es end fits m c;
+    prints_so = λ v s todo es end m n out between fits c le eaten.
+        prints_at code cells functions sound valid g a sent (behaves g a of sent) v s between todo es end fits m n out c le eaten _ refl (meant code cells functions sound valid g a sent (behaves g a of sent) v s between todo es end fits n) (agreed code cells functions sound valid g a sent (behaves g a of sent) v s between todo es end fits n);
+    ends_so = λ v s todo es end Q m n k between fits c settled enough. ends_so_at code cells functions sound valid g a sent (behaves g a of sent) v s between todo es end fits Q m n k c settled enough;
+  };
+}

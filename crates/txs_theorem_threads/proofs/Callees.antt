@@ -1,4 +1,4 @@
--- What stands in a tree, by rules: callees of updates and sends, forms on cells, and calls. In a sound tree callees are pure.
+-- What stands in a tree, by rules: callees of updates, forms on cells, and calls. In a sound tree these callees are pure.
 use Rattle.std.proofs.Common.{◌≡◌, ◌+◌, ℕ, suc, Bool, true, List, [], Option, Some, None, take, ap, ◌∙◌}
 use Rattle.txs_value_cell.specs.Forms.{rule}
 use Rattle.txs_value_base.specs.Places.{nth}
@@ -11,8 +11,8 @@ use Rattle.txs_tree_meaning.specs.Sound.{Zone, in_function, in_dosync, MayStand,
 use Rattle.txs_tree_meaning.specs.Tree.{Tree, Const, Local, If, Do, Let, Loop, Recur, Core, Call, VectorOf, Println, Dosync, Look, Put, Update, Send, Trees, none, more, count, PlainFunction}
 use Rattle.txs_tree_meaning.proofs.Callable.{function_at, nth-take}
 
--- what may stand in a tree: such callees of updates and sends, and inside a transaction or not such forms on cells and calls of
--- such functions
+-- what may stand in a tree: such callees of updates, and inside a transaction or not such forms on cells and calls of such
+-- functions; what is sent is run elsewhere
 pub record Rules : Type 1 where
   pub callee : Callee → Type 0
   pub form : Bool → CellForm → Type 0
@@ -36,7 +36,7 @@ abbrev mutual
   Keeps w inside (Look form cell m) = w.form inside (form_of.Look form) × Keeps w inside cell
   Keeps w inside (Put form cell value m) = w.form inside (form_of.Put form) × Keeps w inside cell × Keeps w inside value
   Keeps w inside (Update form cell callee args m) = w.form inside (form_of.Update form) × Keeps w inside cell × w.callee callee × KeepAll w inside args
-  Keeps w inside (Send cell callee args m) = Keeps w inside cell × w.callee callee × KeepAll w inside args
+  Keeps w inside (Send cell callee args m) = Keeps w inside cell × KeepAll w inside args
 
   -- nor in these
   pub KeepAll : Rules → Bool → Trees → Type 0
@@ -65,7 +65,7 @@ module _ (ks : List Known) (w : Rules) (At : Zone → Bool → Type 0) (dosync :
     keeps_in (Put form cell value m) zone i d tail at h = (forms zone i (form_of.Put form) at h.0, keeps_in cell zone i d None at h.1, keeps_in value zone i d None at h.2)
     keeps_in (Update form cell callee args m) zone i d tail at h =
         (forms zone i (form_of.Update form) at h.0, keeps_in cell zone i d None at h.1, callees callee (suc (count args)) h.2, keeps_all args zone i d at h.3)
-    keeps_in (Send cell callee args m) zone i d tail at h = (keeps_in cell zone i d None at h.0, callees callee (suc (count args)) h.1, keeps_all args zone i d at h.2)
+    keeps_in (Send cell callee args m) zone i d tail at h = (keeps_in cell zone i d None at h.0, keeps_all args zone i d at h.2)
 
     keeps_all : (es : Trees) (zone : Zone) (inside : Bool) (d : ℕ) → At zone inside → SoundAll ks zone d es → KeepAll w inside es
     keeps_all none zone i d at h = tt

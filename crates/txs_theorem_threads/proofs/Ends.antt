@@ -2,7 +2,7 @@
 use Rattle.std.proofs.Common.{ℕ, List, [], refl, sym, subst, arith, ⊎_elim, ◌≡◌, ◌≤◌, ◌+◌, ◌++◌, ◌∙◌}
 use Rattle.std.proofs.lemmas.Bool.{cases_lt}
 use Rattle.txs_code_meaning.specs.ActorState.{ActorState}
-use Rattle.txs_code_meaning.specs.Machine.{ThreadCode, Ended, Failed, Asking, Unfinished, Stuck, Outcome}
+use Rattle.txs_code_meaning.specs.Machine.{ThreadCode, Configuration, Ended, Failed, Asking, Unfinished, Stuck, Outcome, exec}
 use Rattle.txs_theorem_threads.proofs.Account.{waited_eaten}
 use Rattle.txs_theorem_threads.proofs.Longer.{longer}
 use Rattle.txs_theorem_threads.proofs.Fitted.{fits_of}
@@ -29,19 +29,19 @@ use Rattle.txs_world_protocol.specs.Ask.{Exchange}
 use Rattle.txs_value_data.specs.declared.value.Value.{Value}
 
 -- what has consumed all replies has done so later
-consumed_later : (code : ThreadCode) (todo : List Exchange) (m j : ℕ) (a o : Outcome) → m ≤ j → target code m todo ≡ a → target code j todo ≡ o → Consumed a → Consumed o
-consumed_later code todo m j (Unfinished s) o le e f c = consumed_grown s o (grown code todo m j s o le e f) c
-consumed_later code todo m j (Ended s) o le e f c = subst Consumed (sym (longer code m j le (opening code todo) (Ended s) tt e) ∙ f) c
-consumed_later code todo m j (Failed x s) o le e f c = subst Consumed (sym (longer code m j le (opening code todo) (Failed x s) tt e) ∙ f) c
-consumed_later code todo m j (Asking s) o le e f c = subst Consumed (sym (longer code m j le (opening code todo) (Asking s) tt e) ∙ f) c
-consumed_later code todo m j Stuck o le e f c = subst Consumed (sym (longer code m j le (opening code todo) Stuck tt e) ∙ f) c
+pub consumed_later : (code : ThreadCode) (c : Configuration) (m j : ℕ) (a o : Outcome) → m ≤ j → exec code m c ≡ a → exec code j c ≡ o → Consumed a → Consumed o
+consumed_later code c m j (Unfinished s) o le e f h = consumed_grown s o (grown code c m j s o le e f) h
+consumed_later code c m j (Ended s) o le e f h = subst Consumed (sym (longer code m j le c (Ended s) tt e) ∙ f) h
+consumed_later code c m j (Failed x s) o le e f h = subst Consumed (sym (longer code m j le c (Failed x s) tt e) ∙ f) h
+consumed_later code c m j (Asking s) o le e f h = subst Consumed (sym (longer code m j le c (Asking s) tt e) ∙ f) h
+consumed_later code c m j Stuck o le e f h = subst Consumed (sym (longer code m j le c Stuck tt e) ∙ f) h
 
 -- what is over has consumed all replies where some run has
-consumed_over : (code : ThreadCode) (todo : List Exchange) (m j : ℕ) (o : Outcome) → IsOver o → target code j todo ≡ o → Consumed (target code m todo) → Consumed o
-consumed_over code todo m j o over f c =
+pub consumed_over : (code : ThreadCode) (c : Configuration) (m j : ℕ) (o : Outcome) → IsOver o → exec code j c ≡ o → Consumed (exec code m c) → Consumed o
+consumed_over code c m j o over f h =
     ⊎_elim
-    (λ lt. subst Consumed (longer code j m (omega (arith, lt)) (opening code todo) o over f) c)
-    (λ le. consumed_later code todo m j (target code m todo) o le refl f c)
+    (λ lt. subst Consumed (longer code j m (omega (arith, lt)) c o over f) h)
+    (λ le. consumed_later code c m j (exec code m c) o le refl f h)
     (cases_lt j m)
 
 module _ (code : ThreadCode) (p : ThreadSource) (behaves : Behaves code p) (sound : SoundSource p) (todo : List Exchange) (es : List SeenEvent) (end : Phase) (Q : World) (m n k b : ℕ)
@@ -51,13 +51,13 @@ module _ (code : ThreadCode) (p : ThreadSource) (behaves : Behaves code p) (soun
   over_so x q t over a =
       let r = ends code p behaves sound todo b x q t in
       let o = outcome_of x in
-      (r.0, subst IsOver (sym r.1) over, subst (λ u. Explained u (thread_meaning p n es)) (sym r.1) (over_explained p.cells x (thread_meaning p n es) t a (consumed_over code todo m r.0 o over r.1 c)))
+      (r.0, subst IsOver (sym r.1) over, subst (λ u. Explained u (thread_meaning p n es)) (sym r.1) (over_explained p.cells x (thread_meaning p n es) t a (consumed_over code (opening code todo) m r.0 o over r.1 c)))
 
   -- the tree has turns enough
   never_short : (s : ActorState) → source p b todo ≡ OutOfTurns s → ⊥
   never_short s q =
       let r = behaves.goes_on todo b s q in
-      let none_left : s.todo ≡ [] = consumed_later code todo m r.0 (target code m todo) (Unfinished s) (omega (arith, m_below, r.1)) refl r.2 c in
+      let none_left : s.todo ≡ [] = consumed_later code (opening code todo) m r.0 (target code m todo) (Unfinished s) (omega (arith, m_below, r.1)) refl r.2 c in
       enough (needs_before p sound (es ++ in_hand p.cells Q end) k b k_below (loops_too p b todo es end Q sound s f q none_left))
 
   ended_so : (x : Completion ActorState Value) → source p b todo ≡ x → IsMeant x → Agrees p.cells x (thread_meaning p n es) → (j : ℕ) × IsOver (target code j todo) × Explained (target code j todo) (thread_meaning p n es)
@@ -79,7 +79,7 @@ ends_so code p behaves sound meant todo es end Q m n k f c settled enough =
 -- ---- what is printed
 
 -- what the thread printed, where it has eaten all, is determined
-eaten_same : (one out : List ℕ) (h : Halt ThreadState) → HasEaten one h → HasEaten out h → one ≡ out
+pub eaten_same : (one out : List ℕ) (h : Halt ThreadState) → HasEaten one h → HasEaten out h → one ≡ out
 eaten_same one out Going a b = absurd a
 eaten_same one out (Stopped t) a b = sym a.1 ∙ b.1
 eaten_same one out (Short t) a b = sym a.1 ∙ b.1
@@ -94,12 +94,12 @@ module _ (code : ThreadCode) (p : ThreadSource) (behaves : Behaves code p) (soun
   printed_so (Retries s) q t a = absurd t
   printed_so (Waits s) q t a =
       let r = ends code p behaves sound todo n (Waits s) q tt in
-      let none_left : s.todo ≡ [] = consumed_over code todo m r.0 (Asking s) tt r.1 c in
+      let none_left : s.todo ≡ [] = consumed_over code (opening code todo) m r.0 (Asking s) tt r.1 c in
       let there : target code (r.0 + n) todo ≡ Asking s = longer code r.0 (r.0 + n) (omega arith) (opening code todo) (Asking s) tt r.1 in
       (r.0 + n, omega arith, subst (HasPrintedSo out) (sym there) (none_left, eaten_same s.printed out (halted (thread_meaning p n es)) (waited_eaten s.printed (halted (thread_meaning p n es)) (a none_left)) eaten))
   printed_so (OutOfTurns s) q t a =
       let r = behaves.goes_on todo n s q in
-      let none_left : s.todo ≡ [] = consumed_later code todo m r.0 (target code m todo) (Unfinished s) (omega (arith, le, r.1)) refl r.2 c in
+      let none_left : s.todo ≡ [] = consumed_later code (opening code todo) m r.0 (target code m todo) (Unfinished s) (omega (arith, le, r.1)) refl r.2 c in
       (r.0, r.1, subst (HasPrintedSo out) (sym r.2) (none_left, eaten_same s.printed out (halted (thread_meaning p n es)) (a none_left) eaten))
   printed_so Invalid q t a = absurd t
 

@@ -1,5 +1,5 @@
 -- A sound thread's tree on replies that fit is the thread on their events.
-use Rattle.std.proofs.Common.{List, [], sym, ap, subst, ◌≡◌, ◌++◌, ◌∙◌}
+use Rattle.std.proofs.Common.{List, [], None, refl, sym, ap, subst, ◌≡◌, ◌++◌, ◌∙◌}
 use Rattle.std.proofs.lemmas.List.{append-nil}
 use Rattle.txs_world_protocol.specs.Ask.{Exchange}
 use Rattle.txs_world_protocol.specs.SeenEvent.{SeenEvent}
@@ -8,7 +8,7 @@ use Rattle.txs_value_data.specs.declared.value.Value.{Value}
 use Rattle.txs_tree_meaning.specs.Meaning.{Completion, Completes, Recurs, Faults, Retries, Waits, OutOfTurns, Invalid}
 use Rattle.txs_tree_meaning.specs.Thread.{ThreadState, thread_meaning}
 use Rattle.txs_code_meaning.specs.ActorState.{ActorState}
-use Rattle.txs_theorem_threads.proofs.Account.{Account, account_link, plain_splits, waited_on, waited_eaten}
+use Rattle.txs_theorem_threads.proofs.Account.{Account, account_link, plain_splits, waited_on, waited_plain, waited_eaten}
 use Rattle.txs_theorem_threads.proofs.Related.{Related}
 use Rattle.txs_theorem_threads.proofs.Threads.{thread_related}
 use Rattle.txs_theorem_threads.proofs.Worlds.{fit_splits}
@@ -22,16 +22,18 @@ none_left cells ph xs es f e = append-nil es ∙ subst (λ l. RepliesFit cells p
 -- the events are those of the exchanges
 abbrev exact : (cells : List CellDefinition) → Account cells
 exact cells = record {
+  before = [];
+  from = None;
   fits = λ txs. RepliesFit cells;
-  splits = plain_splits cells (RepliesFit cells) (fit_splits cells);
+  splits = plain_splits cells None (RepliesFit cells) (fit_splits cells);
   tail = [];
   waits = λ s o. s.todo ≡ [] → HasWaited s.printed o;
   short = λ s o. s.todo ≡ [] → HasEaten s.printed o;
   waits_loose = λ s h o e. absurd (h e);
   short_loose = λ s h o e. absurd (h e);
   short_here = λ s t es fits td pr e. (td ∙ none_left cells Out s.todo es fits e, pr);
-  waiting = λ txs ph s es y fits h e. subst (λ l. HasWaited s.printed (halted (y l))) (sym (none_left cells ph s.todo es fits e)) (waited_on s.printed txs (halted (y [])) h);
-  shortage = λ txs ph s es y fits h ends e. subst (λ l. HasEaten s.printed (halted (y l))) (sym (none_left cells ph s.todo es fits e)) (waited_eaten s.printed (halted (y [])) (waited_on s.printed txs (halted (y [])) h));
+  waiting = λ txs ph s es y own fits h e. subst (λ l. HasWaited s.printed (halted (y l))) (sym (none_left cells ph s.todo es fits e)) (waited_plain s.printed (halted (y [])) (waited_on [] s.printed txs (halted (y [])) h));
+  shortage = λ txs ph s es y fits h ends e. subst (λ l. HasEaten s.printed (halted (y l))) (sym (none_left cells ph s.todo es fits e)) (waited_eaten s.printed (halted (y [])) (waited_plain s.printed (halted (y [])) (waited_on [] s.printed txs (halted (y [])) h)));
 }
 
 -- what is left of the events
@@ -52,4 +54,4 @@ agrees cells Invalid y h = tt
 pub tree_follows : TreeFollows
 tree_follows p n todo es sound fits =
     subst (λ l. Agrees p.cells (source p n todo) (thread_meaning p n l)) (append-nil es)
-    (agrees p.cells (source p n todo) (thread_meaning p n (es ++ [])) (thread_related p sound (exact p.cells) n todo es fits))
+    (agrees p.cells (source p n todo) (thread_meaning p n (es ++ [])) (thread_related p sound (exact p.cells) n todo es (refl, refl, refl) fits))

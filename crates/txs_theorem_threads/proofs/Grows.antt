@@ -5,7 +5,7 @@ use Rattle.txs_world_protocol.specs.Ask.{Writes, buffered, Exchange, same_ask}
 use Rattle.txs_world_protocol.specs.declared.ask.Ask.{Ask}
 use Rattle.txs_world_protocol.specs.declared.ask.Ask.TheVariants as ask
 use Rattle.txs_world_protocol.specs.declared.ask.Reply.{Reply}
-use Rattle.txs_frame.specs.Frame.{commuted, set_writes, set_ref}
+use Rattle.txs_frame.specs.Frame.{commuted, set_writes, set_ref, sends_of_commit}
 use Rattle.txs_frame.specs.Phase.{tasks_of, to_write}
 use Rattle.txs_frame.specs.declared.frame.Commute.{Commute}
 use Rattle.txs_frame.specs.declared.phase.Task.{Task}
@@ -19,7 +19,7 @@ use Rattle.txs_value_data.specs.Printed.{printed_line}
 use Rattle.txs_value_cell.specs.declared.action.Action.{Action}
 use Rattle.txs_value_base.specs.declared.fault.Fault.{Fault}
 use Rattle.txs_value_base.specs.declared.fault.FaultKind.{FaultKind}
-use Rattle.txs_value_base.specs.declared.fault.FaultKind.TheVariants.{InvalidState}
+use Rattle.txs_value_base.specs.declared.fault.FaultKind.TheVariants.{InvalidState, RetryLimit, AgentFailed}
 use Rattle.txs_value_base.specs.declared.fault.Span.{Span}
 use Rattle.txs_value_cell.specs.declared.form.CellForm.{CellForm}
 use Rattle.txs_value_cell.specs.declared.form.CellForm.TheVariants as form
@@ -35,8 +35,8 @@ use Rattle.txs_value_data.specs.declared.value.CellId.{CellId}
 use Rattle.txs_value_data.specs.declared.value.Value.{Value}
 use Rattle.txs_code_meaning.specs.declared.instr.OpenForm.{OpenForm}
 use Rattle.txs_code_meaning.specs.declared.instr.OpenForm.TheVariants as open_form
-use Rattle.txs_code_meaning.specs.ActorState.{ActorState, Reception, Replied, Unreplied, receives, asks, StepResult, Continue, Break, Redo, Await, Malformed, on_step, step_of, Reading, Says, SaysRetry, SaysNothing, read_as, heard, read_point, just_done, value_there, newest_value, views, Verdict, Landed, Outdated, Undone, Denied, commit_verdict, opened, swap_verdict, send_verdict, sent, Taken, handed_out, begun, begin, fail, buffered_or, look, paired, viewed, view, commit, peek, SwapInHand, open_atom, close_swap, break_swap, reset_atom, send_now, take_action, finish, cell_at, read_cell, read, set_own, assign_cell, assign, RefUpdate, Alters, Commutes, update_form, open_update, close_own, close_update, open_swap, send_action, send_to, print, InHand, send_or_hold}
-use Rattle.txs_code_meaning.specs.Machine.{PlainInstr, Push, Load, Store, Pop, Jump, JumpFalse, CoreOf, CallOf, Return, MakeVector, PrintOf, TxBegin, TxEnd, LookOf, PutOf, OpenOf, CloseOf, SendOf, Halt, TakeOf, RunOf, FinishOf, ThreadCode, fetch, Frame, Savepoint, Activity, Outside, Restarting, Running, Applying, Swapping, is_inside, Configuration, Outcome, Turned, Ended, Failed, Asking, Unfinished, Stuck, and_then, told, raise, try_more, retried, on, found, on_top, on_args, gives, starts, begins, decided, lands, settles, arguments_of, applies, ends, returns_to, opens_ref, opens_atom, opens, swap_decided, closes_swap, closes, started, runs_callee, runs, act, turn, exec, ends_with, staying, first_place, rested, validates, where_accepted, where_valid, works, puts, finishes, Destination, to_stack, to_commutes, to_validation, state_after}
+use Rattle.txs_code_meaning.specs.ActorState.{ActorState, Reception, Replied, Unreplied, receives, asks, StepResult, Continue, Break, Redo, Await, Malformed, on_step, step_of, Reading, Says, SaysRetry, SaysNothing, read_as, heard, read_point, just_done, value_there, newest_value, views, Verdict, Landed, Outdated, Undone, Denied, commit_verdict, opened, swap_verdict, send_verdict, sent, Taken, handed_out, begun, begin, fail, buffered_or, look, paired, viewed, view, commit, peek, SwapInHand, open_atom, close_swap, break_swap, reset_atom, send_now, take_action, finish, cell_at, read_cell, read, set_own, assign_cell, assign, RefUpdate, Alters, Commutes, update_form, open_update, close_own, close_update, open_swap, send_action, send_to, print, InHand, held_in, landed, taken_back, send_or_hold}
+use Rattle.txs_code_meaning.specs.Machine.{PlainInstr, Push, Load, Store, Pop, Jump, JumpFalse, CoreOf, CallOf, Return, MakeVector, PrintOf, TxBegin, TxEnd, LookOf, PutOf, OpenOf, CloseOf, SendOf, Halt, TakeOf, RunOf, FinishOf, ThreadCode, fetch, Frame, Savepoint, Activity, Outside, Restarting, Running, Applying, Swapping, is_inside, Configuration, Outcome, Turned, Ended, Failed, Asking, Unfinished, Stuck, and_then, told, raise, try_more, retried, on, found, on_top, on_args, gives, starts, begins, decided, lands, settles, arguments_of, applies, ends, returns_to, opens_ref, opens_atom, opens, swap_decided, closes_swap, closes, started, runs_callee, runs, act, turn, exec, ends_with, fails_with, hands_in, fault_in, staying, first_place, rested, validates, where_accepted, where_valid, works, puts, finishes, Destination, to_stack, to_commutes, to_validation, state_after}
 use Rattle.txs_code_meaning.proofs.Alike.{then_alike}
 
 pub record Grows (s t : ActorState) : Type 0 where
@@ -139,9 +139,17 @@ view_grows s =
     let go : ℕ × List Value → ActorState → StepResult Writes = λ x s1. viewed x.0 (paired (commuted s.done) x.1) s1 in
     step_grows (heard views (asks q s)) go s (ask_grows views q s) (λ x t. viewed_grows x.0 (paired (commuted s.done) x.1) t)
 
+landed_grows : (v : Verdict) (s : ActorState) → StepGrows s (landed v s)
+landed_grows Landed s = still s _ refl refl
+landed_grows Outdated s = still s s refl refl
+landed_grows Undone s = still s s refl refl
+landed_grows Denied s = still s s refl refl
+
 commit_grows : (ws : Writes) (s : ActorState) → StepGrows s (commit ws s)
 unfolding commit
-commit_grows ws s = ask_grows commit_verdict (ask.Commit s.at (set_writes s.done) s.done.ensures s.view ws s.done.sends) s
+commit_grows ws s =
+    let q = ask.Commit s.at (set_writes s.done) s.done.ensures s.view ws (sends_of_commit (held_in s.acting) s.done.sends) in
+    step_grows (heard commit_verdict (asks q s)) landed s (ask_grows commit_verdict q s) landed_grows
 
 peek_grows : (c : CellId) (s : ActorState) → StepGrows s (peek c s)
 unfolding peek
@@ -177,9 +185,9 @@ take_grows : (g : CellId) (s : ActorState) → StepGrows s (take_action g s)
 unfolding take_action
 take_grows g s = ask_grows handed_out (ask.Take g) s
 
-finish_grows : (g : CellId) (new : Result Value Fault) (s : ActorState) → StepGrows s (finish g new s)
+finish_grows : (g : CellId) (new : Result Value Fault) (sends : List Action) (s : ActorState) → StepGrows s (finish g new sends s)
 unfolding finish
-finish_grows g new s = ask_grows just_done (ask.Finish g new []) s
+finish_grows g new sends s = ask_grows taken_back (ask.Finish g new sends) s
 
 print_grows : (b : Bool) (vs : List Value) (s : ActorState) → StepGrows s (print b vs s)
 unfolding print
@@ -267,21 +275,25 @@ told_grows Malformed go s g h = tt
 
 over_grows : (o : Option InHand) (f : Fault) (s : ActorState) → TurnGrows s (ends_with o f s)
 over_grows None f s = still s s refl refl
-over_grows (Some h) f s = told_grows (finish h.agent (Err f) s) _ s (finish_grows h.agent (Err f) s) (λ t. still t _ refl refl)
+over_grows (Some h) f s = told_grows (finish h.agent (Err f) [] s) _ s (finish_grows h.agent (Err f) [] s) (λ t. still t _ refl refl)
+
+fails_grows : (o : Option InHand) (f : Fault) (s : ActorState) → TurnGrows s (fails_with o f s)
+fails_grows None f s = still s s refl refl
+fails_grows (Some h) f s = still s _ refl refl
 
 raise_grows : (doing : Activity) (f : Fault) (s : ActorState) → TurnGrows s (raise doing f s)
 raise_grows Outside f s = over_grows s.acting f s
-raise_grows (Restarting left) f s = still s s refl refl
-raise_grows (Running left inner from) f s = told_grows (fail s) _ s (fail_grows s) (λ t. still t t refl refl)
-raise_grows (Applying left from work values) f s = told_grows (fail s) _ s (fail_grows s) (λ t. still t t refl refl)
-raise_grows (Swapping swap from) f s = told_grows (break_swap swap s) _ s (break_swap_grows swap s) (λ t. still t t refl refl)
+raise_grows (Restarting left) f s = fails_grows s.acting f s
+raise_grows (Running left inner from) f s = told_grows (fail s) _ s (fail_grows s) (λ t. fails_grows t.acting f t)
+raise_grows (Applying left from work values) f s = told_grows (fail s) _ s (fail_grows s) (λ t. fails_grows t.acting f t)
+raise_grows (Swapping swap from) f s = told_grows (break_swap swap s) _ s (break_swap_grows swap s) (λ t. fails_grows t.acting f t)
 
 -- one more try
 abbrev StateKept : ActorState → (ℕ → Configuration) → Type 0
 StateKept s go = (k : ℕ) → Grows s (go k).state
 
 try_grows : (left : ℕ) (from : Savepoint) (s : ActorState) (go : ℕ → Configuration) → StateKept s go → TurnGrows s (try_more left from s go)
-try_grows zero from s go h = still s s refl refl
+try_grows zero from s go h = fails_grows s.acting (fault_at RetryLimit from.span) s
 try_grows (suc left) from s go h = h left
 
 retried_grows : (doing : Activity) (s : ActorState) → TurnGrows s (retried doing s)
@@ -324,7 +336,7 @@ decided_grows : (verdict : Verdict) (left : ℕ) (from : Savepoint) (c : Configu
 decided_grows Landed left from c s = still s s refl refl
 decided_grows Outdated left from c s = try_grows left from s _ (λ k. still s s refl refl)
 decided_grows Undone left from c s = try_grows left from s _ (λ k. still s s refl refl)
-decided_grows Denied left from c s = still s s refl refl
+decided_grows Denied left from c s = fails_grows s.acting (fault_at AgentFailed from.span) s
 
 lands_grows : (left : ℕ) (from : Savepoint) (values : Writes) (c : Configuration) → TurnGrows c.state (lands left from values c)
 lands_grows left from values c = on_grows c.doing (commit values c.state) _ c.state (commit_grows values c.state) (λ verdict t. decided_grows verdict left from c t)
@@ -433,8 +445,12 @@ closes_grows code update_of.Swap span w cell rest c = closes_swap_grows code c.d
 finishes_grows : (code : ThreadCode) (g : CellId) (o : Option InHand) (v : Value) (c : Configuration) → TurnGrows c.state (finishes code g o v c)
 finishes_grows code g None v c = tt
 finishes_grows code g (Some h) v c =
-    valid_grows code (validator_at code.validators h.action.agent.number) v h.action.span c (λ c1. told (finish g (Ok v) c1.state) (λ s. Unfinished (first_place [] (rested s))))
-    (λ c1. told_grows (finish g (Ok v) c1.state) _ c1.state (finish_grows g (Ok v) c1.state) (λ t. still t _ refl refl))
+    valid_grows code (validator_at code.validators h.action.agent.number) v h.action.span c (λ c1. told (finish g (Ok v) h.sends c1.state) (λ s. Unfinished (first_place [] (rested s))))
+    (λ c1. told_grows (finish g (Ok v) h.sends c1.state) _ c1.state (finish_grows g (Ok v) h.sends c1.state) (λ t. still t _ refl refl))
+
+hands_in_grows : (code : ThreadCode) (g : CellId) (o : Option InHand) (f : Option Fault) (c : Configuration) → TurnGrows c.state (hands_in code g o f c)
+hands_in_grows code g o (Some f) c = told_grows (finish g (Err f) [] c.state) _ c.state (finish_grows g (Err f) [] c.state) (λ t. still t _ refl refl)
+hands_in_grows code g o None c = top_grows c.state c.stack _ (λ v rest. finishes_grows code g o v c)
 
 started_grows : (g : CellId) (o : Option Taken) (c : Configuration) (s : ActorState) → TurnGrows s (started g o c s)
 started_grows g None c s = still s s refl refl
@@ -471,7 +487,7 @@ act_grows code (Some (SendOf callee args span)) c = args_grows c.state args c.st
 act_grows code (Some Halt) c = still c.state c.state refl refl
 act_grows code (Some (TakeOf g)) c = on_grows c.doing (take_action g c.state) _ c.state (take_grows g c.state) (λ o t. started_grows g o c t)
 act_grows code (Some RunOf) c = top_grows c.state c.stack _ (λ v rest. runs_grows code c.state.acting v rest c)
-act_grows code (Some (FinishOf g)) c = top_grows c.state c.stack _ (λ v rest. finishes_grows code g c.state.acting v c)
+act_grows code (Some (FinishOf g)) c = hands_in_grows code g c.state.acting (fault_in c.state.acting) c
 
 -- ---- runs
 

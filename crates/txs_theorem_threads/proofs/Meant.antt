@@ -20,7 +20,7 @@ use Rattle.txs_value_data.specs.declared.value.Value.TheVariants.{Nil, Truth, In
 use Rattle.txs_tree_meaning.specs.Known.{Known, is_pure, known_of, known}
 use Rattle.txs_tree_meaning.specs.Meaning.{Completion, Completes, Recurs, Faults, Retries, Waits, OutOfTurns, Invalid, bind, again, closed, give, result_of, Applies, Effects, turns, apply, eval, eval_all, eval_let, eval_do, call_at}
 use Rattle.txs_tree_meaning.specs.Pure.{nowhere}
-use Rattle.txs_tree_meaning.specs.Sound.{Zone, in_function, in_thread, in_dosync, MayStand, MayCall, SoundTree, SoundAll, SoundLet, SoundDo, SoundCallee, SoundFunctions}
+use Rattle.txs_tree_meaning.specs.Sound.{Zone, in_function, in_thread, in_dosync, MayStand, MayCall, SoundTree, SoundAll, SoundLet, SoundDo, SoundCallee, SoundFunctions, SoundSent}
 use Rattle.txs_tree_meaning.specs.Tree.{Mark, Tree, Const, Local, If, Do, Let, Loop, Recur, Core, Call, VectorOf, Println, Dosync, Look, Put, Update, Send, Trees, none, more, count, PlainFunction}
 use Rattle.txs_tree_meaning.proofs.Callable.{nth-take, nth-before, function_at}
 use Rattle.txs_theorem_threads.proofs.Callees.{sound_pure}
@@ -526,6 +526,15 @@ module _ (S : Type 0) (fx : Effects S) (Holds : Suits → Bool → S → Type 0)
 
   sound_callees : CalleesProper S all_known (deep (length functions))
   sound_callees inside span c vs h = proper_at (length functions) pures_fit (omega arith) inside span c vs h
+
+  -- at the depth of a body validators have proper answers
+  pub valid_deep : (inside : Bool) (span : Span) → Valid S V (apply (deep (length functions) inside) span)
+  valid_deep = valid_at (length functions) pures_fit (omega arith)
+
+  -- a callee that may be sent, outside of transactions
+  pub sent_meant : (span : Span) (c : Callee) (vs : List Value) → SoundSent all_known c (length vs) → Holds (λ x k. SoundCallee all_known x k) false start → MeantAs (Holds (λ x k. SoundCallee all_known x k)) false None Any (apply (deep (length functions) false) span c vs start)
+  sent_meant span (CoreOp op) vs h g = result_meant S (Holds (λ x k. SoundCallee all_known x k)) false None (core op vs) span start g
+  sent_meant span (Function f) vs h g = known_calls (λ x k. SoundCallee all_known x k) (λ c k q. q) false f h.function h.found h.zoned vs h.arity start g
 
   -- a sound thread's tree, or a sound transaction's body with its locals
   pub main_meant : (main : Tree) (env : List Value) → SoundTree (known functions) (zone_of at) (length env) None main → MeantAs (Holds (λ c k. SoundCallee (known functions) c k)) at None Any (closed (eval fx (call_at (λ d. fx) n functions (length functions)) n at main env start))

@@ -169,7 +169,7 @@ module _ (validators : Validators) (nl nr : ℕ) (functions : List PlainFunction
     look = λ form inside m c s t may i r. from_same ActorState (λ u. (on_replies validators).look form inside m c u) s t r;
     put = λ form inside m c w s t may i a r. from_alike ActorState _ _ (puts_alike validators form inside m.span c w _ _ (a (λ f. tt))) s t r;
     update = λ form inside m c callee vs s t may i p a r. from_alike ActorState _ _ (updates_alike validators form inside m.span c callee vs _ _ (a (λ f. tt))) s t r;
-    send = λ inside m c callee vs s t i p r. from_same ActorState (λ u. (on_replies validators).send inside m c callee vs u) s t r;
+    send = λ inside m c callee vs s t i r. from_same ActorState (λ u. (on_replies validators).send inside m c callee vs u) s t r;
     dosync = λ inside m e env s t i p b a r. from_alike ActorState _ _ (joined_alike validators inside (suc reruns) m.span _ _ (λ s1. b tt s1 s1 refl) _ _ (a (λ f. tt) tt)) s t r;
   }
 

@@ -1,15 +1,17 @@
--- More turns change nothing of what a thread means on events, but where it needs turns.
-use Rattle.std.proofs.Common.{ℕ, zero, suc, Bool, true, false, List, [], ◌∷◌, None, refl, subst, length, inr, ◌≡◌, ◌≤◌, ◌==◌, ◌&&◌, ◌||◌, if◌then◌else◌}
+-- More turns change nothing of what a thread or an action means on events, but where it needs turns.
+use Rattle.std.proofs.Common.{ℕ, zero, suc, Bool, true, false, List, [], ◌∷◌, Some, None, refl, subst, length, inr, ◌≡◌, ◌≤◌, ◌==◌, ◌&&◌, ◌||◌, if◌then◌else◌}
 use Rattle.txs_theorem_threads.proofs.Accepted.{validated_related, if_accepted_related}
 use Rattle.std.proofs.lemmas.Bool.{false≢true}
 use Rattle.txs_world_protocol.specs.Ask.{same_writes, same_value, same_actions}
 use Rattle.txs_world_protocol.specs.SeenEvent.{SeenEvent, home}
 use Rattle.txs_world_protocol.specs.declared.event.EventKind.{EventKind}
 use Rattle.txs_world_protocol.specs.declared.event.EventKind.TheVariants as event
-use Rattle.txs_frame.specs.Frame.{PlainTxFrame, set_ref, commuted, commute_ref, set_writes, phase_work}
+use Rattle.txs_frame.specs.Frame.{PlainTxFrame, set_ref, commuted, commute_ref, set_writes, phase_work, sends_of_commit}
 use Rattle.txs_value_cell.specs.Cells.{World, Validators, validators_of, validator_at}
 use Rattle.txs_value_cell.specs.Forms.{rule, cell_of}
 use Rattle.txs_value_data.specs.Limits.{reruns}
+use Rattle.txs_value_cell.specs.declared.action.Action.{Action}
+use Rattle.txs_value_cell.specs.declared.cell.CellDefinition.{CellDefinition}
 use Rattle.txs_value_base.specs.declared.fault.Fault.{Fault}
 use Rattle.txs_value_cell.specs.declared.form.CellForm.TheVariants as form_of
 use Rattle.txs_value_cell.specs.declared.form.LookForm.{LookForm}
@@ -23,13 +25,13 @@ use Rattle.txs_value_base.specs.declared.op.Callee.{Callee}
 use Rattle.txs_value_data.specs.declared.value.CellId.{CellId}
 use Rattle.txs_value_data.specs.declared.value.Value.{Value}
 use Rattle.txs_tree_meaning.specs.Known.{known}
-use Rattle.txs_tree_meaning.specs.Meaning.{Completion, Completes, Recurs, Faults, Retries, Waits, OutOfTurns, Invalid, bind, result_of, Applies, eval, call_at, apply}
+use Rattle.txs_tree_meaning.specs.Meaning.{Completion, Completes, Recurs, Faults, Retries, Waits, OutOfTurns, Invalid, bind, closed, result_of, Applies, Effects, eval, call_at, apply}
 use Rattle.txs_tree_meaning.specs.Sound.{SoundSource, SoundFunctions, in_thread}
-use Rattle.txs_tree_meaning.specs.Thread.{ThreadState, with_tx, eats, meant, faulted, faultless, swaps, over, Transacting, run_of, ends_tx, is_retry, eats_tx, on_events, around, thread_meaning, uneaten, accepts, resets}
-use Rattle.txs_tree_meaning.specs.Transaction.{TxState, current, taken, done_as, tx_update, in_transaction, tx_start, tx_meaning, valued, merged, commute_writes, final_writes, if_accepted}
+use Rattle.txs_tree_meaning.specs.Thread.{ThreadState, with_tx, eats, meant, faulted, faultless, swaps, over, Transacting, run_of, ends_tx, is_retry, eats_tx, on_events, around_action, from_events, thread_meaning, action_meaning, holding, uneaten, accepts, resets}
+use Rattle.txs_tree_meaning.specs.Transaction.{TxState, current, taken, done_as, tx_update, in_transaction, tx_start, tx_meaning, valued, merged, commute_writes, final_writes, if_accepted, validated}
 use Rattle.txs_tree_meaning.specs.Tree.{Mark, Tree, PlainFunction, ThreadSource}
 use Rattle.txs_theorem_threads.proofs.Callees.{Keeps, pure_callees, callees_in, function_callees}
-use Rattle.txs_theorem_threads.proofs.Related.{Related, Turns, bind_related, closed_related, Applied, Alike, eval_related, calls_related}
+use Rattle.txs_theorem_threads.proofs.Related.{Related, Turns, bind_related, closed_related, Applied, Alike, CallsAlike, apply_related, eval_related, calls_related}
 use Rattle.txs_theorem_threads.proofs.Same.{same_link, itself, from_same, from_alike, bind_same, redone_alike, IsLong, same_long}
 use Rattle.txs_theorem_threads.specs.EndsSo.{NeedsTurns, HasSettled}
 
@@ -56,7 +58,7 @@ module _ (nl nr : ℕ) (le : nl ≤ nr) (functions : List PlainFunction) (sound 
     put = λ form inside m c w s t may i a r. from_same TxState (λ u. (in_transaction R).put form inside m c w (apply (call_at (λ e. in_transaction R) nr functions d inside) m.span) u) s t r;
     update = λ form inside m c callee vs s t may i p a r. from_alike TxState _ _
         (λ u. bind_same TxState (result_of (cell_of (rule (form_of.Update form)) true c) m.span u) _ _ (λ x t1. update_alike R form m x callee vs _ _ (a (λ f. tt)) t1)) s t r;
-    send = λ inside m c callee vs s t i p r. from_same TxState (λ u. (in_transaction R).send inside m c callee vs u) s t r;
+    send = λ inside m c callee vs s t i r. from_same TxState (λ u. (in_transaction R).send inside m c callee vs u) s t r;
     dosync = λ inside m e env s t i p b a r. b tt s t r;
   }
 
@@ -149,7 +151,7 @@ module _ (validators : Validators) (m : Mark) (node : Tree) (env : List Value) (
   ends_alike : (e : EventKind) (R Q C : World) (t : ThreadState) → Related (same_link ThreadState) (ends_tx (with_body x) f e R Q C t) (ends_tx (with_body y) g e R Q C t)
   ends_alike (event.Commit at view writes sent) R Q C t =
       over_alike t (x R) (y R) _ _ (λ e. Invalid) (b R)
-      (λ v z. faultless_alike (final_writes f validators m.span z.done C t) (final_writes g validators m.span z.done C t) _ _ (final_alike validators m.span f g a z.done C t) (λ ws t1. itself ThreadState (meant (same_writes ws writes && same_actions z.done.sends sent) v (with_tx (run_of (with_body x) v z) t1))))
+      (λ v z. faultless_alike (final_writes f validators m.span z.done C t) (final_writes g validators m.span z.done C t) _ _ (final_alike validators m.span f g a z.done C t) (λ ws t1. itself ThreadState (meant (same_writes ws writes && same_actions (sends_of_commit t1.held z.done.sends) sent) v (holding z.done.sends (with_tx (run_of (with_body x) v z) t1)))))
   ends_alike (event.Fail at view) R Q C t =
       over_alike t (x R) (y R) _ _ (λ e. Faults e t) (b R) (λ v z. faulted_alike (final_writes f validators m.span z.done Q t) (final_writes g validators m.span z.done Q t) (λ e t1. Faults e t1) (final_alike validators m.span f g a z.done Q t))
   ends_alike (event.Refused at view agent) R Q C t =
@@ -185,63 +187,90 @@ eats_alike book f g h (e ∷ es) t = of_book (e.book == book)
     of_book true = uneaten_alike (e ∷ es) (f e (record t { todo = es })) (g e (record t { todo = es })) (h e (record t { todo = es }))
     of_book false = refl
 
--- ---- threads
+-- ---- bodies
 
-module _ (p : ThreadSource) (sound : SoundSource p) (nl nr : ℕ) (le : nl ≤ nr) where
-  look_alike : (form : LookForm) (d : ℕ) (inside : Bool) (m : Mark) (c : Value) (t : ThreadState) → Related (same_link ThreadState) ((on_events (around p nl) d).look form inside m c t) ((on_events (around p nr) d).look form inside m c t)
-  look_alike Deref d inside m c t = itself ThreadState ((on_events (around p nl) d).look Deref inside m c t)
+module _ (cells : List CellDefinition) (functions : List PlainFunction) (sound : SoundFunctions [] functions) (nl nr : ℕ) (le : nl ≤ nr) where
+  look_alike : (form : LookForm) (d : ℕ) (inside : Bool) (m : Mark) (c : Value) (t : ThreadState) → Related (same_link ThreadState) ((on_events (around_action cells functions nl) d).look form inside m c t) ((on_events (around_action cells functions nr) d).look form inside m c t)
+  look_alike Deref d inside m c t = itself ThreadState ((on_events (around_action cells functions nl) d).look Deref inside m c t)
   look_alike Ensure d inside m c t = refl
 
-  accepts_alike : (x : CellId) (span : Span) (f g : Applies ThreadState) → Applied ThreadState ThreadState (same_link ThreadState) f g → (v : Value) (s t : ThreadState) → s ≡ t → Related (same_link ThreadState) (accepts (around p nl) f x span v s) (accepts (around p nr) g x span v t)
-  accepts_alike x span f g a v s t r = validated_related ThreadState ThreadState (same_link ThreadState) f g a (validator_at (validators_of p.cells) x.number) span v s t r
+  accepts_alike : (x : CellId) (span : Span) (f g : Applies ThreadState) → Applied ThreadState ThreadState (same_link ThreadState) f g → (v : Value) (s t : ThreadState) → s ≡ t → Related (same_link ThreadState) (accepts (around_action cells functions nl) f x span v s) (accepts (around_action cells functions nr) g x span v t)
+  accepts_alike x span f g a v s t r = validated_related ThreadState ThreadState (same_link ThreadState) f g a (validator_at (validators_of cells) x.number) span v s t r
 
-  put_alike : (form : PutForm) (d : ℕ) (inside : Bool) (m : Mark) (c w : Value) (f g : Applies ThreadState) → Applied ThreadState ThreadState (same_link ThreadState) f g → (t : ThreadState) → Related (same_link ThreadState) ((on_events (around p nl) d).put form inside m c w f t) ((on_events (around p nr) d).put form inside m c w g t)
+  put_alike : (form : PutForm) (d : ℕ) (inside : Bool) (m : Mark) (c w : Value) (f g : Applies ThreadState) → Applied ThreadState ThreadState (same_link ThreadState) f g → (t : ThreadState) → Related (same_link ThreadState) ((on_events (around_action cells functions nl) d).put form inside m c w f t) ((on_events (around_action cells functions nr) d).put form inside m c w g t)
   put_alike RefSet d inside m c w f g a t = refl
   put_alike Reset d inside m c w f g a t =
       bind_same ThreadState (result_of (cell_of (rule (form_of.Put Reset)) false c) m.span t) _ _
-      (λ x t1. bind_related ThreadState ThreadState (same_link ThreadState) (accepts (around p nl) f x m.span w t1) (accepts (around p nr) g x m.span w t1) (λ v t2. eats (home p.cells x) (λ e t3. resets v e.kind t3) t2.todo t2) (λ v t2. eats (home p.cells x) (λ e t3. resets v e.kind t3) t2.todo t2)
-      (accepts_alike x m.span f g a w t1 t1 refl) (λ v s2 t2 r2. from_same ThreadState (λ u. eats (home p.cells x) (λ e t3. resets v e.kind t3) u.todo u) s2 t2 r2))
+      (λ x t1. bind_related ThreadState ThreadState (same_link ThreadState) (accepts (around_action cells functions nl) f x m.span w t1) (accepts (around_action cells functions nr) g x m.span w t1) (λ v t2. eats (home cells x) (λ e t3. resets v e.kind t3) t2.todo t2) (λ v t2. eats (home cells x) (λ e t3. resets v e.kind t3) t2.todo t2)
+      (accepts_alike x m.span f g a w t1 t1 refl) (λ v s2 t2 r2. from_same ThreadState (λ u. eats (home cells x) (λ e t3. resets v e.kind t3) u.todo u) s2 t2 r2))
 
   updates_alike : (form : UpdateForm) (d : ℕ) (inside : Bool) (m : Mark) (c : Value) (callee : Callee) (vs : List Value) (f g : Applies ThreadState) → Applied ThreadState ThreadState (same_link ThreadState) f g → (t : ThreadState)
-      → Related (same_link ThreadState) ((on_events (around p nl) d).update form inside m c callee vs f t) ((on_events (around p nr) d).update form inside m c callee vs g t)
+      → Related (same_link ThreadState) ((on_events (around_action cells functions nl) d).update form inside m c callee vs f t) ((on_events (around_action cells functions nr) d).update form inside m c callee vs g t)
   updates_alike Alter d inside m c callee vs f g a t = refl
   updates_alike Commute d inside m c callee vs f g a t = refl
   updates_alike Swap d inside m c callee vs f g a t =
       bind_same ThreadState (result_of (cell_of (rule (form_of.Update Swap)) false c) m.span t) _ _
-      (λ x t1. eats_alike (home p.cells x) _ _
-      (λ e t2. swaps_alike x (λ v t3. bind (f callee (v ∷ vs) t3) (accepts (around p nl) f x m.span)) (λ v t3. bind (g callee (v ∷ vs) t3) (accepts (around p nr) g x m.span))
-      (λ v t3. bind_related ThreadState ThreadState (same_link ThreadState) (f callee (v ∷ vs) t3) (g callee (v ∷ vs) t3) (accepts (around p nl) f x m.span) (accepts (around p nr) g x m.span) (a callee (v ∷ vs) t3 t3 refl) (λ w s4 t4 r4. accepts_alike x m.span f g a w s4 t4 r4)) e.kind e.R e.C t2) t1.todo t1)
+      (λ x t1. eats_alike (home cells x) _ _
+      (λ e t2. swaps_alike x (λ v t3. bind (f callee (v ∷ vs) t3) (accepts (around_action cells functions nl) f x m.span)) (λ v t3. bind (g callee (v ∷ vs) t3) (accepts (around_action cells functions nr) g x m.span))
+      (λ v t3. bind_related ThreadState ThreadState (same_link ThreadState) (f callee (v ∷ vs) t3) (g callee (v ∷ vs) t3) (accepts (around_action cells functions nl) f x m.span) (accepts (around_action cells functions nr) g x m.span) (a callee (v ∷ vs) t3 t3 refl) (λ w s4 t4 r4. accepts_alike x m.span f g a w s4 t4 r4)) e.kind e.R e.C t2) t1.todo t1)
 
-  dosync_alike : (d : ℕ) (m : Mark) (e : Tree) (env : List Value) → Keeps (pure_callees (known p.functions)) true e → (f g : Applies ThreadState) → Applied ThreadState ThreadState (same_link ThreadState) f g → (t : ThreadState)
-      → Related (same_link ThreadState) (eats_tx (suc reruns) (record { mark = m; body = e; locals = env; on = tx_meaning nl p.functions d e env; validators = validators_of p.cells }) f t.todo t)
-      (eats_tx (suc reruns) (record { mark = m; body = e; locals = env; on = tx_meaning nr p.functions d e env; validators = validators_of p.cells }) g t.todo t)
+  dosync_alike : (d : ℕ) (m : Mark) (e : Tree) (env : List Value) → Keeps (pure_callees (known functions)) true e → (f g : Applies ThreadState) → Applied ThreadState ThreadState (same_link ThreadState) f g → (t : ThreadState)
+      → Related (same_link ThreadState) (eats_tx (suc reruns) (record { mark = m; body = e; locals = env; on = tx_meaning nl functions d e env; validators = validators_of cells }) f t.todo t)
+      (eats_tx (suc reruns) (record { mark = m; body = e; locals = env; on = tx_meaning nr functions d e env; validators = validators_of cells }) g t.todo t)
   dosync_alike d m e env pure f g a t =
-      eats_tx_alike (validators_of p.cells) m e env (tx_meaning nl p.functions d e env) (tx_meaning nr p.functions d e env) f g (tx_more nl nr le p.functions sound.functions d e env pure) a (suc reruns) t.todo t
+      eats_tx_alike (validators_of cells) m e env (tx_meaning nl functions d e env) (tx_meaning nr functions d e env) f g (tx_more nl nr le functions sound d e env pure) a (suc reruns) t.todo t
 
-  events_alike : (d : ℕ) → Alike ThreadState ThreadState (same_link ThreadState) (on_events (around p nl) d) (on_events (around p nr) d) (call_at (on_events (around p nl)) nl p.functions d) (call_at (on_events (around p nr)) nr p.functions d) nl nr (λ i. Unit {0}) (pure_callees (known p.functions))
+  events_alike : (d : ℕ) → Alike ThreadState ThreadState (same_link ThreadState) (on_events (around_action cells functions nl) d) (on_events (around_action cells functions nr) d) (call_at (on_events (around_action cells functions nl)) nl functions d) (call_at (on_events (around_action cells functions nr)) nr functions d) nl nr (λ i. Unit {0}) (pure_callees (known functions))
   events_alike d = record {
-    print = λ inside vs s t m r. from_same ThreadState (λ u. (on_events (around p nl) d).print inside vs u) s t r;
+    print = λ inside vs s t m r. from_same ThreadState (λ u. (on_events (around_action cells functions nl) d).print inside vs u) s t r;
     look = λ form inside m c s t may i r. from_alike ThreadState _ _ (look_alike form d inside m c) s t r;
     put = λ form inside m c w s t may i a r. from_alike ThreadState _ _ (put_alike form d inside m c w _ _ (a (λ f. tt))) s t r;
     update = λ form inside m c callee vs s t may i pure a r. from_alike ThreadState _ _ (updates_alike form d inside m c callee vs _ _ (a (λ f. tt))) s t r;
-    send = λ inside m c callee vs s t i pure r. from_same ThreadState (λ u. (on_events (around p nl) d).send inside m c callee vs u) s t r;
+    send = λ inside m c callee vs s t i r. from_same ThreadState (λ u. (on_events (around_action cells functions nl) d).send inside m c callee vs u) s t r;
     dosync = λ inside m e env s t i pure b a r. from_alike ThreadState _ _ (dosync_alike d m e env pure _ _ (a (λ f. tt) tt)) s t r;
   }
 
-  more_events : (es : List SeenEvent) → Related (same_link ThreadState) (thread_meaning p nl es) (thread_meaning p nr es)
-  more_events es =
-      let d = length p.functions in
-      let w = pure_callees (known p.functions) in
-      let fx = on_events (around p nl) in
-      let gx = on_events (around p nr) in
-      let cf = call_at fx nl p.functions d in
-      let cg = call_at gx nr p.functions d in
-      let t0 : ThreadState = record { todo = es; printed = []; held = None; txs = [] } in
-      let enough : Turns ThreadState ThreadState (same_link ThreadState) nl nr = inr (le, λ s t r o. tt) in
-      closed_related ThreadState ThreadState (same_link ThreadState) (eval (fx d) cf nl false p.main [] t0) (eval (gx d) cg nr false p.main [] t0)
-      (eval_related ThreadState ThreadState (same_link ThreadState) (fx d) (gx d) cf cg nl nr (λ i. Unit {0}) w enough (events_alike d)
-      (calls_related ThreadState ThreadState (same_link ThreadState) fx gx nl nr p.functions (λ i. Unit {0}) w enough events_alike (function_callees p.functions sound.functions) d)
-      p.main false [] t0 t0 (callees_in (known p.functions) p.main in_thread false 0 None sound.main) tt refl)
+  abbrev fewer : ℕ → Effects ThreadState
+  fewer d = on_events (around_action cells functions nl) d
+
+  abbrev further : ℕ → Effects ThreadState
+  further d = on_events (around_action cells functions nr) d
+
+  calls_more : (d : ℕ) → CallsAlike ThreadState ThreadState (same_link ThreadState) (call_at fewer nl functions d) (call_at further nr functions d) (λ i. Unit {0}) (λ i f. Unit {0})
+  calls_more d =
+      calls_related ThreadState ThreadState (same_link ThreadState) fewer further nl nr functions (λ i. Unit {0}) (pure_callees (known functions)) (inr (le, λ s t r o. tt)) events_alike (function_callees functions sound) d
+
+  -- a body with more turns
+  pub body_more : (body : Tree) (env : List Value) (t : ThreadState) → Keeps (pure_callees (known functions)) false body
+      → Related (same_link ThreadState) (closed (eval (fewer (length functions)) (call_at fewer nl functions (length functions)) nl false body env t)) (closed (eval (further (length functions)) (call_at further nr functions (length functions)) nr false body env t))
+  body_more body env t p =
+      let d = length functions in
+      let cf = call_at fewer nl functions d in
+      let cg = call_at further nr functions d in
+      let enough : Turns ThreadState ThreadState (same_link ThreadState) nl nr = inr (le, λ s t1 r o. tt) in
+      closed_related ThreadState ThreadState (same_link ThreadState) (eval (fewer d) cf nl false body env t) (eval (further d) cg nr false body env t)
+      (eval_related ThreadState ThreadState (same_link ThreadState) (fewer d) (further d) cf cg nl nr (λ i. Unit {0}) (pure_callees (known functions)) enough (events_alike d) (calls_more d) body false env t t p tt refl)
+
+  -- a callee with more turns
+  applied_more : (span : Span) → Applied ThreadState ThreadState (same_link ThreadState) (apply (call_at fewer nl functions (length functions) false) span) (apply (call_at further nr functions (length functions) false) span)
+  applied_more span c vs s t r =
+      apply_related ThreadState ThreadState (same_link ThreadState) (call_at fewer nl functions (length functions) false) (call_at further nr functions (length functions) false) (λ f ws s1 t1 r1. calls_more (length functions) false f ws s1 t1 tt tt r1) span c vs s t r
+
+  -- an action with more turns
+  pub action_more : (act : Action) (v : Value) (es : List SeenEvent) → Related (same_link ThreadState) (action_meaning cells functions nl act v es) (action_meaning cells functions nr act v es)
+  action_more act v es =
+      let t0 : ThreadState = from_events (Some []) es in
+      let f = apply (call_at fewer nl functions (length functions) false) act.span in
+      let g = apply (call_at further nr functions (length functions) false) act.span in
+      let o = validator_at (validators_of cells) act.agent.number in
+      bind_related ThreadState ThreadState (same_link ThreadState) (f act.callee (v ∷ act.args) t0) (g act.callee (v ∷ act.args) t0) (λ w t. validated f o act.span w t) (λ w t. validated g o act.span w t)
+      (applied_more act.span act.callee (v ∷ act.args) t0 t0 refl)
+      (λ w s t r. validated_related ThreadState ThreadState (same_link ThreadState) f g (applied_more act.span) o act.span w s t r)
+
+-- a thread with more turns
+more_events : (p : ThreadSource) → SoundSource p → (nl nr : ℕ) → nl ≤ nr → (es : List SeenEvent) → Related (same_link ThreadState) (thread_meaning p nl es) (thread_meaning p nr es)
+more_events p sound nl nr le es =
+    body_more p.cells p.functions sound.functions nl nr le p.main [] (from_events None es) (callees_in (known p.functions) p.main in_thread false 0 None sound.main)
 
 long_settled : (x : Completion ThreadState Value) → HasSettled x → IsLong ThreadState x
 long_settled (Completes v s) e = tt
@@ -268,3 +297,13 @@ needed Invalid y h e = subst NeedsTurns (same_long ThreadState Invalid y h tt) e
 -- where more turns don't suffice, fewer don't
 pub needs_before : (p : ThreadSource) → SoundSource p → (es : List SeenEvent) (nl nr : ℕ) → nl ≤ nr → NeedsTurns (thread_meaning p nr es) → NeedsTurns (thread_meaning p nl es)
 needs_before p sound es nl nr le h = needed (thread_meaning p nl es) (thread_meaning p nr es) (more_events p sound nl nr le es) h
+
+-- so it is of actions
+pub settled_action : (cells : List CellDefinition) (functions : List PlainFunction) → SoundFunctions [] functions → (act : Action) (v : Value) (es : List SeenEvent) (nl nr : ℕ) → nl ≤ nr → HasSettled (action_meaning cells functions nl act v es)
+    → action_meaning cells functions nr act v es ≡ action_meaning cells functions nl act v es
+settled_action cells functions sound act v es nl nr le e =
+    same_long ThreadState (action_meaning cells functions nl act v es) (action_meaning cells functions nr act v es) (action_more cells functions sound nl nr le act v es) (long_settled (action_meaning cells functions nl act v es) e)
+
+pub action_needs : (cells : List CellDefinition) (functions : List PlainFunction) → SoundFunctions [] functions → (act : Action) (v : Value) (es : List SeenEvent) (nl nr : ℕ) → nl ≤ nr → NeedsTurns (action_meaning cells functions nr act v es)
+    → NeedsTurns (action_meaning cells functions nl act v es)
+action_needs cells functions sound act v es nl nr le h = needed (action_meaning cells functions nl act v es) (action_meaning cells functions nr act v es) (action_more cells functions sound nl nr le act v es) h

@@ -126,7 +126,7 @@ module _ (S T : Type 0) (k : Link S T) where
   give_related None s t r = k.invalid_both
   give_related (Some a) s t r = (refl, r)
 
-  result_related : (x : Result Value FaultKind) (span : Span) (s : S) (t : T) → k.rel s t → Related k (result_of x span s) (result_of x span t)
+  pub result_related : (x : Result Value FaultKind) (span : Span) (s : S) (t : T) → k.rel s t → Related k (result_of x span s) (result_of x span t)
   result_related (Ok v) span s t r = (refl, r)
   result_related (Err e) span s t r = (refl, k.faults_of s t r)
 
@@ -163,7 +163,7 @@ pub record Alike (S T : Type 0) (k : Link S T) (fx : Effects S) (gx : Effects T)
       Related k (fx.put form inside m c v (apply (cf inside) m.span) s) (gx.put form inside m c v (apply (cg inside) m.span) t)
   pub update : (form : UpdateForm) (inside : Bool) (m : Mark) (c : Value) (callee : Callee) (vs : List Value) (s : S) (t : T) → w.form inside (form_of.Update form) → Mode inside → w.callee callee → (((f : ℕ) → w.call inside f) → Applied S T k (apply (cf inside) m.span) (apply (cg inside) m.span)) → k.rel s t →
       Related k (fx.update form inside m c callee vs (apply (cf inside) m.span) s) (gx.update form inside m c callee vs (apply (cg inside) m.span) t)
-  pub send : (inside : Bool) (m : Mark) (c : Value) (callee : Callee) (vs : List Value) (s : S) (t : T) → Mode inside → w.callee callee → k.rel s t → Related k (fx.send inside m c callee vs s) (gx.send inside m c callee vs t)
+  pub send : (inside : Bool) (m : Mark) (c : Value) (callee : Callee) (vs : List Value) (s : S) (t : T) → Mode inside → k.rel s t → Related k (fx.send inside m c callee vs s) (gx.send inside m c callee vs t)
   pub dosync : (inside : Bool) (m : Mark) (e : Tree) (env : List Value) (s : S) (t : T) → Mode inside → Keeps w true e →
       (Mode true → (s1 : S) (t1 : T) → k.rel s1 t1 → Related k (closed (eval fx cf nl true e env s1)) (closed (eval gx cg nr true e env t1))) → (((f : ℕ) → w.call true f) → Mode true → Applied S T k (apply (cf true) m.span) (apply (cg true) m.span)) → k.rel s t →
       Related k (fx.dosync inside m e env (λ s1. closed (eval fx cf nl true e env s1)) (apply (cf true) m.span) s) (gx.dosync inside m e env (λ t1. closed (eval gx cg nr true e env t1)) (apply (cg true) m.span) t)
@@ -213,7 +213,7 @@ module _ (S T : Type 0) (k : Link S T) (fx : Effects S) (gx : Effects T) (cf : B
         (λ c s1 t1 r1. bind_related S T k (eval_all fx cf nl inside args env s1) (eval_all gx cg nr inside args env t1) _ _ (all_related args inside env s1 t1 p.3 m r1) (λ vs s2 t2 r2. alike.update form inside k1 c callee vs s2 t2 p.0 m p.2 (applied k1.span inside m) r2))
     eval_related (Send cell callee args k1) inside env s t p m r =
         bind_related S T k (eval fx cf nl inside cell env s) (eval gx cg nr inside cell env t) _ _ (eval_related cell inside env s t p.0 m r)
-        (λ c s1 t1 r1. bind_related S T k (eval_all fx cf nl inside args env s1) (eval_all gx cg nr inside args env t1) _ _ (all_related args inside env s1 t1 p.2 m r1) (λ vs s2 t2 r2. alike.send inside k1 c callee vs s2 t2 m p.1 r2))
+        (λ c s1 t1 r1. bind_related S T k (eval_all fx cf nl inside args env s1) (eval_all gx cg nr inside args env t1) _ _ (all_related args inside env s1 t1 p.1 m r1) (λ vs s2 t2 r2. alike.send inside k1 c callee vs s2 t2 m r2))
 
     all_related : (es : Trees) (inside : Bool) (env : List Value) (s : S) (t : T) → KeepAll w inside es → Mode inside → k.rel s t → Related k (eval_all fx cf nl inside es env s) (eval_all gx cg nr inside es env t)
     all_related none inside env s t p m r = (refl, r)

@@ -3,10 +3,11 @@ use Rattle.std.proofs.Common.{ℕ, zero, suc, Bool, true, false, List, [], ◌�
 use Rattle.std.proofs.lemmas.Bool.{false≢true}
 use Rattle.txs_world_protocol.specs.Ask.{Writes, buffered, with_write, Exchange}
 use Rattle.txs_world_protocol.specs.SeenEvent.{SeenEvent}
+use Rattle.txs_world_protocol.specs.declared.ask.Ask.{Ask}
 use Rattle.txs_world_protocol.specs.declared.ask.Ask.TheVariants as ask
 use Rattle.txs_world_protocol.specs.declared.ask.Reply.{Reply}
 use Rattle.txs_world_protocol.specs.declared.ask.Reply.TheVariants as reply
-use Rattle.txs_frame.specs.Frame.{with_cell, is_commuted, commuted, phase_work, set_writes}
+use Rattle.txs_frame.specs.Frame.{with_cell, is_commuted, commuted, phase_work, set_writes, sends_of_commit}
 use Rattle.txs_frame.specs.declared.frame.Commute.{Commute}
 use Rattle.txs_value_cell.specs.Cells.{World, Validators, validators_of, validator_at}
 use Rattle.txs_value_cell.specs.Forms.{rule, cell_of}
@@ -29,18 +30,20 @@ use Rattle.txs_value_data.specs.declared.value.CellId.{CellId}
 use Rattle.txs_value_data.specs.declared.value.Value.{Value}
 use Rattle.txs_value_data.specs.declared.value.Value.TheVariants.{Nil, Truth, Int, Key, Text, Vector, Cell}
 use Rattle.txs_tree_meaning.specs.Known.{known}
-use Rattle.txs_tree_meaning.specs.Meaning.{Completion, Completes, Recurs, Faults, Retries, Waits, OutOfTurns, Invalid, bind, Applies}
-use Rattle.txs_tree_meaning.specs.Sound.{MayStand, SoundCallee, SoundSource}
+use Rattle.txs_tree_meaning.specs.Meaning.{Completion, Completes, Recurs, Faults, Retries, Waits, OutOfTurns, Invalid, bind, Applies, apply, call_at}
+use Rattle.txs_tree_meaning.specs.Sound.{MayStand, SoundCallee, SoundFunctions, SoundCells, SoundSource}
 use Rattle.txs_tree_meaning.specs.Transaction.{value_or, valued, merged, redone, judged, validated, accepted}
-use Rattle.txs_tree_meaning.specs.Tree.{Mark, Tree, ThreadSource}
-use Rattle.txs_code_meaning.specs.ActorState.{ActorState, Replied, asks, StepResult, Continue, on_step, step_of, heard, value_there, newest_value, just_done, read_point, views, opened, commit_verdict, swap_verdict, send_verdict, begun, begin, fail, buffered_or, look, paired, viewed, view, commit, peek, SwapInHand, open_atom, close_swap, break_swap, reset_atom, sent, send_now, InHand, send_or_hold, set_own, close_own, read_cell, assign_cell, send_action, print}
+use Rattle.txs_tree_meaning.specs.Tree.{Mark, Tree, PlainFunction, ThreadSource}
+use Rattle.txs_code_meaning.specs.ActorState.{ActorState, held_in, landed, Replied, asks, StepResult, Continue, on_step, step_of, heard, value_there, newest_value, just_done, read_point, views, opened, commit_verdict, swap_verdict, send_verdict, begun, begin, fail, buffered_or, look, paired, viewed, view, commit, peek, SwapInHand, open_atom, close_swap, break_swap, reset_atom, sent, send_now, InHand, send_or_hold, set_own, close_own, read_cell, assign_cell, send_action, print}
 use Rattle.txs_code_meaning.specs.Opening.{fresh}
 use Rattle.txs_theorem_threads.proofs.Accepted.{OfValidator, AllValidators, validator_such, cells_such, judged_carried}
-use Rattle.txs_theorem_threads.proofs.Meant.{Suits, Valid, MeantAs, where_inside, Any, Proper, none_some, zone_of, bind_meant, SoundForms, main_meant}
+use Rattle.txs_theorem_threads.proofs.Meant.{Suits, Valid, MeantAs, where_inside, Any, Proper, none_some, zone_of, bind_meant, SoundForms, main_meant, sent_meant, valid_deep}
 use Rattle.txs_theorem_threads.proofs.Quiet.{carried, Each, each_both, each_phase}
 use Rattle.txs_theorem_threads.proofs.Tries.{paired_valued}
 use Rattle.txs_theorem_threads.proofs.Worlds.{answered, answered_less, fit_splits, res_step, step_then}
+use Rattle.txs_theorem_threads.specs.ActionsBehave.{action_source}
 use Rattle.txs_theorem_threads.specs.Behaves.{source, IsMeant, IsProper}
+use Rattle.txs_theorem_threads.specs.FollowsAgent.{SoundAction, taken_at}
 use Rattle.txs_theorem_threads.specs.Follows.{IsEverMeant}
 use Rattle.txs_theorem_threads.specs.OnReplies.{res, telling, Start, Anew, Behind, concludes, lands_on, if_all_accepted, accepts, closing, attempt, retrying, tries, swap_concludes, swaps_on, on_replies}
 use Rattle.txs_theorem_threads.specs.RepliesFit.{Out, In, Viewed, WithSwap, ReplyFits, RepliesFit}
@@ -334,9 +337,13 @@ module _ (cells : List CellDefinition) (V : Callee → Type 0) (checks : AllVali
     abbrev GoMeant : (Start → ActorState → Completion ActorState Value) → Type 0
     GoMeant go = (from : Start) (s : ActorState) → Ready from s → MeantAs (Holds P) false None Any (go from s)
 
+    -- the ask of the commit
+    abbrev committing : ActorState → Writes → Ask
+    committing s ws = ask.Commit s.at (set_writes s.done) s.done.ensures s.view ws (sends_of_commit (held_in s.acting) s.done.sends)
+
     module _ (go : Start → ActorState → Completion ActorState Value) (next : GoMeant go) where
-      landed_in : (R : World) (es : List SeenEvent) (v : Value) (s : ActorState) (ws : Writes) (r : Reply) (xs : List Exchange) → ReplyFits cells (In R) (ask.Commit s.at (set_writes s.done) s.done.ensures s.view ws s.done.sends) r (λ ph1 es1. RepliesFit cells ph1 xs es1) es
-          → TryMeant (bind (res (heard commit_verdict (Replied r (record s { todo = xs })))) (λ d s1. concludes d span v go s1))
+      landed_in : (R : World) (es : List SeenEvent) (v : Value) (s : ActorState) (ws : Writes) (r : Reply) (xs : List Exchange) → ReplyFits cells (In R) (committing s ws) r (λ ph1 es1. RepliesFit cells ph1 xs es1) es
+          → TryMeant (bind (res (on_step (heard commit_verdict (Replied r (record s { todo = xs }))) landed)) (λ d s1. concludes d span v go s1))
       landed_in R [] v s ws reply.Done xs m = absurd m
       landed_in R (e ∷ es) v s ws reply.Done xs m = (es, m.2)
       landed_in R [] v s ws (reply.Retry c) xs m = absurd m
@@ -348,10 +355,10 @@ module _ (cells : List CellDefinition) (V : Callee → Type 0) (checks : AllVali
       lands_in : (R : World) (es : List SeenEvent) (v : Value) (s : ActorState) (ws : Writes) → RepliesFit cells (In R) s.todo es → TryMeant (lands_on span v go ws s)
       unfolding commit
       lands_in R es v s ws h =
-          answered cells (RepliesFit cells) (fit_splits cells) (In R) es (ask.Commit s.at (set_writes s.done) s.done.ensures s.view ws s.done.sends) s (λ x. TryMeant (bind (res (heard commit_verdict x)) (λ d s1. concludes d span v go s1))) h tt (λ r xs m. landed_in R es v s ws r xs m)
+          answered cells (RepliesFit cells) (fit_splits cells) (In R) es (committing s ws) s (λ x. TryMeant (bind (res (on_step (heard commit_verdict x) landed)) (λ d s1. concludes d span v go s1))) h tt (λ r xs m. landed_in R es v s ws r xs m)
 
-      landed_viewed : (R Q : World) (es : List SeenEvent) (v : Value) (s : ActorState) → Each (Suited O) s.done.commutes → (ws : Writes) (r : Reply) (xs : List Exchange) → ReplyFits cells (Viewed R Q) (ask.Commit s.at (set_writes s.done) s.done.ensures s.view ws s.done.sends) r (λ ph1 es1. RepliesFit cells ph1 xs es1) es
-          → TryMeant (bind (res (heard commit_verdict (Replied r (record s { todo = xs })))) (λ d s1. concludes d span v go s1))
+      landed_viewed : (R Q : World) (es : List SeenEvent) (v : Value) (s : ActorState) → Each (Suited O) s.done.commutes → (ws : Writes) (r : Reply) (xs : List Exchange) → ReplyFits cells (Viewed R Q) (committing s ws) r (λ ph1 es1. RepliesFit cells ph1 xs es1) es
+          → TryMeant (bind (res (on_step (heard commit_verdict (Replied r (record s { todo = xs }))) landed)) (λ d s1. concludes d span v go s1))
       landed_viewed R Q [] v s all ws reply.Done xs m = absurd m
       landed_viewed R Q (e ∷ es) v s all ws reply.Done xs m = (es, m.2)
       landed_viewed R Q [] v s all ws (reply.Retry c) xs m = absurd m
@@ -365,7 +372,7 @@ module _ (cells : List CellDefinition) (V : Callee → Type 0) (checks : AllVali
       lands_viewed : (R Q : World) (es : List SeenEvent) (v : Value) (s : ActorState) → Each (Suited O) s.done.commutes → (ws : Writes) → RepliesFit cells (Viewed R Q) s.todo es → TryMeant (lands_on span v go ws s)
       unfolding commit
       lands_viewed R Q es v s all ws h =
-          answered cells (RepliesFit cells) (fit_splits cells) (Viewed R Q) es (ask.Commit s.at (set_writes s.done) s.done.ensures s.view ws s.done.sends) s (λ x. TryMeant (bind (res (heard commit_verdict x)) (λ d s1. concludes d span v go s1))) h tt (λ r xs m. landed_viewed R Q es v s all ws r xs m)
+          answered cells (RepliesFit cells) (fit_splits cells) (Viewed R Q) es (committing s ws) s (λ x. TryMeant (bind (res (on_step (heard commit_verdict x) landed)) (λ d s1. concludes d span v go s1))) h tt (λ r xs m. landed_viewed R Q es v s all ws r xs m)
 
       -- a fault is told, and goes on
       fails_in : (R : World) (es : List SeenEvent) (s : ActorState) → RepliesFit cells (In R) s.todo es → (k : Unit {0} → ActorState → Completion ActorState Value) → ((s1 : ActorState) → TryMeant (k tt s1)) → TryMeant (bind (res (fail s)) k)
@@ -563,6 +570,21 @@ module _ (cells : List CellDefinition) (V : Callee → Type 0) (checks : AllVali
   outside_meant P (OutOfTurns s) h = tt
   outside_meant P Invalid h = absurd h
 
+  carried_meant : (P : Suits) (q : Completion (Unit {0}) Value) → IsProper q → (s : ActorState) → Holds P false s → MeantAs (Holds P) false None Any (carried s q)
+  carried_meant P (Completes v u) z s h = (tt, h)
+  carried_meant P (Recurs vs u) z s h = absurd z
+  carried_meant P (Faults e u) z s h = tt
+  carried_meant P (Retries u) z s h = absurd z
+  carried_meant P (Waits u) z s h = absurd z
+  carried_meant P (OutOfTurns u) z s h = tt
+  carried_meant P Invalid z s h = absurd z
+
+  -- what a cell's validator makes of a value
+  pub looked_meant_at : (P : Suits) (f : Applies ActorState) → Valid ActorState V f → (k : ℕ) (span : Span) (w : Value) (s : ActorState) → Holds P false s → MeantAs (Holds P) false None Any (validated f (validator_at validators k) span w s)
+  looked_meant_at P f valid k span w s h =
+      let one = validated_proper V f valid (validator_at validators k) (validator_such V validators k checks) span w in
+      subst (λ x. MeantAs (Holds P) false None Any x) (sym (one.2 s)) (carried_meant P one.0 one.1 s h)
+
 -- no answer of a sound thread's tree on replies that fit is invalid
 pub ever_meant : (p : ThreadSource) → SoundSource p → IsEverMeant p
 ever_meant p sound n todo es f =
@@ -571,3 +593,19 @@ ever_meant p sound n todo es f =
     let checks = cells_such (known p.functions) p.cells sound.cells in
     outside_meant p.cells one checks suits (source p n todo)
     (main_meant ActorState (on_replies (validators_of p.cells)) (Holds p.cells one checks) one (sound_forms p.cells one checks) false (fresh todo) (λ P. (es, f)) p.functions sound.functions n (λ c h. h) p.main [] sound.main)
+
+-- nor is one of an action that a program may send
+pub action_meant : (cells : List CellDefinition) (functions : List PlainFunction) → SoundFunctions [] functions → SoundCells (known functions) cells → (g : CellId) (a : Action) → SoundAction functions a
+    → (v : Value) (s : ActorState) (n : ℕ) (todo : List Exchange) (es : List SeenEvent) → RepliesFit cells Out todo es → IsMeant (action_source cells functions g a v s n todo)
+action_meant cells functions sound valid g a sent v s n todo es f =
+    let suits : Suits = λ c k. SoundCallee (known functions) c k in
+    let one : Callee → Type 0 = λ c. SoundCallee (known functions) c 1 in
+    let checks = cells_such (known functions) cells valid in
+    let held : Suits → Bool → ActorState → Type 0 = Holds cells one checks in
+    let start : ActorState = (taken_at g a v s todo).state in
+    let apply_at : Applies ActorState = apply (call_at (λ d. on_replies (validators_of cells)) n functions (length functions) false) a.span in
+    let given = valid_deep ActorState (on_replies (validators_of cells)) held one (sound_forms cells one checks) false start (λ P. (es, f)) functions sound n (λ c h. h) in
+    let begun_at = sent_meant ActorState (on_replies (validators_of cells)) held one (sound_forms cells one checks) false start (λ P. (es, f)) functions sound n (λ c h. h) a.span a.callee (v ∷ a.args) sent (es, f) in
+    outside_meant cells one checks suits (action_source cells functions g a v s n todo)
+    (bind_meant ActorState (held suits) false None Any Any (apply_at a.callee (v ∷ a.args) start) (λ w s1. validated apply_at (validator_at (validators_of cells) a.agent.number) a.span w s1) begun_at
+    (λ w s1 p h. looked_meant_at cells one checks suits apply_at (given false a.span) a.agent.number a.span w s1 h))

@@ -1,6 +1,7 @@
--- A sound thread's tree on replies that fit is the thread on their events.
+-- A sound body's tree on replies that fit is the body on their events: that of a thread, or of an action.
 use Rattle.std.proofs.Common.{ℕ, zero, suc, Bool, true, false, List, [], Option, Some, None, Result, Ok, Err, refl, sym, ap, subst, length, inl, ◌≡◌, ◌∷◌, ◌++◌, ◌∙◌, ◌==◌, if◌then◌else◌}
 use Rattle.std.proofs.lemmas.Bool.{false≢true}
+use Rattle.std.proofs.lemmas.List.{append_assoc}
 use Rattle.txs_world_protocol.proofs.AskLemmas.{same_value-itself, same_ask-itself}
 use Rattle.txs_world_protocol.specs.Ask.{Exchange, same_cell, same_value, same_action}
 use Rattle.txs_world_protocol.specs.SeenEvent.{SeenEvent, home}
@@ -11,6 +12,7 @@ use Rattle.txs_world_protocol.specs.declared.ask.Reply.{Reply}
 use Rattle.txs_world_protocol.specs.declared.event.EventKind.TheVariants as event
 use Rattle.txs_world_protocol.specs.declared.event.EventKind.{EventKind}
 use Rattle.txs_value_data.proofs.SameLemmas.{number-itself, same_cell-itself}
+use Rattle.txs_value_apply.specs.Core.{core}
 use Rattle.txs_value_cell.specs.Cells.{World, Validators, validators_of, validator_at}
 use Rattle.txs_value_cell.specs.Forms.{rule, cell_of, may_stand}
 use Rattle.txs_value_data.specs.Limits.{reruns}
@@ -30,27 +32,30 @@ use Rattle.txs_value_cell.specs.declared.form.PutForm.TheVariants.{RefSet, Reset
 use Rattle.txs_value_cell.specs.declared.form.UpdateForm.{UpdateForm}
 use Rattle.txs_value_cell.specs.declared.form.UpdateForm.TheVariants as update_of
 use Rattle.txs_value_base.specs.declared.op.Callee.{Callee}
+use Rattle.txs_value_base.specs.declared.op.Callee.TheVariants.{Core as CoreOp, Function}
 use Rattle.txs_value_data.specs.declared.value.CellId.{CellId}
 use Rattle.txs_value_data.specs.declared.value.Value.{Value}
 use Rattle.txs_value_data.specs.declared.value.Value.TheVariants.{Nil, Cell}
-use Rattle.txs_tree_meaning.specs.Known.{Known, known}
+use Rattle.txs_tree_meaning.specs.Known.{Known, known, is_inside}
 use Rattle.txs_tree_meaning.specs.Meaning.{Completion, Completes, Recurs, Faults, Retries, Waits, OutOfTurns, Invalid, bind, closed, result_of, Effects, apply, eval, call_at}
-use Rattle.txs_tree_meaning.specs.Sound.{SoundSource}
-use Rattle.txs_tree_meaning.specs.Thread.{ThreadState, eats, meant, reads, resets, faulted, faultless, swaps, with_sends, sends, sends_or_holds, Transacting, eats_tx, thread_look, accepts as accepts_there, around, on_events, thread_meaning, uneaten}
+use Rattle.txs_tree_meaning.specs.Sound.{SoundSource, SoundFunctions, SoundCells, SoundTree, SoundSent, in_thread}
+use Rattle.txs_tree_meaning.specs.Thread.{ThreadState, eats, meant, reads, resets, faulted, faultless, swaps, sends, sends_or_holds, Transacting, eats_tx, thread_look, accepts as accepts_there, Surroundings, around_action, on_events, from_events, thread_meaning, applies_in, action_meaning, uneaten}
 use Rattle.txs_tree_meaning.specs.Transaction.{validated, tx_meaning}
-use Rattle.txs_tree_meaning.specs.Tree.{Mark, Tree, ThreadSource}
-use Rattle.txs_code_meaning.specs.ActorState.{InHand, now_holding, ActorState, Reception, Replied, Unreplied, asks, Continue, heard, on_step, step_of, newest_value, peek, just_done, reset_atom, opened, SwapInHand, open_atom, swap_verdict, close_swap, break_swap, send_verdict, sent, send_now, send_or_hold, send_action, Verdict, read_cell, assign_cell, print}
+use Rattle.txs_tree_meaning.specs.Tree.{Mark, Tree, PlainFunction, ThreadSource}
+use Rattle.txs_code_meaning.specs.ActorState.{InHand, held_in, ActorState, Reception, Replied, Unreplied, asks, Continue, heard, on_step, step_of, newest_value, peek, just_done, reset_atom, opened, SwapInHand, open_atom, swap_verdict, close_swap, break_swap, send_verdict, sent, send_now, send_or_hold, send_action, Verdict, read_cell, assign_cell, print}
 use Rattle.txs_code_meaning.specs.Opening.{fresh}
 use Rattle.txs_theorem_threads.proofs.Accepted.{OfValidator, AllValidators, validator_such, validators_pure, validated_carried, made_carried}
-use Rattle.txs_theorem_threads.proofs.Account.{Account, IsBeside, account_link, after_reply, answered_in}
+use Rattle.txs_theorem_threads.proofs.Account.{Account, IsBeside, holds_beside, account_link, after_reply, answered_in}
 use Rattle.txs_theorem_threads.proofs.Callees.{Keeps, IsPure}
 use Rattle.txs_theorem_threads.proofs.Placed.{MayCallAt, placed, thread_placed, function_placed}
 use Rattle.txs_theorem_threads.proofs.Quiet.{carried, IsQuiet, quietly, callee_carried}
-use Rattle.txs_theorem_threads.proofs.Related.{Link, Related, Applied, closed_related, Alike, eval_related, calls_related}
+use Rattle.txs_theorem_threads.proofs.Related.{Link, Related, Applied, bind_related, closed_related, result_related, Alike, eval_related, calls_related}
 use Rattle.txs_theorem_threads.proofs.Tries.{tries_related}
-use Rattle.txs_theorem_threads.proofs.Worlds.{IsShort, held_in, carried_related, on_cell_related, tx_related}
+use Rattle.txs_theorem_threads.proofs.Worlds.{IsShort, IsOwn, carried_related, on_cell_related, tx_related}
 use Rattle.txs_theorem_threads.specs.EndsSo.{in_hand}
+use Rattle.txs_theorem_threads.specs.ActionsBehave.{action_source}
 use Rattle.txs_theorem_threads.specs.Behaves.{source}
+use Rattle.txs_theorem_threads.specs.FollowsAgent.{SoundAction, taken_at}
 use Rattle.txs_theorem_threads.specs.OnReplies.{res, telling, tries, swap_concludes, swaps_on, accepts, on_replies, Anew}
 use Rattle.txs_theorem_threads.specs.RepliesFit.{Out, In, WithSwap, OnEvent, SaysRead, SaysSwap, SaysBroke, SaysSent, SaysSendRefused, ReplyFits, halted}
 
@@ -84,11 +89,6 @@ module _ (c : CellId) (f : Value → ThreadState → Completion ThreadState Valu
   broke_as (event.Broke at) v y made e says = ap (λ z. faulted (f z t) (λ g t1. Faults g t1)) e ∙ ap (λ r. faulted r (λ g t1. Faults g t1)) made
   broke_as _ v y made e says = absurd says
 
--- what is held with one send more
-holding_same : (act : Action) (o : Option InHand) → held_in (now_holding act o) ≡ with_sends (act ∷ []) (held_in o)
-holding_same act None = refl
-holding_same act (Some h) = refl
-
 module _ (cells : List CellDefinition) (a : Account cells) where
   abbrev k : Link ActorState ThreadState
   k = account_link cells a
@@ -105,23 +105,23 @@ module _ (cells : List CellDefinition) (a : Account cells) where
   at_events book go t l = eats book go l (record t { todo = l })
 
   -- a form that asks once, and eats the event that its ask is
-  asks_once : (book : ℕ) (go : SeenEvent → ThreadState → Completion ThreadState Value) (q : Ask) (x : Reception → Completion ActorState Value) (s : ActorState) (t : ThreadState) → ((u : ActorState) → x (Unreplied u) ≡ Waits u)
-      → k.rel s t → ((es : List SeenEvent) (r : Reply) (xs : List Exchange) → ReplyFits cells Out q r (after_reply a.fits t.txs q r xs) es → Related k (x (Replied r (record s { todo = xs }))) (at_events book go t (es ++ a.tail))) → Related k (x (asks q s)) (eats book go t.todo t)
-  asks_once book go q x s t un r h =
+  asks_once : (book : ℕ) (go : SeenEvent → ThreadState → Completion ThreadState Value) (q : Ask) (x : Reception → Completion ActorState Value) (s : ActorState) (t : ThreadState) → IsOwn q → ((u : ActorState) → x (Unreplied u) ≡ Waits u)
+      → k.rel s t → ((es : List SeenEvent) (r : Reply) (xs : List Exchange) → ReplyFits cells Out q r (after_reply a.from a.fits t.txs q r xs) es → Related k (x (Replied r (record s { todo = xs }))) (at_events book go t (es ++ a.tail))) → Related k (x (asks q s)) (eats book go t.todo t)
+  asks_once book go q x s t own un r h =
       subst (λ l. Related k (x (asks q s)) (at_events book go t l)) (sym r.2)
       (answered_in cells a t.txs Out r.1 q s (λ y. Related k (x y) (at_events book go t (r.1 ++ a.tail))) r.3
-      (subst (λ y. Related k y (at_events book go t (r.1 ++ a.tail))) (sym (un (record s { wants = Some q }))) (a.waiting t.txs Out (record s { wants = Some q }) r.1 (at_events book go t) r.3 (refl, r.0.0, refl)))
+      (subst (λ y. Related k y (at_events book go t (r.1 ++ a.tail))) (sym (un (record s { wants = Some q }))) (a.waiting t.txs Out (record s { wants = Some q }) r.1 (at_events book go t) own r.3 (refl, r.0.0, refl)))
       (λ rep xs m. h r.1 rep xs m))
 
   -- a value at the event that is eaten
-  event_gives : (book : ℕ) (go : SeenEvent → ThreadState → Completion ThreadState Value) (P : SeenEvent → Type 0) (v : Value) (s : ActorState) (t : ThreadState) (es : List SeenEvent) → IsBeside s t → OnEvent book P (a.fits t.txs Out s.todo) es
+  event_gives : (book : ℕ) (go : SeenEvent → ThreadState → Completion ThreadState Value) (P : SeenEvent → Type 0) (v : Value) (s : ActorState) (t : ThreadState) (es : List SeenEvent) → IsBeside a.before a.from s t → OnEvent book P (a.fits t.txs Out s.todo) es
       → ((e : SeenEvent) (t1 : ThreadState) → P e → go e t1 ≡ Completes v t1) → Related k (Completes v s) (at_events book go t (es ++ a.tail))
   event_gives book go P v s t es pr m h =
       eats_event book go P (a.fits t.txs Out s.todo) (Completes v s) es (record t { todo = es ++ a.tail }) m
       (λ e es1 p fits. subst (λ z. Related k (Completes v s) (uneaten (e ∷ es1 ++ a.tail) z)) (sym (h e (record t { todo = es1 ++ a.tail }) p)) (refl, (pr, es1, refl, fits)))
 
   -- a fault there
-  event_breaks : (book : ℕ) (go : SeenEvent → ThreadState → Completion ThreadState Value) (P : SeenEvent → Type 0) (y : Fault) (s : ActorState) (t : ThreadState) (es : List SeenEvent) → IsBeside s t → OnEvent book P (a.fits t.txs Out s.todo) es
+  event_breaks : (book : ℕ) (go : SeenEvent → ThreadState → Completion ThreadState Value) (P : SeenEvent → Type 0) (y : Fault) (s : ActorState) (t : ThreadState) (es : List SeenEvent) → IsBeside a.before a.from s t → OnEvent book P (a.fits t.txs Out s.todo) es
       → ((e : SeenEvent) (t1 : ThreadState) → P e → go e t1 ≡ Faults y t1) → Related k (Faults y s) (at_events book go t (es ++ a.tail))
   event_breaks book go P y s t es pr m h =
       eats_event book go P (a.fits t.txs Out s.todo) (Faults y s) es (record t { todo = es ++ a.tail }) m
@@ -129,7 +129,7 @@ module _ (cells : List CellDefinition) (a : Account cells) where
 
   -- ---- reads, sets of atoms, sends
 
-  peek_answered : (c : CellId) (s : ActorState) (t : ThreadState) (es : List SeenEvent) (r : Reply) (xs : List Exchange) → IsBeside s t → ReplyFits cells Out (ask.Peek c) r (λ ph1 es1. a.fits t.txs ph1 xs es1) es
+  peek_answered : (c : CellId) (s : ActorState) (t : ThreadState) (es : List SeenEvent) (r : Reply) (xs : List Exchange) → IsBeside a.before a.from s t → ReplyFits cells Out (ask.Peek c) r (λ ph1 es1. a.fits t.txs ph1 xs es1) es
       → Related k (res (heard newest_value (Replied r (record s { todo = xs })))) (at_events (home cells c) (λ e t1. reads c e.kind e.C t1) t (es ++ a.tail))
   peek_answered c s t es (reply.Is v) xs pr m =
       event_gives (home cells c) (λ e t1. reads c e.kind e.C t1) (λ e. SaysRead c e.kind × (e.C c.number ≡ v)) v (record s { todo = xs }) t es pr m (λ e t1 p. read_as c v e.kind e.C t1 p.0 p.1)
@@ -137,9 +137,9 @@ module _ (cells : List CellDefinition) (a : Account cells) where
 
   peek_related : (c : CellId) (s : ActorState) (t : ThreadState) → k.rel s t → Related k (res (peek c s)) (eats (home cells c) (λ e t1. reads c e.kind e.C t1) t.todo t)
   unfolding peek
-  peek_related c s t r = asks_once (home cells c) (λ e t1. reads c e.kind e.C t1) (ask.Peek c) (λ h. res (heard newest_value h)) s t (λ u. refl) r (λ es rep xs m. peek_answered c s t es rep xs r.0 m)
+  peek_related c s t r = asks_once (home cells c) (λ e t1. reads c e.kind e.C t1) (ask.Peek c) (λ h. res (heard newest_value h)) s t tt (λ u. refl) r (λ es rep xs m. peek_answered c s t es rep xs r.0 m)
 
-  reset_answered : (c : CellId) (v : Value) (s : ActorState) (t : ThreadState) (es : List SeenEvent) (r : Reply) (xs : List Exchange) → IsBeside s t → ReplyFits cells Out (ask.CloseAt c None v) r (λ ph1 es1. a.fits t.txs ph1 xs es1) es
+  reset_answered : (c : CellId) (v : Value) (s : ActorState) (t : ThreadState) (es : List SeenEvent) (r : Reply) (xs : List Exchange) → IsBeside a.before a.from s t → ReplyFits cells Out (ask.CloseAt c None v) r (λ ph1 es1. a.fits t.txs ph1 xs es1) es
       → Related k (res (on_step (heard just_done (Replied r (record s { todo = xs }))) (λ u s1. Continue v s1))) (at_events (home cells c) (λ e t1. resets v e.kind t1) t (es ++ a.tail))
   reset_answered c v s t es reply.Done xs pr m =
       event_gives (home cells c) (λ e t1. resets v e.kind t1) (λ e. SaysSwap v e.kind) v (record s { todo = xs }) t es pr m (λ e t1 p. reset_as v e.kind t1 p)
@@ -148,9 +148,9 @@ module _ (cells : List CellDefinition) (a : Account cells) where
   reset_related : (c : CellId) (v : Value) (s : ActorState) (t : ThreadState) → k.rel s t → Related k (res (reset_atom c v s)) (eats (home cells c) (λ e t1. resets v e.kind t1) t.todo t)
   unfolding reset_atom
   reset_related c v s t r =
-      asks_once (home cells c) (λ e t1. resets v e.kind t1) (ask.CloseAt c None v) (λ h. res (on_step (heard just_done h) (λ u s1. Continue v s1))) s t (λ u. refl) r (λ es rep xs m. reset_answered c v s t es rep xs r.0 m)
+      asks_once (home cells c) (λ e t1. resets v e.kind t1) (ask.CloseAt c None v) (λ h. res (on_step (heard just_done h) (λ u s1. Continue v s1))) s t tt (λ u. refl) r (λ es rep xs m. reset_answered c v s t es rep xs r.0 m)
 
-  send_answered : (act : Action) (s : ActorState) (t : ThreadState) (es : List SeenEvent) (r : Reply) (xs : List Exchange) → IsBeside s t → ReplyFits cells Out (ask.Send act) r (λ ph1 es1. a.fits t.txs ph1 xs es1) es
+  send_answered : (act : Action) (s : ActorState) (t : ThreadState) (es : List SeenEvent) (r : Reply) (xs : List Exchange) → IsBeside a.before a.from s t → ReplyFits cells Out (ask.Send act) r (λ ph1 es1. a.fits t.txs ph1 xs es1) es
       → Related k (res (on_step (heard send_verdict (Replied r (record s { todo = xs }))) (sent act))) (at_events 0 (λ e t1. sends act act.span e.kind t1) t (es ++ a.tail))
   send_answered act s t es reply.Done xs pr m =
       event_gives 0 (λ e t1. sends act act.span e.kind t1) (λ e. SaysSent act e.kind) (Cell act.agent) (record s { todo = xs }) t es pr m (λ e t1 p. sent_as act act.span e.kind t1 p)
@@ -160,7 +160,7 @@ module _ (cells : List CellDefinition) (a : Account cells) where
 
   send_related : (act : Action) (s : ActorState) (t : ThreadState) → k.rel s t → Related k (res (send_now act s)) (eats 0 (λ e t1. sends act act.span e.kind t1) t.todo t)
   unfolding send_now
-  send_related act s t r = asks_once 0 (λ e t1. sends act act.span e.kind t1) (ask.Send act) (λ h. res (on_step (heard send_verdict h) (sent act))) s t (λ u. refl) r (λ es rep xs m. send_answered act s t es rep xs r.0 m)
+  send_related act s t r = asks_once 0 (λ e t1. sends act act.span e.kind t1) (ask.Send act) (λ h. res (on_step (heard send_verdict h) (sent act))) s t tt (λ u. refl) r (λ es rep xs m. send_answered act s t es rep xs r.0 m)
 
   -- outside of an action a send is made, and in one it is held
   send_action_related : (act : Action) (s : ActorState) (t : ThreadState) → k.rel s t → Related k (res (send_action false act s)) (sends_or_holds t.held act act.span t)
@@ -168,11 +168,11 @@ module _ (cells : List CellDefinition) (a : Account cells) where
     where
       go : (o : Option InHand) → Related k (res (send_or_hold o act s)) (sends_or_holds (held_in o) act act.span t)
       go None = send_related act s t r
-      go (Some h) = (refl, ((r.0.0, holding_same act s.acting ∙ ap (with_sends (act ∷ [])) r.0.1), r.1, r.2, r.3))
+      go (Some h) = (refl, (holds_beside a.before a.from s t (act ∷ []) (act ∷ []) refl r.0, r.1, r.2, r.3))
 
   print_related : (vs : List Value) (s : ActorState) (t : ThreadState) → k.rel s t → Related k (res (print false vs s)) (Completes Nil (record t { printed = t.printed ++ printed_line vs }))
   unfolding print
-  print_related vs s t r = (refl, ((ap (λ l. l ++ printed_line vs) r.0.0, r.0.1), r.1, r.2, r.3))
+  print_related vs s t r = (refl, ((sym (append_assoc a.before t.printed (printed_line vs)) ∙ ap (λ l. l ++ printed_line vs) r.0.0, r.0.1, r.0.2), r.1, r.2, r.3))
 
   -- a `reset!` on a value that may be no atom, where the atom's validator looks at what it is to get
   reset_of : (span : Span) (w : Value) (f : CellId → ActorState → Completion ActorState Value) (g : CellId → ThreadState → Completion ThreadState Value) (q : CellId → Completion (Unit {0}) Value)
@@ -210,7 +210,7 @@ module _ (cells : List CellDefinition) (a : Account cells) where
       abbrev after_callee : Value → ActorState → Completion ActorState Value
       after_callee w s = bind (res (close_swap in_hand_now w s)) (after_close w)
 
-      close_answered : (w : Value) (u : Unit {0}) (s : ActorState) (t : ThreadState) (es : List SeenEvent) (r : Reply) (xs : List Exchange) → q v ≡ Completes w u → IsBeside s t → ReplyFits cells (WithSwap c W) (ask.CloseAt c (Some at) w) r (λ ph1 es1. a.fits t.txs ph1 xs es1) es
+      close_answered : (w : Value) (u : Unit {0}) (s : ActorState) (t : ThreadState) (es : List SeenEvent) (r : Reply) (xs : List Exchange) → q v ≡ Completes w u → IsBeside a.before a.from s t → ReplyFits cells (WithSwap c W) (ask.CloseAt c (Some at) w) r (λ ph1 es1. a.fits t.txs ph1 xs es1) es
           → Related k (bind (res (heard swap_verdict (Replied r (record s { todo = xs })))) (after_close w)) (at_events (home cells c) swapped t (es ++ a.tail))
       close_answered w u s t es reply.Done xs z pr m =
           event_gives (home cells c) swapped (λ e. (c ≡ c) × (W c.number ≡ e.C c.number) × SaysSwap w e.kind) w (record s { todo = xs }) t es pr m
@@ -218,24 +218,24 @@ module _ (cells : List CellDefinition) (a : Account cells) where
       close_answered w u s t es (reply.Changed x) xs z pr m = next (record s { todo = xs }) (record t { todo = es ++ a.tail }) (pr, es, refl, m)
       close_answered w u s t es _ xs z pr m = tt
 
-      close_related : (w : Value) (u : Unit {0}) (s : ActorState) (t : ThreadState) (es : List SeenEvent) → q v ≡ Completes w u → IsBeside s t → a.fits t.txs (WithSwap c W) s.todo es → Related k (after_callee w s) (at_events (home cells c) swapped t (es ++ a.tail))
+      close_related : (w : Value) (u : Unit {0}) (s : ActorState) (t : ThreadState) (es : List SeenEvent) → q v ≡ Completes w u → IsBeside a.before a.from s t → a.fits t.txs (WithSwap c W) s.todo es → Related k (after_callee w s) (at_events (home cells c) swapped t (es ++ a.tail))
       unfolding close_swap
       close_related w u s t es z pr fits =
           answered_in cells a t.txs (WithSwap c W) es (ask.CloseAt c (Some at) w) s (λ h. Related k (bind (res (heard swap_verdict h)) (after_close w)) (at_events (home cells c) swapped t (es ++ a.tail))) fits
-          (a.waiting t.txs (WithSwap c W) (record s { wants = _ }) es (at_events (home cells c) swapped t) fits (refl, pr.0, refl)) (λ r xs m. close_answered w u s t es r xs z pr m)
+          (a.waiting t.txs (WithSwap c W) (record s { wants = Some (ask.CloseAt c (Some at) w) }) es (at_events (home cells c) swapped t) tt fits (refl, pr.0, refl)) (λ r xs m. close_answered w u s t es r xs z pr m)
 
-      break_answered : (y : Fault) (u : Unit {0}) (s : ActorState) (t : ThreadState) (es : List SeenEvent) (r : Reply) (xs : List Exchange) → q v ≡ Faults y u → IsBeside s t → ReplyFits cells (WithSwap c W) (ask.Broke c at) r (λ ph1 es1. a.fits t.txs ph1 xs es1) es
+      break_answered : (y : Fault) (u : Unit {0}) (s : ActorState) (t : ThreadState) (es : List SeenEvent) (r : Reply) (xs : List Exchange) → q v ≡ Faults y u → IsBeside a.before a.from s t → ReplyFits cells (WithSwap c W) (ask.Broke c at) r (λ ph1 es1. a.fits t.txs ph1 xs es1) es
           → Related k (bind (res (heard just_done (Replied r (record s { todo = xs })))) (λ x s1. Faults y s1)) (at_events (home cells c) swapped t (es ++ a.tail))
       break_answered y u s t es reply.Done xs z pr m =
           event_breaks (home cells c) swapped (λ e. (c ≡ c) × (W ≡ e.R) × SaysBroke e.kind) y (record s { todo = xs }) t es pr m
           (λ e t1 h. broke_as c g e.R e.C t1 e.kind v y ((right v t1).0 ∙ ap (carried t1) z) (ap (λ Z. Z c.number) (sym h.1) ∙ there) h.2)
       break_answered y u s t es _ xs z pr m = tt
 
-      break_related : (y : Fault) (u : Unit {0}) (s : ActorState) (t : ThreadState) (es : List SeenEvent) → q v ≡ Faults y u → IsBeside s t → a.fits t.txs (WithSwap c W) s.todo es → Related k (bind (res (break_swap in_hand_now s)) (λ x s1. Faults y s1)) (at_events (home cells c) swapped t (es ++ a.tail))
+      break_related : (y : Fault) (u : Unit {0}) (s : ActorState) (t : ThreadState) (es : List SeenEvent) → q v ≡ Faults y u → IsBeside a.before a.from s t → a.fits t.txs (WithSwap c W) s.todo es → Related k (bind (res (break_swap in_hand_now s)) (λ x s1. Faults y s1)) (at_events (home cells c) swapped t (es ++ a.tail))
       unfolding break_swap
       break_related y u s t es z pr fits =
           answered_in cells a t.txs (WithSwap c W) es (ask.Broke c at) s (λ h. Related k (bind (res (heard just_done h)) (λ x s1. Faults y s1)) (at_events (home cells c) swapped t (es ++ a.tail))) fits
-          (a.waiting t.txs (WithSwap c W) (record s { wants = _ }) es (at_events (home cells c) swapped t) fits (refl, pr.0, refl)) (λ r xs m. break_answered y u s t es r xs z pr m)
+          (a.waiting t.txs (WithSwap c W) (record s { wants = Some (ask.Broke c at) }) es (at_events (home cells c) swapped t) tt fits (refl, pr.0, refl)) (λ r xs m. break_answered y u s t es r xs z pr m)
 
       -- a swap whose callee needs turns needs them at its end
       swap_short : (u : Unit {0}) (t : ThreadState) (Q : World) → q v ≡ OutOfTurns u → IsShort (halted (at_events (home cells c) swapped t (in_hand cells Q (WithSwap c W))))
@@ -245,7 +245,7 @@ module _ (cells : List CellDefinition) (a : Account cells) where
           subst (λ r. IsShort (halted r))
           (sym (ap (λ b. if b then breaks (g (W c.number) t1) else Invalid) (number-itself (home cells c)) ∙ ap (λ x. breaks (g x t1)) there ∙ ap breaks ((right v t1).0 ∙ ap (carried t1) z))) tt
 
-      callee_comes : (z : Completion (Unit {0}) Value) (s : ActorState) (t : ThreadState) (es : List SeenEvent) → q v ≡ z → IsQuiet z → IsBeside s t → a.fits t.txs (WithSwap c W) s.todo es
+      callee_comes : (z : Completion (Unit {0}) Value) (s : ActorState) (t : ThreadState) (es : List SeenEvent) → q v ≡ z → IsQuiet z → IsBeside a.before a.from s t → a.fits t.txs (WithSwap c W) s.todo es
           → Related k (telling (break_swap in_hand_now) (carried s z) after_callee) (at_events (home cells c) swapped t (es ++ a.tail))
       callee_comes (Completes w u) s t es z quiet pr fits = close_related w u s t es z pr fits
       callee_comes (Recurs vs u) s t es z quiet pr fits = tt
@@ -255,7 +255,7 @@ module _ (cells : List CellDefinition) (a : Account cells) where
       callee_comes (OutOfTurns u) s t es z quiet pr fits = a.shortage t.txs (WithSwap c W) s es (at_events (home cells c) swapped t) fits (refl, pr.0, refl) (λ Q. swap_short u t Q z)
       callee_comes Invalid s t es z quiet pr fits = tt
 
-      opened_comes : (s : ActorState) (t : ThreadState) (es : List SeenEvent) → IsBeside s t → a.fits t.txs (WithSwap c W) s.todo es → Related k (telling (break_swap in_hand_now) (f c v s) after_callee) (at_events (home cells c) swapped t (es ++ a.tail))
+      opened_comes : (s : ActorState) (t : ThreadState) (es : List SeenEvent) → IsBeside a.before a.from s t → a.fits t.txs (WithSwap c W) s.todo es → Related k (telling (break_swap in_hand_now) (f c v s) after_callee) (at_events (home cells c) swapped t (es ++ a.tail))
       opened_comes s t es pr fits =
           let l = left v s in
           subst (λ y. Related k (telling (break_swap in_hand_now) y after_callee) (at_events (home cells c) swapped t (es ++ a.tail))) (sym l.0) (callee_comes (q v) s t es refl l.1 pr fits)
@@ -264,7 +264,7 @@ module _ (cells : List CellDefinition) (a : Account cells) where
     abbrev after_open : ℕ → SwapInHand × Value → ActorState → Completion ActorState Value
     after_open n o s = telling (break_swap o.0) (f o.0.cell o.1 s) (λ w s1. bind (res (close_swap o.0 w s1)) (λ d s2. swap_concludes d w (swaps_on n span cv f) s2))
 
-    open_answered : (n : ℕ) (next : FollowsSwap n) (s : ActorState) (t : ThreadState) (es : List SeenEvent) (r : Reply) (xs : List Exchange) → IsBeside s t → ReplyFits cells Out (ask.OpenAt c) r (λ ph1 es1. a.fits t.txs ph1 xs es1) es
+    open_answered : (n : ℕ) (next : FollowsSwap n) (s : ActorState) (t : ThreadState) (es : List SeenEvent) (r : Reply) (xs : List Exchange) → IsBeside a.before a.from s t → ReplyFits cells Out (ask.OpenAt c) r (λ ph1 es1. a.fits t.txs ph1 xs es1) es
         → Related k (bind (res (on_step (heard opened (Replied r (record s { todo = xs }))) (λ x s1. Continue (record { cell = c; at = x.0 }, x.1) s1))) (after_open n)) (at_events (home cells c) swapped t (es ++ a.tail))
     open_answered n next s t es (reply.Opened p v) xs pr m = opened_comes n next p m.0 v m.1 (record s { todo = xs }) t es pr m.2
     open_answered n next s t es _ xs pr m = tt
@@ -272,7 +272,7 @@ module _ (cells : List CellDefinition) (a : Account cells) where
     open_related : (n : ℕ) (next : FollowsSwap n) (s : ActorState) (t : ThreadState) → k.rel s t → Related k (bind (res (open_atom c s)) (after_open n)) (eats (home cells c) swapped t.todo t)
     unfolding open_atom
     open_related n next s t r =
-        asks_once (home cells c) swapped (ask.OpenAt c) (λ h. bind (res (on_step (heard opened h) (λ x s1. Continue (record { cell = c; at = x.0 }, x.1) s1))) (after_open n)) s t (λ u. refl) r
+        asks_once (home cells c) swapped (ask.OpenAt c) (λ h. bind (res (on_step (heard opened h) (λ x s1. Continue (record { cell = c; at = x.0 }, x.1) s1))) (after_open n)) s t tt (λ u. refl) r
         (λ es rep xs m. open_answered n next s t es rep xs r.0 m)
 
     swap_related : cell_of (rule (form_of.Update update_of.Swap)) false cv ≡ Ok c → (n : ℕ) → FollowsSwap n
@@ -289,36 +289,49 @@ module _ (cells : List CellDefinition) (a : Account cells) where
       subst (λ rc. Related k (bind (res (on_step (step_of rc span s) open_atom)) (λ o s1. telling (break_swap o.0) (f o.0.cell o.1 s1) (λ w s2. bind (res (close_swap o.0 w s2)) (λ d s3. swap_concludes d w (swaps_on n span cv f) s3)))) (Faults (fault_at y span) t)) (sym e)
       (refl, k.faults_of s t r)
 
--- ---- threads
+-- ---- bodies
 
-module _ (p : ThreadSource) (sound : SoundSource p) (a : Account p.cells) (n : ℕ) where
+-- what is carried is alike
+carried_alike : (k : Link ActorState ThreadState) (y : Completion (Unit {0}) Value) (s : ActorState) (t : ThreadState) → IsQuiet y → k.rel s t → Related k (carried s y) (carried t y)
+carried_alike k (Completes a u) s t q r = (refl, r)
+carried_alike k (Recurs vs u) s t q r = (refl, r)
+carried_alike k (Faults f u) s t q r = (refl, k.faults_of s t r)
+carried_alike k (Retries u) s t q r = absurd q
+carried_alike k (Waits u) s t q r = absurd q
+carried_alike k (OutOfTurns u) s t q r = k.out_of_turns_of s t r
+carried_alike k Invalid s t q r = k.invalid_both
+
+module _ (cells : List CellDefinition) (functions : List PlainFunction) (sound : SoundFunctions [] functions) (valid : SoundCells (known functions) cells) (a : Account cells) (n : ℕ) where
   abbrev link : Link ActorState ThreadState
-  link = account_link p.cells a
+  link = account_link cells a
 
   abbrev ks : List Known
-  ks = known p.functions
+  ks = known functions
 
   abbrev validators : Validators
-  validators = validators_of p.cells
+  validators = validators_of cells
+
+  abbrev given : Surroundings
+  given = around_action cells functions n
 
   abbrev left_calls : ℕ → Bool → ℕ → List Value → ActorState → Completion ActorState Value
-  left_calls d = call_at (λ e. on_replies validators) n p.functions d
+  left_calls d = call_at (λ e. on_replies validators) n functions d
 
   abbrev right_calls : ℕ → Bool → ℕ → List Value → ThreadState → Completion ThreadState Value
-  right_calls d = call_at (on_events (around p n)) n p.functions d
+  right_calls d = call_at (on_events given) n functions d
 
   abbrev thread_forms : ℕ → Effects ThreadState
-  thread_forms d = on_events (around p n) d
+  thread_forms d = on_events given d
 
-  abbrev left_callee : (d : ℕ) (inside : Bool) (span : Span) (c : Callee) (vs : List Value) (s : ActorState) → IsPure ks c → (apply (left_calls d inside) span c vs s ≡ carried s (quietly n p.functions d span c vs tt)) × IsQuiet (quietly n p.functions d span c vs tt)
-  left_callee d inside span c vs s pure = callee_carried (λ e. on_replies validators) n inside p.functions sound.functions d span c vs s pure
+  abbrev left_callee : (d : ℕ) (inside : Bool) (span : Span) (c : Callee) (vs : List Value) (s : ActorState) → IsPure ks c → (apply (left_calls d inside) span c vs s ≡ carried s (quietly n functions d span c vs tt)) × IsQuiet (quietly n functions d span c vs tt)
+  left_callee d inside span c vs s pure = callee_carried (λ e. on_replies validators) n inside functions sound d span c vs s pure
 
-  abbrev right_callee : (d : ℕ) (inside : Bool) (span : Span) (c : Callee) (vs : List Value) (t : ThreadState) → IsPure ks c → (apply (right_calls d inside) span c vs t ≡ carried t (quietly n p.functions d span c vs tt)) × IsQuiet (quietly n p.functions d span c vs tt)
-  right_callee d inside span c vs t pure = callee_carried (on_events (around p n)) n inside p.functions sound.functions d span c vs t pure
+  abbrev right_callee : (d : ℕ) (inside : Bool) (span : Span) (c : Callee) (vs : List Value) (t : ThreadState) → IsPure ks c → (apply (right_calls d inside) span c vs t ≡ carried t (quietly n functions d span c vs tt)) × IsQuiet (quietly n functions d span c vs tt)
+  right_callee d inside span c vs t pure = callee_carried (on_events given) n inside functions sound d span c vs t pure
 
   -- validators are pure
   all_checked : AllValidators (IsPure ks) validators
-  all_checked = validators_pure ks p.cells sound.cells
+  all_checked = validators_pure ks cells valid
 
   checked : (x : ℕ) → OfValidator (IsPure ks) (validator_at validators x)
   checked x = validator_such (IsPure ks) validators x all_checked
@@ -338,23 +351,23 @@ module _ (p : ThreadSource) (sound : SoundSource p) (a : Account p.cells) (n : �
     where
       th_print : (inside : Bool) (vs : List Value) (s : ActorState) (t : ThreadState) → inside ≡ false → link.rel s t → Related link ((on_replies validators).print inside vs s) ((thread_forms d).print inside vs t)
       th_print true vs s t i r = absurd (true_false i)
-      th_print false vs s t i r = print_related p.cells a vs s t r
+      th_print false vs s t i r = print_related cells a vs s t r
 
       th_look : (form : LookForm) (inside : Bool) (m : Mark) (c : Value) (s : ActorState) (t : ThreadState) → may_stand (rule (form_of.Look form)).stands inside ≡ true → inside ≡ false → link.rel s t → Related link ((on_replies validators).look form inside m c s) ((thread_forms d).look form inside m c t)
       th_look form true m c s t q i r = absurd (true_false i)
       th_look Ensure false m c s t q i r = absurd (false≢true q)
       th_look Deref false m c s t q i r =
-          on_cell_related ThreadState link (cell_of (rule (form_of.Look Deref)) false c) m.span (read_cell Deref false) (thread_look (around p n) Deref) s t r (λ x e. peek_related p.cells a x s t r)
+          on_cell_related ThreadState link (cell_of (rule (form_of.Look Deref)) false c) m.span (read_cell Deref false) (thread_look given Deref) s t r (λ x e. peek_related cells a x s t r)
 
       th_put : (form : PutForm) (inside : Bool) (m : Mark) (c w : Value) (s : ActorState) (t : ThreadState) → may_stand (rule (form_of.Put form)).stands inside ≡ true → inside ≡ false → (((x : ℕ) → MayCallAt ks inside x) → Applied ActorState ThreadState link (apply (left_calls d inside) m.span) (apply (right_calls d inside) m.span)) → link.rel s t
           → Related link ((on_replies validators).put form inside m c w (apply (left_calls d inside) m.span) s) ((thread_forms d).put form inside m c w (apply (right_calls d inside) m.span) t)
       th_put form true m c w s t q i h r = absurd (true_false i)
       th_put RefSet false m c w s t q i h r = absurd (false≢true q)
       th_put Reset false m c w s t q i h r =
-          reset_of p.cells a m.span w (λ x s1. accepts validators (apply (left_calls d false) m.span) x m.span w s1) (λ x t1. accepts_there (around p n) (apply (right_calls d false) m.span) x m.span w t1)
-          (λ x. validated (quietly n p.functions d m.span) (validator_at validators x.number) m.span w tt)
-          (λ x s1. validated_carried (IsPure ks) s1 (apply (left_calls d false) m.span) (quietly n p.functions d m.span) (λ y vs pure. left_callee d false m.span y vs s1 pure) (validator_at validators x.number) (checked x.number) m.span w)
-          (λ x t1. validated_carried (IsPure ks) t1 (apply (right_calls d false) m.span) (quietly n p.functions d m.span) (λ y vs pure. right_callee d false m.span y vs t1 pure) (validator_at validators x.number) (checked x.number) m.span w)
+          reset_of cells a m.span w (λ x s1. accepts validators (apply (left_calls d false) m.span) x m.span w s1) (λ x t1. accepts_there given (apply (right_calls d false) m.span) x m.span w t1)
+          (λ x. validated (quietly n functions d m.span) (validator_at validators x.number) m.span w tt)
+          (λ x s1. validated_carried (IsPure ks) s1 (apply (left_calls d false) m.span) (quietly n functions d m.span) (λ y vs pure. left_callee d false m.span y vs s1 pure) (validator_at validators x.number) (checked x.number) m.span w)
+          (λ x t1. validated_carried (IsPure ks) t1 (apply (right_calls d false) m.span) (quietly n functions d m.span) (λ y vs pure. right_callee d false m.span y vs t1 pure) (validator_at validators x.number) (checked x.number) m.span w)
           (cell_of (rule (form_of.Put Reset)) false c) s t r
 
       th_update : (form : UpdateForm) (inside : Bool) (m : Mark) (c : Value) (callee : Callee) (vs : List Value) (s : ActorState) (t : ThreadState) → may_stand (rule (form_of.Update form)).stands inside ≡ true → inside ≡ false → IsPure ks callee
@@ -365,18 +378,18 @@ module _ (p : ThreadSource) (sound : SoundSource p) (a : Account p.cells) (n : �
       th_update update_of.Commute false m c callee vs s t q i pure h r = tt
       th_update update_of.Swap false m c callee vs s t q i pure h r =
           let o : CellId → Option Callee = λ x. validator_at validators x.number in
-          swap_of p.cells a m.span c (λ x v s1. bind (apply (left_calls d false) m.span callee (v ∷ vs) s1) (accepts validators (apply (left_calls d false) m.span) x m.span))
-          (λ x v t1. bind (apply (right_calls d false) m.span callee (v ∷ vs) t1) (accepts_there (around p n) (apply (right_calls d false) m.span) x m.span))
-          (λ x v. bind (quietly n p.functions d m.span callee (v ∷ vs) tt) (λ w u. validated (quietly n p.functions d m.span) (o x) m.span w u))
-          (λ x v s1. made_carried (IsPure ks) s1 (apply (left_calls d false) m.span) (quietly n p.functions d m.span) (λ y ws pure1. left_callee d false m.span y ws s1 pure1) (o x) (checked x.number) m.span callee (v ∷ vs) pure)
-          (λ x v t1. made_carried (IsPure ks) t1 (apply (right_calls d false) m.span) (quietly n p.functions d m.span) (λ y ws pure1. right_callee d false m.span y ws t1 pure1) (o x) (checked x.number) m.span callee (v ∷ vs) pure)
+          swap_of cells a m.span c (λ x v s1. bind (apply (left_calls d false) m.span callee (v ∷ vs) s1) (accepts validators (apply (left_calls d false) m.span) x m.span))
+          (λ x v t1. bind (apply (right_calls d false) m.span callee (v ∷ vs) t1) (accepts_there given (apply (right_calls d false) m.span) x m.span))
+          (λ x v. bind (quietly n functions d m.span callee (v ∷ vs) tt) (λ w u. validated (quietly n functions d m.span) (o x) m.span w u))
+          (λ x v s1. made_carried (IsPure ks) s1 (apply (left_calls d false) m.span) (quietly n functions d m.span) (λ y ws pure1. left_callee d false m.span y ws s1 pure1) (o x) (checked x.number) m.span callee (v ∷ vs) pure)
+          (λ x v t1. made_carried (IsPure ks) t1 (apply (right_calls d false) m.span) (quietly n functions d m.span) (λ y ws pure1. right_callee d false m.span y ws t1 pure1) (o x) (checked x.number) m.span callee (v ∷ vs) pure)
           (length s.todo) (cell_of (rule (form_of.Update update_of.Swap)) false c) refl s t r
 
-      th_send : (inside : Bool) (m : Mark) (c : Value) (callee : Callee) (vs : List Value) (s : ActorState) (t : ThreadState) → inside ≡ false → IsPure ks callee → link.rel s t → Related link ((on_replies validators).send inside m c callee vs s) ((thread_forms d).send inside m c callee vs t)
-      th_send true m c callee vs s t i pure r = absurd (true_false i)
-      th_send false m c callee vs s t i pure r =
+      th_send : (inside : Bool) (m : Mark) (c : Value) (callee : Callee) (vs : List Value) (s : ActorState) (t : ThreadState) → inside ≡ false → link.rel s t → Related link ((on_replies validators).send inside m c callee vs s) ((thread_forms d).send inside m c callee vs t)
+      th_send true m c callee vs s t i r = absurd (true_false i)
+      th_send false m c callee vs s t i r =
           let act : CellId → Action = λ x. record { agent = x; callee = callee; args = vs; span = m.span } in
-          on_cell_related ThreadState link (cell_of (rule form_of.Send) false c) m.span (λ x s1. send_action false (act x) s1) (λ x t1. sends_or_holds t1.held (act x) m.span t1) s t r (λ x e. send_action_related p.cells a (act x) s t r)
+          on_cell_related ThreadState link (cell_of (rule form_of.Send) false c) m.span (λ x s1. send_action false (act x) s1) (λ x t1. sends_or_holds t1.held (act x) m.span t1) s t r (λ x e. send_action_related cells a (act x) s t r)
 
       th_dosync : (inside : Bool) (m : Mark) (e : Tree) (env : List Value) (s : ActorState) (t : ThreadState) → inside ≡ false → Keeps (placed ks) true e
           → (true ≡ false → (s1 : ActorState) (t1 : ThreadState) → link.rel s1 t1 → Related link (closed (eval (on_replies validators) (left_calls d) n true e env s1)) (closed (eval (thread_forms d) (right_calls d) n true e env t1)))
@@ -385,18 +398,55 @@ module _ (p : ThreadSource) (sound : SoundSource p) (a : Account p.cells) (n : �
           ((thread_forms d).dosync inside m e env (λ t1. closed (eval (thread_forms d) (right_calls d) n true e env t1)) (apply (right_calls d true) m.span) t)
       th_dosync true m e env s t i keeps h h1 r = absurd (true_false i)
       th_dosync false m e env s t i keeps h h1 r =
-          let tx : Transacting = record { mark = m; body = e; locals = env; on = tx_meaning n p.functions d e env; validators = validators } in
+          let tx : Transacting = record { mark = m; body = e; locals = env; on = tx_meaning n functions d e env; validators = validators } in
           subst (λ l. Related link (tries validators (suc reruns) m.span (λ s1. closed (eval (on_replies validators) (left_calls d) n true e env s1)) (apply (left_calls d true) m.span) Anew s) (eats_tx (suc reruns) tx (apply (right_calls d true) m.span) l t)) (sym r.2)
-          (tries_related p.cells a (IsPure ks) tx (λ s1. closed (eval (on_replies validators) (left_calls d) n true e env s1)) (apply (left_calls d true) m.span) (apply (right_calls d true) m.span) (quietly n p.functions d m.span) all_checked
+          (tries_related cells a (IsPure ks) tx (λ s1. closed (eval (on_replies validators) (left_calls d) n true e env s1)) (apply (left_calls d true) m.span) (apply (right_calls d true) m.span) (quietly n functions d m.span) all_checked
           (left_callee d true m.span) (right_callee d true m.span)
-          (λ txs R s1 es own fits. tx_related p.cells (a.fits txs) (λ W c at r1 xs es1 f. a.splits txs (In W) (ask.Look c at) r1 xs es1 f) R s1.printed (held_in s1.acting) es n p.functions sound.functions d e env s1 keeps own fits (refl, refl)) (suc reruns) Anew s r.1 t r.0 r.3)
+          (λ txs R s1 es own fits. tx_related cells (a.fits txs) (λ W c at r1 xs es1 f. a.splits txs (In W) (ask.Look c at) r1 xs es1 f) R s1.printed (held_in s1.acting) es n functions sound d e env s1 keeps own fits (refl, refl)) (suc reruns) Anew s r.1 t r.0 r.3)
 
-  -- a sound thread's tree on exchanges that fit is the thread on their events, and those behind them
-  pub thread_related : (todo : List Exchange) (es : List SeenEvent) → a.fits [] Out todo es → Related link (source p n todo) (thread_meaning p n (es ++ a.tail))
-  thread_related todo es fits =
-      let d = length p.functions in
-      let t0 : ThreadState = record { todo = es ++ a.tail; printed = []; held = None; txs = [] } in
-      closed_related ActorState ThreadState link (eval (on_replies validators) (left_calls d) n false p.main [] (fresh todo)) (eval (thread_forms d) (right_calls d) n false p.main [] t0)
+  calls_alike : (d : ℕ) (inside : Bool) (f : ℕ) (vs : List Value) (s : ActorState) (t : ThreadState) → MayCallAt ks inside f → inside ≡ false → link.rel s t → Related link (left_calls d inside f vs s) (right_calls d inside f vs t)
+  calls_alike d =
+      calls_related ActorState ThreadState link (λ e. on_replies validators) thread_forms n n functions (λ i. i ≡ false) (placed ks) (inl refl) thread_alike (function_placed functions sound) d
+
+  -- a sound body's tree on exchanges that fit is the body on their events, and those behind them
+  pub body_related : (body : Tree) (env : List Value) (s : ActorState) (t : ThreadState) → SoundTree ks in_thread (length env) None body → link.rel s t
+      → Related link (closed (eval (on_replies validators) (left_calls (length functions)) n false body env s)) (closed (eval (thread_forms (length functions)) (right_calls (length functions)) n false body env t))
+  body_related body env s t h r =
+      let d = length functions in
+      closed_related ActorState ThreadState link (eval (on_replies validators) (left_calls d) n false body env s) (eval (thread_forms d) (right_calls d) n false body env t)
       (eval_related ActorState ThreadState link (on_replies validators) (thread_forms d) (left_calls d) (right_calls d) n n (λ i. i ≡ false) (placed ks) (inl refl) (thread_alike d)
-      (calls_related ActorState ThreadState link (λ x. on_replies validators) thread_forms n n p.functions (λ i. i ≡ false) (placed ks) (inl refl) thread_alike (function_placed p.functions sound.functions) d)
-      p.main false [] (fresh todo) t0 (thread_placed ks p.main 0 None sound.main) refl ((refl, refl), es, refl, fits))
+      (calls_alike d) body false env s t (thread_placed ks body (length env) None h) refl r)
+
+  -- a callee that may be sent, applied on values
+  sent_related : (span : Span) (c : Callee) (vs : List Value) (m : ℕ) (s : ActorState) (t : ThreadState) → SoundSent ks c m → link.rel s t
+      → Related link (apply (left_calls (length functions) false) span c vs s) (apply (right_calls (length functions) false) span c vs t)
+  sent_related span (CoreOp op) vs m s t h r = result_related ActorState ThreadState link (core op vs) span s t r
+  sent_related span (Function f) vs m s t h r = calls_alike (length functions) false f vs s t (ap is_inside h.found ∙ h.zoned) refl r
+
+  -- what its agent's validator makes of a value
+  accepted_so : (o : Option Callee) → OfValidator (IsPure ks) o → (span : Span) (w : Value) (s : ActorState) (t : ThreadState) → link.rel s t
+      → Related link (validated (apply (left_calls (length functions) false) span) o span w s) (validated (apply (right_calls (length functions) false) span) o span w t)
+  accepted_so o pure span w s t r =
+      let d = length functions in
+      let q : Completion (Unit {0}) Value = validated (quietly n functions d span) o span w tt in
+      let one = validated_carried (IsPure ks) s (apply (left_calls d false) span) (quietly n functions d span) (λ y vs p. left_callee d false span y vs s p) o pure span w in
+      let two = validated_carried (IsPure ks) t (apply (right_calls d false) span) (quietly n functions d span) (λ y vs p. right_callee d false span y vs t p) o pure span w in
+      subst (λ z. Related link (validated (apply (left_calls d false) span) o span w s) z) (sym two.0)
+      (subst (λ z. Related link z (carried t q)) (sym one.0) (carried_alike link q s t one.1 r))
+
+  -- an action on exchanges that fit is what it means on their events, and those behind them
+  pub action_related : (g : CellId) (act : Action) (v : Value) (s : ActorState) (todo : List Exchange) (es : List SeenEvent) → SoundAction functions act → link.rel (taken_at g act v s todo).state (from_events (Some []) (es ++ a.tail))
+      → Related link (action_source cells functions g act v s n todo) (action_meaning cells functions n act v (es ++ a.tail))
+  action_related g act v s todo es h r =
+      let d = length functions in
+      let o = validator_at validators act.agent.number in
+      bind_related ActorState ThreadState link (apply (left_calls d false) act.span act.callee (v ∷ act.args) (taken_at g act v s todo).state) (apply (right_calls d false) act.span act.callee (v ∷ act.args) (from_events (Some []) (es ++ a.tail)))
+      (λ w s1. validated (apply (left_calls d false) act.span) o act.span w s1) (λ w t1. validated (apply (right_calls d false) act.span) o act.span w t1)
+      (sent_related act.span act.callee (v ∷ act.args) (suc (length act.args)) (taken_at g act v s todo).state (from_events (Some []) (es ++ a.tail)) h r)
+      (λ w s1 t1 r1. accepted_so o (checked act.agent.number) act.span w s1 t1 r1)
+
+-- a sound thread's tree on exchanges that fit is the thread on their events, and those behind them
+pub thread_related : (p : ThreadSource) → SoundSource p → (a : Account p.cells) (n : ℕ) (todo : List Exchange) (es : List SeenEvent) → IsBeside a.before a.from (fresh todo) (from_events None (es ++ a.tail)) → a.fits [] Out todo es
+    → Related (account_link p.cells a) (source p n todo) (thread_meaning p n (es ++ a.tail))
+thread_related p sound a n todo es beside fits =
+    body_related p.cells p.functions sound.functions sound.cells a n p.main [] (fresh todo) (from_events None (es ++ a.tail)) sound.main (beside, es, refl, fits)

@@ -9,7 +9,7 @@ use Rattle.txs_world_protocol.specs.declared.ask.Reply.TheVariants as reply
 use Rattle.txs_world_protocol.specs.declared.ask.Reply.{Reply}
 use Rattle.txs_world_protocol.specs.declared.event.EventKind.TheVariants as event
 use Rattle.txs_world_protocol.specs.declared.event.EventKind.{EventKind}
-use Rattle.txs_frame.specs.Frame.{PlainTxFrame, empty_frame, commuted, set_writes, by_ref, phase_work}
+use Rattle.txs_frame.specs.Frame.{PlainTxFrame, empty_frame, commuted, set_writes, by_ref, phase_work, sends_of_commit}
 use Rattle.txs_frame.specs.declared.frame.Commute.{Commute}
 use Rattle.txs_value_data.proofs.SameLemmas.{numbers}
 use Rattle.txs_value_cell.specs.Cells.{World, Validators}
@@ -24,14 +24,15 @@ use Rattle.txs_value_data.specs.declared.value.CellId.{CellId}
 use Rattle.txs_value_data.specs.declared.value.Value.{Value}
 use Rattle.txs_value_data.specs.declared.value.Value.TheVariants.{Nil}
 use Rattle.txs_tree_meaning.specs.Meaning.{Completion, Completes, Recurs, Faults, Retries, Waits, OutOfTurns, Invalid, bind, Applies}
-use Rattle.txs_tree_meaning.specs.Thread.{TxRun, ThreadState, with_tx, meant, faulted, faultless, over, Transacting, run_of, ends_tx, is_retry, uneaten, eats_tx}
+use Rattle.txs_tree_meaning.specs.Thread.{TxRun, ThreadState, with_tx, holding, meant, faulted, faultless, over, Transacting, run_of, ends_tx, is_retry, uneaten, eats_tx}
 use Rattle.txs_tree_meaning.specs.Transaction.{TxState, value_or, valued, merged, redone, accepted, if_accepted, final_writes}
-use Rattle.txs_code_meaning.specs.ActorState.{ActorState, Replied, heard, on_step, begin, begun, read_point, fail, just_done, views, with_first, paired, viewed, view, commit, commit_verdict}
+use Rattle.txs_code_meaning.specs.ActorState as actor
+use Rattle.txs_code_meaning.specs.ActorState.{ActorState, Replied, held_in, landed, heard, on_step, begin, begun, read_point, fail, just_done, views, with_first, paired, viewed, view, commit, commit_verdict}
 use Rattle.txs_theorem_threads.proofs.Accepted.{AllValidators, accepted_carried, if_accepted_carried, final_carried}
-use Rattle.txs_theorem_threads.proofs.Account.{Account, IsBeside, account_link, after_reply, answered_in, not_retrying, on_then}
+use Rattle.txs_theorem_threads.proofs.Account.{Account, IsBeside, begin_of, sends_begin, holds_beside, account_link, after_reply, answered_in, not_retrying, on_then}
 use Rattle.txs_theorem_threads.proofs.Quiet.{carried, IsQuiet, bind_carried, bind_quiet, AllCommutes, phase_some, redone_carried}
 use Rattle.txs_theorem_threads.proofs.Related.{Related, CompletesAs, FaultsAs}
-use Rattle.txs_theorem_threads.proofs.Worlds.{IsShort, Kept, held_in, tx_link, says_retry}
+use Rattle.txs_theorem_threads.proofs.Worlds.{IsShort, Kept, WantsOwn, tx_link, says_retry}
 use Rattle.txs_theorem_threads.proofs.Owned.{are_written}
 use Rattle.txs_theorem_threads.specs.EndsSo.{in_hand}
 use Rattle.txs_theorem_threads.specs.Noted.{AreWritten, Commits}
@@ -114,14 +115,14 @@ module _ (d : Transacting) (f : Applies ThreadState) (R Q C : World) (t : Thread
   abbrev EndsAs : EventKind → Completion ThreadState Value → Type 0
   EndsAs kind r = (is_retry kind ≡ false) × (ends_tx d f kind R Q C t ≡ r)
 
-  commits_as : (kind : EventKind) (v : Value) (x : TxState) (ws : Writes) (sends : List Action) → d.on R ≡ Completes v x → final_writes f d.validators d.mark.span x.done C t ≡ Completes ws t → x.done.sends ≡ sends → SaysCommit ws sends kind → EndsAs kind (Completes v (with_tx (run_of d v x) t))
+  commits_as : (kind : EventKind) (v : Value) (x : TxState) (ws : Writes) (sends : List Action) → d.on R ≡ Completes v x → final_writes f d.validators d.mark.span x.done C t ≡ Completes ws t → sends_of_commit t.held x.done.sends ≡ sends → SaysCommit ws sends kind → EndsAs kind (Completes v (holding x.done.sends (with_tx (run_of d v x) t)))
   commits_as (event.Commit at view ws1 sends1) v x ws sends on final held says =
-      let told : ThreadState = with_tx (run_of d v x) t in
-      let ended : Completion ThreadState Writes → Completion ThreadState Value = λ y. faultless y (λ xs t1. meant (same_writes xs ws1 && same_actions x.done.sends sends1) v (with_tx (run_of d v x) t1)) in (
+      let told : ThreadState = holding x.done.sends (with_tx (run_of d v x) t) in
+      let ended : Completion ThreadState Writes → Completion ThreadState Value = λ y. faultless y (λ xs t1. meant (same_writes xs ws1 && same_actions (sends_of_commit t1.held x.done.sends) sends1) v (holding x.done.sends (with_tx (run_of d v x) t1))) in (
         refl,
-        ap (λ r. over t r (λ w y. faultless (final_writes f d.validators d.mark.span y.done C t) (λ xs t1. meant (same_writes xs ws1 && same_actions y.done.sends sends1) w (with_tx (run_of d w y) t1))) (λ g. Invalid)) on
+        ap (λ r. over t r (λ w y. faultless (final_writes f d.validators d.mark.span y.done C t) (λ xs t1. meant (same_writes xs ws1 && same_actions (sends_of_commit t1.held y.done.sends) sends1) w (holding y.done.sends (with_tx (run_of d w y) t1)))) (λ g. Invalid)) on
             ∙ ap ended final
-            ∙ ap (λ l. meant (same_writes l ws1 && same_actions x.done.sends sends1) v told) says.0
+            ∙ ap (λ l. meant (same_writes l ws1 && same_actions (sends_of_commit t.held x.done.sends) sends1) v told) says.0
             ∙ ap (λ l. meant (same_writes ws1 ws1 && same_actions l sends1) v told) (held ∙ says.1)
             ∙ ap (λ b. meant b v told) (same_commit ws1 sends1),
       )
@@ -180,7 +181,7 @@ module _ (cells : List CellDefinition) (a : Account cells) (P : Callee → Type 
     (right : (c : Callee) (vs : List Value) (t : ThreadState) → P c → (g c vs t ≡ carried t (q c vs tt)) × IsQuiet (q c vs tt)) where
   -- the tries that are left follow the events that are left
   abbrev Follow : ℕ → Type 0
-  Follow k = (from : Start) (s : ActorState) (es : List SeenEvent) (t : ThreadState) → IsBeside s t → StartFits cells a P d t.txs from s es → Related (account_link cells a) (tries d.validators k d.mark.span body f from s) (eats_tx k d g (es ++ a.tail) t)
+  Follow k = (from : Start) (s : ActorState) (es : List SeenEvent) (t : ThreadState) → IsBeside a.before a.from s t → StartFits cells a P d t.txs from s es → Related (account_link cells a) (tries d.validators k d.mark.span body f from s) (eats_tx k d g (es ++ a.tail) t)
 
   -- what the commutes made, where each of the writes is accepted
   abbrev checked : PlainTxFrame → Writes → Unit {0} → Completion (Unit {0}) Writes
@@ -269,11 +270,11 @@ module _ (cells : List CellDefinition) (a : Account cells) (P : Callee → Type 
     Comes x es t = Related (account_link cells a) (retrying x (tries d.validators k d.mark.span body f Anew)) (eats_tx (suc k) d g (es ++ a.tail) t)
 
     -- it waits, and needs an event
-    waiting : (ph : Phase) (s : ActorState) (es : List SeenEvent) (t : ThreadState) → IsBeside s t → a.fits t.txs ph s.todo es → a.waits s (halted (eats_tx (suc k) d g (es ++ a.tail) t))
-    waiting ph s es t pr fits = a.waiting t.txs ph s es (λ l. eats_tx (suc k) d g l t) fits (refl, pr.0, refl)
+    waiting : (ph : Phase) (s : ActorState) (es : List SeenEvent) (t : ThreadState) → WantsOwn s.wants → IsBeside a.before a.from s t → a.fits t.txs ph s.todo es → a.waits s (halted (eats_tx (suc k) d g (es ++ a.tail) t))
+    waiting ph s es t own pr fits = a.waiting t.txs ph s es (λ l. eats_tx (suc k) d g l t) own fits (refl, pr.0, refl)
 
     -- it needs turns
-    shortage : (ph : Phase) (s : ActorState) (es : List SeenEvent) (t : ThreadState) → IsBeside s t → a.fits t.txs ph s.todo es → ((Q : World) → IsShort (halted (eats_tx (suc k) d g (in_hand cells Q ph) t))) → a.short s (halted (eats_tx (suc k) d g (es ++ a.tail) t))
+    shortage : (ph : Phase) (s : ActorState) (es : List SeenEvent) (t : ThreadState) → IsBeside a.before a.from s t → a.fits t.txs ph s.todo es → ((Q : World) → IsShort (halted (eats_tx (suc k) d g (in_hand cells Q ph) t))) → a.short s (halted (eats_tx (suc k) d g (es ++ a.tail) t))
     shortage ph s es t pr fits h = a.shortage t.txs ph s es (λ l. eats_tx (suc k) d g l t) fits (refl, pr.0, refl) h
 
     -- an event that says to run again is eaten
@@ -290,18 +291,21 @@ module _ (cells : List CellDefinition) (a : Account cells) (P : Callee → Type 
         ∙ ap (uneaten (e ∷ es)) h.1
 
     -- a try that has to run again
-    retry_comes : (b : Bool) (from : Start) (s : ActorState) (es : List SeenEvent) (t : ThreadState) → IsBeside s t → OnEvent 0 (λ e. SaysRetry b e.kind) (StartFits cells a P d t.txs from s) es → Related (account_link cells a) (tries d.validators k d.mark.span body f from s) (eats_tx (suc k) d g (es ++ a.tail) t)
+    retry_comes : (b : Bool) (from : Start) (s : ActorState) (es : List SeenEvent) (t : ThreadState) → IsBeside a.before a.from s t → OnEvent 0 (λ e. SaysRetry b e.kind) (StartFits cells a P d t.txs from s) es → Related (account_link cells a) (tries d.validators k d.mark.span body f from s) (eats_tx (suc k) d g (es ++ a.tail) t)
     retry_comes b from s [] t pr m = absurd m
     retry_comes b from s (e ∷ es) t pr m =
         subst (Related (account_link cells a) (tries d.validators k d.mark.span body f from s)) (sym (eats_retry e (es ++ a.tail) t m.0 (says_retry b e.kind m.1))) (next from s es t pr m.2)
 
     -- a value, at the event of the end
-    lands_at : (v : Value) (s : ActorState) (e : SeenEvent) (es : List SeenEvent) (t : ThreadState) (x : TxState) → IsBeside s t → e.book ≡ 0 → a.fits (t.txs ++ run_of d v x ∷ []) Out s.todo es
-        → EndsAs d g e.R e.Q e.C (record t { todo = es ++ a.tail }) e.kind (Completes v (with_tx (run_of d v x) (record t { todo = es ++ a.tail }))) → Comes (Completes v s) (e ∷ es) t
-    lands_at v s e es t x pr b fits h = subst (Related (account_link cells a) (Completes v s)) (sym (eats_end e (es ++ a.tail) t (Completes v (with_tx (run_of d v x) (record t { todo = es ++ a.tail }))) b h)) (refl, (pr, es, refl, fits))
+    lands_at : (v : Value) (s : ActorState) (e : SeenEvent) (es : List SeenEvent) (t : ThreadState) (x : TxState) → s.done.sends ≡ x.done.sends → IsBeside a.before a.from s t → e.book ≡ 0 → a.fits (t.txs ++ run_of d v x ∷ []) Out s.todo es
+        → EndsAs d g e.R e.Q e.C (record t { todo = es ++ a.tail }) e.kind (Completes v (holding x.done.sends (with_tx (run_of d v x) (record t { todo = es ++ a.tail })))) → Comes (Completes v (actor.holding s.done.sends s)) (e ∷ es) t
+    lands_at v s e es t x same pr b fits h =
+        let told : ThreadState = with_tx (run_of d v x) (record t { todo = es ++ a.tail }) in
+        subst (Related (account_link cells a) (Completes v (actor.holding s.done.sends s))) (sym (eats_end e (es ++ a.tail) t (Completes v (holding x.done.sends told)) b h))
+        (refl, (holds_beside a.before a.from s told s.done.sends x.done.sends same pr, es, refl, fits))
 
     -- a fault there
-    breaks_at : (y : Fault) (s : ActorState) (e : SeenEvent) (es : List SeenEvent) (t t1 : ThreadState) → t1.todo ≡ es ++ a.tail → IsBeside s t1 → e.book ≡ 0 → a.fits t1.txs Out s.todo es → EndsAs d g e.R e.Q e.C (record t { todo = es ++ a.tail }) e.kind (Faults y t1) → Comes (Faults y s) (e ∷ es) t
+    breaks_at : (y : Fault) (s : ActorState) (e : SeenEvent) (es : List SeenEvent) (t t1 : ThreadState) → t1.todo ≡ es ++ a.tail → IsBeside a.before a.from s t1 → e.book ≡ 0 → a.fits t1.txs Out s.todo es → EndsAs d g e.R e.Q e.C (record t { todo = es ++ a.tail }) e.kind (Faults y t1) → Comes (Faults y s) (e ∷ es) t
     breaks_at y s e es t t1 td pr b fits h = subst (Related (account_link cells a) (Faults y s)) (sym (eats_end e (es ++ a.tail) t (Faults y t1) b h)) (refl, (pr.0, Out, es, td, fits))
 
     -- ---- the commit
@@ -313,19 +317,23 @@ module _ (cells : List CellDefinition) (a : Account cells) (P : Callee → Type 
 
       -- the commit, with these values of the refs that were commuted and not set
       abbrev committing : ActorState → Writes → Ask
-      committing s ws = ask.Commit s.at (set_writes s.done) s.done.ensures s.view ws s.done.sends
+      committing s ws = ask.Commit s.at (set_writes s.done) s.done.ensures s.view ws (sends_of_commit (held_in s.acting) s.done.sends)
 
       -- what fits behind the event of its end: it is that of one more transaction
       abbrev BehindEnd : ActorState → Writes → ThreadState → List SeenEvent → Type 0
-      BehindEnd s ws t es = (y : TxRun) → Commits y (committing s ws) → a.fits (t.txs ++ y ∷ []) Out s.todo es
+      BehindEnd s ws t es = (y : TxRun) → Commits a.from y (committing s ws) → a.fits (t.txs ++ y ∷ []) Out s.todo es
+
+      -- the sends that it asks for are those of the meaning
+      sends_there : (s : ActorState) (t : ThreadState) → Made s → IsBeside a.before a.from s t → sends_of_commit (held_in s.acting) s.done.sends ≡ sends_of_commit t.held x.done.sends
+      sends_there s t made pr = ap (λ w. sends_of_commit (held_in s.acting) w.sends) made.0 ∙ ap (λ h. sends_of_commit h x.done.sends) pr.1
 
       -- which is this one
-      own_commit : (s : ActorState) (ws : Writes) → Made s → Commits (run_of d v x) (committing s ws)
-      own_commit s ws made = (
+      own_commit : (s : ActorState) (ws : Writes) (t : ThreadState) → Made s → IsBeside a.before a.from s t → Commits a.from (run_of d v x) (committing s ws)
+      own_commit s ws t made pr = (
         ap (λ w. set_writes w) made.0,
         subst (λ w. AreWritten w.sets (set_writes s.done)) made.0 (are_written s.done made.1.1),
         ap (λ w. w.ensures) made.0,
-        ap (λ w. w.sends) made.0,
+        sends_there s t made pr ∙ sends_begin t.held x.done.sends ∙ ap (λ h. sends_of_commit h x.done.sends) pr.2,
       )
 
       on_there : (W : World) → R ≡ W → d.on W ≡ Completes v x
@@ -335,22 +343,23 @@ module _ (cells : List CellDefinition) (a : Account cells) (P : Callee → Type 
       final_fine : (s : ActorState) (W : World) (t : ThreadState) (u : Unit {0}) → Made s → commuted s.done ≡ [] → plainly s.done ≡ Completes tt u → final_writes g d.validators d.mark.span x.done W t ≡ Completes (set_writes s.done) t
       final_fine s W t u made none fine = subst (λ w. final_writes g d.validators d.mark.span w W t ≡ Completes (set_writes s.done) t) made.0 (final_plain s.done W t (Completes tt u) none fine)
 
-      plain_done : (ws : Writes) (u : Unit {0}) (s : ActorState) (es : List SeenEvent) (t : ThreadState) → Made s → commuted s.done ≡ [] → plainly s.done ≡ Completes tt u → IsBeside s t
-          → OnEvent 0 (λ e. (R ≡ e.R) × (ws ≡ []) × SaysCommit (set_writes s.done) s.done.sends e.kind) (BehindEnd s ws t) es → Comes (Completes v s) es t
+      plain_done : (ws : Writes) (u : Unit {0}) (s : ActorState) (es : List SeenEvent) (t : ThreadState) → Made s → commuted s.done ≡ [] → plainly s.done ≡ Completes tt u → IsBeside a.before a.from s t
+          → OnEvent 0 (λ e. (R ≡ e.R) × (ws ≡ []) × SaysCommit (set_writes s.done) (sends_of_commit (held_in s.acting) s.done.sends) e.kind) (BehindEnd s ws t) es → Comes (Completes v (actor.holding s.done.sends s)) es t
       plain_done ws u s [] t made none fine pr m = absurd m
       plain_done ws u s (e ∷ es) t made none fine pr m =
           let t1 : ThreadState = record t { todo = es ++ a.tail } in
-          lands_at v s e es t x pr m.0 (m.2 (run_of d v x) (own_commit s ws made)) (commits_as d g e.R e.Q e.C t1 e.kind v x (set_writes s.done) s.done.sends (on_there e.R m.1.0) (final_fine s e.C t1 u made none fine) (ap (λ w. w.sends) (sym made.0)) m.1.2)
+          lands_at v s e es t x (ap (λ w. w.sends) made.0) pr m.0 (m.2 (run_of d v x) (own_commit s ws t made pr))
+          (commits_as d g e.R e.Q e.C t1 e.kind v x (set_writes s.done) (sends_of_commit (held_in s.acting) s.done.sends) (on_there e.R m.1.0) (final_fine s e.C t1 u made none fine) (sym (sends_there s t made pr)) m.1.2)
 
-      plain_refused : (ws : Writes) (u : Unit {0}) (s : ActorState) (es : List SeenEvent) (t : ThreadState) → Made s → commuted s.done ≡ [] → plainly s.done ≡ Completes tt u → IsBeside s t
+      plain_refused : (ws : Writes) (u : Unit {0}) (s : ActorState) (es : List SeenEvent) (t : ThreadState) → Made s → commuted s.done ≡ [] → plainly s.done ≡ Completes tt u → IsBeside a.before a.from s t
           → OnEvent 0 (λ e. (R ≡ e.R) × (ws ≡ []) × SaysRefused e.kind) (BehindEnd s ws t) es → Comes (Faults (fault_at AgentFailed d.mark.span) s) es t
       plain_refused ws u s [] t made none fine pr m = absurd m
       plain_refused ws u s (e ∷ es) t made none fine pr m =
           let t1 : ThreadState = record t { todo = es ++ a.tail } in
-          breaks_at (fault_at AgentFailed d.mark.span) s e es t (with_tx (run_of d v x) t1) refl pr m.0 (m.2 (run_of d v x) (own_commit s ws made)) (refuses_as d g e.R e.Q e.C t1 e.kind v x (set_writes s.done) (on_there e.R m.1.0) (final_fine s e.Q t1 u made none fine) m.1.2)
+          breaks_at (fault_at AgentFailed d.mark.span) s e es t (with_tx (run_of d v x) t1) refl pr m.0 (m.2 (run_of d v x) (own_commit s ws t made pr)) (refuses_as d g e.R e.Q e.C t1 e.kind v x (set_writes s.done) (on_there e.R m.1.0) (final_fine s e.Q t1 u made none fine) m.1.2)
 
       -- where one refuses it, or faults
-      plain_broken : (y : Fault) (u : Unit {0}) (s : ActorState) (es : List SeenEvent) (t : ThreadState) → Made s → commuted s.done ≡ [] → plainly s.done ≡ Faults y u → IsBeside s t
+      plain_broken : (y : Fault) (u : Unit {0}) (s : ActorState) (es : List SeenEvent) (t : ThreadState) → Made s → commuted s.done ≡ [] → plainly s.done ≡ Faults y u → IsBeside a.before a.from s t
           → OnEvent 0 (λ e. (R ≡ e.R) × SaysFail e.kind) (a.fits t.txs Out s.todo) es → Comes (Faults y s) es t
       plain_broken y u s [] t made none z pr m = absurd m
       plain_broken y u s (e ∷ es) t made none z pr m =
@@ -358,33 +367,33 @@ module _ (cells : List CellDefinition) (a : Account cells) (P : Callee → Type 
           let final : final_writes g d.validators d.mark.span x.done e.Q t1 ≡ Faults y t1 = subst (λ w. final_writes g d.validators d.mark.span w e.Q t1 ≡ Faults y t1) made.0 (final_plain s.done e.Q t1 (Faults y u) none z) in
           breaks_at y s e es t t1 refl pr m.0 m.2 (fails_commutes d g e.R e.Q e.C t1 e.kind v x y (on_there e.R m.1.0) final m.1.1)
 
-      plain_answered : (u : Unit {0}) (s : ActorState) (es : List SeenEvent) (t : ThreadState) (r : Reply) (xs : List Exchange) → Made s → commuted s.done ≡ [] → plainly s.done ≡ Completes tt u → IsBeside s t
-          → ReplyFits cells (In R) (committing s []) r (after_reply a.fits t.txs (committing s []) r xs) es
-          → Comes (bind (res (heard commit_verdict (Replied r (record s { todo = xs })))) (λ verdict s1. concludes verdict d.mark.span v (tries d.validators k d.mark.span body f) s1)) es t
+      plain_answered : (u : Unit {0}) (s : ActorState) (es : List SeenEvent) (t : ThreadState) (r : Reply) (xs : List Exchange) → Made s → commuted s.done ≡ [] → plainly s.done ≡ Completes tt u → IsBeside a.before a.from s t
+          → ReplyFits cells (In R) (committing s []) r (after_reply a.from a.fits t.txs (committing s []) r xs) es
+          → Comes (bind (res (on_step (heard commit_verdict (Replied r (record s { todo = xs }))) landed)) (λ verdict s1. concludes verdict d.mark.span v (tries d.validators k d.mark.span body f) s1)) es t
       plain_answered u s es t reply.Done xs made none fine pr m = plain_done [] u (record s { todo = xs }) es t made none fine pr m
       plain_answered u s es t (reply.Retry c) xs made none fine pr m = retry_comes false Anew (record s { todo = xs }) es t pr m
       plain_answered u s es t (reply.AgentIsFailed a) xs made none fine pr m = plain_refused [] u (record s { todo = xs }) es t made none fine pr m
       plain_answered u s es t (reply.Changed c) xs made none fine pr m = absurd m
       plain_answered u s es t _ xs made none fine pr m = tt
 
-      lands_plainly : (u : Unit {0}) (s : ActorState) (es : List SeenEvent) (t : ThreadState) → Made s → commuted s.done ≡ [] → plainly s.done ≡ Completes tt u → IsBeside s t → a.fits t.txs (In R) s.todo es → Comes (lands_on d.mark.span v (tries d.validators k d.mark.span body f) [] s) es t
+      lands_plainly : (u : Unit {0}) (s : ActorState) (es : List SeenEvent) (t : ThreadState) → Made s → commuted s.done ≡ [] → plainly s.done ≡ Completes tt u → IsBeside a.before a.from s t → a.fits t.txs (In R) s.todo es → Comes (lands_on d.mark.span v (tries d.validators k d.mark.span body f) [] s) es t
       unfolding commit
       lands_plainly u s es t made none fine pr fits =
           answered_in cells a t.txs (In R) es (committing s []) s
-          (λ h. Comes (bind (res (heard commit_verdict h)) (λ verdict s1. concludes verdict d.mark.span v (tries d.validators k d.mark.span body f) s1)) es t) fits
-          (waiting (In R) (record s { wants = _ }) es t pr fits) (λ r xs m. plain_answered u s es t r xs made none fine pr m)
+          (λ h. Comes (bind (res (on_step (heard commit_verdict h) landed)) (λ verdict s1. concludes verdict d.mark.span v (tries d.validators k d.mark.span body f) s1)) es t) fits
+          (waiting (In R) (record s { wants = Some (committing s []) }) es t tt pr fits) (λ r xs m. plain_answered u s es t r xs made none fine pr m)
 
-      plain_fail_answered : (y : Fault) (u : Unit {0}) (s : ActorState) (es : List SeenEvent) (t : ThreadState) (r : Reply) (xs : List Exchange) → Made s → commuted s.done ≡ [] → plainly s.done ≡ Faults y u → IsBeside s t
+      plain_fail_answered : (y : Fault) (u : Unit {0}) (s : ActorState) (es : List SeenEvent) (t : ThreadState) (r : Reply) (xs : List Exchange) → Made s → commuted s.done ≡ [] → plainly s.done ≡ Faults y u → IsBeside a.before a.from s t
           → ReplyFits cells (In R) (ask.Fail s.at s.view) r (λ ph1 es1. a.fits t.txs ph1 xs es1) es → Comes (bind (res (heard just_done (Replied r (record s { todo = xs })))) (λ w s1. Faults y s1)) es t
       plain_fail_answered y u s es t reply.Done xs made none z pr m = plain_broken y u (record s { todo = xs }) es t made none z pr m
       plain_fail_answered y u s es t _ xs made none z pr m = tt
 
-      fails_plainly : (y : Fault) (u : Unit {0}) (s : ActorState) (es : List SeenEvent) (t : ThreadState) → Made s → commuted s.done ≡ [] → plainly s.done ≡ Faults y u → IsBeside s t → a.fits t.txs (In R) s.todo es
+      fails_plainly : (y : Fault) (u : Unit {0}) (s : ActorState) (es : List SeenEvent) (t : ThreadState) → Made s → commuted s.done ≡ [] → plainly s.done ≡ Faults y u → IsBeside a.before a.from s t → a.fits t.txs (In R) s.todo es
           → Comes (bind (res (fail s)) (λ w s1. Faults y s1)) es t
       unfolding fail
       fails_plainly y u s es t made none z pr fits =
           answered_in cells a t.txs (In R) es (ask.Fail s.at s.view) s (λ h. Comes (bind (res (heard just_done h)) (λ w s1. Faults y s1)) es t) fits
-          (waiting (In R) (record s { wants = _ }) es t pr fits) (λ r xs m. plain_fail_answered y u s es t r xs made none z pr m)
+          (waiting (In R) (record s { wants = Some (ask.Fail s.at s.view) }) es t tt pr fits) (λ r xs m. plain_fail_answered y u s es t r xs made none z pr m)
 
       -- a transaction whose validators need turns needs them at its failure
       plain_short : (s : ActorState) (t : ThreadState) (u : Unit {0}) → Made s → commuted s.done ≡ [] → plainly s.done ≡ OutOfTurns u → (Q : World) (l : List SeenEvent) → IsShort (halted (uneaten l (ends_tx d g (event.Fail 0 0) R Q Q t)))
@@ -393,7 +402,7 @@ module _ (cells : List CellDefinition) (a : Account cells) (P : Callee → Type 
           subst (λ y. IsShort (halted (uneaten l y))) (sym (ap (λ r. over t r (λ w y. faulted (final_writes g d.validators d.mark.span y.done Q t) (λ z t1. Faults z t1)) (λ z. Faults z t)) on ∙ ap (λ y. faulted y (λ z t1. Faults z t1)) final)) tt
 
       -- what was set is committed, or a fault told
-      plain_comes : (s : ActorState) (es : List SeenEvent) (t : ThreadState) (z : Completion (Unit {0}) (Unit {0})) → Made s → commuted s.done ≡ [] → plainly s.done ≡ z → IsQuiet z → IsBeside s t → a.fits t.txs (In R) s.todo es
+      plain_comes : (s : ActorState) (es : List SeenEvent) (t : ThreadState) (z : Completion (Unit {0}) (Unit {0})) → Made s → commuted s.done ≡ [] → plainly s.done ≡ z → IsQuiet z → IsBeside a.before a.from s t → a.fits t.txs (In R) s.todo es
           → Comes (telling fail (bind (carried s z) (λ u s1. Completes [] s1)) (λ xs s1. lands_on d.mark.span v (tries d.validators k d.mark.span body f) xs s1)) es t
       plain_comes s es t (Completes tt u) made none e quiet pr fits = lands_plainly u s es t made none e pr fits
       plain_comes s es t (Recurs vs u) made none e quiet pr fits = tt
@@ -403,7 +412,7 @@ module _ (cells : List CellDefinition) (a : Account cells) (P : Callee → Type 
       plain_comes s es t (OutOfTurns u) made none e quiet pr fits = shortage (In R) s es t pr fits (λ W. plain_short s (record t { todo = [] }) u made none e W _)
       plain_comes s es t Invalid made none e quiet pr fits = tt
 
-      ends_plainly : (s : ActorState) (es : List SeenEvent) (t : ThreadState) → Made s → commuted s.done ≡ [] → IsBeside s t → a.fits t.txs (In R) s.todo es
+      ends_plainly : (s : ActorState) (es : List SeenEvent) (t : ThreadState) → Made s → commuted s.done ≡ [] → IsBeside a.before a.from s t → a.fits t.txs (In R) s.todo es
           → Comes (telling fail (if_all_accepted d.validators d.mark.span f [] s) (λ xs s1. lands_on d.mark.span v (tries d.validators k d.mark.span body f) xs s1)) es t
       ends_plainly s es t made none pr fits =
           let r = accepted_carried P s f q (λ c vs p. left c vs s p) d.validators checks d.mark.span (set_writes s.done) in
@@ -415,27 +424,27 @@ module _ (cells : List CellDefinition) (a : Account cells) (P : Callee → Type 
         final_there : (s : ActorState) (W : World) (t : ThreadState) (ws : Writes) (u : Unit {0}) → Made s → phase s.done W ≡ Completes ws u → final_writes g d.validators d.mark.span x.done W t ≡ Completes (merged (set_writes s.done) ws) t
         final_there s W t ws u made e = subst (λ w. final_writes g d.validators d.mark.span w W t ≡ Completes (merged (set_writes s.done) ws) t) made.0 (final_made s.done W t ws u made.1.0 e)
 
-        phase_done : (s : ActorState) (es : List SeenEvent) (t : ThreadState) (ws : Writes) (u : Unit {0}) → Made s → phase s.done Q ≡ Completes ws u → IsBeside s t
-            → OnEvent 0 (λ e. (R ≡ e.R) × AgreeOn ws Q e.C × SaysCommit (merged (set_writes s.done) ws) s.done.sends e.kind) (BehindEnd s ws t) es → Comes (Completes v s) es t
+        phase_done : (s : ActorState) (es : List SeenEvent) (t : ThreadState) (ws : Writes) (u : Unit {0}) → Made s → phase s.done Q ≡ Completes ws u → IsBeside a.before a.from s t
+            → OnEvent 0 (λ e. (R ≡ e.R) × AgreeOn ws Q e.C × SaysCommit (merged (set_writes s.done) ws) (sends_of_commit (held_in s.acting) s.done.sends) e.kind) (BehindEnd s ws t) es → Comes (Completes v (actor.holding s.done.sends s)) es t
         phase_done s [] t ws u made z pr m = absurd m
         phase_done s (e ∷ es) t ws u made z pr m =
             let t1 : ThreadState = record t { todo = es ++ a.tail } in
             let again = phase_redone s.done ws u (redone q (phase_work s.done) (valued (commuted s.done) Q) tt) z in
             let same : valued (commuted s.done) Q ≡ valued (commuted s.done) e.C = agree_valued Q e.C (commuted s.done) (agree_before Q e.C q (phase_work s.done) (valued (commuted s.done) Q) ws again.0 again.1 m.1.1) in
             let there : phase s.done e.C ≡ Completes ws u = subst (λ l. phase_on s.done l ≡ Completes ws u) same z in
-            lands_at v s e es t x pr m.0 (m.2 (run_of d v x) (own_commit s ws made))
-            (commits_as d g e.R e.Q e.C t1 e.kind v x (merged (set_writes s.done) ws) s.done.sends (on_there e.R m.1.0) (final_there s e.C t1 ws u made there) (ap (λ w. w.sends) (sym made.0)) m.1.2)
+            lands_at v s e es t x (ap (λ w. w.sends) made.0) pr m.0 (m.2 (run_of d v x) (own_commit s ws t made pr))
+            (commits_as d g e.R e.Q e.C t1 e.kind v x (merged (set_writes s.done) ws) (sends_of_commit (held_in s.acting) s.done.sends) (on_there e.R m.1.0) (final_there s e.C t1 ws u made there) (sym (sends_there s t made pr)) m.1.2)
 
-        phase_refused : (s : ActorState) (es : List SeenEvent) (t : ThreadState) (ws : Writes) (u : Unit {0}) → Made s → phase s.done Q ≡ Completes ws u → IsBeside s t
+        phase_refused : (s : ActorState) (es : List SeenEvent) (t : ThreadState) (ws : Writes) (u : Unit {0}) → Made s → phase s.done Q ≡ Completes ws u → IsBeside a.before a.from s t
             → OnEvent 0 (λ e. (R ≡ e.R) × (Q ≡ e.Q) × SaysRefused e.kind) (BehindEnd s ws t) es → Comes (Faults (fault_at AgentFailed d.mark.span) s) es t
         phase_refused s [] t ws u made z pr m = absurd m
         phase_refused s (e ∷ es) t ws u made z pr m =
             let t1 : ThreadState = record t { todo = es ++ a.tail } in
             let there : phase s.done e.Q ≡ Completes ws u = subst (λ W. phase s.done W ≡ Completes ws u) m.1.1 z in
-            breaks_at (fault_at AgentFailed d.mark.span) s e es t (with_tx (run_of d v x) t1) refl pr m.0 (m.2 (run_of d v x) (own_commit s ws made))
+            breaks_at (fault_at AgentFailed d.mark.span) s e es t (with_tx (run_of d v x) t1) refl pr m.0 (m.2 (run_of d v x) (own_commit s ws t made pr))
             (refuses_as d g e.R e.Q e.C t1 e.kind v x (merged (set_writes s.done) ws) (on_there e.R m.1.0) (final_there s e.Q t1 ws u made there) m.1.2)
 
-        phase_broken : (y : Fault) (s : ActorState) (es : List SeenEvent) (t : ThreadState) (u : Unit {0}) → Made s → phase s.done Q ≡ Faults y u → IsBeside s t
+        phase_broken : (y : Fault) (s : ActorState) (es : List SeenEvent) (t : ThreadState) (u : Unit {0}) → Made s → phase s.done Q ≡ Faults y u → IsBeside a.before a.from s t
             → OnEvent 0 (λ e. (R ≡ e.R) × (Q ≡ e.Q) × SaysFail e.kind) (a.fits t.txs Out s.todo) es → Comes (Faults y s) es t
         phase_broken y s [] t u made z pr m = absurd m
         phase_broken y s (e ∷ es) t u made z pr m =
@@ -444,9 +453,9 @@ module _ (cells : List CellDefinition) (a : Account cells) (P : Callee → Type 
             let final : final_writes g d.validators d.mark.span x.done e.Q t1 ≡ Faults y t1 = subst (λ w. final_writes g d.validators d.mark.span w e.Q t1 ≡ Faults y t1) made.0 (final_broke s.done e.Q t1 y u made.1.0 there) in
             breaks_at y s e es t t1 refl pr m.0 m.2 (fails_commutes d g e.R e.Q e.C t1 e.kind v x y (on_there e.R m.1.0) final m.1.2)
 
-        phase_answered : (s : ActorState) (es : List SeenEvent) (t : ThreadState) (ws : Writes) (u : Unit {0}) (r : Reply) (xs : List Exchange) → Made s → phase s.done Q ≡ Completes ws u → IsBeside s t
-            → ReplyFits cells (Viewed R Q) (committing s ws) r (after_reply a.fits t.txs (committing s ws) r xs) es
-            → Comes (bind (res (heard commit_verdict (Replied r (record s { todo = xs })))) (λ verdict s1. concludes verdict d.mark.span v (tries d.validators k d.mark.span body f) s1)) es t
+        phase_answered : (s : ActorState) (es : List SeenEvent) (t : ThreadState) (ws : Writes) (u : Unit {0}) (r : Reply) (xs : List Exchange) → Made s → phase s.done Q ≡ Completes ws u → IsBeside a.before a.from s t
+            → ReplyFits cells (Viewed R Q) (committing s ws) r (after_reply a.from a.fits t.txs (committing s ws) r xs) es
+            → Comes (bind (res (on_step (heard commit_verdict (Replied r (record s { todo = xs }))) landed)) (λ verdict s1. concludes verdict d.mark.span v (tries d.validators k d.mark.span body f) s1)) es t
         phase_answered s es t ws u reply.Done xs made z pr m = phase_done (record s { todo = xs }) es t ws u made z pr m
         phase_answered s es t ws u (reply.Retry c) xs made z pr m = retry_comes false Anew (record s { todo = xs }) es t pr m
         phase_answered s es t ws u (reply.AgentIsFailed a) xs made z pr m = phase_refused (record s { todo = xs }) es t ws u made z pr m
@@ -456,26 +465,26 @@ module _ (cells : List CellDefinition) (a : Account cells) (P : Callee → Type 
             (on_then 0 (λ e. SaysRetry true e.kind) (a.fits t.txs (In R) xs) (StartFits cells a P d t.txs (Behind v) (record s { todo = xs })) (λ es1 fits. (R, x, on, made.0, made.1, fits)) es m))
         phase_answered s es t ws u _ xs made z pr m = tt
 
-        lands_viewed : (s : ActorState) (es : List SeenEvent) (t : ThreadState) (ws : Writes) (u : Unit {0}) → Made s → phase s.done Q ≡ Completes ws u → IsBeside s t → a.fits t.txs (Viewed R Q) s.todo es
+        lands_viewed : (s : ActorState) (es : List SeenEvent) (t : ThreadState) (ws : Writes) (u : Unit {0}) → Made s → phase s.done Q ≡ Completes ws u → IsBeside a.before a.from s t → a.fits t.txs (Viewed R Q) s.todo es
             → Comes (lands_on d.mark.span v (tries d.validators k d.mark.span body f) ws s) es t
         unfolding commit
         lands_viewed s es t ws u made z pr fits =
             answered_in cells a t.txs (Viewed R Q) es (committing s ws) s
-            (λ h. Comes (bind (res (heard commit_verdict h)) (λ verdict s1. concludes verdict d.mark.span v (tries d.validators k d.mark.span body f) s1)) es t) fits
-            (waiting (Viewed R Q) (record s { wants = _ }) es t pr fits) (λ r xs m. phase_answered s es t ws u r xs made z pr m)
+            (λ h. Comes (bind (res (on_step (heard commit_verdict h) landed)) (λ verdict s1. concludes verdict d.mark.span v (tries d.validators k d.mark.span body f) s1)) es t) fits
+            (waiting (Viewed R Q) (record s { wants = Some (committing s ws) }) es t tt pr fits) (λ r xs m. phase_answered s es t ws u r xs made z pr m)
 
-        fail_answered : (y : Fault) (s : ActorState) (es : List SeenEvent) (t : ThreadState) (u : Unit {0}) (r : Reply) (xs : List Exchange) → Made s → phase s.done Q ≡ Faults y u → IsBeside s t
+        fail_answered : (y : Fault) (s : ActorState) (es : List SeenEvent) (t : ThreadState) (u : Unit {0}) (r : Reply) (xs : List Exchange) → Made s → phase s.done Q ≡ Faults y u → IsBeside a.before a.from s t
             → ReplyFits cells (Viewed R Q) (ask.Fail s.at s.view) r (λ ph1 es1. a.fits t.txs ph1 xs es1) es
             → Comes (bind (res (heard just_done (Replied r (record s { todo = xs })))) (λ w s1. Faults y s1)) es t
         fail_answered y s es t u reply.Done xs made z pr m = phase_broken y (record s { todo = xs }) es t u made z pr m
         fail_answered y s es t u _ xs made z pr m = tt
 
-        fails_viewed : (y : Fault) (s : ActorState) (es : List SeenEvent) (t : ThreadState) (u : Unit {0}) → Made s → phase s.done Q ≡ Faults y u → IsBeside s t → a.fits t.txs (Viewed R Q) s.todo es
+        fails_viewed : (y : Fault) (s : ActorState) (es : List SeenEvent) (t : ThreadState) (u : Unit {0}) → Made s → phase s.done Q ≡ Faults y u → IsBeside a.before a.from s t → a.fits t.txs (Viewed R Q) s.todo es
             → Comes (bind (res (fail s)) (λ w s1. Faults y s1)) es t
         unfolding fail
         fails_viewed y s es t u made z pr fits =
             answered_in cells a t.txs (Viewed R Q) es (ask.Fail s.at s.view) s (λ h. Comes (bind (res (heard just_done h)) (λ w s1. Faults y s1)) es t) fits
-            (waiting (Viewed R Q) (record s { wants = _ }) es t pr fits) (λ r xs m. fail_answered y s es t u r xs made z pr m)
+            (waiting (Viewed R Q) (record s { wants = Some (ask.Fail s.at s.view) }) es t tt pr fits) (λ r xs m. fail_answered y s es t u r xs made z pr m)
 
         -- a transaction whose commutes need turns needs them at its failure
         phase_short : (s : ActorState) (t : ThreadState) (u : Unit {0}) → Made s → phase s.done Q ≡ OutOfTurns u → (l : List SeenEvent) → IsShort (halted (uneaten l (ends_tx d g (event.Fail 0 0) R Q Q t)))
@@ -484,7 +493,7 @@ module _ (cells : List CellDefinition) (a : Account cells) (P : Callee → Type 
             subst (λ y. IsShort (halted (uneaten l y))) (sym (ap (λ r. over t r (λ w y. faulted (final_writes g d.validators d.mark.span y.done Q t) (λ z t1. Faults z t1)) (λ z. Faults z t)) on ∙ ap (λ y. faulted y (λ z t1. Faults z t1)) final)) tt
 
         -- what the commutes made is committed, or their fault told
-        phase_comes : (s : ActorState) (es : List SeenEvent) (t : ThreadState) (z : Completion (Unit {0}) Writes) → Made s → phase s.done Q ≡ z → IsQuiet z → IsBeside s t → a.fits t.txs (Viewed R Q) s.todo es
+        phase_comes : (s : ActorState) (es : List SeenEvent) (t : ThreadState) (z : Completion (Unit {0}) Writes) → Made s → phase s.done Q ≡ z → IsQuiet z → IsBeside a.before a.from s t → a.fits t.txs (Viewed R Q) s.todo es
             → Comes (telling fail (carried s z) (λ xs s1. lands_on d.mark.span v (tries d.validators k d.mark.span body f) xs s1)) es t
         phase_comes s es t (Completes ws u) made e quiet pr fits = lands_viewed s es t ws u made e pr fits
         phase_comes s es t (Recurs vs u) made e quiet pr fits = tt
@@ -494,7 +503,7 @@ module _ (cells : List CellDefinition) (a : Account cells) (P : Callee → Type 
         phase_comes s es t (OutOfTurns u) made e quiet pr fits = shortage (Viewed R Q) s es t pr fits (λ W. phase_short s (record t { todo = [] }) u made e _)
         phase_comes s es t Invalid made e quiet pr fits = tt
 
-        viewed_comes : (s : ActorState) (es : List SeenEvent) (t : ThreadState) → Made s → IsBeside s t → a.fits t.txs (Viewed R Q) s.todo es
+        viewed_comes : (s : ActorState) (es : List SeenEvent) (t : ThreadState) → Made s → IsBeside a.before a.from s t → a.fits t.txs (Viewed R Q) s.todo es
             → Comes (telling fail (bind (redone f (phase_work s.done) (valued (commuted s.done) Q) s) (λ xs s1. if_all_accepted d.validators d.mark.span f xs s1)) (λ xs s1. lands_on d.mark.span v (tries d.validators k d.mark.span body f) xs s1)) es t
         viewed_comes s es t made pr fits =
             let r = phase_left s made.1.0 (valued (commuted s.done) Q) in
@@ -504,7 +513,7 @@ module _ (cells : List CellDefinition) (a : Account cells) (P : Callee → Type 
       abbrev after_view : Writes → ActorState → Completion ActorState Value
       after_view ws s1 = telling fail (bind (redone f (phase_work s1.done) ws s1) (λ xs s2. if_all_accepted d.validators d.mark.span f xs s2)) (λ xs s2. lands_on d.mark.span v (tries d.validators k d.mark.span body f) xs s2)
 
-      view_answered : (s : ActorState) (es : List SeenEvent) (t : ThreadState) (r : Reply) (xs : List Exchange) → Made s → IsBeside s t
+      view_answered : (s : ActorState) (es : List SeenEvent) (t : ThreadState) (r : Reply) (xs : List Exchange) → Made s → IsBeside a.before a.from s t
           → ReplyFits cells (In R) (ask.View (commuted s.done)) r (λ ph1 es1. a.fits t.txs ph1 xs es1) es
           → Comes (bind (res (on_step (heard views (Replied r (record s { todo = xs }))) (λ y s1. viewed y.0 (paired (commuted s.done) y.1) s1))) after_view) es t
       view_answered s es t (reply.Views p vs) xs made pr m =
@@ -512,55 +521,55 @@ module _ (cells : List CellDefinition) (a : Account cells) (P : Callee → Type 
           (viewed_comes m.0 (record s { todo = xs; view = p }) es t made pr m.2)
       view_answered s es t _ xs made pr m = tt
 
-      closing_comes : (cs : List CellId) (s : ActorState) (es : List SeenEvent) (t : ThreadState) → commuted s.done ≡ cs → Made s → IsBeside s t → a.fits t.txs (In R) s.todo es → Comes (closing d.validators cs d.mark.span f v (tries d.validators k d.mark.span body f) s) es t
+      closing_comes : (cs : List CellId) (s : ActorState) (es : List SeenEvent) (t : ThreadState) → commuted s.done ≡ cs → Made s → IsBeside a.before a.from s t → a.fits t.txs (In R) s.todo es → Comes (closing d.validators cs d.mark.span f v (tries d.validators k d.mark.span body f) s) es t
       unfolding view
       closing_comes [] s es t none made pr fits = ends_plainly s es t made none pr fits
       closing_comes (c ∷ cs) s es t some made pr fits =
           answered_in cells a t.txs (In R) es (ask.View (commuted s.done)) s
           (λ h. Comes (bind (res (on_step (heard views h) (λ y s1. viewed y.0 (paired (commuted s.done) y.1) s1))) after_view) es t) fits
-          (waiting (In R) (record s { wants = _ }) es t pr fits) (λ r xs m. view_answered s es t r xs made pr m)
+          (waiting (In R) (record s { wants = Some (ask.View (commuted s.done)) }) es t tt pr fits) (λ r xs m. view_answered s es t r xs made pr m)
 
     -- ---- the body
 
-    body_failed : (R : World) (y : Fault) (x : TxState) (s : ActorState) (es : List SeenEvent) (t : ThreadState) → d.on R ≡ Faults y x → IsBeside s t → OnEvent 0 (λ e. (R ≡ e.R) × SaysFail e.kind) (a.fits t.txs Out s.todo) es → Comes (Faults y s) es t
+    body_failed : (R : World) (y : Fault) (x : TxState) (s : ActorState) (es : List SeenEvent) (t : ThreadState) → d.on R ≡ Faults y x → IsBeside a.before a.from s t → OnEvent 0 (λ e. (R ≡ e.R) × SaysFail e.kind) (a.fits t.txs Out s.todo) es → Comes (Faults y s) es t
     body_failed R y x s [] t on pr m = absurd m
     body_failed R y x s (e ∷ es) t on pr m =
         let t1 : ThreadState = record t { todo = es ++ a.tail } in
         breaks_at y s e es t t1 refl pr m.0 m.2 (fails_body d g e.R e.Q e.C t1 e.kind y x (subst (λ W. d.on W ≡ Faults y x) m.1.0 on) m.1.1)
 
-    body_fail_answered : (R : World) (y : Fault) (x : TxState) (s : ActorState) (es : List SeenEvent) (t : ThreadState) (r : Reply) (xs : List Exchange) → d.on R ≡ Faults y x → IsBeside s t
+    body_fail_answered : (R : World) (y : Fault) (x : TxState) (s : ActorState) (es : List SeenEvent) (t : ThreadState) (r : Reply) (xs : List Exchange) → d.on R ≡ Faults y x → IsBeside a.before a.from s t
         → ReplyFits cells (In R) (ask.Fail s.at s.view) r (λ ph1 es1. a.fits t.txs ph1 xs es1) es → Comes (bind (res (heard just_done (Replied r (record s { todo = xs })))) (λ w s1. Faults y s1)) es t
     body_fail_answered R y x s es t reply.Done xs on pr m = body_failed R y x (record s { todo = xs }) es t on pr m
     body_fail_answered R y x s es t _ xs on pr m = tt
 
-    body_fails : (R : World) (y : Fault) (x : TxState) (s : ActorState) (es : List SeenEvent) (t : ThreadState) → d.on R ≡ Faults y x → IsBeside s t → a.fits t.txs (In R) s.todo es → Comes (bind (res (fail s)) (λ w s1. Faults y s1)) es t
+    body_fails : (R : World) (y : Fault) (x : TxState) (s : ActorState) (es : List SeenEvent) (t : ThreadState) → d.on R ≡ Faults y x → IsBeside a.before a.from s t → a.fits t.txs (In R) s.todo es → Comes (bind (res (fail s)) (λ w s1. Faults y s1)) es t
     unfolding fail
     body_fails R y x s es t on pr fits =
         answered_in cells a t.txs (In R) es (ask.Fail s.at s.view) s (λ h. Comes (bind (res (heard just_done h)) (λ w s1. Faults y s1)) es t) fits
-        (waiting (In R) (record s { wants = _ }) es t pr fits) (λ r xs m. body_fail_answered R y x s es t r xs on pr m)
+        (waiting (In R) (record s { wants = Some (ask.Fail s.at s.view) }) es t tt pr fits) (λ r xs m. body_fail_answered R y x s es t r xs on pr m)
 
     -- what comes after the body
     abbrev after_body : Value → ActorState → Completion ActorState Value
     after_body v s1 = closing d.validators (commuted s1.done) d.mark.span f v (tries d.validators k d.mark.span body f) s1
 
-    body_completed : (R : World) (v : Value) (s : ActorState) (y : Completion TxState Value) (es : List SeenEvent) (t : ThreadState) (out : List ℕ) (sends : Option (List Action)) → d.on R ≡ y → (t.printed ≡ out) × (sends ≡ t.held) → CompletesAs (tx_link P (a.fits t.txs) R es out sends) v s y → Comes (after_body v s) es t
+    body_completed : (R : World) (v : Value) (s : ActorState) (y : Completion TxState Value) (es : List SeenEvent) (t : ThreadState) (out : List ℕ) (sends : Option (List Action)) → d.on R ≡ y → (a.before ++ t.printed ≡ out) × (sends ≡ t.held) × (begin_of t.held ≡ a.from) → CompletesAs (tx_link P (a.fits t.txs) R es out sends) v s y → Comes (after_body v s) es t
     body_completed R v s (Completes w x) es t out sends on pr h =
-        closing_comes R v x (on ∙ ap (λ z. Completes z x) (sym h.0)) (commuted s.done) s es t refl (h.1.0, h.1.1) (pr.0 ∙ sym h.1.3.0, h.1.3.1 ∙ pr.1) h.1.2
+        closing_comes R v x (on ∙ ap (λ z. Completes z x) (sym h.0)) (commuted s.done) s es t refl (h.1.0, h.1.1) (pr.0 ∙ sym h.1.3.0, h.1.3.1 ∙ pr.1, pr.2) h.1.2
     body_completed R v s _ es t out sends on pr h = absurd h
 
-    body_faulted : (R : World) (e : Fault) (s : ActorState) (y : Completion TxState Value) (es : List SeenEvent) (t : ThreadState) (out : List ℕ) (sends : Option (List Action)) → d.on R ≡ y → (t.printed ≡ out) × (sends ≡ t.held) → FaultsAs (tx_link P (a.fits t.txs) R es out sends) e s y → Comes (bind (res (fail s)) (λ w s1. Faults e s1)) es t
-    body_faulted R e s (Faults c x) es t out sends on pr h = body_fails R e x s es t (on ∙ ap (λ z. Faults z x) (sym h.0)) (pr.0 ∙ sym h.1.1.0, h.1.1.1 ∙ pr.1) h.1.0
+    body_faulted : (R : World) (e : Fault) (s : ActorState) (y : Completion TxState Value) (es : List SeenEvent) (t : ThreadState) (out : List ℕ) (sends : Option (List Action)) → d.on R ≡ y → (a.before ++ t.printed ≡ out) × (sends ≡ t.held) × (begin_of t.held ≡ a.from) → FaultsAs (tx_link P (a.fits t.txs) R es out sends) e s y → Comes (bind (res (fail s)) (λ w s1. Faults e s1)) es t
+    body_faulted R e s (Faults c x) es t out sends on pr h = body_fails R e x s es t (on ∙ ap (λ z. Faults z x) (sym h.0)) (pr.0 ∙ sym h.1.1.0, h.1.1.1 ∙ pr.1, pr.2) h.1.0
     body_faulted R e s _ es t out sends on pr h = absurd h
 
-    body_comes : (R : World) (x : Completion ActorState Value) (es : List SeenEvent) (t : ThreadState) (out : List ℕ) (sends : Option (List Action)) → (t.printed ≡ out) × (sends ≡ t.held) → Related (tx_link P (a.fits t.txs) R es out sends) x (d.on R) → Comes (telling fail x after_body) es t
+    body_comes : (R : World) (x : Completion ActorState Value) (es : List SeenEvent) (t : ThreadState) (out : List ℕ) (sends : Option (List Action)) → (a.before ++ t.printed ≡ out) × (sends ≡ t.held) × (begin_of t.held ≡ a.from) → Related (tx_link P (a.fits t.txs) R es out sends) x (d.on R) → Comes (telling fail x after_body) es t
     body_comes R (Completes v s) es t out sends pr h = body_completed R v s (d.on R) es t out sends refl pr h
     body_comes R (Recurs vs s) es t out sends pr h = tt
     body_comes R (Faults e s) es t out sends pr h = body_faulted R e s (d.on R) es t out sends refl pr h
     body_comes R (Retries s) es t out sends pr h =
         subst (λ l. Comes (Retries s) l t) (sym h.2)
-        (subst (Related (account_link cells a) (tries d.validators k d.mark.span body f Anew s)) (sym (eats_retry h.0 (h.1 ++ a.tail) t h.3 h.4)) (next Anew s h.1 t (pr.0 ∙ sym h.6.0, h.6.1 ∙ pr.1) h.5))
-    body_comes R (Waits s) es t out sends pr h = waiting (In R) s es t (pr.0 ∙ sym h.1.0, h.1.1 ∙ pr.1) h.0
-    body_comes R (OutOfTurns s) es t out sends pr h = shortage (In R) s es t (pr.0 ∙ sym h.2.0, h.2.1 ∙ pr.1) h.1 (λ Q. uneaten_short (in_hand cells Q (In R)) (ends_tx d g (event.Fail 0 0) R Q Q (record t { todo = [] })) (over_short (d.on R) (record t { todo = [] }) _ _ h.0))
+        (subst (Related (account_link cells a) (tries d.validators k d.mark.span body f Anew s)) (sym (eats_retry h.0 (h.1 ++ a.tail) t h.3 h.4)) (next Anew s h.1 t (pr.0 ∙ sym h.6.0, h.6.1 ∙ pr.1, pr.2) h.5))
+    body_comes R (Waits s) es t out sends pr h = waiting (In R) s es t h.2 (pr.0 ∙ sym h.1.0, h.1.1 ∙ pr.1, pr.2) h.0
+    body_comes R (OutOfTurns s) es t out sends pr h = shortage (In R) s es t (pr.0 ∙ sym h.2.0, h.2.1 ∙ pr.1, pr.2) h.1 (λ Q. uneaten_short (in_hand cells Q (In R)) (ends_tx d g (event.Fail 0 0) R Q Q (record t { todo = [] })) (over_short (d.on R) (record t { todo = [] }) _ _ h.0))
     body_comes R Invalid es t out sends pr h = tt
 
     -- ---- the begin
@@ -570,20 +579,20 @@ module _ (cells : List CellDefinition) (a : Account cells) (P : Callee → Type 
       abbrev after_begin : Unit {0} → ActorState → Completion ActorState Value
       after_begin u s1 = telling fail (body s1) after_body
 
-      begin_answered : (s : ActorState) (es : List SeenEvent) (t : ThreadState) (r : Reply) (xs : List Exchange) → IsBeside s t → ReplyFits cells Out ask.Begin r (λ ph1 es1. a.fits t.txs ph1 xs es1) es
+      begin_answered : (s : ActorState) (es : List SeenEvent) (t : ThreadState) (r : Reply) (xs : List Exchange) → IsBeside a.before a.from s t → ReplyFits cells Out ask.Begin r (λ ph1 es1. a.fits t.txs ph1 xs es1) es
           → Comes (bind (res (on_step (heard read_point (Replied r (record s { todo = xs }))) begun)) after_begin) es t
       begin_answered s es t (reply.At p) xs pr m =
           let s1 : ActorState = record s { todo = xs; at = p; view = p; done = empty_frame; commuting = None } in
           body_comes m.0 (body s1) es t s.printed (held_in s.acting) pr (body_related t.txs m.0 s1 es refl m.1)
       begin_answered s es t _ xs pr m = tt
 
-      begin_comes : (s : ActorState) (es : List SeenEvent) (t : ThreadState) → IsBeside s t → a.fits t.txs Out s.todo es → Comes (bind (res (begin s)) after_begin) es t
+      begin_comes : (s : ActorState) (es : List SeenEvent) (t : ThreadState) → IsBeside a.before a.from s t → a.fits t.txs Out s.todo es → Comes (bind (res (begin s)) after_begin) es t
       unfolding begin
       begin_comes s es t pr fits =
           answered_in cells a t.txs Out es ask.Begin s (λ h. Comes (bind (res (on_step (heard read_point h) begun)) after_begin) es t) fits
-          (waiting Out (record s { wants = _ }) es t pr fits) (λ r xs m. begin_answered s es t r xs pr m)
+          (waiting Out (record s { wants = Some ask.Begin }) es t tt pr fits) (λ r xs m. begin_answered s es t r xs pr m)
 
-      attempt_comes : (from : Start) (s : ActorState) (es : List SeenEvent) (t : ThreadState) → IsBeside s t → StartFits cells a P d t.txs from s es → Comes (attempt d.validators from d.mark.span body f (tries d.validators k d.mark.span body f) s) es t
+      attempt_comes : (from : Start) (s : ActorState) (es : List SeenEvent) (t : ThreadState) → IsBeside a.before a.from s t → StartFits cells a P d t.txs from s es → Comes (attempt d.validators from d.mark.span body f (tries d.validators k d.mark.span body f) s) es t
       attempt_comes Anew s es t pr fits = begin_comes s es t pr fits
       attempt_comes (Behind v) s es t pr fits = closing_comes fits.0 v fits.1 fits.2 (commuted s.done) s es t refl (fits.3, fits.4) pr fits.5
 

@@ -2,7 +2,7 @@
 use Rattle.std.proofs.Common.{ℕ, List, [], refl, sym, subst, arith, ⊎_elim, ◌≡◌, ◌≤◌, ◌∷◌, ◌++◌, ◌∙◌}
 use Rattle.std.proofs.lemmas.Bool.{cases_lt}
 use Rattle.txs_code_meaning.specs.ActorState.{ActorState}
-use Rattle.txs_code_meaning.specs.Machine.{ThreadCode, Ended, Failed, Asking, Unfinished, Stuck, Outcome}
+use Rattle.txs_code_meaning.specs.Machine.{ThreadCode, Configuration, Ended, Failed, Asking, Unfinished, Stuck, Outcome, exec}
 use Rattle.txs_theorem_threads.proofs.Account.{waited_eaten}
 use Rattle.txs_theorem_threads.proofs.Longer.{longer}
 use Rattle.txs_theorem_threads.proofs.Grows.{GrowsTo, Later, later}
@@ -24,7 +24,7 @@ pub nothing_after : {A : Type 0} (xs ys : List A) → xs ++ ys ≡ [] → ys ≡
 nothing_after [] ys e = e
 nothing_after (x ∷ xs) ys e = absurd (subst (λ l. elim l as (λ m. Type 0) [ [] ↦ ⊥ | y ∷ m ↦ Unit {0} ]) e tt)
 
-fits_nothing : (cells : List CellDefinition) (ph : Phase) (todo : List Exchange) (es : List SeenEvent) → todo ≡ [] → RepliesFit cells ph todo es → es ≡ []
+pub fits_nothing : (cells : List CellDefinition) (ph : Phase) (todo : List Exchange) (es : List SeenEvent) → todo ≡ [] → RepliesFit cells ph todo es → es ≡ []
 fits_nothing cells ph todo es e f = subst (λ l. RepliesFit cells ph l es) e f
 
 halted_all : (out : List ℕ) (r : Completion ThreadState Value) → HasEaten out (halted r) → HasEatenAll out r
@@ -55,21 +55,20 @@ agreed cells (OutOfTurns u) r t a s g e =
 agreed cells Invalid r t a s g e = absurd t
 
 -- a run that goes on at m has, at m or later, grown to what it reaches
-pub grown : (code : ThreadCode) (todo : List Exchange) (m k : ℕ) (s : ActorState) (o : Outcome) → m ≤ k → target code m todo ≡ Unfinished s → target code k todo ≡ o → GrowsTo s o
-grown code todo m k s o le e f =
-    subst (GrowsTo s) f (subst (λ u. Later u (target code k todo)) e (later code m k le (opening code todo)))
+pub grown : (code : ThreadCode) (c : Configuration) (m k : ℕ) (s : ActorState) (o : Outcome) → m ≤ k → exec code m c ≡ Unfinished s → exec code k c ≡ o → GrowsTo s o
+grown code c m k s o le e f = subst (GrowsTo s) f (subst (λ u. Later u (exec code k c)) e (later code m k le c))
 
 -- what is over at j, where the machine goes on at m, comes after m
-not_before : (code : ThreadCode) (todo : List Exchange) (m j : ℕ) (s : ActorState) (o : Outcome) → IsOver o → target code m todo ≡ Unfinished s → target code j todo ≡ o → m ≤ j
-not_before code todo m j s o over e f =
+pub not_before : (code : ThreadCode) (c : Configuration) (m j : ℕ) (s : ActorState) (o : Outcome) → IsOver o → exec code m c ≡ Unfinished s → exec code j c ≡ o → m ≤ j
+not_before code c m j s o over e f =
     ⊎_elim
-    (λ lt. absurd (subst IsOver (sym (longer code j m (omega (arith, lt)) (opening code todo) o over f) ∙ e) over))
+    (λ lt. absurd (subst IsOver (sym (longer code j m (omega (arith, lt)) c o over f) ∙ e) over))
     (λ le. le)
     (cases_lt j m)
 
 -- a run that goes on at m grows to what it ends in
-grown_over : (code : ThreadCode) (todo : List Exchange) (m : ℕ) (s : ActorState) (o : Outcome) → IsOver o → target code m todo ≡ Unfinished s → (j : ℕ) × (target code j todo ≡ o) → GrowsTo s o
-grown_over code todo m s o over e r = grown code todo m r.0 s o (not_before code todo m r.0 s o over e r.1) e r.1
+pub grown_over : (code : ThreadCode) (c : Configuration) (m : ℕ) (s : ActorState) (o : Outcome) → IsOver o → exec code m c ≡ Unfinished s → (j : ℕ) × (exec code j c ≡ o) → GrowsTo s o
+grown_over code c m s o over e r = grown code c m r.0 s o (not_before code c m r.0 s o over e r.1) e r.1
 
 -- what grew from a state whose exchanges are consumed has consumed them
 pub consumed_grown : (s : ActorState) (o : Outcome) → GrowsTo s o → s.todo ≡ [] → Consumed o
@@ -104,14 +103,14 @@ module _ (code : ThreadCode) (p : ThreadSource) (behaves : Behaves code p) (soun
   ends todo m x q t = subst (λ y. (j : ℕ) × (target code j todo ≡ outcome_of y)) q (behaves.follows todo m (subst HasEnded (sym q) t))
 
   pub grown_to : (todo : List Exchange) (m : ℕ) (s : ActorState) (x : Completion ActorState Value) → source p m todo ≡ x → IsMeant x → target code m todo ≡ Unfinished s → GrowsTo s (outcome_of x)
-  grown_to todo m s (Completes v u) q t e = grown_over code todo m s (Ended u) tt e (ends todo m (Completes v u) q tt)
+  grown_to todo m s (Completes v u) q t e = grown_over code (opening code todo) m s (Ended u) tt e (ends todo m (Completes v u) q tt)
   grown_to todo m s (Recurs vs u) q t e = absurd t
-  grown_to todo m s (Faults f u) q t e = grown_over code todo m s (Failed f u) tt e (ends todo m (Faults f u) q tt)
+  grown_to todo m s (Faults f u) q t e = grown_over code (opening code todo) m s (Failed f u) tt e (ends todo m (Faults f u) q tt)
   grown_to todo m s (Retries u) q t e = absurd t
-  grown_to todo m s (Waits u) q t e = grown_over code todo m s (Asking u) tt e (ends todo m (Waits u) q tt)
+  grown_to todo m s (Waits u) q t e = grown_over code (opening code todo) m s (Asking u) tt e (ends todo m (Waits u) q tt)
   grown_to todo m s (OutOfTurns u) q t e =
       let r = behaves.goes_on todo m u q in
-      grown code todo m r.0 s (Unfinished u) r.1 e r.2
+      grown code (opening code todo) m r.0 s (Unfinished u) r.1 e r.2
   grown_to todo m s Invalid q t e = absurd t
 
   over : (todo : List Exchange) (es : List SeenEvent) (m : ℕ) (o : Outcome) → target code m todo ≡ o → RepliesFit p.cells Out todo es → IsMeant (source p m todo) → Consumed o → IsOver o → Explained o (thread_meaning p m es)

@@ -39,7 +39,7 @@ use Rattle.txs_tree_meaning.specs.Sound.{SoundFunctions}
 use Rattle.txs_tree_meaning.specs.Thread.{is_retry}
 use Rattle.txs_tree_meaning.specs.Transaction.{TxState, value_or, own, current, noted, taken, done_as, tx_look, tx_put, tx_update, in_transaction, tx_start, tx_meaning}
 use Rattle.txs_tree_meaning.specs.Tree.{Mark, Tree, PlainFunction}
-use Rattle.txs_code_meaning.specs.ActorState.{InHand, ActorState, Reception, Replied, Unreplied, receives, asks, StepResult, Continue, Break, Redo, Await, Malformed, on_step, step_of, heard, value_there, buffered_or, look, set_own, close_own, read_cell, assign_cell, send_action, send_to, print}
+use Rattle.txs_code_meaning.specs.ActorState.{held_in, ActorState, Reception, Replied, Unreplied, receives, asks, StepResult, Continue, Break, Redo, Await, Malformed, on_step, step_of, heard, value_there, buffered_or, look, set_own, close_own, read_cell, assign_cell, send_action, send_to, print}
 use Rattle.txs_theorem_threads.proofs.Callees.{Keeps, IsPure}
 use Rattle.txs_theorem_threads.proofs.Owned.{Owned, owned_none, owned_set, owned_commute}
 use Rattle.txs_theorem_threads.proofs.Placed.{MayCallAt, placed, function_placed}
@@ -155,10 +155,16 @@ Kept P w = AllCommutes P w.commutes × Owned w
 abbrev pub LooksFit : List CellDefinition → Fitting → Type 0
 LooksFit cells F = (R : World) (c : CellId) (p : ℕ) (r : Reply) (xs : List Exchange) (es : List SeenEvent) → F (In R) (record { ask = ask.Look c p; reply = r } ∷ xs) es → ReplyFits cells (In R) (ask.Look c p) r (λ ph1 es1. F ph1 xs es1) es
 
--- the sends that an action holds, where one is in hand
-abbrev pub held_in : Option InHand → Option (List Action)
-held_in None = None
-held_in (Some h) = Some h.sends
+-- an ask that a tree makes: agents ask for actions, and hand them in
+abbrev pub IsOwn : Ask → Type 0
+IsOwn (ask.Take g) = ⊥
+IsOwn (ask.Finish g new sends) = ⊥
+IsOwn _ = Unit {0}
+
+-- what is waited for is the answer of such an ask
+abbrev pub WantsOwn : Option Ask → Type 0
+WantsOwn None = ⊥
+WantsOwn (Some q) = IsOwn q
 
 -- an actor's state: this was printed, and these sends are held
 abbrev pub HasPrinted : List ℕ → Option (List Action) → ActorState → Type 0
@@ -169,7 +175,7 @@ abbrev pub tx_link : (Callee → Type 0) → Fitting → World → List SeenEven
 tx_link P F R es out sends = record {
   rel = λ s t. (s.done ≡ t.done) × Kept P s.done × F (In R) s.todo es × HasPrinted out sends s;
   faults = λ s t. F (In R) s.todo es × HasPrinted out sends s;
-  waits = λ s o. F (In R) s.todo es × HasPrinted out sends s;
+  waits = λ s o. F (In R) s.todo es × HasPrinted out sends s × WantsOwn s.wants;
   out_of_turns = λ s o. IsShort o × F (In R) s.todo es × HasPrinted out sends s;
   retries = λ s o. (e : SeenEvent) × (es1 : List SeenEvent) × (es ≡ e ∷ es1) × (e.book ≡ 0) × (is_retry e.kind ≡ true) × F Out s.todo es1 × HasPrinted out sends s;
   waits_loose = λ s h o. h;
@@ -203,7 +209,7 @@ module _ (cells : List CellDefinition) (F : Fitting) (looks : LooksFit cells F) 
       go : (o : Option Value) → Related k (res (buffered_or o s (heard value_there (asks (ask.Look c s.at) s)))) (Completes (value_or o (R c.number)) t)
       go (Some v) = (refl, r)
       go None =
-          answered_by cells F (In R) es (ask.Look c s.at) (λ rep xs ph1 es1. F ph1 xs es1) (λ rep xs f. looks R c s.at rep xs es f) s (λ h. Related k (res (heard value_there h)) (Completes (R c.number) t)) r.2 (r.2, r.3)
+          answered_by cells F (In R) es (ask.Look c s.at) (λ rep xs ph1 es1. F ph1 xs es1) (λ rep xs f. looks R c s.at rep xs es f) s (λ h. Related k (res (heard value_there h)) (Completes (R c.number) t)) r.2 (r.2, r.3, tt)
           (λ rep xs l m. looked_related c s t rep xs r m)
 
   look_now : (c : CellId) (s : ActorState) (t t1 : TxState) → s.done ≡ t.done → k.rel s t1 → Related k (res (look c s)) (Completes (current R t.done c) t1)
@@ -362,9 +368,9 @@ module _ (cells : List CellDefinition) (F : Fitting) (looks : LooksFit cells F) 
       tx_updates update_of.Swap true m c callee vs s t e i p h r = tt
       tx_updates form false m c callee vs s t e i p h r = absurd (false≢true i)
 
-      tx_sends : (inside : Bool) (m : Mark) (c : Value) (callee : Callee) (vs : List Value) (s : ActorState) (t : TxState) → inside ≡ true → IsPure (known functions) callee → tries_link.rel s t → Related tries_link ((on_replies validators).send inside m c callee vs s) ((in_transaction R).send inside m c callee vs t)
-      tx_sends true m c callee vs s t i p r = held_related cells F looks (IsPure (known functions)) R out sends es m c callee vs s t r
-      tx_sends false m c callee vs s t i p r = absurd (false≢true i)
+      tx_sends : (inside : Bool) (m : Mark) (c : Value) (callee : Callee) (vs : List Value) (s : ActorState) (t : TxState) → inside ≡ true → tries_link.rel s t → Related tries_link ((on_replies validators).send inside m c callee vs s) ((in_transaction R).send inside m c callee vs t)
+      tx_sends true m c callee vs s t i r = held_related cells F looks (IsPure (known functions)) R out sends es m c callee vs s t r
+      tx_sends false m c callee vs s t i r = absurd (false≢true i)
 
       tx_dosync : (inside : Bool) (m : Mark) (e : Tree) (env : List Value) (s : ActorState) (t : TxState) → inside ≡ true → Keeps (placed (known functions)) true e →
           (true ≡ true → (s1 : ActorState) (t1 : TxState) → tries_link.rel s1 t1 → Related tries_link (closed (eval (on_replies validators) (call_at (λ x. on_replies validators) n functions d) n true e env s1)) (closed (eval (in_transaction R) (call_at (λ x. in_transaction R) n functions d) n true e env t1))) → (((x : ℕ) → MayCallAt (known functions) true x) → true ≡ true → Applied ActorState TxState tries_link (apply (call_at (λ x. on_replies validators) n functions d true) m.span) (apply (call_at (λ x. in_transaction R) n functions d true) m.span)) → tries_link.rel s t →

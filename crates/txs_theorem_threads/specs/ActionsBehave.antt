@@ -1,52 +1,71 @@
--- The code of pure functions does what they mean, where an agent's actions call them.
-use Rattle.std.specs.Prelude.{◌≡◌, ℕ, ◌≤◌, true, false, List, [], ◌∷◌, length, Some}
-use Rattle.txs_value_base.specs.Places.{nth}
-use Rattle.txs_value_cell.specs.Cells.{Validators}
+-- The code of functions does what an action's callee means, on any replies.
+use Rattle.std.specs.Prelude.{◌≡◌, ◌≤◌, ℕ, false, List, [], ◌∷◌, length, Option, Some, None, Ok, Err}
+use Rattle.txs_world_protocol.specs.Ask.{Exchange, same_ask}
+use Rattle.txs_world_protocol.specs.declared.ask.Ask.{Ask}
+use Rattle.txs_world_protocol.specs.declared.ask.Ask.TheVariants.{Finish}
+use Rattle.txs_value_cell.specs.Cells.{validators_of, validator_at}
 use Rattle.txs_value_cell.specs.declared.action.Action.{Action}
+use Rattle.txs_value_cell.specs.declared.cell.CellDefinition.{CellDefinition}
 use Rattle.txs_value_data.specs.declared.value.CellId.{CellId}
 use Rattle.txs_value_data.specs.declared.value.Value.{Value}
-use Rattle.txs_tree_meaning.specs.Known.{is_pure, known}
-use Rattle.txs_tree_meaning.specs.Meaning.{Completion, Completes, Recurs, Faults, Retries, Waits, OutOfTurns, Invalid}
-use Rattle.txs_tree_meaning.specs.Pure.{pure_calls}
-use Rattle.txs_tree_meaning.specs.Sound.{SoundFunctions, SoundValidator}
+use Rattle.txs_tree_meaning.specs.Meaning.{Completion, Completes, Recurs, Faults, Retries, Waits, OutOfTurns, Invalid, bind, Applies, apply, call_at}
+use Rattle.txs_tree_meaning.specs.Sound.{SoundFunctions, SoundCells}
+use Rattle.txs_tree_meaning.specs.Known.{known}
+use Rattle.txs_tree_meaning.specs.Transaction.{validated}
 use Rattle.txs_tree_meaning.specs.Tree.{PlainFunction}
-use Rattle.txs_code_meaning.specs.ActorState.{ActorState}
-use Rattle.txs_code_meaning.specs.Machine.{ThreadCode, agent_code, Configuration, to_stack, to_validation, answered, called, Turned, Unfinished, and_then, raise, exec, Library, Outside}
-use Rattle.txs_theorem_threads.specs.FollowsAgent.{FollowsAgents}
+use Rattle.txs_code_meaning.specs.ActorState.{ActorState, InHand}
+use Rattle.txs_code_meaning.specs.Machine.{Library, Outcome, Ended, Failed, Asking, Unfinished, Stuck}
+use Rattle.txs_theorem_threads.specs.Behaves.{IsMeant, HasEnded, IsOver}
+use Rattle.txs_theorem_threads.specs.FollowsAgent.{SoundAction, FollowsAgents, IsBetween, action_target, taken_at}
+use Rattle.txs_theorem_threads.specs.OnReplies.{on_replies}
 
--- in an agent's own body, at this place and with this stack, while the action is run
-abbrev pub acting : CellId → Action → ℕ → List Value → ActorState → Configuration
-acting g a place stack s =
-    record { body = 0; place = place; stack = stack; locals = []; frames = []; doing = Outside; state = record s { acting = Some (record { agent = g; action = a; sends = [] }) } }
+-- a callee applied on replies, outside every transaction
+abbrev pub applies_on : List CellDefinition → List PlainFunction → ℕ → Action → Applies ActorState
+applies_on cells functions n a = apply (call_at (λ d. on_replies (validators_of cells)) n functions (length functions) false) a.span
 
--- from here turns come to this, and the machine continues from there for any number of turns
-abbrev pub ComesTo : ThreadCode → Configuration → Turned Configuration → Type 0
-ComesTo code c t = (k : ℕ) → (j : ℕ) × (k ≤ j) × (exec code j c ≡ and_then t (exec code k))
+-- the action from this state on these exchanges, where each loop makes at most n turns
+abbrev pub action_source : List CellDefinition → List PlainFunction → CellId → Action → Value → ActorState → ℕ → List Exchange → Completion ActorState Value
+action_source cells functions g a v s n todo =
+    bind (applies_on cells functions n a a.callee (v ∷ a.args) (taken_at g a v s todo).state)
+    (λ w s1. validated (applies_on cells functions n a) (validator_at (validators_of cells) a.agent.number) a.span w s1)
 
--- What a call comes to where a pure function means this: its caller continues with the value; the fault is raised where the call was
--- made; where loops of n turns don't suffice, n turns of the machine don't. Nothing has changed of the actor's state.
-abbrev pub CallComes : ThreadCode → ℕ → Configuration → (Value → Configuration) → Completion (Unit {0}) Value → Type 0
-CallComes code n c back (Completes v u) = ComesTo code c (Unfinished (back v))
-CallComes code n c back (Recurs vs u) = Unit {0}
-CallComes code n c back (Faults f u) = ComesTo code c (raise c.doing f c.state)
-CallComes code n c back (Retries u) = Unit {0}
-CallComes code n c back (Waits u) = Unit {0}
-CallComes code n c back (OutOfTurns u) = (j : ℕ) × (n ≤ j) × (exec code j c ≡ Unfinished c.state)
-CallComes code n c back Invalid = Unit {0}
+-- the sends that an action holds
+abbrev pub handed : Option InHand → List Action
+handed None = []
+handed (Some h) = h.sends
 
--- Each call of a pure function that an action makes comes to what the function means; and so does each that the agent's validator makes on
--- what the action came to, which then is still at the top.
-pub record ActionsBehave (code : Library) (functions : List PlainFunction) : Type 0 where
-  pub calls : (g : CellId) (a : Action) (f n : ℕ) (vs : List Value) (s : ActorState) → is_pure (nth (known functions) f) ≡ true →
-      CallComes (agent_code code g) n (called (agent_code code g) f vs to_stack 2 [] (acting g a 1 [] s)) (λ v. acting g a 2 (v ∷ []) s) (pure_calls n functions (length functions) false f vs tt)
-  pub validators : (g : CellId) (a : Action) (f n : ℕ) (w : Value) (s : ActorState) → is_pure (nth (known functions) f) ≡ true →
-      CallComes (agent_code code g) n (called (agent_code code g) f (w ∷ []) to_validation 2 (w ∷ []) (acting g a 2 (w ∷ []) s)) (λ v. acting g a 2 (w ∷ []) (answered v s)) (pure_calls n functions (length functions) false f (w ∷ []) tt)
+-- the next exchange, if there is one, doesn't answer this
+abbrev pub IsUnanswered : Ask → List Exchange → Type 0
+IsUnanswered q [] = Unit {0}
+IsUnanswered q (x ∷ xs) = same_ask q x.ask ≡ false
 
--- the validators of sound cells: each that is there is pure, and takes one value
-abbrev pub SoundValidators : List PlainFunction → Validators → Type 0
-SoundValidators functions [] = Unit {0}
-SoundValidators functions (o ∷ vs) = SoundValidator (known functions) o × SoundValidators functions vs
+-- this is asked, these exchanges are left, and this was printed
+abbrev pub AsksWith : Ask → List Exchange → List ℕ → Outcome → Type 0
+AsksWith q left out (Ended s) = ⊥
+AsksWith q left out (Failed f s) = ⊥
+AsksWith q left out (Asking s) = (s.todo ≡ left) × (s.wants ≡ Some q) × (s.printed ≡ out)
+AsksWith q left out (Unfinished s) = ⊥
+AsksWith q left out Stuck = ⊥
 
--- code of sound functions that behaves so follows the actions of each agent
+-- Where the machine has come to, by how the action's tree ends: a value is handed in with the sends that are held, a fault without any. What
+-- comes after that is answered isn't said here.
+abbrev pub EndsAs : CellId → Completion ActorState Value → Outcome → Type 0
+EndsAs g (Completes v s) o = IsUnanswered (Finish g (Ok v) (handed s.acting)) s.todo → AsksWith (Finish g (Ok v) (handed s.acting)) s.todo s.printed o
+EndsAs g (Recurs vs s) o = o ≡ Stuck
+EndsAs g (Faults f s) o = IsUnanswered (Finish g (Err f) []) s.todo → AsksWith (Finish g (Err f) []) s.todo s.printed o
+EndsAs g (Retries s) o = o ≡ Stuck
+EndsAs g (Waits s) o = o ≡ Asking s
+EndsAs g (OutOfTurns s) o = o ≡ Unfinished s
+EndsAs g Invalid o = o ≡ Stuck
+
+-- the code does what the action does, and nothing else, from any state between two actions
+pub record ActionBehaves (code : Library) (cells : List CellDefinition) (functions : List PlainFunction) (g : CellId) (a : Action) : Type 0 where
+  pub follows : (v : Value) (s : ActorState) (todo : List Exchange) (n : ℕ) → IsBetween s → HasEnded (action_source cells functions g a v s n todo) → (m : ℕ) × EndsAs g (action_source cells functions g a v s n todo) (action_target code g a v s m todo)
+  pub goes_on : (v : Value) (s : ActorState) (todo : List Exchange) (n : ℕ) (s1 : ActorState) → IsBetween s → action_source cells functions g a v s n todo ≡ OutOfTurns s1 → (m : ℕ) × (n ≤ m) × (action_target code g a v s m todo ≡ Unfinished s1)
+  pub only : (v : Value) (s : ActorState) (todo : List Exchange) (m : ℕ) → IsBetween s → IsOver (action_target code g a v s m todo) → IsMeant (action_source cells functions g a v s m todo) → EndsAs g (action_source cells functions g a v s m todo) (action_target code g a v s m todo)
+
+-- code of sound functions and cells that behaves so follows the actions of each agent
 abbrev pub SoundFollowsAgents : Type 0
-SoundFollowsAgents = (code : Library) (functions : List PlainFunction) → SoundFunctions [] functions → SoundValidators functions code.validators → ActionsBehave code functions → FollowsAgents code functions
+SoundFollowsAgents =
+    (code : Library) (cells : List CellDefinition) (functions : List PlainFunction) → SoundFunctions [] functions → SoundCells (known functions) cells → code.validators ≡ validators_of cells
+    → ((g : CellId) (a : Action) → a.agent ≡ g → SoundAction functions a → ActionBehaves code cells functions g a) → FollowsAgents code cells functions

@@ -26,7 +26,7 @@ pub record Follows (code : ThreadCode) (p : ThreadSource) : Type 0 where
   -- after any number of turns, on exchanges that fit the events, the thread eats the events with what was printed
   pub explained : (todo : List Exchange) (es : List SeenEvent) (m : ℕ) → RepliesFit p.cells Out todo es → Consumed (target code m todo) → Explained (target code m todo) (thread_meaning p m es)
   -- and its transactions are those of the commits among the exchanges, each of which has its transaction's own work
-  pub noted : (todo : List Exchange) (es : List SeenEvent) (m : ℕ) → RepliesFit p.cells Out todo es → Consumed (target code m todo) → AreNoted todo (txs_of (thread_meaning p m es))
+  pub noted : (todo : List Exchange) (es : List SeenEvent) (m : ℕ) → RepliesFit p.cells Out todo es → Consumed (target code m todo) → AreNoted None todo (txs_of (thread_meaning p m es))
   -- where the tree on these replies ends for some bound on its loops, the code ends so, and the thread with any greater bound agrees
   pub reaches : (todo : List Exchange) (es : List SeenEvent) (n k : ℕ) → RepliesFit p.cells Out todo es → HasEnded (source p n todo) → n ≤ k → ((m : ℕ) × (target code m todo ≡ outcome_of (source p n todo))) × Agrees p.cells (source p n todo) (thread_meaning p k es)
   -- where the tree on these replies needs more turns of a loop than the bound, the code continues and has, after as many turns or more, printed all that the tree printed

@@ -1,108 +1,99 @@
 -- What it is that the code of functions follows the actions that agents run.
-use Rattle.std.specs.Prelude.{◌≡◌, ◌≤◌, ℕ, suc, false, List, [], ◌∷◌, ◌++◌, length, Option, Some, None, Result, Ok, Err}
+use Rattle.std.specs.Prelude.{◌≡◌, ◌≤◌, ℕ, suc, List, [], ◌∷◌, ◌++◌, length, Option, Some, None, Result, Ok, Err}
 use Rattle.txs_world_protocol.specs.Ask.{Exchange}
+use Rattle.txs_world_protocol.specs.SeenEvent.{SeenEvent}
 use Rattle.txs_world_protocol.specs.declared.ask.Ask.{Ask}
-use Rattle.txs_world_protocol.specs.declared.ask.Ask.TheVariants.{Take, Finish}
-use Rattle.txs_world_protocol.specs.declared.ask.Reply.{Reply}
-use Rattle.txs_world_protocol.specs.declared.ask.Reply.TheVariants as reply
+use Rattle.txs_world_protocol.specs.declared.ask.Ask.TheVariants.{Finish}
+use Rattle.txs_value_cell.specs.Cells.{World, validators_of}
 use Rattle.txs_value_cell.specs.declared.action.Action.{Action}
+use Rattle.txs_value_cell.specs.declared.cell.CellDefinition.{CellDefinition}
 use Rattle.txs_value_base.specs.declared.fault.Fault.{Fault}
 use Rattle.txs_value_data.specs.declared.value.CellId.{CellId}
 use Rattle.txs_value_data.specs.declared.value.Value.{Value}
 use Rattle.txs_tree_meaning.specs.Known.{known}
-use Rattle.txs_tree_meaning.specs.Meaning.{Completion, Completes, Recurs, Faults, Retries, Waits, OutOfTurns, Invalid, apply, bind, Applies}
-use Rattle.txs_tree_meaning.specs.Pure.{pure_calls}
-use Rattle.txs_tree_meaning.specs.Sound.{SoundCallee}
+use Rattle.txs_tree_meaning.specs.Meaning.{Completion, Completes, Faults}
+use Rattle.txs_tree_meaning.specs.Sound.{SoundSent}
+use Rattle.txs_tree_meaning.specs.Thread.{ThreadState, action_meaning}
 use Rattle.txs_tree_meaning.specs.Tree.{PlainFunction}
-use Rattle.txs_code_meaning.specs.Machine.{Outcome, Ended, Failed, Asking, Unfinished, Stuck, Library}
-use Rattle.txs_code_meaning.specs.Opening.{agent_target}
-use Rattle.txs_tree_meaning.specs.Transaction.{validated}
-use Rattle.txs_value_cell.specs.Cells.{Validators, validator_at}
+use Rattle.txs_code_meaning.specs.ActorState.{ActorState}
+use Rattle.txs_code_meaning.specs.Machine.{Library, agent_code, Outside, Configuration, Outcome, Ended, Failed, Asking, Unfinished, Stuck, exec}
+use Rattle.txs_theorem_threads.specs.EndsSo.{NeedsTurns, HasSettled, in_hand}
+use Rattle.txs_theorem_threads.specs.Noted.{AreNoted, txs_of}
+use Rattle.txs_theorem_threads.specs.PrintsSo.{HasPrintedSo}
+use Rattle.txs_theorem_threads.specs.RepliesFit.{Phase, Out, HasWaited, HasEaten, HasEatenAll, halted, Consumed}
+use Rattle.txs_theorem_threads.specs.RepliesFitTo.{RepliesFitTo}
 
--- what pure code came to, as an action's result; there is none yet where turns don't suffice
-abbrev pub new_of : Completion (Unit {0}) Value → Option (Result Value Fault)
-new_of (Completes v s) = Some (Ok v)
-new_of (Recurs vs s) = None
-new_of (Faults f s) = Some (Err f)
-new_of (Retries s) = None
-new_of (Waits s) = None
-new_of (OutOfTurns s) = None
-new_of Invalid = None
-
--- a callee applied, where an operation faults at the send of this action
-abbrev pub applies_at : ℕ → List PlainFunction → Action → Applies (Unit {0})
-applies_at n functions a = apply (pure_calls n functions (length functions) false) a.span
-
--- The agent's new state by an action: its callee on the state and the arguments (Clojure's docstring of `send`), where the agent's
--- validator accepts what that gives, and each loop makes at most n turns. What is refused, and an operation that faults, do so where the
--- send stands.
-abbrev pub new_state : ℕ → List PlainFunction → Validators → Action → Value → Completion (Unit {0}) Value
-new_state n functions vs a v = bind (applies_at n functions a a.callee (v ∷ a.args) tt) (λ w s. validated (applies_at n functions a) (validator_at vs a.agent.number) a.span w s)
-
--- the action's meaning: that state, or a fault
-abbrev pub action_meaning : ℕ → List PlainFunction → Validators → Action → Value → Option (Result Value Fault)
-action_meaning n functions vs a v = new_of (new_state n functions vs a v)
-
--- an action that a program may send: its callee is pure, and takes the agent's state and the arguments
+-- an action that a program may send: its callee isn't for transactions alone, and takes the agent's state and the arguments
 abbrev pub SoundAction : List PlainFunction → Action → Type 0
-SoundAction functions a = SoundCallee (known functions) a.callee (suc (length a.args))
+SoundAction functions a = SoundSent (known functions) a.callee (suc (length a.args))
 
--- the reply to a take hands out such an action
-abbrev pub HandsOut : List PlainFunction → Reply → Type 0
-HandsOut functions (reply.Action number a v) = SoundAction functions a
-HandsOut functions _ = ⊥
+-- an actor's state between two actions: it runs none, and no answer of a validator waits
+abbrev pub IsBetween : ActorState → Type 0
+IsBetween s = (s.acting ≡ None) × (s.accepted ≡ None)
 
--- finished actions, as an agent was answered
-abbrev pub AgentFits : List PlainFunction → CellId → List Exchange → Type 0
-AgentFits functions g [] = Unit {0}
-AgentFits functions g (x ∷ []) = ⊥
-AgentFits functions g (x ∷ y ∷ xs) =
-    (x.ask ≡ Take g) × HandsOut functions x.reply × (new : Result Value Fault) × (y.ask ≡ Finish g new []) × (y.reply ≡ reply.Done) × AgentFits functions g xs
+-- where an agent in this state is once it has taken an action on this value, with these exchanges to come
+abbrev pub taken_at : CellId → Action → Value → ActorState → List Exchange → Configuration
+taken_at g a v s todo =
+    record {
+      body = 0;
+      place = 1;
+      stack = v ∷ [];
+      locals = [];
+      frames = [];
+      doing = Outside;
+      state = record s { todo = todo; acting = Some (record { agent = g; action = a; sends = []; fault = None }) };
+    }
 
--- what an agent was answered: that it took actions and finished them, one after another, and maybe that it took one more, which it runs
-abbrev pub AgentTold : List PlainFunction → CellId → List Exchange → Type 0
-AgentTold functions g [] = Unit {0}
-AgentTold functions g (x ∷ []) = (x.ask ≡ Take g) × HandsOut functions x.reply
-AgentTold functions g (x ∷ y ∷ xs) =
-    (x.ask ≡ Take g) × HandsOut functions x.reply × (new : Result Value Fault) × (y.ask ≡ Finish g new []) × (y.reply ≡ reply.Done) × AgentTold functions g xs
+-- an agent that runs this action from there, after at most m turns
+abbrev pub action_target : Library → CellId → Action → Value → ActorState → ℕ → List Exchange → Outcome
+action_target code g a v s m todo = exec (agent_code code g) m (taken_at g a v s todo)
 
--- an action that the agent took
-abbrev pub taking : CellId → ℕ → Action → Value → Exchange
-taking g number a v = record { ask = Take g; reply = reply.Action number a v }
+-- What is handed in, with what was printed, is what the action means: a value with the sends that it holds, or a fault, which drops them; and
+-- all events are eaten.
+abbrev pub IsHandedIn : Result Value Fault → List Action → List ℕ → Completion ThreadState Value → Type 0
+IsHandedIn (Ok v) sends out r = (t : ThreadState) × (r ≡ Completes v t) × (t.todo ≡ []) × (t.printed ≡ out) × (t.held ≡ Some sends)
+IsHandedIn (Err f) sends out r = (t : ThreadState) × (r ≡ Faults f t) × (t.todo ≡ []) × (t.printed ≡ out) × (sends ≡ [])
 
--- the machine has consumed all exchanges and asks this
-abbrev pub AsksNext : Ask → Outcome → Type 0
-AsksNext a (Ended s) = ⊥
-AsksNext a (Failed f s) = ⊥
-AsksNext a (Asking s) = (s.todo ≡ []) × (s.wants ≡ Some a)
-AsksNext a (Unfinished s) = ⊥
-AsksNext a Stuck = ⊥
+-- what an action means that has to ask this: where it is handed in, that; else it needs an event, and has eaten all
+abbrev pub MeansAsked : CellId → Option Ask → List ℕ → Completion ThreadState Value → Type 0
+MeansAsked g None out r = ⊥
+MeansAsked g (Some (Finish h new sends)) out r = (h ≡ g) × IsHandedIn new sends out r
+MeansAsked g (Some q) out r = HasWaited out (halted r)
 
--- the machine has consumed all exchanges and continues
-abbrev pub IsRunning : Outcome → Type 0
-IsRunning (Ended s) = ⊥
-IsRunning (Failed f s) = ⊥
-IsRunning (Asking s) = ⊥
-IsRunning (Unfinished s) = s.todo ≡ []
-IsRunning Stuck = ⊥
+-- these bytes were printed behind those
+abbrev pub PrintedBehind : List ℕ → List ℕ → (List ℕ → Type 0) → Type 0
+PrintedBehind before whole P = (out : List ℕ) × (whole ≡ before ++ out) × P out
 
--- the machine continues, or asks, and has printed nothing
-abbrev pub GoesOn : Outcome → Type 0
-GoesOn (Ended s) = ⊥
-GoesOn (Failed f s) = ⊥
-GoesOn (Asking s) = s.printed ≡ []
-GoesOn (Unfinished s) = s.printed ≡ []
-GoesOn Stuck = ⊥
+-- what an action means, where the machine is so far and has consumed all exchanges; these bytes were printed before the action
+abbrev pub ActionExplained : CellId → List ℕ → Outcome → Completion ThreadState Value → Type 0
+ActionExplained g before (Ended s) r = ⊥
+ActionExplained g before (Failed f s) r = ⊥
+ActionExplained g before (Asking s) r = PrintedBehind before s.printed (λ out. MeansAsked g s.wants out r)
+ActionExplained g before (Unfinished s) r = PrintedBehind before s.printed (λ out. (rest : List ℕ) × HasEatenAll (out ++ rest) r)
+ActionExplained g before Stuck r = ⊥
 
--- The agent's code follows the program: of an action that it took it hands in the action's meaning and nothing else, and it does so
--- where that meaning is there for some bound on loops; where the bound doesn't suffice, it is still running the action after as many turns
--- or more; and it never ends and prints nothing, since actions are pure.
-pub record FollowsAgent (code : Library) (functions : List PlainFunction) (g : CellId) : Type 0 where
-  pub only : (done : List Exchange) (number m : ℕ) (a : Action) (v : Value) (new : Result Value Fault) → AgentFits functions g done → SoundAction functions a → AsksNext (Finish g new []) (agent_target code g m (done ++ taking g number a v ∷ [])) → (n : ℕ) × (action_meaning n functions code.validators a v ≡ Some new)
-  pub ends_so : (done : List Exchange) (number m n : ℕ) (a : Action) (v : Value) (new : Result Value Fault) → AgentFits functions g done → SoundAction functions a → AsksNext (Take g) (agent_target code g m done) → action_meaning n functions code.validators a v ≡ Some new → (j : ℕ) × AsksNext (Finish g new []) (agent_target code g j (done ++ taking g number a v ∷ []))
-  pub runs_on : (done : List Exchange) (number m n : ℕ) (a : Action) (v : Value) → AgentFits functions g done → SoundAction functions a → AsksNext (Take g) (agent_target code g m done) → action_meaning n functions code.validators a v ≡ None → (j : ℕ) × (n ≤ j) × IsRunning (agent_target code g j (done ++ taking g number a v ∷ []))
-  pub goes_on : (told : List Exchange) (m : ℕ) → AgentTold functions g told → GoesOn (agent_target code g m told)
+-- the machine asks
+abbrev pub IsAsking : Outcome → Type 0
+IsAsking (Ended s) = ⊥
+IsAsking (Failed f s) = ⊥
+IsAsking (Asking s) = Unit {0}
+IsAsking (Unfinished s) = ⊥
+IsAsking Stuck = ⊥
 
--- the code of these functions follows the actions of each agent
-abbrev pub FollowsAgents : Library → List PlainFunction → Type 0
-FollowsAgents code functions = (g : CellId) → FollowsAgent code functions g
+-- The code follows an action, from any state between two actions, on all replies that fit its events up to some phase: those that came since the
+-- action was taken, before it is handed in.
+pub record FollowsAction (code : Library) (cells : List CellDefinition) (functions : List PlainFunction) (g : CellId) (a : Action) : Type 0 where
+  -- after any number of turns the action eats the events with what was printed; what is handed in is what it means
+  pub explained : (v : Value) (s : ActorState) (todo : List Exchange) (es : List SeenEvent) (end : Phase) (m : ℕ) → IsBetween s → RepliesFitTo cells Out todo es end → Consumed (action_target code g a v s m todo) → ActionExplained g s.printed (action_target code g a v s m todo) (action_meaning cells functions m a v es)
+  -- and its transactions are those of the commits among the exchanges, whose sends it holds
+  pub noted : (v : Value) (s : ActorState) (todo : List Exchange) (es : List SeenEvent) (end : Phase) (m : ℕ) → IsBetween s → RepliesFitTo cells Out todo es end → Consumed (action_target code g a v s m todo) → AreNoted (Some []) todo (txs_of (action_meaning cells functions m a v es))
+  -- where the action's meaning needs an event or more turns, the code prints all that the meaning printed
+  pub prints_so : (v : Value) (s : ActorState) (todo : List Exchange) (es : List SeenEvent) (end : Phase) (m n : ℕ) (out : List ℕ) → IsBetween s → RepliesFitTo cells Out todo es end → Consumed (action_target code g a v s m todo) → m ≤ n → HasEaten out (halted (action_meaning cells functions n a v es)) → (j : ℕ) × (n ≤ j) × HasPrintedSo (s.printed ++ out) (action_target code g a v s j todo)
+  -- where the action's meaning is there for some bound on its loops, or needs an event, the code comes to hand it in, or to ask; unless what
+  -- runs needs turns for every bound
+  pub ends_so : (v : Value) (s : ActorState) (todo : List Exchange) (es : List SeenEvent) (end : Phase) (Q : World) (m n k : ℕ) → IsBetween s → RepliesFitTo cells Out todo es end → Consumed (action_target code g a v s m todo) → HasSettled (action_meaning cells functions n a v es) → (NeedsTurns (action_meaning cells functions k a v (es ++ in_hand cells Q end)) → ⊥) → (j : ℕ) × IsAsking (action_target code g a v s j todo) × ActionExplained g s.printed (action_target code g a v s j todo) (action_meaning cells functions n a v es)
+
+-- the code follows each action that a program may send, of each agent
+pub record FollowsAgents (code : Library) (cells : List CellDefinition) (functions : List PlainFunction) : Type 0 where
+  pub validators : code.validators ≡ validators_of cells
+  pub actions : (g : CellId) (a : Action) → a.agent ≡ g → SoundAction functions a → FollowsAction code cells functions g a

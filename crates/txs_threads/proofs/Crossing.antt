@@ -180,7 +180,7 @@ pub transaction_send : IsSend transaction_is.the_row
 transaction_send = recorded_send (transaction_is.the_field).row _ _ (transaction_is.the_type).to_one transaction_field_send
 
 pub pending_field_send : IsSend (pending_is.the_field).row
-pending_field_send = enum_send (E.shape pending_is.the_type) (((search (plain_send, crosses, sendable) depth 60 fits 20000), ((search (origin_field_send, crosses, sendable) depth 60 fits 20000), tt)), ((cell_id_sent.the_field_send, tt), ((cell_id_sent.the_field_send, ((search (listed.the_send, cell_id_sent.the_send, crosses, sendable) depth 60 fits 20000), tt)), ((cell_id_sent.the_field_send, ((search (plain_send, crosses, sendable) depth 60 fits 20000), ((search (commute_send, option.the_field_send, crosses, sendable) depth 60 fits 20000), tt))), (((search (phase_send, crosses, sendable) depth 60 fits 20000), tt), ((cell_id_sent.the_field_send, (value_field_send, tt)), ((action_field_send, ((search (plain_send, crosses, sendable) depth 60 fits 20000), tt)), ((cell_id_sent.the_field_send, ((search (plain_send, crosses, sendable) depth 60 fits 20000), ((search (origin_field_send, crosses, sendable) depth 60 fits 20000), tt))), ((cell_id_sent.the_field_send, ((search (plain_send, crosses, sendable) depth 60 fits 20000), (value_field_send, tt))), (tt, (((search (fault_sent.the_field_send, crosses, sendable) depth 60 fits 20000), tt), ((cell_id_sent.the_field_send, ((search (plain_send, crosses, sendable) depth 60 fits 20000), ((search (fault_sent.the_field_send, crosses, sendable) depth 60 fits 20000), tt))), ((cell_id_sent.the_field_send, tt), ((cell_id_sent.the_field_send, ((search (value_send, fault_sent.the_send, crosses, sendable) depth 60 fits 20000), tt)), tt))))))))))))))
+pending_field_send = enum_send (E.shape pending_is.the_type) (((search (plain_send, crosses, sendable) depth 60 fits 20000), ((search (origin_field_send, crosses, sendable) depth 60 fits 20000), tt)), ((cell_id_sent.the_field_send, tt), ((cell_id_sent.the_field_send, ((search (listed.the_send, cell_id_sent.the_send, crosses, sendable) depth 60 fits 20000), tt)), ((cell_id_sent.the_field_send, ((search (plain_send, crosses, sendable) depth 60 fits 20000), ((search (commute_send, option.the_field_send, crosses, sendable) depth 60 fits 20000), tt))), (((search (phase_send, crosses, sendable) depth 60 fits 20000), tt), ((cell_id_sent.the_field_send, (value_field_send, tt)), ((action_field_send, ((search (plain_send, crosses, sendable) depth 60 fits 20000), tt)), ((cell_id_sent.the_field_send, ((search (plain_send, crosses, sendable) depth 60 fits 20000), ((search (origin_field_send, crosses, sendable) depth 60 fits 20000), tt))), ((cell_id_sent.the_field_send, ((search (plain_send, crosses, sendable) depth 60 fits 20000), (value_field_send, tt))), (tt, (((search (action_send, listed.the_send, crosses, sendable) depth 60 fits 20000), tt), (((search (fault_sent.the_field_send, crosses, sendable) depth 60 fits 20000), tt), ((cell_id_sent.the_field_send, ((search (plain_send, crosses, sendable) depth 60 fits 20000), ((search (fault_sent.the_field_send, crosses, sendable) depth 60 fits 20000), tt))), ((cell_id_sent.the_field_send, tt), ((cell_id_sent.the_field_send, ((search (value_send, action_send, listed.the_send, fault_sent.the_send, crosses, sendable) depth 60 fits 20000), tt)), tt)))))))))))))))
 
 pub pending_send : IsSend pending_is.the_row
 pending_send = recorded_send (pending_is.the_field).row _ _ (pending_is.the_type).to_one pending_field_send
@@ -192,7 +192,7 @@ pub kept_pending_send : IsSend kept_pending_is.the_row
 kept_pending_send = view_send kept_pending_in.the_row _ _ _ _ (recorded_send (kept_pending_in.the_field).row _ _ (kept_pending_in.the_type).to_one (struct_send (S.shape kept_pending_in.the_type) ((search (global.the_field_send, crosses, sendable) depth 60 fits 20000), ((search (wanted_sent.the_field_send, crosses, sendable) depth 60 fits 20000), ((search (origin_field_send, crosses, sendable) depth 60 fits 20000), ((search (pending_send, option.the_field_send, crosses, sendable) depth 60 fits 20000), tt))))))
 
 pub in_hand_send : IsSend in_hand_is.the_row
-in_hand_send = view_send in_hand_in.the_row _ _ _ _ (recorded_send (in_hand_in.the_field).row _ _ (in_hand_in.the_type).to_one (struct_send (S.shape in_hand_in.the_type) (cell_id_sent.the_field_send, (action_field_send, ((search (action_send, vec.the_send, crosses, sendable) depth 60 fits 20000), tt)))))
+in_hand_send = view_send in_hand_in.the_row _ _ _ _ (recorded_send (in_hand_in.the_field).row _ _ (in_hand_in.the_type).to_one (struct_send (S.shape in_hand_in.the_type) (cell_id_sent.the_field_send, (action_field_send, ((search (action_send, vec.the_send, crosses, sendable) depth 60 fits 20000), ((search (fault_sent.the_send, option.the_field_send, crosses, sendable) depth 60 fits 20000), tt))))))
 
 pub role_field_send : IsSend (role_is.the_field).row
 role_field_send = enum_send (E.shape role_is.the_type) (tt, ((cell_id_sent.the_field_send, ((search (in_hand_send, option.the_field_send, crosses, sendable) depth 60 fits 20000), tt)), (((search (in_hand_send, crosses, sendable) depth 60 fits 20000), ((search (plain_send, crosses, sendable) depth 60 fits 20000), ((search (stack_send, crosses, sendable) depth 60 fits 20000), tt))), tt)))

@@ -19,8 +19,8 @@ const LOOKS: u32 = 200;
 /// The atoms of a run.
 #[derive(Drop)]
 pub struct Atoms {
-    /// How many threads there are, whose actors alone ask atoms.
-    threads: u16,
+    /// How many actors there are.
+    actors: usize,
     /// Of each cell the index of its lock; of one that is no atom a number behind all of them.
     indexes: Vec<usize>,
     /// The atoms, in the order of their cells.
@@ -29,14 +29,14 @@ pub struct Atoms {
 
 /// Serves an ask from one atom, if the actor may ask it there: one event of its book, or one answer without an event. Else, and only then, it is refused, and all
 /// is left as it is.
-fn serve_locked(atom: &mut AtomBook, threads: u16, actor: u16, ask: Ask) -> Option<Served>
+fn serve_locked(atom: &mut AtomBook, actors: usize, actor: u16, ask: Ask) -> Option<Served>
     ensures served { IfSome result (λ v. AtomAnswers atom.old (serve_atom atom.old.cell atom.old.opening actor ask atom.old.book) v.reply atom.new) }
-    ensures lawful { (result ≡ None → may_ask_atom threads actor ask atom.old ≡ false) × (may_ask_atom threads actor ask atom.old ≡ false → result ≡ None) }
+    ensures lawful { (result ≡ None → may_ask_atom actors actor ask atom.old ≡ false) × (may_ask_atom actors actor ask atom.old ≡ false → result ≡ None) }
     ensures index { IfSome result (λ v. v.at ≡ length atom.old.book) }
     ensures refused { result ≡ None → atom.new ≡ atom.old }
 {
     let at = count(atom.events());
-    match serve_alone(atom, threads, actor, ask) {
+    match serve_alone(atom, actors, actor, ask) {
         Some(reply) => Some(Served { reply, at }),
         None => None,
     }
@@ -63,14 +63,14 @@ fn no_indexes(alloc: Global, cells: usize) -> Result<Vec<usize>, AllocError> {
 }
 
 impl Atoms {
-    /// Puts each of these atoms, which are among so many cells, under a lock.
+    /// Puts each of these atoms, which are among so many cells, under a lock, for so many actors.
     ///
     /// # Errors
     /// `AllocError` where there was no memory for the locks.
     pub fn open(
         alloc: Global,
         cells: usize,
-        threads: u16,
+        actors: usize,
         books: Vec<AtomBook>,
     ) -> Result<Atoms, AllocError> {
         let mut indexes = no_indexes(alloc, cells)?;
@@ -83,7 +83,7 @@ impl Atoms {
             let _ = locks.push(Mutex::new(book));
         }
         Ok(Atoms {
-            threads,
+            actors,
             indexes,
             locks,
         })
@@ -102,7 +102,7 @@ impl Atoms {
             return None;
         }
         let mut atom = lock_atom(rt, &self.locks[index]);
-        serve_locked(&mut atom, self.threads, actor, ask)
+        serve_locked(&mut atom, self.actors, actor, ask)
     }
 
     /// The atoms with their books, in the order of their cells.
@@ -111,7 +111,7 @@ impl Atoms {
     /// `AllocError` where there was no memory for the list.
     pub fn into_books(self, alloc: Global) -> Result<Vec<AtomBook>, AllocError> {
         let Atoms {
-            threads: _,
+            actors: _,
             indexes,
             locks,
         } = self;

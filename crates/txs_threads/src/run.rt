@@ -322,7 +322,8 @@ fn run_actors<R: Threads + Wait + Sync, G: Gate>(
     let shared = SharedState::open(alloc, code.code().cells(), threads)?;
     let (store, books) = shared.into_parts();
     let cells = code.code().cells().len();
-    let atoms = match Atoms::open(alloc, cells, threads, books) {
+    let many = store.actors();
+    let atoms = match Atoms::open(alloc, cells, many, books) {
         Ok(atoms) => atoms,
         Err(_) => {
             drop(store);

@@ -176,7 +176,7 @@ fn wake_by<P: Runnable>(actors: &mut Actors<P>, events: &[Event], at: usize) -> 
     }
     match &events[at].kind {
         EventKind::Send { action } => actors.wake(usize::from(action.agent.number)),
-        EventKind::Commit { sends, .. } => {
+        EventKind::Commit { sends, .. } | EventKind::Act { sends, .. } => {
             let mut woke = false;
             for action in sends.as_slice() {
                 woke |= actors.wake(usize::from(action.agent.number));

@@ -1,5 +1,5 @@
 -- Where what actors kept agrees with the books by place, the report says what they did, and each program that the code follows explains it.
-use Rattle.std.proofs.Common.{◌≡◌, ◌+◌, ◌<◌, ◌≤◌, ℕ, zero, suc, Bool, true, false, ◌==◌, nat_lt, List, [], ◌∷◌, ◌++◌, length, map, take, drop, Option, Some, None, Result, refl, sym, ap, subst, ◌∙◌, arith, if◌then◌else◌, ◌⊎◌, inl, inr}
+use Rattle.std.proofs.Common.{◌≡◌, ◌+◌, ◌<◌, ◌≤◌, ℕ, zero, suc, Bool, true, false, not, ◌==◌, nat_lt, List, [], ◌∷◌, ◌++◌, length, map, take, drop, Option, Some, None, refl, sym, ap, subst, ◌∙◌, arith, if◌then◌else◌}
 use Rattle.std.proofs.lemmas.Bool.{false≢true}
 use Rattle.txs_world_protocol.specs.declared.ask.Ask.{Ask}
 use Rattle.txs_world_protocol.specs.declared.ask.Ask.TheVariants as ask
@@ -8,14 +8,11 @@ use Rattle.txs_world_protocol.specs.declared.event.Event.{Event}
 use Rattle.txs_world_protocol.specs.declared.event.Outcome.TheVariants.{JournalFull}
 use Rattle.txs_value_data.proofs.SameLemmas.{numbers}
 use Rattle.txs_value_data.specs.declared.value.CellId.{CellId}
-use Rattle.txs_value_data.specs.declared.value.Value.{Value}
 use Rattle.txs_value_base.specs.Places.{nth}
-use Rattle.txs_value_base.specs.declared.fault.Fault.{Fault}
 use Rattle.txs_value_cell.specs.declared.cell.CellDefinition.{CellDefinition}
 use Rattle.txs_code_meaning.specs.Machine.{ThreadCode, Configuration, Turned, Asking, Unfinished, run}
 use Rattle.txs_code_meaning.specs.Opening.{opening}
 use Rattle.txs_code_meaning.specs.PlainCode.{CodeBody, PlainCode, thread_code, function_codes, library_of}
-use Rattle.txs_theorem_threads.specs.FollowsAgent.{GoesOn}
 use Rattle.txs_machine_actor.specs.PlainActor.{PlainActor, HasRun, own_body, code_of}
 use Rattle.txs_value_cell.specs.Agents.{agents_from}
 use Rattle.txs_world_book.proofs.Outcomes.{both}
@@ -23,10 +20,11 @@ use Rattle.txs_world_book.specs.Book.{has_agent}
 use Rattle.txs_world_book.specs.Book as world
 use Rattle.txs_world_book.specs.Served.{cells_of}
 use Rattle.txs_world.specs.Laws.{DoneIsUndisturbed, RefusedIsUndisturbed}
-use Rattle.txs_theorem_runs.specs.Explains.{BooksStand, outcome_at}
+use Rattle.txs_theorem_runs.specs.Agents.{ActsInTurn, AgentsStaged, HasPrintedJust}
+use Rattle.txs_theorem_runs.specs.Explains.{BooksStand}
 use Rattle.txs_theorem_runs.specs.Goes.{GoesTo}
 use Rattle.txs_theorem_runs.specs.Invariant.{SharedStands}
-use Rattle.txs_theorem_runs.specs.Placed.{TakesInTurn, ActorPlaced, RunPlaced, PlacedReported}
+use Rattle.txs_theorem_runs.specs.Placed.{is_take, is_finish, finished_at, ComesInTurn, TakesInTurn, ActorPlaced, RunPlaced, PlacedReported}
 use Rattle.txs_theorem_runs.specs.Report.{RunsProgram, ReportExplained, CodesStaged}
 use Rattle.txs_theorem_runs.specs.Run.{Actor, State}
 use Rattle.txs_theorem_runs.specs.Shared.{book_for, may_ask}
@@ -35,7 +33,6 @@ use Rattle.txs_theorem_runs.specs.Told as told_by
 use Rattle.txs_theorem_runs.specs.Told.{Entry, exchange_of, EntryHolds, AllHold, AreStaged, TraceHolds, trace_of, served_at, places_by, before_entry}
 use Rattle.txs_value_cell.specs.Cells.{validators_of}
 use Rattle.txs_theorem_runs.proofs.Acting.{one_agent, no_thread}
-use Rattle.txs_theorem_runs.proofs.Adding.{sends_nothing}
 use Rattle.txs_theorem_runs.proofs.Going.{Came, starts, went}
 use Rattle.txs_theorem_runs.proofs.Growing.{differ}
 use Rattle.txs_theorem_runs.proofs.Refused.{all_refused}
@@ -51,13 +48,13 @@ use Rattle.txs_world_protocol.specs.declared.report.ActorReport.{ActorReport}
 use Rattle.txs_machine.proofs.Explaining.{Known, length_map, books_stand}
 use Rattle.txs_machine.proofs.Together.{agent_at, agent_acts}
 use Rattle.txs_threads_replay.specs.Adds.{adds_event, kept_trace}
-use Rattle.txs_threads_replay.specs.ByPlace.{changed_place, place_of, next_place, placed, in_turn, held_after, AreInTurn, HoldsByPlace, AreBelow}
+use Rattle.txs_threads_replay.specs.ByPlace.{changed_place, place_of, act_place, placed, is_agent, in_turn, held_after, AreInTurn, HoldsByPlace, AreBelow}
 use Rattle.txs_threads_gather.specs.ByPlace.{AllHoldByPlace, AgreesByPlace, ByPlaceExplains}
 use Rattle.txs_threads_gather.specs.Gather.{IsPlayer, ArePlayed, ArePlayers, IsMadeFor, IsReportOf, AreReportsOf, AllHaveDone, AllHaveAttended}
 use Rattle.txs_threads_gather.specs.Goes.{IsThere}
 use Rattle.txs_threads_gather.specs.Played.{PlainPlayed, WasStoppedAt, IsThreadOn, HasPlayed}
 use Rattle.txs_threads_replay.proofs.Adding.{entry_adds}
-use Rattle.txs_threads_gather.proofs.Gathering.{is_some, or_first, taken_at, dropped_at, of_code, full_over, report_at, there, thread_explained, silent_so, item_at, below_length, as_many_threads, as_many_agents}
+use Rattle.txs_threads_gather.proofs.Gathering.{is_some, or_first, taken_at, dropped_at, of_code, full_over, report_at, there, thread_explained, printed_so, as_many_threads, as_many_agents}
 
 -- ---- entries at their places
 
@@ -82,7 +79,7 @@ module _ (cells : List CellDefinition) (books : ℕ → List Event) where
   goes_placed code [] at there g = g
   goes_placed code (k ∷ ks) at there g = (g.0, g.1, g.2, g.3, goes_placed code ks _ there g.4)
 
-  staged_placed : (ks : List KeptEntry) (st end : Stage) → AreStaged st (map entry_of ks) end → AreStaged st (placed cells books ks) end
+  staged_placed : (ks : List KeptEntry) (st end : Stage) → AreStaged false st (map entry_of ks) end → AreStaged false st (placed cells books ks) end
   staged_placed [] st end h = h
   staged_placed (k ∷ ks) st end h = (h.0, staged_placed ks (stage_after st k.ask k.reply) end h.1)
 
@@ -145,7 +142,7 @@ module _ (cells : List CellDefinition) (books : ℕ → List Event) where
   trace_is_placed threads a (k ∷ ks) h = go (adds_event k.ask k.reply) refl (trace_is_placed threads a ks h.1)
     where
       own : ℕ
-      own = place_of cells books k.at (next_place (length (books 0)) ks) k.ask k.reply
+      own = place_of cells books k.at (act_place (length (books 0)) ks) k.ask k.reply
 
       grew : nat_lt own (length (served_at cells books a (record { ask = k.ask; reply = k.reply; at = own })).book) ≡ adds_event k.ask k.reply
       grew = entry_adds cells threads books a (record { ask = k.ask; reply = k.reply; at = own }) h.0
@@ -159,7 +156,7 @@ module _ (cells : List CellDefinition) (books : ℕ → List Event) where
       go true e rest =
           ap (λ t. if t then record { book = book_for cells k.ask; at = k.at } ∷ kept_trace cells ks else kept_trace cells ks) e
           ∙ ap (λ l. record { book = book_for cells k.ask; at = k.at } ∷ l) rest
-          ∙ ap (λ n. record { book = book_for cells k.ask; at = n } ∷ trace_of cells books a (placed cells books ks)) (sym (own_place k.at (next_place (length (books 0)) ks) k.ask k.reply e))
+          ∙ ap (λ n. record { book = book_for cells k.ask; at = n } ∷ trace_of cells books a (placed cells books ks)) (sym (own_place k.at (act_place (length (books 0)) ks) k.ask k.reply e))
           ∙ ap (λ t. if t then record { book = book_for cells k.ask; at = own } ∷ trace_of cells books a (placed cells books ks) else trace_of cells books a (placed cells books ks)) (sym (grew ∙ e))
       go false e rest =
           ap (λ t. if t then record { book = book_for cells k.ask; at = k.at } ∷ kept_trace cells ks else kept_trace cells ks) e
@@ -169,61 +166,89 @@ module _ (cells : List CellDefinition) (books : ℕ → List Event) where
   -- ---- agents
 
   module _ (threads : ℕ) (g : CellId) (has : has_agent (cells_of cells) g ≡ true) (a : ℕ) (is : a ≡ world.actor_of threads (cells_of cells) g) where
-    abbrev IsIts : Ask → Type 0
-    IsIts q = (q ≡ ask.Take g) ⊎ ((new : Result Value Fault) × (q ≡ ask.Finish g new []))
-
-    not_below : nat_lt a threads ≡ true → ⊥
-    not_below h = no_thread threads _ (subst (λ n. nat_lt n threads ≡ true) is h)
-
-    -- its actor asks nothing else
-    asks_its : (taken : List Bool) (book : List Event) (q : Ask) → may_ask cells threads taken a q book ≡ true → IsIts q
-    asks_its taken book (ask.Take h) may =
+    -- what its actor takes is of its agent
+    takes_its : (taken : List Bool) (book : List Event) (h : CellId) → may_ask cells threads taken a (ask.Take h) book ≡ true → ask.Take h ≡ ask.Take g
+    takes_its taken book h may =
         let b = both (a == world.actor_of threads (cells_of cells) h) _ may in
         let d = both (has_agent (cells_of cells) h) _ b.1 in
-        inl (ap (λ i. ask.Take i) (sym (one_agent (cells_of cells) threads g h has d.0 (sym is ∙ numbers a (world.actor_of threads (cells_of cells) h) b.0))))
-    asks_its taken book (ask.Finish h new (y ∷ ys)) may = absurd (false≢true (sends_nothing cells threads a taken book h new (y ∷ ys) may))
-    asks_its taken book (ask.Finish h new []) may =
-        let b = both (a == world.actor_of threads (cells_of cells) h) _ may in
-        let d = both (has_agent (cells_of cells) h) _ b.1 in
-        inr (new, ap (λ i. ask.Finish i new []) (sym (one_agent (cells_of cells) threads g h has d.0 (sym is ∙ numbers a (world.actor_of threads (cells_of cells) h) b.0))))
-    asks_its taken book ask.Begin may = absurd (not_below (both (nat_lt a threads) _ may).0)
-    asks_its taken book (ask.Look d p) may = absurd (not_below (both (nat_lt a threads) _ may).0)
-    asks_its taken book (ask.View cs) may = absurd (not_below (both (nat_lt a threads) _ may).0)
-    asks_its taken book (ask.Commit p sets ensured q commuted sends) may = absurd (not_below (both (nat_lt a threads) _ may).0)
-    asks_its taken book (ask.Fail p q) may = absurd (not_below (both (nat_lt a threads) _ may).0)
-    asks_its taken book (ask.Peek d) may = absurd (not_below (both (nat_lt a threads) _ may).0)
-    asks_its taken book (ask.Send x) may = absurd (not_below (both (nat_lt a threads) _ may).0)
-    asks_its taken book (ask.OpenAt d) may = absurd (not_below (both (nat_lt a threads) _ may).0)
-    asks_its taken book (ask.CloseAt d p v) may = absurd (not_below (both (nat_lt a threads) _ may).0)
-    asks_its taken book (ask.Broke d p) may = absurd (not_below (both (nat_lt a threads) _ may).0)
+        ap (λ i. ask.Take i) (sym (one_agent (cells_of cells) threads g h has d.0 (sym is ∙ numbers a (world.actor_of threads (cells_of cells) h) b.0)))
 
-    -- where it has none in hand it takes one
-    takes : (q : Ask) → in_turn false q ≡ true → IsIts q → q ≡ ask.Take g
-    takes q t (inl e) = e
-    takes q t (inr e) = absurd (false≢true (ap (in_turn false) (sym e.1) ∙ t))
+    -- where it runs no action it takes one
+    takes : (taken : List Bool) (book : List Event) (q : Ask) → may_ask cells threads taken a q book ≡ true → in_turn true false q ≡ true → q ≡ ask.Take g
+    takes taken book (ask.Take h) may t = takes_its taken book h may
+    takes taken book (ask.Finish h new sends) may t = absurd (false≢true t)
+    takes taken book ask.Begin may t = absurd (false≢true t)
+    takes taken book (ask.Look d p) may t = absurd (false≢true t)
+    takes taken book (ask.View cs) may t = absurd (false≢true t)
+    takes taken book (ask.Commit p sets ensured q commuted sends) may t = absurd (false≢true t)
+    takes taken book (ask.Fail p q) may t = absurd (false≢true t)
+    takes taken book (ask.Peek d) may t = absurd (false≢true t)
+    takes taken book (ask.Send x) may t = absurd (false≢true t)
+    takes taken book (ask.OpenAt d) may t = absurd (false≢true t)
+    takes taken book (ask.CloseAt d p v) may t = absurd (false≢true t)
+    takes taken book (ask.Broke d p) may t = absurd (false≢true t)
 
-    finishes : (q : Ask) → in_turn true q ≡ true → IsIts q → (new : Result Value Fault) × (q ≡ ask.Finish g new [])
-    finishes q t (inl e) = absurd (false≢true (ap (in_turn true) (sym e) ∙ t))
-    finishes q t (inr e) = e
+    -- where it runs one it takes none
+    takes_none : (q : Ask) → in_turn true true q ≡ true → is_take q ≡ false
+    takes_none (ask.Take h) t = absurd (false≢true t)
+    takes_none (ask.Finish h new sends) t = refl
+    takes_none ask.Begin t = refl
+    takes_none (ask.Look d p) t = refl
+    takes_none (ask.View cs) t = refl
+    takes_none (ask.Commit p sets ensured q commuted sends) t = refl
+    takes_none (ask.Fail p q) t = refl
+    takes_none (ask.Peek d) t = refl
+    takes_none (ask.Send x) t = refl
+    takes_none (ask.OpenAt d) t = refl
+    takes_none (ask.CloseAt d p v) t = refl
+    takes_none (ask.Broke d p) t = refl
 
-    its : (e : Entry) → EntryHolds cells threads books a e → IsIts e.ask
-    its e h = asks_its h.asked.0 (before_entry cells books e) e.ask h.asked.1
+    -- it runs one after each ask but that which hands one in
+    runs_after : (held : Bool) (q : Ask) → in_turn true held q ≡ true → held_after held q ≡ not (is_finish q)
+    runs_after held (ask.Take h) t = refl
+    runs_after held (ask.Finish h new sends) t = refl
+    runs_after held ask.Begin t = t
+    runs_after held (ask.Look d p) t = t
+    runs_after held (ask.View cs) t = t
+    runs_after held (ask.Commit p sets ensured q commuted sends) t = t
+    runs_after held (ask.Fail p q) t = t
+    runs_after held (ask.Peek d) t = t
+    runs_after held (ask.Send x) t = t
+    runs_after held (ask.OpenAt d) t = t
+    runs_after held (ask.CloseAt d p v) t = t
+    runs_after held (ask.Broke d p) t = t
 
-    turns_of : (ks : List KeptEntry) → AllHold cells threads books a (placed cells books ks) → AreInTurn false ks → TakesInTurn g (length (books 0)) (placed cells books ks)
-    turns_of [] h t = tt
-    turns_of (k ∷ []) h t =
-        let e = takes k.ask t.0 (its _ h.0) in
-        (e, ap (λ q. place_of cells books k.at (length (books 0)) q k.reply) e)
-    turns_of (k ∷ l ∷ ks) h t =
-        let e = takes k.ask t.0 (its _ h.0) in
-        let u : AreInTurn true (l ∷ ks) = subst (λ q. AreInTurn (held_after false q) (l ∷ ks)) e t.1 in
-        let f = finishes l.ask u.0 (its _ h.1.0) in (
-          e,
-          ap (λ q. place_of cells books k.at l.at q k.reply) e ∙ sym (ap (λ q. place_of cells books l.at (next_place (length (books 0)) ks) q l.reply) f.1),
-          f.0,
-          f.1,
-          turns_of ks h.1.1 (subst (λ q. AreInTurn (held_after true q) ks) f.1 u.1),
-        )
+    act_more : (k : KeptEntry) (next later : ℕ) → next ≡ later → (q : Ask) → (if is_finish q then k.at else next) ≡ (if is_finish q then place_of cells books k.at next q k.reply else later)
+    act_more k next later e (ask.Finish h new sends) = refl
+    act_more k next later e (ask.Take h) = e
+    act_more k next later e ask.Begin = e
+    act_more k next later e (ask.Look d p) = e
+    act_more k next later e (ask.View cs) = e
+    act_more k next later e (ask.Commit p sets ensured q commuted sends) = e
+    act_more k next later e (ask.Fail p q) = e
+    act_more k next later e (ask.Peek d) = e
+    act_more k next later e (ask.Send x) = e
+    act_more k next later e (ask.OpenAt d) = e
+    act_more k next later e (ask.CloseAt d p v) = e
+    act_more k next later e (ask.Broke d p) = e
+
+    -- the act is where the entries, each at its place, hand the action in
+    act_is : (ks : List KeptEntry) → act_place (length (books 0)) ks ≡ finished_at (length (books 0)) (placed cells books ks)
+    act_is [] = refl
+    act_is (k ∷ ks) = act_more k (act_place (length (books 0)) ks) (finished_at (length (books 0)) (placed cells books ks)) (act_is ks) k.ask
+
+    turns_of : (ks : List KeptEntry) (held : Bool) → AllHold cells threads books a (placed cells books ks) → AreInTurn true held ks → TakesInTurn g (length (books 0)) held (placed cells books ks)
+    turns_of [] held h t = tt
+    turns_of (k ∷ ks) held h t = (comes held t.0, subst (λ b. TakesInTurn g (length (books 0)) b (placed cells books ks)) (runs_after held k.ask t.0) (turns_of ks (held_after held k.ask) h.1 t.1))
+      where
+        own : Entry
+        own = record { ask = k.ask; reply = k.reply; at = place_of cells books k.at (act_place (length (books 0)) ks) k.ask k.reply }
+
+        comes : (b : Bool) → in_turn true b k.ask ≡ true → ComesInTurn g (length (books 0)) b own (placed cells books ks)
+        comes true u = takes_none k.ask u
+        comes false u =
+            let e = takes h.0.asked.0 (before_entry cells books own) k.ask h.0.asked.1 u in
+            (e, ap (λ q. place_of cells books k.at (act_place (length (books 0)) ks) q k.reply) e ∙ act_is ks)
 
 -- an actor beyond these has no events
 pub none_by : (m a j : ℕ) (es : List Event) → m ≤ a → AreBelow m es → places_by a j es ≡ []
@@ -240,7 +265,7 @@ record DoneOver (code : PlainCode) (limit : ℕ) (s : PlainShared) (k : ℕ) (p 
   player : IsPlayer code limit s k p
   played : HasPlayed code (placed code.cells (books_of s) p.kept) p.stopped p.actor
   hold : AllHold code.cells (length code.threads) (books_of s) k (placed code.cells (books_of s) p.kept)
-  turns : AreInTurn false p.kept
+  turns : AreInTurn (is_agent s k) false p.kept
   traced : TraceHolds (books_of s) k (trace_of code.cells (books_of s) k (placed code.cells (books_of s) p.kept))
 
 module _ (code : PlainCode) (limit : ℕ) (s : PlainShared) (same : s.cells ≡ code.cells) (many : s.threads ≡ length code.threads) where
@@ -307,8 +332,8 @@ module _ (code : PlainCode) (limit : ℕ) (s : PlainShared) (same : s.cells ≡ 
     refused = all_refused refused code.cells (length code.threads) (books_of s) k (placed code.cells (books_of s) p.kept) d.hold;
   }
 
-  attended_so : (k : ℕ) (p : PlainPlayed) (r : ActorReport) → DoneOver code limit s k p → IsReportOf s p r → AgentHasDone code k limit (books_of s) r
-  attended_so k p r d rep = record {
+  attended_so : DoneIsUndisturbed → (k : ℕ) (p : PlainPlayed) (r : ActorReport) → DoneOver code limit s k p → IsReportOf s p r → AgentHasDone code k limit (books_of s) r
+  attended_so law k p r d rep = record {
     actor = p.actor;
     number = d.player.number;
     entries = placed code.cells (books_of s) p.kept;
@@ -321,6 +346,7 @@ module _ (code : PlainCode) (limit : ℕ) (s : PlainShared) (same : s.cells ≡ 
     counted = rep.counted;
     traced = trace_so k p r d rep;
     names = subst (TraceHolds (books_of s) k) (sym (trace_so k p r d rep)) d.traced;
+    undisturbed = all_undisturbed law code.cells (length code.threads) (books_of s) k (placed code.cells (books_of s) p.kept) d.hold;
     full = full_of k p d;
   }
 
@@ -332,11 +358,11 @@ module _ (code : PlainCode) (limit : ℕ) (s : PlainShared) (same : s.cells ≡ 
       done_so law refused k p.0 r (subst (λ n. k < n) many t.0) (each_done ps g h k p.0 t.1) (report_at code limit s (take s.threads ps) rs k p.0 r rep p.1 f)
 
   -- so did each agent's
-  all_attended : (ps : List PlainPlayed) (rs : List ActorReport) → AgreesByPlace code limit s ps → ArePlayed ps → AreReportsOf s (drop s.threads ps) rs → AllHaveAttended code limit s rs
-  all_attended ps rs g h rep i r f =
+  all_attended : DoneIsUndisturbed → (ps : List PlainPlayed) (rs : List ActorReport) → AgreesByPlace code limit s ps → ArePlayed ps → AreReportsOf s (drop s.threads ps) rs → AllHaveAttended code limit s rs
+  all_attended law ps rs g h rep i r f =
       let p = there code limit s (drop s.threads ps) rs i r rep f in
       let at : nth ps (length code.threads + i) ≡ Some p.0 = ap (λ n. nth ps (n + i)) (sym many) ∙ sym (dropped_at ps s.threads i) ∙ p.1 in
-      attended_so (length code.threads + i) p.0 r (each_done ps g h (length code.threads + i) p.0 at) (report_at code limit s (drop s.threads ps) rs i p.0 r rep p.1 f)
+      attended_so law (length code.threads + i) p.0 r (each_done ps g h (length code.threads + i) p.0 at) (report_at code limit s (drop s.threads ps) rs i p.0 r rep p.1 f)
 
   -- what is shared stands, of the code's cells
   own_stands : SharedStands s.cells s.threads (shared_of s) → SharedStands code.cells (length code.threads) (shared_of s)
@@ -400,28 +426,39 @@ module _ (code : PlainCode) (limit : ℕ) (s : PlainShared) (same : s.cells ≡ 
       subst (λ n. ActorPlaced code.cells (length code.threads) (code_of code n) (books_of s) n (actor_in ps h.1 (suc j) each.1 by.1 k)) (omega arith)
       (placed_in ps h.1 (suc j) each.1 by.1 (λ n. subst (λ m. AreBelow m (books_of s n)) (omega arith) (below n)) k)
 
+  -- an agent's actor has the number of one
+  agents_number : (g : CellId) (j : ℕ) → j ≡ world.actor_of (length code.threads) (cells_of code.cells) g → is_agent s j ≡ true
+  agents_number g j is = go (nat_lt j s.threads) refl
+    where
+      go : (b : Bool) → nat_lt j s.threads ≡ b → not b ≡ true
+      go false e = refl
+      go true e = absurd (no_thread (length code.threads) _ (subst (λ n. nat_lt n (length code.threads) ≡ true) is (subst (λ n. nat_lt j n ≡ true) many e)))
+
   turns_in : (g : CellId) → has_agent (cells_of code.cells) g ≡ true → (ps : List PlainPlayed) (h : ArePlayed ps) (j : ℕ) (each : ArePlayers code limit s j ps) (by : AllHoldByPlace s j ps) (k : ℕ)
-      → j + k ≡ world.actor_of (length code.threads) (cells_of code.cells) g → TakesInTurn g (length (books_of s 0)) (actor_in ps h j each by k).entries
+      → j + k ≡ world.actor_of (length code.threads) (cells_of code.cells) g → TakesInTurn g (length (books_of s 0)) false (actor_in ps h j each by k).entries
   unfolding actor_in actor_of
   turns_in g has [] h j each by k is = tt
   turns_in g has (p ∷ ps) h j each by zero is =
       let d = one_done j p each.0 h.0 by.0 in
-      turns_of code.cells (books_of s) (length code.threads) g has j (omega (arith, is)) p.kept d.hold d.turns
+      let own : j ≡ world.actor_of (length code.threads) (cells_of code.cells) g = omega (arith, is) in
+      turns_of code.cells (books_of s) (length code.threads) g has j own p.kept false d.hold (subst (λ b. AreInTurn b false p.kept) (agents_number g j own) d.turns)
   turns_in g has (p ∷ ps) h j each by (suc k) is = turns_in g has ps h.1 (suc j) each.1 by.1 k (omega (arith, is))
 
-  silent_in : (ps : List PlainPlayed) (h : ArePlayed ps) (j : ℕ) (each : ArePlayers code limit s j ps) (by : AllHoldByPlace s j ps) (k : ℕ) (p : PlainPlayed) → nth ps k ≡ Some p
-      → GoesOn (outcome_at (actor_in ps h j each by k).at) → NeverEnds p.actor.outcome × (p.actor.printed ≡ [])
+  -- what the code of one has printed it has printed, and its entries are what it kept
+  printed_in : (ps : List PlainPlayed) (h : ArePlayed ps) (j : ℕ) (each : ArePlayers code limit s j ps) (by : AllHoldByPlace s j ps) (k : ℕ) (p : PlainPlayed) (out : List ℕ) → nth ps k ≡ Some p
+      → HasPrintedJust out (actor_in ps h j each by k).at → NeverEnds p.actor.outcome × (p.actor.printed ≡ out) × ((actor_in ps h j each by k).entries ≡ placed code.cells (books_of s) p.kept)
   unfolding actor_in actor_of
-  silent_in [] h j each by k p e g = absurd (subst is_some (sym e) tt)
-  silent_in (x ∷ ps) h j each by zero p e g =
-      subst (λ y. NeverEnds y.actor.outcome × (y.actor.printed ≡ [])) (ap (or_first x) e)
-      (silent_so (code_of x.code x.actor.number) x.actor x.actor.outcome h.0.gone.at (subst (λ q. IsThere (code_of x.code x.actor.number) x.actor x.actor.outcome q h.0.gone.at) each.0.free h.0.gone.here) g)
-  silent_in (x ∷ ps) h j each by (suc k) p e g = silent_in ps h.1 (suc j) each.1 by.1 k p e g
+  printed_in [] h j each by k p out e g = absurd (subst is_some (sym e) tt)
+  printed_in (x ∷ ps) h j each by zero p out e g =
+      let cd = code_of x.code x.actor.number in
+      let so = printed_so cd x.actor x.actor.outcome h.0.gone.at out (subst (λ q. IsThere cd x.actor x.actor.outcome q h.0.gone.at) each.0.free h.0.gone.here) g in
+      subst (λ y. NeverEnds y.actor.outcome × (y.actor.printed ≡ out) × (placed code.cells (books_of s) x.kept ≡ placed code.cells (books_of s) y.kept)) (ap (or_first x) e) (so.0, so.1, refl)
+  printed_in (x ∷ ps) h j each by (suc k) p out e g = printed_in ps h.1 (suc j) each.1 by.1 k p out e g
 
   -- ---- what they say of agents
 
   module _ (law : PlacedReported) (ps : List PlainPlayed) (g : AgreesByPlace code limit s ps) (h : ArePlayed ps) (stands : SharedStands s.cells s.threads (shared_of s)) (staged : CodesStaged (map (thread_code code) code.threads))
-      (ts rs : List ActorReport) (by : IsExplainedBy code (shared_of s) ts) (rep : AreReportsOf s (drop s.threads ps) rs) (one : length rs ≡ length (agents_of code)) where
+      (agents_staged : AgentsStaged (library_of code)) (ts rs : List ActorReport) (by : IsExplainedBy code (shared_of s) ts) (rep : AreReportsOf s (drop s.threads ps) rs) (one : length rs ≡ length (agents_of code)) where
     abbrev st : State
     st = record { shared = shared_of s; actors = actor_in ps h 0 g.each g.holds }
 
@@ -434,12 +471,11 @@ module _ (code : PlainCode) (limit : ℕ) (s : PlainShared) (same : s.cells ≡ 
     }
 
     agents_explained : AllHaveAttended code limit s rs → AreExplainedBy code (shared_of s) ts rs
-    agents_explained done p is follows agents sends = record {
+    agents_explained done p is follows agents sends agents_send = record {
       by_threads = by p is follows;
       one_each = one ∙ ap (λ cs. length (agents_from 0 cs)) (sym is);
       sends = whole.agents.sends;
-      acts = whole.agents.acts;
-      each = λ i r e. agent_explained i r e;
+      each = λ i a r named e. agent_explained i a r named e;
     }
       where
         threads : length code.threads ≡ length p.threads
@@ -465,33 +501,41 @@ module _ (code : PlainCode) (limit : ℕ) (s : PlainShared) (same : s.cells ≡ 
 
         whole : ReportExplained p (library_of code) st
         whole =
-            law p (map (thread_code code) code.threads) (library_of code) (code_of code) st follows agents staged sends program
+            law p (map (thread_code code) code.threads) (library_of code) (code_of code) st follows agents staged agents_staged sends agents_send program
             (subst (λ cs. RunPlaced cs (length p.threads) (code_of code) st) (sym is) (subst (λ n. RunPlaced code.cells n (code_of code) st) threads run_placed))
 
-        agent_explained : (i : ℕ) (r : ActorReport) → nth rs i ≡ Some r → ExplainsAgent (length p.threads + i) (books_of s) r
-        agent_explained i r e =
+        agent_explained : (i : ℕ) (a : CellId) (r : ActorReport) → nth (agents_from 0 p.cells) i ≡ Some a → nth rs i ≡ Some r → ExplainsAgent p (length p.threads + i) a (books_of s) r
+        agent_explained i a r named e =
             let k = length code.threads + i in
             let d = done i r e in
+            -- the trace of an actor as the laws of runs speak of it
+            let trace_at : ℕ → List told_by.Place = λ n. trace_of p.cells (books_of s) n (st.actors n).entries in
             let x = there code limit s (drop s.threads ps) rs i r rep e in
             let at_k : nth ps k ≡ Some x.0 = ap (λ n. nth ps (n + i)) (sym many) ∙ sym (dropped_at ps s.threads i) ∙ x.1 in
             let reported = report_at code limit s (drop s.threads ps) rs i x.0 r rep x.1 e in
-            let a = item_at (agents_of code) i (subst (λ n. i < n) one (below_length rs i r e)) in
-            let at = agent_at code i a.0 a.1 in
-            let place : k ≡ world.actor_of (length p.threads) (cells_of p.cells) a.0 = at.place ∙ ap (λ n. world.actor_of n (cells_of code.cells) a.0) threads ∙ ap (λ cs. world.actor_of (length p.threads) (cells_of cs) a.0) (sym is) in
-            let goes = (whole.agents.agents a.0 (subst (λ cs. has_agent (cells_of cs) a.0 ≡ true) (sym is) at.has)).goes_on in
-            let so = silent_in ps h 0 g.each g.holds k x.0 at_k (subst (λ n. GoesOn (outcome_at (st.actors n).at)) (sym place) goes) in
+            let at = agent_at code i a (subst (λ cs. nth (agents_from 0 cs) i ≡ Some a) is named) in
+            let place : k ≡ world.actor_of (length p.threads) (cells_of p.cells) a = at.place ∙ ap (λ n. world.actor_of n (cells_of code.cells) a) threads ∙ ap (λ cs. world.actor_of (length p.threads) (cells_of cs) a) (sym is) in
+            let means = whole.agents.agents a (subst (λ cs. has_agent (cells_of cs) a ≡ true) (sym is) at.has) in
+            let so = printed_in ps h 0 g.each g.holds k x.0 means.printed at_k (subst (λ n. HasPrintedJust means.printed (st.actors n).at) (sym place) means.goes_on) in
+            let trace : trace_at (world.actor_of (length p.threads) (cells_of p.cells) a) ≡ places_of r.trace.items = sym (
+            trace_so k x.0 r (each_done ps g h k x.0 at_k) reported
+            ∙ ap (λ cs. trace_of cs (books_of s) k (placed code.cells (books_of s) x.0.kept)) (sym is)
+            ∙ ap (λ es. trace_of p.cells (books_of s) k es) (sym so.2)
+            ∙ ap (λ n. trace_at n) place) in
             record {
               traced = subst (λ n. TraceHolds (books_of s) (n + i) (places_of r.trace.items)) threads d.names;
-              silent = sym reported.printed ∙ so.1;
               unended = subst NeverEnds reported.ended so.0;
+              did = means.did;
+              acts = subst (λ ps. ActsInTurn p.cells p.functions (books_of s) a ps [] r.printed.items means.did) trace
+                  (subst (λ out. ActsInTurn p.cells p.functions (books_of s) a (trace_at (world.actor_of (length p.threads) (cells_of p.cells) a)) [] out means.did) (sym so.1 ∙ reported.printed) means.acts);
             }
 
 pub by_place_explains : Known → DoneIsUndisturbed → RefusedIsUndisturbed → PlacedReported → ByPlaceExplains
-by_place_explains by undisturbed refused law code limit s ps ts rs staged stands g h threads agents = record {
+by_place_explains by undisturbed refused law code limit s ps ts rs staged agents_staged stands g h threads agents = record {
   done = done;
   attended = attended;
   explained = explained;
-  all_explained = agents_explained code limit s g.cells g.threads law ps g h stands staged ts rs explained agents (as_many_agents code s ps rs made agents) attended;
+  all_explained = agents_explained code limit s g.cells g.threads law ps g h stands staged agents_staged ts rs explained agents (as_many_agents code s ps rs made agents) attended;
 }
   where
     made : IsMadeFor code s (length ps)
@@ -501,7 +545,7 @@ by_place_explains by undisturbed refused law code limit s ps ts rs staged stands
     done = all_done code limit s g.cells g.threads undisturbed refused ps ts g h threads
 
     attended : AllHaveAttended code limit s rs
-    attended = all_attended code limit s g.cells g.threads ps rs g h agents
+    attended = all_attended code limit s g.cells g.threads undisturbed ps rs g h agents
 
     explained : IsExplainedBy code (shared_of s) ts
     explained = all_explained code limit s g.cells g.threads by stands ts (as_many_threads code s ps ts made threads) done

@@ -12,10 +12,9 @@ use Rattle.txs_code_meaning.specs.ActorState.{ActorState}
 use Rattle.txs_code_meaning.specs.Machine.{ThreadCode, Configuration, Turned}
 use Rattle.txs_code_meaning.specs.PlainCode.{PlainCode, thread_code}
 use Rattle.txs_theorem_threads.specs.Follows.{Follows}
-use Rattle.txs_theorem_threads.specs.FollowsAgent.{GoesOn}
 use Rattle.txs_theorem_threads.specs.FollowsAll.{source_of, FollowsAll}
 use Rattle.txs_machine_actor.specs.PlainActor.{PlainActor, code_of}
-use Rattle.txs_theorem_runs.specs.Explains.{outcome_at}
+use Rattle.txs_theorem_runs.specs.Agents.{HasPrintedJust}
 use Rattle.txs_theorem_runs.specs.Told.{Entry, TraceHolds}
 use Rattle.txs_world_shared.specs.SharedState.{PlainShared}
 use Rattle.txs_machine.specs.Agents.{agents_of}
@@ -105,14 +104,14 @@ thread_explained by code k limit books r d p t same follows e =
 
 -- ---- what they say of agents
 
--- an actor that goes on, or was stopped, where its code has printed nothing
-pub silent_so : (cd : ThreadCode) (a : PlainActor) (o : Option Outcome) (at : Turned Configuration) → IsThere cd a o None at → GoesOn (outcome_at at) → NeverEnds o × (a.printed ≡ [])
-silent_so cd a None at p g = (tt, subst (λ (u : Turned Configuration). GoesOn (outcome_at u)) p g)
-silent_so cd a (Some outcome.Done) at p g = absurd (subst (λ (u : Turned Configuration). GoesOn (outcome_at u)) p g)
-silent_so cd a (Some (outcome.Failed f)) at p g = absurd (subst (λ (u : Turned Configuration). GoesOn (outcome_at u)) p g)
-silent_so cd a (Some outcome.StepsSpent) at p g = (tt, subst (λ (u : Turned Configuration). GoesOn (outcome_at u)) p g)
-silent_so cd a (Some outcome.JournalFull) at p g = (tt, ap (λ (u : ActorState). u.printed) (sym p.2) ∙ subst (λ (u : Turned Configuration). GoesOn (outcome_at u)) p.1 g)
-silent_so cd a (Some outcome.Memory) at p g = (tt, ap (λ (u : ActorState). u.printed) (sym p.2) ∙ subst (λ (u : Turned Configuration). GoesOn (outcome_at u)) p.1 g)
+-- an actor that goes on, or was stopped, has printed what its code has
+pub printed_so : (cd : ThreadCode) (a : PlainActor) (o : Option Outcome) (at : Turned Configuration) (out : List ℕ) → IsThere cd a o None at → HasPrintedJust out at → NeverEnds o × (a.printed ≡ out)
+printed_so cd a None at out p g = (tt, subst (HasPrintedJust out) p g)
+printed_so cd a (Some outcome.Done) at out p g = absurd (subst (HasPrintedJust out) p g)
+printed_so cd a (Some (outcome.Failed f)) at out p g = absurd (subst (HasPrintedJust out) p g)
+printed_so cd a (Some outcome.StepsSpent) at out p g = (tt, subst (HasPrintedJust out) p g)
+printed_so cd a (Some outcome.JournalFull) at out p g = (tt, ap (λ (u : ActorState). u.printed) (sym p.2) ∙ subst (HasPrintedJust out) p.1 g)
+printed_so cd a (Some outcome.Memory) at out p g = (tt, ap (λ (u : ActorState). u.printed) (sym p.2) ∙ subst (HasPrintedJust out) p.1 g)
 
 -- each place of a list has an item
 pub item_at : {A : Type 0} (xs : List A) (i : ℕ) → i < length xs → (x : A) × (nth xs i ≡ Some x)

@@ -13,7 +13,7 @@ use Rattle.txs_machine_actor.specs.Turns.{IsNew, Answers, Moves, TurnsFrom, Turn
 use Rattle.txs_machine_actor.specs.declared.outcome.Turn.{Turn}
 use Rattle.txs_machine_actor.specs.declared.outcome.Turn.TheVariants as turned
 use Rattle.txs_machine_transaction.specs.declared.state.Pending.{Pending}
-use Rattle.txs_machine_transaction.specs.declared.state.Pending.TheVariants.{Begin, Read, Ensure, Open, View, Reset, Send, Swap, Close, Commit, Fail, Broke, Take, Finish}
+use Rattle.txs_machine_transaction.specs.declared.state.Pending.TheVariants.{Begin, Read, Ensure, Open, View, Reset, Send, Swap, Close, Commit, Hold, Fail, Broke, Take, Finish}
 use Rattle.txs_machine_actor.proofs.Following.{Unstopped, unstopped_if}
 use Rattle.txs_theorem_runs.specs.Told.{Entry, exchange_of}
 use Rattle.txs_theorem_runs.specs.Goes.{AsksNothing, WalksTo, AsksAt, GoesTo}
@@ -188,6 +188,7 @@ idle_for a (Send x n) = (refl, omega arith)
 idle_for a (Swap c n from) = (refl, omega arith)
 idle_for a (Close c p v) = (refl, omega arith)
 idle_for a Commit = (refl, omega arith)
+idle_for a (Hold xs) = (refl, omega arith)
 idle_for a (Fail f) = (refl, omega arith)
 idle_for a (Broke c p f) = (refl, omega arith)
 idle_for a (Take g) = (refl, omega arith)

@@ -1,5 +1,5 @@
 -- What a turn and an answer leave of an actor that keeps its asks.
-use Rattle.std.proofs.Common.{◌≡◌, ◌<◌, ℕ, zero, suc, List, [], ◌∷◌, ◌++◌, length, map, Option, Some, None, refl, sym, ap, subst, ◌∙◌, inl, inr}
+use Rattle.std.proofs.Common.{false, ◌≡◌, ◌<◌, ℕ, zero, suc, List, [], ◌∷◌, ◌++◌, length, map, Option, Some, None, refl, sym, ap, subst, ◌∙◌, inl, inr}
 use Rattle.txs_world_protocol.specs.declared.ask.Ask.{Ask}
 use Rattle.txs_world_protocol.specs.declared.ask.Reply.{Reply}
 use Rattle.txs_world_protocol.specs.declared.ask.Reply.TheVariants as reply
@@ -45,7 +45,7 @@ new_played laws law code function_rooms thread_rooms limit a well n = record {
     stands = standing_of law code function_rooms thread_rooms a.number well below;
     stage = Idle;
     staged = refl;
-    here = as_is a Idle None None n.unended n.unasking (ap stage_of n.opens);
+    here = as_is a Idle None None n.unended n.unasking (ap (stage_of false) n.opens);
     asked = λ before e rest s. absurd (no_entry before e rest s);
   };
   limited = new_limited a.limit a refl n.unended n.unused;
@@ -60,7 +60,7 @@ turn_stops P code a b r (Some o) u h x = subst (λ (y : PlainActor). y.outcome �
 -- a turn keeps what a thread's is
 turn_thread : (code : PlainCode) (es : List Entry) (a b : PlainActor) (r : Turn) → unanswered a ≡ None → HasRun code (map exchange_of es) a → Turns code a r b → IsThreadOn code es a → IsThreadOn code es b
 turn_thread code es a b r f ran t h =
-    let known : StagedCode (code_of code a.number) = standing_staged (code_of code a.number) h.stands in
+    let known : StagedCode (code_of code a.number) = standing_staged false (code_of code a.number) h.stands in
     let staged = stands_staged code (map exchange_of es) a known f ran in
     let kept = turn_keeps code a b r h.stage a.outcome staged refl f t (as_known a h.stage a.outcome None refl f h.here) in
     record {
@@ -131,8 +131,8 @@ one_turn code a b r t = last t.0 t.1 t.2 t.3
     last (turned.Asks q) c u g = same (turned.Asks q) c u g.0 g.1
     last (turned.Ended o) c u g = same (turned.Ended o) c u g.0 g.1
 
-staged_append : (st mid end : Stage) (es fs : List Entry) → AreStaged st es mid → AreStaged mid fs end → AreStaged st (es ++ fs) end
-staged_append st mid end [] fs e h = subst (λ i. AreStaged i fs end) (sym e) h
+staged_append : (st mid end : Stage) (es fs : List Entry) → AreStaged false st es mid → AreStaged false mid fs end → AreStaged false st (es ++ fs) end
+staged_append st mid end [] fs e h = subst (λ i. AreStaged false i fs end) (sym e) h
 staged_append st mid end (x ∷ es) fs g h = (g.0, staged_append (stage_after st x.ask x.reply) mid end es fs g.1 h)
 
 -- so does a reply that the actor goes on with, where its entry is kept, of a thread's

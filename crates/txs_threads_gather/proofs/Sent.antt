@@ -1,4 +1,4 @@
--- A function that a send names, where the code comes to it, is pure; and just these functions are marked.
+-- A function that a send names, where the code comes to it, may be sent; and just these functions are marked.
 use Rattle.std.proofs.Common.{◌≡◌, ◌<◌, ◌+◌, ◌⊎◌, ◌↔◌, inl, inr, ℕ, zero, suc, Bool, true, false, nat_eq, nat_lt, List, [], ◌∷◌, length, get_or, replicate, Option, Some, None, refl, sym, ap, subst, ◌∙◌, arith}
 use Rattle.std.proofs.lemmas.Bool.{false≢true}
 use Rattle.std.proofs.lemmas.Bool.Decides.{nat_tests}
@@ -9,10 +9,10 @@ use Rattle.txs_value_base.specs.Places.{nth}
 use Rattle.txs_value_base.specs.declared.op.Callee.TheVariants as callee
 use Rattle.txs_value_data.specs.declared.value.Value.{Value}
 use Rattle.txs_code_meaning.specs.PlainCode.{CodeBody, PlainCode, parameters_of}
-use Rattle.txs_code_meaning.specs.WellTyped.{FunctionKind, Functions, Owner, a_function, a_thread, IsLawful, IsPureFunction, Stage, plain, opened, applied, Stages, FitsStage, WellTypedBody, WellTypedThreads, WellTyped}
+use Rattle.txs_code_meaning.specs.WellTyped.{FunctionKind, Functions, Owner, a_function, a_thread, IsLawful, MayBeSent, Stage, plain, opened, applied, Stages, FitsStage, WellTypedBody, WellTypedThreads, WellTyped}
 use Rattle.txs_code_meaning.specs.declared.instr.Instr.{Instr}
 use Rattle.txs_code_meaning.specs.declared.instr.Instr.TheVariants.{Const, Local, Store, Pop, Jump, JumpFalse, Core, Call, Return, Vector, Print, Look, Put, TxBegin, TxEnd, Open, Close, Send, Halt}
-use Rattle.txs_machine_actor.specs.PlainActor.{CanApply, HandsOut, functions_of}
+use Rattle.txs_machine_actor.specs.PlainActor.{CanSend, HandsOut, functions_of}
 use Rattle.txs_machine_actor.proofs.Calling.{function_at}
 use Rattle.txs_verify.specs.Going.{AllJumpWithin, AreReached, JumpsWithin}
 use Rattle.txs_verify.specs.Marks.{Marks, mark_at, IsClosed}
@@ -87,48 +87,48 @@ all_jump code function_rooms thread_rooms w b of p i e =
 
 -- ---- sends
 
-send_fits : (fs : Functions) (owner : Owner) (ss : Stages) (at : ℕ) (s : Stage) (g n : ℕ) → FitsStage fs owner ss at s (Send (callee.Function g) n) → IsPureFunction fs.kinds g
+send_fits : (fs : Functions) (owner : Owner) (ss : Stages) (at : ℕ) (s : Stage) (g n : ℕ) → FitsStage fs owner ss at s (Send (callee.Function g) n) → MayBeSent fs.kinds (callee.Function g)
 send_fits fs owner ss at (plain t) g n h = h.1
 send_fits fs owner ss at (opened t m by) g n h = absurd h
 send_fits fs owner ss at (applied t by) g n h = absurd h
 
--- what an instruction sends where it fits a stage is pure
-fits_pure : (fs : Functions) (owner : Owner) (ss : Stages) (at : ℕ) (s : Stage) (i : Instr) (f : ℕ) → FitsStage fs owner ss at s i → sent_by i ≡ Some f → IsPureFunction fs.kinds f
-fits_pure fs owner ss at s (Send (callee.Function g) n) f h e = subst (IsPureFunction fs.kinds) (ap (number_or f) e) (send_fits fs owner ss at s g n h)
-fits_pure fs owner ss at s (Send (callee.Core op) n) f h e = absurd (subst is_some (sym e) tt)
-fits_pure fs owner ss at s (Const k) f h e = absurd (subst is_some (sym e) tt)
-fits_pure fs owner ss at s (Local j) f h e = absurd (subst is_some (sym e) tt)
-fits_pure fs owner ss at s (Store j) f h e = absurd (subst is_some (sym e) tt)
-fits_pure fs owner ss at s Pop f h e = absurd (subst is_some (sym e) tt)
-fits_pure fs owner ss at s (Jump to) f h e = absurd (subst is_some (sym e) tt)
-fits_pure fs owner ss at s (JumpFalse to) f h e = absurd (subst is_some (sym e) tt)
-fits_pure fs owner ss at s (Core op n) f h e = absurd (subst is_some (sym e) tt)
-fits_pure fs owner ss at s (Call g) f h e = absurd (subst is_some (sym e) tt)
-fits_pure fs owner ss at s Return f h e = absurd (subst is_some (sym e) tt)
-fits_pure fs owner ss at s (Vector n) f h e = absurd (subst is_some (sym e) tt)
-fits_pure fs owner ss at s (Print n) f h e = absurd (subst is_some (sym e) tt)
-fits_pure fs owner ss at s (Look look) f h e = absurd (subst is_some (sym e) tt)
-fits_pure fs owner ss at s (Put put) f h e = absurd (subst is_some (sym e) tt)
-fits_pure fs owner ss at s TxBegin f h e = absurd (subst is_some (sym e) tt)
-fits_pure fs owner ss at s TxEnd f h e = absurd (subst is_some (sym e) tt)
-fits_pure fs owner ss at s (Open by n) f h e = absurd (subst is_some (sym e) tt)
-fits_pure fs owner ss at s (Close by) f h e = absurd (subst is_some (sym e) tt)
-fits_pure fs owner ss at s Halt f h e = absurd (subst is_some (sym e) tt)
+-- what an instruction sends where it fits a stage may be sent
+fits_sent : (fs : Functions) (owner : Owner) (ss : Stages) (at : ℕ) (s : Stage) (i : Instr) (f : ℕ) → FitsStage fs owner ss at s i → sent_by i ≡ Some f → MayBeSent fs.kinds (callee.Function f)
+fits_sent fs owner ss at s (Send (callee.Function g) n) f h e = subst (λ n. MayBeSent fs.kinds (callee.Function n)) (ap (number_or f) e) (send_fits fs owner ss at s g n h)
+fits_sent fs owner ss at s (Send (callee.Core op) n) f h e = absurd (subst is_some (sym e) tt)
+fits_sent fs owner ss at s (Const k) f h e = absurd (subst is_some (sym e) tt)
+fits_sent fs owner ss at s (Local j) f h e = absurd (subst is_some (sym e) tt)
+fits_sent fs owner ss at s (Store j) f h e = absurd (subst is_some (sym e) tt)
+fits_sent fs owner ss at s Pop f h e = absurd (subst is_some (sym e) tt)
+fits_sent fs owner ss at s (Jump to) f h e = absurd (subst is_some (sym e) tt)
+fits_sent fs owner ss at s (JumpFalse to) f h e = absurd (subst is_some (sym e) tt)
+fits_sent fs owner ss at s (Core op n) f h e = absurd (subst is_some (sym e) tt)
+fits_sent fs owner ss at s (Call g) f h e = absurd (subst is_some (sym e) tt)
+fits_sent fs owner ss at s Return f h e = absurd (subst is_some (sym e) tt)
+fits_sent fs owner ss at s (Vector n) f h e = absurd (subst is_some (sym e) tt)
+fits_sent fs owner ss at s (Print n) f h e = absurd (subst is_some (sym e) tt)
+fits_sent fs owner ss at s (Look look) f h e = absurd (subst is_some (sym e) tt)
+fits_sent fs owner ss at s (Put put) f h e = absurd (subst is_some (sym e) tt)
+fits_sent fs owner ss at s TxBegin f h e = absurd (subst is_some (sym e) tt)
+fits_sent fs owner ss at s TxEnd f h e = absurd (subst is_some (sym e) tt)
+fits_sent fs owner ss at s (Open by n) f h e = absurd (subst is_some (sym e) tt)
+fits_sent fs owner ss at s (Close by) f h e = absurd (subst is_some (sym e) tt)
+fits_sent fs owner ss at s Halt f h e = absurd (subst is_some (sym e) tt)
 
--- what a body of the code sends, where the code comes to it, is pure
-sent_pure : (code : PlainCode) (function_rooms thread_rooms : List ℕ) (w : WellTyped code function_rooms thread_rooms) (b : CodeBody) (f : ℕ) → IsBodyOf code b → IsSentIn code b f → IsPureFunction w.kinds f
-sent_pure code function_rooms thread_rooms w b f of sent =
+-- what a body of the code sends, where the code comes to it, may be sent
+sent_may : (code : PlainCode) (function_rooms thread_rooms : List ℕ) (w : WellTyped code function_rooms thread_rooms) (b : CodeBody) (f : ℕ) → IsBodyOf code b → IsSentIn code b f → MayBeSent w.kinds (callee.Function f)
+sent_may code function_rooms thread_rooms w b f of sent =
     let y = body_typed code function_rooms thread_rooms w b of in
     let s = staged_at (rests_on code w.kinds) y.owner y.callable code.constants b y.room y.typed sent.place sent.depth sent.txs sent.instr sent.met in
-    fits_pure (rests_on code w.kinds) y.owner s.0 sent.place (stage_for b.instrs sent.place sent.txs) sent.instr f s.1 sent.sends
+    fits_sent (rests_on code w.kinds) y.owner s.0 sent.place (stage_for b.instrs sent.place sent.txs) sent.instr f s.1 sent.sends
 
-can_apply : (code : PlainCode) (function_rooms thread_rooms : List ℕ) (w : WellTyped code function_rooms thread_rooms) (c : Callee) (n : ℕ) → TakesSent code c (suc n) → CanApply (functions_of code w.kinds) c n
-can_apply code function_rooms thread_rooms w (callee.Core op) n h = h
-can_apply code function_rooms thread_rooms w (callee.Function f) n h = (sent_pure code function_rooms thread_rooms w h.0.0 f h.0.1 h.0.2, h.1)
+can_send : (code : PlainCode) (function_rooms thread_rooms : List ℕ) (w : WellTyped code function_rooms thread_rooms) (c : Callee) (n : ℕ) → TakesSent code c (suc n) → CanSend (functions_of code w.kinds) c n
+can_send code function_rooms thread_rooms w (callee.Core op) n h = h
+can_send code function_rooms thread_rooms w (callee.Function f) n h = (sent_may code function_rooms thread_rooms w h.0.0 f h.0.1 h.0.2, h.1)
 
 -- so an agent can run what the code can have sent
 pub hands_sent : (code : PlainCode) (r : Reply) → HandsOutSent code r → HandsOut code r
-hands_sent code (reply.Action n x v) h = λ function_rooms thread_rooms w. can_apply code function_rooms thread_rooms w x.callee (length x.args) h
+hands_sent code (reply.Action n x v) h = λ function_rooms thread_rooms w. can_send code function_rooms thread_rooms w x.callee (length x.args) h
 hands_sent code (reply.At p) h = tt
 hands_sent code (reply.Is v) h = tt
 hands_sent code (reply.Views p vs) h = tt

@@ -1,7 +1,8 @@
 -- When what actors kept agrees with the books, where each entry is looked at in its own place of its book, in no order of the actors; and what a report says then.
 use Rattle.std.specs.Prelude.{◌≡◌, ℕ, suc, List, [], ◌∷◌, length, map, take, drop}
-use Rattle.txs_code_meaning.specs.PlainCode.{PlainCode, thread_code}
+use Rattle.txs_code_meaning.specs.PlainCode.{PlainCode, thread_code, library_of}
 use Rattle.txs_theorem_runs.specs.Invariant.{SharedStands}
+use Rattle.txs_theorem_runs.specs.Agents.{AgentsStaged}
 use Rattle.txs_theorem_runs.specs.Report.{CodesStaged}
 use Rattle.txs_world.specs.Store.{PlainStore}
 use Rattle.txs_world_book.specs.Atom.{PlainAtom}
@@ -47,7 +48,7 @@ pub record SaysWell (code : PlainCode) (limit : ℕ) (s : PlainShared) (threads 
 abbrev pub ByPlaceExplains : Type 0
 ByPlaceExplains =
     (code : PlainCode) (limit : ℕ) (s : PlainShared) (ps : List PlainPlayed) (ts rs : List ActorReport)
-    → CodesStaged (map (thread_code code) code.threads) → SharedStands s.cells s.threads (shared_of s)
+    → CodesStaged (map (thread_code code) code.threads) → AgentsStaged (library_of code) → SharedStands s.cells s.threads (shared_of s)
     → AgreesByPlace code limit s ps → ArePlayed ps
     → AreReportsOf s (take s.threads ps) ts → AreReportsOf s (drop s.threads ps) rs
     → SaysWell code limit s ts rs

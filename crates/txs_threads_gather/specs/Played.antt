@@ -27,7 +27,7 @@ WasStoppedAt code xs a (Some q) = AsksLast code xs a q
 pub record IsThreadOn (code : PlainCode) (es : List Entry) (a : PlainActor) : Type 0 where
   pub stands : StandingCode (code_of code a.number)
   pub stage : Stage
-  pub staged : AreStaged Idle es stage
+  pub staged : AreStaged false Idle es stage
   pub here : IsIn a stage a.outcome (unanswered a)
   pub asked : (before : List Entry) (e : Entry) (rest : List Entry) → es ≡ before ++ e ∷ rest → AskedOn (code_of code a.number) before a
 

@@ -326,7 +326,7 @@ fn gather_state(
 
 /// The comparison of the actors of a run with what they shared, the store and the atoms, each with its book. It waits for nobody. They agree where the store is
 /// of the code's cells and there is one atom for each atom of the code, as it opened; there is one actor for each thread and behind these one for each agent,
-/// each made with this code and for `max_steps` steps; each event of the books is of one of them, an atom's of a thread; and what each kept agrees with the books
+/// each made with this code and for `max_steps` steps; each event of the books is of one of them; and what each kept agrees with the books
 /// by place: what is answered at each place is what it was answered, and the events that its asks added are its own in each book, in order. Then the report is
 /// that of these actors: each is where its code comes to on what it kept within its steps, and each program that the code follows explains the report.
 ///

@@ -1,5 +1,5 @@
 -- That an entry's ask and reply tell whether it added an event.
-use Rattle.std.proofs.Common.{◌≡◌, ◌<◌, ◌≤◌, ◌+◌, ℕ, zero, suc, Bool, true, false, not, nat_lt, List, [], ◌∷◌, ◌++◌, length, map, take, drop, get_or, Option, Some, None, refl, sym, ap, ◌∙◌, if◌then◌else◌, arith}
+use Rattle.std.proofs.Common.{◌≡◌, ◌<◌, ◌≤◌, ◌+◌, ℕ, zero, suc, Bool, true, false, not, nat_lt, List, [], ◌∷◌, ◌++◌, length, map, take, drop, get_or, Option, Some, None, Result, refl, sym, ap, ◌∙◌, if◌then◌else◌, arith}
 use Rattle.std.proofs.lemmas.Bool.Decides.{nat_tests}
 use Rattle.txs_world_protocol.specs.Ask.{Writes}
 use Rattle.txs_world_protocol.specs.declared.ask.Ask.{Ask}
@@ -9,6 +9,8 @@ use Rattle.txs_world_protocol.specs.declared.ask.Reply.TheVariants as reply
 use Rattle.txs_world_protocol.specs.declared.event.Event.{Event}
 use Rattle.txs_world_protocol.specs.declared.event.EventKind.{EventKind}
 use Rattle.txs_value_cell.specs.Cells.{World}
+use Rattle.txs_value_base.specs.declared.fault.Fault.{Fault}
+use Rattle.txs_value_base.specs.declared.fault.Span.{Span}
 use Rattle.txs_value_data.specs.Limits.{most_events}
 use Rattle.txs_value_cell.specs.declared.action.Action.{Action}
 use Rattle.txs_value_cell.specs.declared.cell.CellDefinition.{CellDefinition}
@@ -64,6 +66,10 @@ sent : (a : ℕ) (x : Action) (book : List Event) (b : Bool) → TellsGrowth unf
 sent a x book true = added unfull (reply.AgentIsFailed x.agent) a _ book (nat_lt (length book) most_events) refl refl
 sent a x book false = added unfull reply.Done a _ book (nat_lt (length book) most_events) refl refl
 
+finished : (a : ℕ) (g : CellId) (n : ℕ) (new : Result Value Fault) (sends : List Action) (span : Span) (book : List Event) (o : Option CellId) → TellsGrowth unfull book (world.finishes o a g n new sends span book)
+finished a g n new sends span book None = added unfull reply.Done a _ book (nat_lt (length book) most_events) refl refl
+finished a g n new sends span book (Some h) = added unfull (reply.AgentIsFailed h) a _ book (nat_lt (length book) most_events) refl refl
+
 peeked : (cells : List CellDefinition) (a : ℕ) (c : CellId) (book : List Event) (b : Bool)
     → TellsGrowth unfull book (if b then serve_atom (atom_of cells c book) a (ask.Peek c) else serve (cells_of cells) a (ask.Peek c) book)
 peeked cells a c book true = added unfull (reply.Is _) a _ book (nat_lt (length book) most_events) refl refl
@@ -88,7 +94,7 @@ tells_growth cells a (ask.Fail p q) book = added unfull reply.Done a _ book (nat
 tells_growth cells a (ask.Peek c) book = peeked cells a c book (is_atom c)
 tells_growth cells a (ask.Send x) book = sent a x book (is_failed (cells_of cells) book x.agent)
 tells_growth cells a (ask.Take g) book = not_less (length book)
-tells_growth cells a (ask.Finish g new sends) book = added unfull reply.Done a _ book (nat_lt (length book) most_events) refl refl
+tells_growth cells a (ask.Finish g new sends) book = finished a g _ new sends _ book (first_failed (cells_of cells) book sends)
 tells_growth cells a (ask.OpenAt c) book = not_less (length book)
 tells_growth cells a (ask.CloseAt c p x) book = closed a c p x book
 tells_growth cells a (ask.Broke c p) book = added unfull reply.Done a _ book (nat_lt (length book) most_events) refl refl

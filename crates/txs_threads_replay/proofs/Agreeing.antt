@@ -12,7 +12,7 @@ use Rattle.txs_theorem_runs.proofs.Growing.{differ}
 use Rattle.txs_world_shared.specs.SharedState.{PlainShared, shared_of, numbered_book}
 use Rattle.txs_threads_replay.specs.Adds.{adds_event, kept_before, kept_trace}
 use Rattle.txs_threads_replay.specs.Agrees.{left_of, AllClaimed, IsClaimed, LeftAgree}
-use Rattle.txs_threads_replay.specs.ByPlace.{in_turn, held_after, next_place, place_of, AreBelow, HoldsByPlace}
+use Rattle.txs_threads_replay.specs.ByPlace.{is_agent, in_turn, held_after, act_place, place_of, AreBelow, HoldsByPlace}
 use Rattle.txs_threads_replay.specs.Fits.{LooksAt}
 use Rattle.txs_threads_replay.specs.Looks.{entry_at}
 use Rattle.txs_threads_replay.specs.Past.{PlainPast, IsStorePast}
@@ -20,6 +20,11 @@ use Rattle.txs_world_book.specs.Served.{cells_of}
 use Rattle.txs_threads_replay.specs.declared.kept.KeptEntry.{KeptEntry}
 use Rattle.txs_threads_replay.proofs.Indexing.{is_less, is_not_less}
 use Rattle.txs_threads_replay.proofs.Looks.{looks_decide}
+use Rattle.txs_theorem_runs.specs.Placed.{is_finish, is_take}
+use Rattle.txs_world_protocol.specs.declared.ask.Ask.{Ask}
+use Rattle.txs_world_protocol.specs.declared.ask.Ask.TheVariants as ask
+use Rattle.txs_world_protocol.specs.declared.ask.Reply.{Reply}
+use Rattle.txs_world_protocol.specs.declared.event.Event.{Event}
 
 -- ---- lists
 
@@ -171,14 +176,14 @@ module _ (s : PlainShared) (a : ℕ) where
   -- ---- one entry more
 
   abbrev here : KeptEntry → List KeptEntry → ℕ
-  here k ks = place_of s.cells (shared_of s).books k.at (next_place (length (numbered_book s 0)) ks) k.ask k.reply
+  here k ks = place_of s.cells (shared_of s).books k.at (act_place (length (numbered_book s 0)) ks) k.ask k.reply
 
   module _ (held : Bool) (taken : List ℕ) (k : KeptEntry) (ks : List KeptEntry) where
     -- an entry looks right where it is looked at, just where it holds
     pub looks_of : LeftAgree s a held taken (k ∷ ks) → LooksAt s a k.ask (here k ks) k.reply
     looks_of h = (looks_decide s.cells s.threads (shared_of s).books a (entry_at k.ask (here k ks) k.reply)).0 h.hold.0
 
-    pub in_turn_of : LeftAgree s a held taken (k ∷ ks) → in_turn held k.ask ≡ true
+    pub in_turn_of : LeftAgree s a held taken (k ∷ ks) → in_turn (is_agent s a) held k.ask ≡ true
     in_turn_of h = h.turns.0
 
     pub left_next : (later : List ℕ) → IsClaimed s a k true taken later → LeftAgree s a held taken (k ∷ ks) → LeftAgree s a (held_after held k.ask) later ks
@@ -188,7 +193,7 @@ module _ (s : PlainShared) (a : ℕ) where
       turns = h.turns.1;
     }
 
-    pub left_back : (later : List ℕ) → IsClaimed s a k true taken later → LooksAt s a k.ask (here k ks) k.reply → in_turn held k.ask ≡ true → LeftAgree s a (held_after held k.ask) later ks → LeftAgree s a held taken (k ∷ ks)
+    pub left_back : (later : List ℕ) → IsClaimed s a k true taken later → LooksAt s a k.ask (here k ks) k.reply → in_turn (is_agent s a) held k.ask ≡ true → LeftAgree s a (held_after held k.ask) later ks → LeftAgree s a held taken (k ∷ ks)
     left_back later c l t h = record {
       hold = ((looks_decide s.cells s.threads (shared_of s).books a (entry_at k.ask (here k ks) k.reply)).1 l, h.hold);
       traced = λ n. kept_parts s.cells n k (kept_trace s.cells ks) ∙ ap (λ ps. places_in n (kept_before s.cells k []) ++ ps) (h.traced n) ∙ sym (c.1 n);
@@ -270,9 +275,35 @@ below_all s a m past h n = go (nat_lt n m) refl
     go true t = h n (is_less n m t)
     go false t = subst (AreBelow a) (sym (past n (is_not_less n m t))) tt
 
--- where the entry behind another one was looked at, or the end
-pub place_behind : (end i : ℕ) (ks : List KeptEntry) (k : KeptEntry) → i + 1 < length ks → k ≡ get_or ks (i + 1) k → k.at ≡ next_place end (drop (i + 1) ks)
-place_behind end i ks k lt e = ap (next_place end) (sym (dropped_at ks (i + 1) k lt e))
+-- ---- the act of what was taken
 
-pub place_none : (end i : ℕ) (ks : List KeptEntry) → length ks ≤ i + 1 → end ≡ next_place end (drop (i + 1) ks)
-place_none end i ks le = ap (next_place end) (sym (drop_none (i + 1) ks le))
+-- from one later entry to the next, where that hands no action in
+pub act_next : (end j : ℕ) (ks : List KeptEntry) (k : KeptEntry) → j < length ks → k ≡ get_or ks j k → is_finish k.ask ≡ false → act_place end (drop j ks) ≡ act_place end (drop (j + 1) ks)
+act_next end j ks k lt e other = ap (act_place end) (dropped_at ks j k lt e) ∙ ap (λ b. if b then k.at else act_place end (drop (j + 1) ks)) other
+
+-- where one does
+pub act_here : (end j : ℕ) (ks : List KeptEntry) (k : KeptEntry) → j < length ks → k ≡ get_or ks j k → is_finish k.ask ≡ true → act_place end (drop j ks) ≡ k.at
+act_here end j ks k lt e is = ap (act_place end) (dropped_at ks j k lt e) ∙ ap (λ b. if b then k.at else act_place end (drop (j + 1) ks)) is
+
+-- where there is none left
+pub act_none : (end j : ℕ) (ks : List KeptEntry) → length ks ≤ j → act_place end (drop j ks) ≡ end
+act_none end j ks le = ap (act_place end) (drop_none j ks le)
+
+-- where an entry takes no action, the index of an act doesn't count
+pub act_unused : (cells : List CellDefinition) (books : ℕ → List Event) (own m n : ℕ) (q : Ask) (r : Reply) → is_take q ≡ false → place_of cells books own m q r ≡ place_of cells books own n q r
+act_unused cells books own m n ask.Begin r e = refl
+act_unused cells books own m n (ask.Look c p) r e = refl
+act_unused cells books own m n (ask.View cs) r e = refl
+act_unused cells books own m n (ask.Commit p sets ensured q commuted sends) r e = refl
+act_unused cells books own m n (ask.Fail p q) r e = refl
+act_unused cells books own m n (ask.Peek c) r e = refl
+act_unused cells books own m n (ask.Send x) r e = refl
+act_unused cells books own m n (ask.Take g) r e = absurd (false≢true (sym e))
+act_unused cells books own m n (ask.Finish g new sends) r e = refl
+act_unused cells books own m n (ask.OpenAt c) r e = refl
+act_unused cells books own m n (ask.CloseAt c p v) r e = refl
+act_unused cells books own m n (ask.Broke c p) r e = refl
+
+-- an entry at an index is one
+pub same_at : (ks : List KeptEntry) (i : ℕ) (k l : KeptEntry) → i < length ks → k ≡ get_or ks i k → l ≡ get_or ks i l → k ≡ l
+same_at ks i k l lt e f = e ∙ get_or_default ks i k l lt ∙ sym f

@@ -1,5 +1,5 @@
 -- That an entry holds is told by its ask and reply and by what stands at its place.
-use Rattle.std.proofs.Common.{◌≡◌, ◌≤◌, ℕ, zero, suc, Bool, true, false, ◌&&◌, ◌==◌, nat_lt, List, [], ◌∷◌, ◌++◌, length, map, take, get_or, Option, Some, None, refl, sym, ap, subst, ◌∙◌, arith, if◌then◌else◌, ◌⊎◌, inl, inr}
+use Rattle.std.proofs.Common.{◌≡◌, ◌≤◌, ℕ, zero, suc, Bool, true, false, ◌&&◌, ◌==◌, nat_lt, List, [], ◌∷◌, ◌++◌, length, map, take, get_or, Option, Some, None, Result, refl, sym, ap, subst, ◌∙◌, arith, if◌then◌else◌, ◌⊎◌, inl, inr}
 use Rattle.std.proofs.lemmas.Bool.{false≢true}
 use Rattle.txs_world_protocol.specs.declared.ask.Ask.{Ask}
 use Rattle.txs_world_protocol.specs.declared.ask.Ask.TheVariants as ask
@@ -11,16 +11,17 @@ use Rattle.txs_value_cell.specs.Cells.{World}
 use Rattle.txs_value_cell.specs.declared.action.Action.{Action}
 use Rattle.txs_value_cell.specs.declared.cell.CellDefinition.{CellDefinition}
 use Rattle.txs_value_base.specs.Places.{nth}
+use Rattle.txs_value_base.specs.declared.fault.Fault.{Fault}
 use Rattle.txs_value_data.specs.Limits.{most_events}
 use Rattle.txs_value_data.specs.declared.value.CellId.{CellId}
 use Rattle.txs_value_data.specs.declared.value.Value.{Value}
 use Rattle.txs_world_book.specs.Atom.{atom_after, closes_at, swapped_since}
-use Rattle.txs_world_book.specs.Book.{has_agent, actor_of, is_outdated, least_written, cells_in, is_failed, first_failed, newest, opening, is_empty}
+use Rattle.txs_world_book.specs.Book.{has_agent, actor_of, is_outdated, least_written, cells_in, is_failed, first_failed, newest, opening, mail_after, may_send, are_sends}
 use Rattle.txs_world_book.specs.Served.{Served, served, adds, event_of, cells_of}
 use Rattle.txs_world_book.proofs.Growth.{written_end}
 use Rattle.txs_world_book.proofs.Older.{unwritten_kept}
 use Rattle.txs_world.specs.Store as world
-use Rattle.txs_world.specs.Store.{is_taken, merged}
+use Rattle.txs_world.specs.Store.{is_taken, merged, span_of}
 use Rattle.txs_theorem_runs.specs.Shared.{book_for, serve_on, serve_atom, atom_of, is_atom, may_ask}
 use Rattle.txs_theorem_runs.specs.Told.{Entry, IsExchanged, served_at, EntryHolds}
 use Rattle.txs_theorem_runs.proofs.Replayed.{length_taken, after_taken, newest_taken, atom_newest_taken}
@@ -106,7 +107,7 @@ with_taken_empty false y z w e h = h
 module _ (cells : List CellDefinition) (threads a : ℕ) where
   asked_to : (taken : List Bool) (q : Ask) (book : List Event) → may_ask cells threads taken a q book ≡ true → may_ask_at cells threads a q book ≡ true
   asked_to taken (ask.Take g) book h = untaken (a == actor_of threads (cells_of cells) g) (has_agent (cells_of cells) g) _ h
-  asked_to taken (ask.Finish g new sends) book h = untaken_empty (a == actor_of threads (cells_of cells) g) (has_agent (cells_of cells) g) _ (is_empty sends) h
+  asked_to taken (ask.Finish g new sends) book h = untaken_empty (a == actor_of threads (cells_of cells) g) (has_agent (cells_of cells) g) _ (may_send new sends && are_sends (cells_of cells) sends) h
   asked_to taken ask.Begin book h = h
   asked_to taken (ask.Look c p) book h = h
   asked_to taken (ask.View cs) book h = h
@@ -120,7 +121,7 @@ module _ (cells : List CellDefinition) (threads a : ℕ) where
 
   asked_from : (q : Ask) (book : List Event) → may_ask_at cells threads a q book ≡ true → (taken : List Bool) × (may_ask cells threads taken a q book ≡ true)
   asked_from (ask.Take g) book h = ([], with_taken (a == actor_of threads (cells_of cells) g) (has_agent (cells_of cells) g) _ refl h)
-  asked_from (ask.Finish g new sends) book h = (trues g.number, with_taken_empty (a == actor_of threads (cells_of cells) g) (has_agent (cells_of cells) g) _ (is_empty sends) (true_at g.number) h)
+  asked_from (ask.Finish g new sends) book h = (trues g.number, with_taken_empty (a == actor_of threads (cells_of cells) g) (has_agent (cells_of cells) g) _ (may_send new sends && are_sends (cells_of cells) sends) (true_at g.number) h)
   asked_from ask.Begin book h = ([], h)
   asked_from (ask.Look c p) book h = ([], h)
   asked_from (ask.View cs) book h = ([], h)
@@ -161,6 +162,11 @@ module _ (cells : List CellDefinition) (a : ℕ) (book : List Event) where
   takes_shaped : (g : CellId) (n : ℕ) (v : Value) (o : Option Action) → Shaped (ask.Take g) (served (world.takes o n v) book)
   takes_shaped g n v o = inl (world.takes o n v, refl, refl)
 
+  finishes_shaped : (g : CellId) (new : Result Value Fault) (sends : List Action) (o : Option CellId)
+      → Shaped (ask.Finish g new sends) (world.finishes o a g (suc (mail_after (cells_of cells) book g.number).acts) new sends (span_of (mail_after (cells_of cells) book g.number).actions) book)
+  finishes_shaped g new sends None = inr (reply.Done, refl, refl)
+  finishes_shaped g new sends (Some h) = inr (reply.AgentIsFailed h, refl, refl)
+
   closes_shaped : (c : CellId) (p : Option ℕ) (v : Value) (b : Bool) → Shaped (ask.CloseAt c p v) (closes_at b a c v book)
   closes_shaped c p v true = inl (reply.Changed c, refl, refl)
   closes_shaped c p v false = inr (reply.Done, refl, refl)
@@ -175,7 +181,7 @@ module _ (cells : List CellDefinition) (a : ℕ) (book : List Event) where
   shaped (ask.Peek c) = peek_shaped c (is_atom c)
   shaped (ask.Send x) = sends_shaped x (is_failed (cells_of cells) book x.agent)
   shaped (ask.Take g) = inl (_, refl, refl)
-  shaped (ask.Finish g new sends) = inr (reply.Done, refl, refl)
+  shaped (ask.Finish g new sends) = finishes_shaped g new sends (first_failed (cells_of cells) book sends)
   shaped (ask.OpenAt c) = inl (_, refl, refl)
   shaped (ask.CloseAt c None v) = closes_shaped c None v false
   shaped (ask.CloseAt c (Some p) v) = closes_shaped c (Some p) v (swapped_since p book)

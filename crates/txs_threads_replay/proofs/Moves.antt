@@ -17,7 +17,7 @@ use Rattle.txs_value_data.specs.declared.value.CellId.{CellId}
 use Rattle.txs_value_data.specs.declared.value.Value.{Value}
 use Rattle.txs_world_book.proofs.Outcomes.{both}
 use Rattle.txs_world_book.specs.Atom.{is_swap, swapped_since, closes_at}
-use Rattle.txs_world_book.specs.Book.{has_agent, has_ref, actor_of, is_outdated, counts, all_before, may_name, opening, after, newest, mail_after, makes, LegalKind, Each, Legal}
+use Rattle.txs_world_book.specs.Book.{has_agent, has_ref, actor_of, actors, is_outdated, counts, all_before, may_name, opening, after, newest, mail_after, makes, LegalKind, Each, Legal}
 use Rattle.txs_world_book.specs.Served.{served, event_of, cells_of}
 use Rattle.txs_world_book.specs.declared.cell.StoreCell.{StoreCell}
 use Rattle.txs_world.specs.Laws.{ActionStays}
@@ -31,7 +31,7 @@ use Rattle.txs_threads_replay.specs.declared.kept.KeptEntry.{KeptEntry}
 use Rattle.txs_theorem_runs.proofs.Acting.{no_thread}
 use Rattle.txs_theorem_runs.proofs.Replayed.{length_taken, after_taken}
 use Rattle.txs_threads_replay.specs.Adds.{is_retry, is_done}
-use Rattle.txs_threads_replay.specs.ByPlace.{named_or, after_swap, next_place, placed, in_turn, held_after, AreInTurn}
+use Rattle.txs_threads_replay.specs.ByPlace.{named_or, after_swap, act_place, placed, in_turn, held_after, AreInTurn}
 use Rattle.txs_threads_replay.specs.Looks.{EntryLooks, entry_at}
 use Rattle.txs_threads_replay.specs.Moves.{PlacesHold, TakesHold, ThreadsAgree, IsTake}
 use Rattle.txs_threads_replay.proofs.Adding.{trace_is_kept}
@@ -119,7 +119,7 @@ module _ (cells : List CellDefinition) (threads : ℕ) (books : ℕ → List Eve
   look_moves : (c : CellId) (p : ℕ) (r : Reply) → Holds (ask.Look c p) own r → is_retry r ≡ false → Holds (ask.Look c p) p r
   look_moves c p r h n = (looks_decide cells threads books a (entry_at (ask.Look c p) p r)).1 (record {
     within = omega (arith, le, h.within);
-    asked = joined (nat_lt a threads) _ m.0 (joined (has_ref (cells_of cells) c) _ t.0 (joined (nat_le p (length (take p (books 0)))) _ (le_true p (length (take p (books 0))) (omega (arith, len_p))) (before_end false a p (take p (books 0)) (omega (arith, len_p)))));
+    asked = joined (nat_lt a (actors threads (cells_of cells))) _ m.0 (joined (has_ref (cells_of cells) c) _ t.0 (joined (nat_le p (length (take p (books 0)))) _ (le_true p (length (take p (books 0))) (omega (arith, len_p))) (before_end false a p (take p (books 0)) (omega (arith, len_p)))));
     replied = looked_so (is_outdated c.number p (take own (books 0))) c p (take own (books 0)) r h.replied h.exchanged n
         ∙ ap (λ (w : World). reply.Is (w c.number)) (after_taken (opening (cells_of cells)) (books 0) own p le)
         ∙ sym ((places_answer cells books a p).looks c r (omega (arith, le, h.within)));
@@ -127,8 +127,8 @@ module _ (cells : List CellDefinition) (threads : ℕ) (books : ℕ → List Eve
     there = λ e. absurd (false≢true (sym n ∙ e));
   })
     where
-      m : (nat_lt a threads ≡ true) × ((has_ref (cells_of cells) c && may_name false (take own (books 0)) a p) ≡ true)
-      m = both (nat_lt a threads) (has_ref (cells_of cells) c && may_name false (take own (books 0)) a p) h.asked.1
+      m : (nat_lt a (actors threads (cells_of cells)) ≡ true) × ((has_ref (cells_of cells) c && may_name false (take own (books 0)) a p) ≡ true)
+      m = both (nat_lt a (actors threads (cells_of cells))) (has_ref (cells_of cells) c && may_name false (take own (books 0)) a p) h.asked.1
 
       t : (has_ref (cells_of cells) c ≡ true) × (may_name false (take own (books 0)) a p ≡ true)
       t = both (has_ref (cells_of cells) c) (may_name false (take own (books 0)) a p) m.1
@@ -153,7 +153,7 @@ module _ (cells : List CellDefinition) (threads : ℕ) (books : ℕ → List Eve
   change_moves : (c : CellId) (p : ℕ) (v : Value) (r : Reply) → Holds (ask.CloseAt c (Some p) v) own r → is_done r ≡ false → Holds (ask.CloseAt c (Some p) v) (after_swap p (books (book_for cells (ask.OpenAt c)))) r
   change_moves c p v r h n = (looks_decide cells threads books a (entry_at (ask.CloseAt c (Some p) v) k r)).1 (record {
     within = s.within;
-    asked = joined (nat_lt a threads) _ m.0 (joined (has_atom cells c) _ t.0
+    asked = joined (nat_lt a (actors threads (cells_of cells))) _ m.0 (joined (has_atom cells c) _ t.0
         (joined (nat_le p (length (take k es))) _ (le_true p (length (take k es)) (subst (λ i. p ≤ i) (sym (length_taken k es s.within)) s.behind)) (before_less true a p own k es s.late u.1)));
     replied = changed.1 ∙ ap (λ b. (closes_at b a c v (take k es)).reply) (sym s.found);
     exchanged = h.exchanged;
@@ -166,8 +166,8 @@ module _ (cells : List CellDefinition) (threads : ℕ) (books : ℕ → List Eve
       k : ℕ
       k = after_swap p es
 
-      m : (nat_lt a threads ≡ true) × ((has_atom cells c && may_close (take own es) a (Some p)) ≡ true)
-      m = both (nat_lt a threads) (has_atom cells c && may_close (take own es) a (Some p)) h.asked.1
+      m : (nat_lt a (actors threads (cells_of cells)) ≡ true) × ((has_atom cells c && may_close (take own es) a (Some p)) ≡ true)
+      m = both (nat_lt a (actors threads (cells_of cells))) (has_atom cells c && may_close (take own es) a (Some p)) h.asked.1
 
       t : (has_atom cells c ≡ true) × (may_name true (take own es) a p ≡ true)
       t = both (has_atom cells c) (may_name true (take own es) a p) m.1
@@ -291,7 +291,7 @@ module _ (s : PlainShared) (a : ℕ) (below : nat_lt a s.threads ≡ true) where
   no_take taken book (ask.CloseAt c p v) may h = h
   no_take taken book (ask.Broke c p) may h = h
 
-  quiet_turn : (taken : List Bool) (book : List Event) (q : Ask) → may_ask s.cells s.threads taken a q book ≡ true → (in_turn false q ≡ true) × (held_after false q ≡ false)
+  quiet_turn : (taken : List Bool) (book : List Event) (q : Ask) → may_ask s.cells s.threads taken a q book ≡ true → (in_turn false false q ≡ true) × (held_after false q ≡ false)
   quiet_turn taken book (ask.Take g) may = absurd (no_agent g _ may)
   quiet_turn taken book (ask.Finish g new sends) may = absurd (no_agent g _ may)
   quiet_turn taken book ask.Begin may = (refl, refl)
@@ -308,17 +308,17 @@ module _ (s : PlainShared) (a : ℕ) (below : nat_lt a s.threads ≡ true) where
   all_placed : (ks : List KeptEntry) → AllHold s.cells s.threads (shared_of s).books a (map entry_of ks) → AllHold s.cells s.threads (shared_of s).books a (placed s.cells (shared_of s).books ks)
   all_placed [] h = tt
   all_placed (k ∷ ks) h =
-      (places_hold s.cells s.threads (shared_of s).books a k.at (next_place (length ((shared_of s).books 0)) ks) k.ask k.reply (no_take h.0.asked.0 (before_entry s.cells (shared_of s).books (entry_of k)) k.ask h.0.asked.1) h.0, all_placed ks h.1)
+      (places_hold s.cells s.threads (shared_of s).books a k.at (act_place (length ((shared_of s).books 0)) ks) k.ask k.reply (no_take h.0.asked.0 (before_entry s.cells (shared_of s).books (entry_of k)) k.ask h.0.asked.1) h.0, all_placed ks h.1)
 
-  all_in_turn : (ks : List KeptEntry) → AllHold s.cells s.threads (shared_of s).books a (map entry_of ks) → AreInTurn false ks
+  all_in_turn : (ks : List KeptEntry) → AllHold s.cells s.threads (shared_of s).books a (map entry_of ks) → AreInTurn false false ks
   all_in_turn [] h = tt
   all_in_turn (k ∷ ks) h =
       let t = quiet_turn h.0.asked.0 (before_entry s.cells (shared_of s).books (entry_of k)) k.ask h.0.asked.1 in
-      (t.0, subst (λ b. AreInTurn b ks) (sym t.1) (all_in_turn ks h.1))
+      (t.0, subst (λ b. AreInTurn false b ks) (sym t.1) (all_in_turn ks h.1))
 
 pub threads_agree : ThreadsAgree
 threads_agree s a ks below hold traced = record {
   hold = all_placed s a below ks hold;
   traced = subst (TraceHolds (shared_of s).books a) (sym (trace_is_kept s.cells s.threads (shared_of s).books a ks hold)) traced;
-  turns = all_in_turn s a below ks hold;
+  turns = subst (λ b. AreInTurn b false ks) (sym (ap not below)) (all_in_turn s a below ks hold);
 }

@@ -5,7 +5,7 @@ use Rattle.txs_theorem_runs.specs.Shared.{book_for}
 use Rattle.txs_theorem_runs.specs.Told.{AllHold, places_in, places_by}
 use Rattle.txs_world_shared.specs.SharedState.{PlainShared, shared_of, numbered_book}
 use Rattle.txs_threads_replay.specs.Adds.{adds_event, kept_before, kept_trace}
-use Rattle.txs_threads_replay.specs.ByPlace.{placed, AreInTurn}
+use Rattle.txs_threads_replay.specs.ByPlace.{placed, is_agent, AreInTurn}
 use Rattle.txs_threads_replay.specs.declared.kept.KeptEntry.{KeptEntry}
 
 -- the places of an actor's events in a book that are left, where so many of each book were taken
@@ -25,4 +25,4 @@ IsClaimed s a k false old new = (adds_event k.ask k.reply ≡ true) × ((rest : 
 pub record LeftAgree (s : PlainShared) (a : ℕ) (held : Bool) (taken : List ℕ) (ks : List KeptEntry) : Type 0 where
   pub hold : AllHold s.cells s.threads (shared_of s).books a (placed s.cells (shared_of s).books ks)
   pub traced : (n : ℕ) → places_in n (kept_trace s.cells ks) ≡ left_of s a taken n
-  pub turns : AreInTurn held ks
+  pub turns : AreInTurn (is_agent s a) held ks

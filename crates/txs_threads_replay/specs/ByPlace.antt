@@ -1,5 +1,5 @@
 -- When what an actor kept agrees with the books, where each entry is looked at in its own place of its book, in no order of the actors.
-use Rattle.std.specs.Prelude.{◌≡◌, ◌<◌, ℕ, zero, suc, Bool, true, false, List, [], ◌∷◌, length, Option, Some, None, if◌then◌else◌}
+use Rattle.std.specs.Prelude.{◌≡◌, ◌<◌, ℕ, zero, suc, Bool, true, false, not, nat_lt, List, [], ◌∷◌, length, Option, Some, None, if◌then◌else◌}
 use Rattle.txs_world_protocol.specs.SeenEvent.{home}
 use Rattle.txs_world_protocol.specs.declared.ask.Ask.{Ask}
 use Rattle.txs_world_protocol.specs.declared.ask.Ask.TheVariants as ask
@@ -8,6 +8,7 @@ use Rattle.txs_world_protocol.specs.declared.ask.Reply.TheVariants as reply
 use Rattle.txs_world_protocol.specs.declared.event.Event.{Event}
 use Rattle.txs_value_cell.specs.declared.cell.CellDefinition.{CellDefinition}
 use Rattle.txs_world_book.specs.Atom.{is_swap}
+use Rattle.txs_theorem_runs.specs.Placed.{is_finish}
 use Rattle.txs_theorem_runs.specs.Told.{Entry, AllHold, TraceHolds}
 use Rattle.txs_world_shared.specs.SharedState.{PlainShared, shared_of}
 use Rattle.txs_threads_replay.specs.declared.kept.KeptEntry.{KeptEntry}
@@ -42,34 +43,39 @@ changed_place (Some p) own es = after_swap p es
 -- The place at which an entry is looked at: that of its event, where it added one; else that which the ask or the reply names. What an agent was handed out is
 -- looked at where it handed the action in; that an atom has changed, behind the first swap since the place where the swap was opened.
 abbrev pub place_of : List CellDefinition → (ℕ → List Event) → ℕ → ℕ → Ask → Reply → ℕ
-place_of cells books own next ask.Begin r = named_or own r
-place_of cells books own next (ask.Look c p) r = if is_retry r then own else p
-place_of cells books own next (ask.View cs) r = named_or own r
-place_of cells books own next (ask.Commit p sets ensured q commuted sends) r = own
-place_of cells books own next (ask.Fail p q) r = own
-place_of cells books own next (ask.Peek c) r = own
-place_of cells books own next (ask.Send x) r = own
-place_of cells books own next (ask.Take g) r = next
-place_of cells books own next (ask.Finish g new sends) r = own
-place_of cells books own next (ask.OpenAt c) r = named_or own r
-place_of cells books own next (ask.CloseAt c p v) r = if is_done r then own else changed_place p own (books (home cells c))
-place_of cells books own next (ask.Broke c p) r = own
+place_of cells books own act ask.Begin r = named_or own r
+place_of cells books own act (ask.Look c p) r = if is_retry r then own else p
+place_of cells books own act (ask.View cs) r = named_or own r
+place_of cells books own act (ask.Commit p sets ensured q commuted sends) r = own
+place_of cells books own act (ask.Fail p q) r = own
+place_of cells books own act (ask.Peek c) r = own
+place_of cells books own act (ask.Send x) r = own
+place_of cells books own act (ask.Take g) r = act
+place_of cells books own act (ask.Finish g new sends) r = own
+place_of cells books own act (ask.OpenAt c) r = named_or own r
+place_of cells books own act (ask.CloseAt c p v) r = if is_done r then own else changed_place p own (books (home cells c))
+place_of cells books own act (ask.Broke c p) r = own
 
--- the place of the event of the entry that comes next; this end, where none does
-abbrev pub next_place : ℕ → List KeptEntry → ℕ
-next_place end [] = end
-next_place end (k ∷ ks) = k.at
+-- the index of the act by which the first of these entries that hands an action in does so; this end, where none does
+abbrev pub act_place : ℕ → List KeptEntry → ℕ
+act_place end [] = end
+act_place end (k ∷ ks) = if is_finish k.ask then k.at else act_place end ks
 
 -- what an actor kept, each entry at the place where it is looked at; of the places that were kept those of events alone count
 abbrev pub placed : List CellDefinition → (ℕ → List Event) → List KeptEntry → List Entry
 placed cells books [] = []
-placed cells books (k ∷ ks) = record { ask = k.ask; reply = k.reply; at = place_of cells books k.at (next_place (length (books 0)) ks) k.ask k.reply } ∷ placed cells books ks
+placed cells books (k ∷ ks) = record { ask = k.ask; reply = k.reply; at = place_of cells books k.at (act_place (length (books 0)) ks) k.ask k.reply } ∷ placed cells books ks
 
--- whether an actor may take an action, or hand one in, where it runs one or runs none
-abbrev pub in_turn : Bool → Ask → Bool
-in_turn held (ask.Take g) = if held then false else true
-in_turn held (ask.Finish g new sends) = held
-in_turn held _ = true
+-- whether an actor's number is that of an agent
+abbrev pub is_agent : PlainShared → ℕ → Bool
+is_agent s a = not (nat_lt a s.threads)
+
+-- whether an actor, a thread's or an agent's, may ask this where it runs an action or runs none: it takes one only where it runs none, hands one in only where
+-- it runs one, and an agent that runs none asks for nothing else
+abbrev pub in_turn : Bool → Bool → Ask → Bool
+in_turn agent held (ask.Take g) = if held then false else true
+in_turn agent held (ask.Finish g new sends) = held
+in_turn agent held _ = if agent then held else true
 
 -- whether it runs one after an ask
 abbrev pub held_after : Bool → Ask → Bool
@@ -77,17 +83,17 @@ held_after held (ask.Take g) = true
 held_after held (ask.Finish g new sends) = false
 held_after held _ = held
 
--- it takes an action only where it has none, and hands one in only where it has one
-abbrev pub AreInTurn : Bool → List KeptEntry → Type 0
-AreInTurn held [] = Unit {0}
-AreInTurn held (k ∷ ks) = (in_turn held k.ask ≡ true) × AreInTurn (held_after held k.ask) ks
+-- each of these comes in its turn
+abbrev pub AreInTurn : Bool → Bool → List KeptEntry → Type 0
+AreInTurn agent held [] = Unit {0}
+AreInTurn agent held (k ∷ ks) = (in_turn agent held k.ask ≡ true) × AreInTurn agent (held_after held k.ask) ks
 
 -- What an actor kept agrees with the books: each entry might be asked at its place, and the reply is what is answered there; the events that entries added are
 -- the actor's in each book, in order; and its actions come in turn.
 pub record HoldsByPlace (s : PlainShared) (a : ℕ) (ks : List KeptEntry) : Type 0 where
   pub hold : AllHold s.cells s.threads (shared_of s).books a (placed s.cells (shared_of s).books ks)
   pub traced : TraceHolds (shared_of s).books a (kept_trace s.cells ks)
-  pub turns : AreInTurn false ks
+  pub turns : AreInTurn (is_agent s a) false ks
 
 -- no event of these has another actor than the first so many
 abbrev pub AreBelow : ℕ → List Event → Type 0

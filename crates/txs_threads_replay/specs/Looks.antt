@@ -1,5 +1,5 @@
 -- When an entry holds at its place, by its ask and reply and by what is at the index in the books: what a comparison has to test.
-use Rattle.std.specs.Prelude.{◌≡◌, ◌≤◌, ◌↔◌, ℕ, suc, Bool, true, false, ◌&&◌, ◌==◌, List, [], length, map, Some}
+use Rattle.std.specs.Prelude.{◌≡◌, ◌≤◌, ◌↔◌, ℕ, suc, Bool, true, false, ◌&&◌, ◌==◌, List, [], length, map, Some, Result, Err}
 use Rattle.txs_world_protocol.specs.SeenEvent.{home}
 use Rattle.txs_world_protocol.specs.declared.ask.Ask.{Ask}
 use Rattle.txs_world_protocol.specs.declared.ask.Ask.TheVariants as ask
@@ -10,13 +10,17 @@ use Rattle.txs_world_protocol.specs.declared.event.EventKind.{EventKind}
 use Rattle.txs_world_protocol.specs.declared.event.EventKind.TheVariants as event
 use Rattle.txs_value_cell.specs.declared.action.Action.{Action}
 use Rattle.txs_value_cell.specs.declared.cell.CellDefinition.{CellDefinition}
-use Rattle.txs_value_base.specs.Places.{nth}
+use Rattle.txs_value_base.specs.Places.{nth, fault_at}
+use Rattle.txs_value_base.specs.declared.fault.Fault.{Fault}
+use Rattle.txs_value_base.specs.declared.fault.FaultKind.TheVariants.{AgentFailed}
+use Rattle.txs_value_base.specs.declared.fault.Span.{Span}
+use Rattle.txs_value_data.specs.declared.value.Value.{Value}
 use Rattle.txs_value_data.specs.declared.value.CellId.{CellId}
 use Rattle.txs_world_protocol.specs.Ask.{Writes}
 use Rattle.txs_world_book.specs.Atom.{atom_after}
-use Rattle.txs_world_book.specs.Book.{has_agent, actor_of, is_empty, mail_after, after, opening}
+use Rattle.txs_world_book.specs.Book.{has_agent, actor_of, may_send, are_sends, mail_after, after, opening}
 use Rattle.txs_world_book.specs.Served.{event_of, cells_of}
-use Rattle.txs_world.specs.Store.{merged}
+use Rattle.txs_world.specs.Store.{merged, span_of}
 use Rattle.txs_theorem_runs.specs.Shared.{book_for, may_ask}
 use Rattle.txs_theorem_runs.specs.Told.{Entry, IsExchanged, before_entry, served_at, EntryHolds}
 use Rattle.txs_threads_replay.specs.Adds.{adds_event}
@@ -24,7 +28,7 @@ use Rattle.txs_threads_replay.specs.Adds.{adds_event}
 -- whether the actor may ask this, if no action is taken, or of one that it hands in if it is
 abbrev pub may_ask_at : List CellDefinition → ℕ → ℕ → Ask → List Event → Bool
 may_ask_at cells threads a (ask.Take g) book = a == actor_of threads (cells_of cells) g && has_agent (cells_of cells) g
-may_ask_at cells threads a (ask.Finish g new sends) book = a == actor_of threads (cells_of cells) g && (has_agent (cells_of cells) g && is_empty sends)
+may_ask_at cells threads a (ask.Finish g new sends) book = a == actor_of threads (cells_of cells) g && (has_agent (cells_of cells) g && (may_send new sends && are_sends (cells_of cells) sends))
 may_ask_at cells threads a q book = may_ask cells threads [] a q book
 
 -- the event that the end of a transaction adds
@@ -39,6 +43,11 @@ abbrev pub send_kind : Action → Reply → EventKind
 send_kind x (reply.AgentIsFailed g) = event.SendRefused g
 send_kind x _ = event.Send x
 
+-- the event that the end of an action adds
+abbrev pub act_kind : CellId → ℕ → Result Value Fault → List Action → Span → Reply → EventKind
+act_kind g n new sends span (reply.AgentIsFailed h) = event.Act g n (Err (fault_at AgentFailed span)) []
+act_kind g n new sends span _ = event.Act g n new sends
+
 -- The event that an ask adds with its reply, behind these; of one that adds none, any.
 abbrev pub kind_of : List CellDefinition → Ask → Reply → List Event → EventKind
 kind_of cells ask.Begin r book = event.Broke 0
@@ -49,7 +58,7 @@ kind_of cells (ask.Fail p q) r book = event.Fail p q
 kind_of cells (ask.Peek c) r book = event.Read c
 kind_of cells (ask.Send x) r book = send_kind x r
 kind_of cells (ask.Take g) r book = event.Broke 0
-kind_of cells (ask.Finish g new sends) r book = event.Act g (suc (mail_after (cells_of cells) book g.number).acts) new sends
+kind_of cells (ask.Finish g new sends) r book = act_kind g (suc (mail_after (cells_of cells) book g.number).acts) new sends (span_of (mail_after (cells_of cells) book g.number).actions) r
 kind_of cells (ask.OpenAt c) r book = event.Broke 0
 kind_of cells (ask.CloseAt c p v) r book = event.Swap v
 kind_of cells (ask.Broke c p) r book = event.Broke p

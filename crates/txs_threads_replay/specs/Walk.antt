@@ -7,12 +7,12 @@ use Rattle.txs_theorem_runs.specs.Shared.{book_for}
 use Rattle.txs_theorem_runs.specs.Told.{Entry, AllHold, places_in, places_by, TraceHolds}
 use Rattle.txs_threads_replay.specs.declared.kept.KeptEntry.{KeptEntry}
 use Rattle.txs_threads_replay.specs.Adds.{adds_event, kept_trace}
-use Rattle.txs_threads_replay.specs.ByPlace.{place_of, next_place, placed, AreBelow}
+use Rattle.txs_threads_replay.specs.ByPlace.{place_of, act_place, placed, AreBelow}
 use Rattle.txs_threads_replay.specs.Looks.{EntryLooks}
 
 -- an entry at the place where it is looked at, with those that come behind it
 abbrev pub looked : List CellDefinition → (ℕ → List Event) → KeptEntry → List KeptEntry → Entry
-looked cells books x xs = record { ask = x.ask; reply = x.reply; at = place_of cells books x.at (next_place (length (books 0)) xs) x.ask x.reply }
+looked cells books x xs = record { ask = x.ask; reply = x.reply; at = place_of cells books x.at (act_place (length (books 0)) xs) x.ask x.reply }
 
 -- whether an entry added an event to this book
 abbrev pub adds_in : List CellDefinition → ℕ → KeptEntry → Bool

@@ -1,12 +1,14 @@
 //! Whether what actors kept agrees with the books.
 
 ghost use Rattle.std.specs.Prelude.{◌≡◌, ◌<◌, ◌+◌, ◌↔◌, ℕ, [], length, true, false, IfOk, IsTrue};
-ghost use Rattle.std.proofs.Common.{drop};
-ghost use Rattle.txs_world_shared.specs.SharedState.{numbered_book};
+ghost use Rattle.std.proofs.Common.{drop, get_or};
+ghost use Rattle.txs_world_shared.specs.SharedState.{shared_of, numbered_book};
 ghost use Rattle.txs_threads_replay.specs.Adds.{added, adds_event};
-ghost use Rattle.txs_threads_replay.specs.ByPlace.{AreBelow, HoldsByPlace, next_place};
+ghost use Rattle.txs_threads_replay.specs.ByPlace.{AreBelow, HoldsByPlace, act_place, place_of};
 ghost use Rattle.txs_threads_replay.specs.Agrees.{IsClaimed, AllClaimed};
+ghost use Rattle.txs_threads_replay.specs.Fits.{LooksAt};
 ghost use Rattle.txs_threads_replay.specs.Storing.{kept_in};
+ghost use Rattle.txs_threads_replay.specs.declared.kept.KeptEntry.{KeptEntry};
 
 use crate::by_place::are_below;
 use crate::index::Index;
@@ -47,16 +49,32 @@ pub fn all_below(shared: &SharedState, actors: usize) -> bool
 }
 
 impl Index<'_> {
-    /// The place of the event of the entry behind this one: the end of the store's book, where there is none.
-    fn next_place(&self, kept: &KeptEntries, i: usize) -> usize
+    /// The index of the act by which the first later entry that hands an action in does so: the end of the store's book, where none does.
+    fn act_place(&self, kept: &KeptEntries, i: usize) -> usize
         requires { i < length kept.now }
-        ensures { result ≡ next_place (length (numbered_book self.now 0)) (drop (i + 1) kept.now) }
+        ensures { result ≡ act_place (length (numbered_book self.now 0)) (drop (i + 1) kept.now) }
     {
         let count = kept.len();
-        if i + 1 < count {
-            kept.get(i + 1).at() as usize
+        for j in i + 1..count {
+            let later = kept.get(j);
+            if later.is_finish() {
+                return later.at() as usize;
+            }
+        }
+        self.len()
+    }
+
+    /// Whether an entry looks right at the index where it is looked at. Later entries are gone through for one alone that takes an action.
+    fn fits_at(&self, actor: u16, kept: &KeptEntries, i: usize) -> bool
+        requires { i < length kept.now }
+        ensures { (k : KeptEntry) → k ≡ get_or kept.now i k → IsTrue result ↔ LooksAt self.now actor k.ask (place_of self.now.cells (shared_of self.now).books k.at (act_place (length (numbered_book self.now 0)) (drop (i + 1) kept.now)) k.ask k.reply) k.reply }
+    {
+        let one = kept.get(i);
+        if one.is_take() {
+            let act = self.act_place(kept, i);
+            self.fits(actor, one, act)
         } else {
-            self.len()
+            self.fits(actor, one, 0)
         }
     }
 
@@ -109,14 +127,14 @@ impl Index<'_> {
         ensures { IfOk result (λ ok. IsTrue ok ↔ HoldsByPlace self.now actor kept.now) }
     {
         let mut taken = vec![in alloc; 0usize; self.shared().books()]?;
+        let agent = self.is_agent(actor);
         let mut held = false;
         for i in 0..kept.len() {
             let one = kept.get(i);
-            let next = self.next_place(kept, i);
-            if !one.in_turn(held) {
+            if !one.in_turn(agent, held) {
                 return Ok(false);
             }
-            if !self.fits(actor, one, next) {
+            if !self.fits_at(actor, kept, i) {
                 return Ok(false);
             }
             if !self.claim(&mut taken, actor, one) {

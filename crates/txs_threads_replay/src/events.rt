@@ -1,7 +1,8 @@
 //! Whether a certain event is at an index of a book.
 
-ghost use Rattle.std.specs.Prelude.{◌≡◌, ◌↔◌, ℕ, true, Some, None, IfSome, IsTrue};
-ghost use Rattle.txs_value_base.specs.Places.{nth};
+ghost use Rattle.std.specs.Prelude.{◌≡◌, ◌↔◌, ℕ, [], true, Some, None, Err, IfSome, IsTrue};
+ghost use Rattle.txs_value_base.specs.Places.{nth, fault_at};
+ghost use Rattle.txs_value_base.specs.declared.fault.FaultKind.TheVariants.{AgentFailed};
 ghost use Rattle.txs_world_protocol.specs.declared.event.EventKind.{EventKind as AKind};
 ghost use Rattle.txs_world_protocol.specs.declared.event.EventKind.TheVariants as event;
 ghost use Rattle.txs_world_book.specs.Book.{cells_in};
@@ -10,7 +11,7 @@ ghost use Rattle.txs_world.specs.Places.{Ascend};
 ghost use Rattle.txs_world.specs.Store.{are_apart, merged};
 
 use crate::joined::are_joined;
-use txs_value_base::Fault;
+use txs_value_base::{Fault, FaultKind, Span};
 use txs_value_cell::Action;
 use txs_value_data::{CellId, Value, same};
 use txs_world_protocol::{Event, EventKind, same_action, same_actions, same_new};
@@ -168,6 +169,17 @@ pub(crate) fn is_act(
         ) => *g == agent && same_new(r, new) && same_actions(xs.as_slice(), sends),
         _ => false,
     }
+}
+
+/// Whether an action of this agent faulted at this span, since an agent that it sent to had failed, whichever number it has.
+pub(crate) fn is_unsent(events: &[Event], at: usize, actor: u16, agent: CellId, span: Span) -> bool
+    ensures { IsTrue result ↔ ((n : ℕ) × (nth events.now at ≡ Some (event_of actor (event.Act agent n (Err (fault_at AgentFailed span)) [])))) }
+{
+    let fault = Fault {
+        kind: FaultKind::AgentFailed,
+        span,
+    };
+    is_act(events, at, actor, agent, &Err(fault), &[])
 }
 
 /// Whether it gave the atom this value.

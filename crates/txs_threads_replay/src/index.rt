@@ -6,8 +6,10 @@ ghost use Rattle.txs_theorem_runs.specs.Invariant.{SharedStands};
 ghost use Rattle.txs_world_protocol.specs.SeenEvent.{home};
 ghost use Rattle.txs_theorem_runs.specs.Shared.{has_atom, is_atom};
 ghost use Rattle.txs_world.specs.Store.{next_action};
-ghost use Rattle.txs_world_book.specs.Book.{actor_of, after, are_sends, cells_in, first_failed, has_agent, has_cell, is_outdated, least_written, mail_after, may_end, opening};
+ghost use Rattle.txs_world_book.specs.Book.{actor_of, actors, after, are_sends, cells_in, first_failed, has_agent, has_cell, is_outdated, least_written, mail_after, may_end, opening};
 ghost use Rattle.txs_theorem_runs.specs.Told.{places_by};
+ghost use Rattle.txs_threads_replay.specs.ByPlace.{is_agent};
+ghost use Rattle.txs_threads_replay.specs.Fits.{may_commit};
 ghost use Rattle.txs_world_shared.specs.SharedState.{shared_of, numbered_book};
 ghost use Rattle.txs_world_book.specs.Served.{cells_of};
 
@@ -220,11 +222,25 @@ impl<'a> Index<'a> {
         }
     }
 
-    /// How many threads there are.
-    pub(crate) fn threads(&self) -> u16
-        ensures { result ≡ self.now.threads }
+    /// How many actors there are: the threads, and the agents' actors behind them.
+    pub(crate) fn actors(&self) -> usize
+        ensures { result ≡ actors self.now.threads (cells_of self.now.cells) }
     {
-        self.shared.threads()
+        self.shared.actors()
+    }
+
+    /// Whether an actor's number is that of an agent.
+    pub(crate) fn is_agent(&self, actor: u16) -> bool
+        ensures { result ≡ is_agent self.now actor }
+    {
+        actor >= self.shared.threads()
+    }
+
+    /// Whether an actor makes commits that send this.
+    pub(crate) fn may_commit(&self, actor: u16, sends: &[Action]) -> bool
+        ensures { result ≡ may_commit self.now.threads actor (cells_of self.now.cells) sends.now }
+    {
+        self.store.may_commit(actor, sends)
     }
 
     /// Whether there is this cell, and it is an atom.

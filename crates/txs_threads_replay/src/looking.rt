@@ -6,7 +6,7 @@ ghost use Rattle.txs_world_protocol.specs.SeenEvent.{home};
 ghost use Rattle.txs_world_protocol.specs.declared.ask.Ask.TheVariants as ask;
 ghost use Rattle.txs_world_protocol.specs.declared.ask.Reply.TheVariants as replied;
 ghost use Rattle.txs_world_book.specs.Atom.{atom_after};
-ghost use Rattle.txs_world_book.specs.Book.{has_refs, has_agent, after, opening, mail_after};
+ghost use Rattle.txs_world_book.specs.Book.{actors, has_refs, has_agent, after, opening, mail_after};
 ghost use Rattle.txs_world_book.specs.Served.{cells_of};
 ghost use Rattle.txs_world.specs.Store.{next_action};
 ghost use Rattle.txs_world_shared.specs.SharedState.{shared_of, numbered_book};
@@ -14,11 +14,11 @@ ghost use Rattle.txs_theorem_runs.specs.Shared.{is_atom, has_atom};
 ghost use Rattle.txs_threads_replay.specs.Adds.{is_retry, is_done};
 ghost use Rattle.txs_threads_replay.specs.ByPlace.{named_or, after_swap, changed_place, place_of};
 ghost use Rattle.txs_threads_replay.specs.Storing.{kept_in};
-ghost use Rattle.txs_threads_replay.specs.Fits.{LooksAt, HasCommit, MayClose, taken_at};
+ghost use Rattle.txs_threads_replay.specs.Fits.{LooksAt, HasCommit, FaultsThere, MayClose, taken_at};
 
 use crate::events::{
     is_act, is_broke, is_commit, is_fail, is_read, is_refused, is_retry, is_send, is_send_refused,
-    is_swap,
+    is_swap, is_unsent,
 };
 use crate::index::Index;
 use crate::kept::KeptEntry;
@@ -27,7 +27,7 @@ use txs_value_base::Fault;
 use txs_value_cell::Action;
 use txs_value_data::{CellId, CellKind, Value, same};
 use txs_world::are_apart;
-use txs_world_book::{are_sends, are_written, has_agent, has_cell, has_ref, has_refs};
+use txs_world_book::{are_sends, are_written, has_agent, has_cell, has_ref, has_refs, may_send};
 use txs_world_protocol::{Ask, Reply, same_action, same_cell};
 
 /// The end of a transaction that didn't fault, as it was asked, lent.
@@ -86,11 +86,11 @@ impl Index<'_> {
         self.events().len()
     }
 
-    /// Whether a thread asks, and names a place of the store's book.
+    /// Whether there is this actor, and it names an index of the store's book.
     fn may_name(&self, actor: u16, place: u32) -> bool
-        ensures { IsTrue result ↔ ((actor < self.now.threads) × (place ≤ length (numbered_book self.now 0))) }
+        ensures { IsTrue result ↔ ((actor < actors self.now.threads (cells_of self.now.cells)) × (place ≤ length (numbered_book self.now 0))) }
     {
-        actor < self.threads() && place as usize <= self.len()
+        usize::from(actor) < self.actors() && place as usize <= self.len()
     }
 
     // ---- transactions
@@ -126,7 +126,7 @@ impl Index<'_> {
         }
     }
 
-    /// Whether a thread may look at a ref at a place, and this is its value there.
+    /// Whether an actor may look at a ref at an index, and this is its value there.
     fn is_value(&self, actor: u16, cell: CellId, at: u32, value: &Value) -> bool
         ensures { IsTrue result ↔ LooksAt self.now actor (ask.Look cell at) at (replied.Is value.now) }
     {
@@ -191,7 +191,7 @@ impl Index<'_> {
         }
     }
 
-    /// Whether a thread may view refs, and these are their values at a place.
+    /// Whether an actor may view refs, and these are their values at an index.
     fn is_view(&self, actor: u16, cells: &[CellId], place: u32, values: &[Value]) -> bool
         ensures { IsTrue result ↔ LooksAt self.now actor (ask.View cells.now) place (replied.Views place values.now) }
     {
@@ -205,16 +205,20 @@ impl Index<'_> {
         self.are_values(cells, place as usize, values)
     }
 
-    /// Whether the store has what a commit names.
+    /// Whether the actor makes commits that send this, and the store has what a commit names.
     fn has_commit(
         &self,
+        actor: u16,
         sets: &[(CellId, Value)],
         ensured: &[CellId],
         commuted: &[(CellId, Value)],
         sends: &[Action],
     ) -> bool
-        ensures { IsTrue result ↔ HasCommit (cells_of self.now.cells) sets.now ensured.now commuted.now sends.now }
+        ensures { IsTrue result ↔ HasCommit self.now.threads actor (cells_of self.now.cells) sets.now ensured.now commuted.now sends.now }
     {
+        if !self.may_commit(actor, sends) {
+            return false;
+        }
         let cells = self.cells();
         if !are_written(cells, sets) {
             return false;
@@ -233,7 +237,7 @@ impl Index<'_> {
 
     /// A commit that was done: it is in the book, and nothing that it tested was written.
     fn committed(&self, actor: u16, own: usize, end: Ending<'_>) -> bool
-        requires { HasCommit (cells_of self.now.cells) end.sets.now end.ensured.now end.commuted.now end.sends.now }
+        requires { HasCommit self.now.threads actor (cells_of self.now.cells) end.sets.now end.ensured.now end.commuted.now end.sends.now }
         ensures { IsTrue result ↔ LooksAt self.now actor (ask.Commit end.entry.at end.entry.sets.now end.entry.ensured.now end.entry.view end.entry.commuted.now end.entry.sends.now) own replied.Done }
     {
         let _stands = self.shared();
@@ -256,7 +260,7 @@ impl Index<'_> {
 
     /// One that has to run again, since this ref was written: that is in the book.
     fn retried(&self, actor: u16, own: usize, end: Ending<'_>, written: CellId) -> bool
-        requires { HasCommit (cells_of self.now.cells) end.sets.now end.ensured.now end.commuted.now end.sends.now }
+        requires { HasCommit self.now.threads actor (cells_of self.now.cells) end.sets.now end.ensured.now end.commuted.now end.sends.now }
         ensures { IsTrue result ↔ LooksAt self.now actor (ask.Commit end.entry.at end.entry.sets.now end.entry.ensured.now end.entry.view end.entry.commuted.now end.entry.sends.now) own (replied.Retry written) }
     {
         let _stands = self.shared();
@@ -274,7 +278,7 @@ impl Index<'_> {
 
     /// One whose commutes have to be made again, since this ref was written: that is in the book.
     fn redone(&self, actor: u16, own: usize, end: Ending<'_>, written: CellId) -> bool
-        requires { HasCommit (cells_of self.now.cells) end.sets.now end.ensured.now end.commuted.now end.sends.now }
+        requires { HasCommit self.now.threads actor (cells_of self.now.cells) end.sets.now end.ensured.now end.commuted.now end.sends.now }
         ensures { IsTrue result ↔ LooksAt self.now actor (ask.Commit end.entry.at end.entry.sets.now end.entry.ensured.now end.entry.view end.entry.commuted.now end.entry.sends.now) own (replied.Changed written) }
     {
         let _stands = self.shared();
@@ -291,7 +295,7 @@ impl Index<'_> {
 
     /// One that was refused, since this agent had failed: that is in the book.
     fn refused(&self, actor: u16, own: usize, end: Ending<'_>, agent: CellId) -> bool
-        requires { HasCommit (cells_of self.now.cells) end.sets.now end.ensured.now end.commuted.now end.sends.now }
+        requires { HasCommit self.now.threads actor (cells_of self.now.cells) end.sets.now end.ensured.now end.commuted.now end.sends.now }
         ensures { IsTrue result ↔ LooksAt self.now actor (ask.Commit end.entry.at end.entry.sets.now end.entry.ensured.now end.entry.view end.entry.commuted.now end.entry.sends.now) own (replied.AgentIsFailed agent) }
     {
         let _stands = self.shared();
@@ -309,7 +313,7 @@ impl Index<'_> {
         ensures { IsTrue result ↔ LooksAt self.now actor (ask.Commit end.entry.at end.entry.sets.now end.entry.ensured.now end.entry.view end.entry.commuted.now end.entry.sends.now) own reply.now }
     {
         let _stands = self.shared();
-        if !self.has_commit(end.sets, end.ensured, end.commuted, end.sends) {
+        if !self.has_commit(actor, end.sets, end.ensured, end.commuted, end.sends) {
             return false;
         }
         match reply {
@@ -503,7 +507,67 @@ impl Index<'_> {
         ensures { IsTrue result ↔ LooksAt self.now actor (ask.Finish agent new.now sends.now) own reply.now }
     {
         let _stands = self.shared();
-        is_done(reply) & is_act(self.events(), own, actor, agent, new, sends)
+        match reply {
+            Reply::Done => self.finished(actor, own, agent, new, sends),
+            Reply::AgentIsFailed(failed) => {
+                self.unfinished(actor, own, agent, new, sends, *failed)
+            }
+            _ => false,
+        }
+    }
+
+    /// The end of an action, with its sends: it is in the book.
+    fn finished(
+        &self,
+        actor: u16,
+        own: usize,
+        agent: CellId,
+        new: &Result<Value, Fault>,
+        sends: &[Action],
+    ) -> bool
+        ensures { IsTrue result ↔ LooksAt self.now actor (ask.Finish agent new.now sends.now) own replied.Done }
+    {
+        let _stands = self.shared();
+        is_act(self.events(), own, actor, agent, new, sends)
+    }
+
+    /// The end of an action of which an agent that it sent to had failed: in the book the action faults at its own span.
+    fn unfinished(
+        &self,
+        actor: u16,
+        own: usize,
+        agent: CellId,
+        new: &Result<Value, Fault>,
+        sends: &[Action],
+        failed: CellId,
+    ) -> bool
+        ensures { IsTrue result ↔ LooksAt self.now actor (ask.Finish agent new.now sends.now) own (replied.AgentIsFailed failed) }
+    {
+        let _stands = self.shared();
+        if !may_send(new, sends) {
+            return false;
+        }
+        if !are_sends(self.cells(), sends) {
+            return false;
+        }
+        if !is_cell(self.first_failed(sends, own), failed) {
+            return false;
+        }
+        self.is_faulted(actor, own, agent)
+    }
+
+    /// Whether an action of this agent faulted there, at its own span, since an agent that it sent to had failed.
+    fn is_faulted(&self, actor: u16, own: usize, agent: CellId) -> bool
+        ensures { IsTrue result ↔ FaultsThere self.now actor agent own }
+    {
+        let _stands = self.shared();
+        if !has_agent(self.cells(), agent) {
+            return false;
+        }
+        match self.next_action(agent, own) {
+            Some(action) => is_unsent(self.events(), own, actor, agent, action.span),
+            None => false,
+        }
     }
 
     // ---- swaps
@@ -513,7 +577,7 @@ impl Index<'_> {
         ensures { IsTrue result ↔ LooksAt self.now actor (ask.OpenAt cell) place (replied.Opened place value.now) }
     {
         let _stands = self.shared();
-        if actor >= self.threads() {
+        if usize::from(actor) >= self.actors() {
             return false;
         }
         if !self.has_atom(cell) {
@@ -594,7 +658,7 @@ impl Index<'_> {
         if !same_cell(changed, cell) {
             return false;
         }
-        if actor >= self.threads() {
+        if usize::from(actor) >= self.actors() {
             return false;
         }
         if !self.has_atom(cell) {
@@ -662,9 +726,9 @@ impl Index<'_> {
 
     // ---- any ask
 
-    /// Whether an actor's ask with its reply looks right at the place where it is looked at; what an agent took is looked at at the place that comes next.
-    fn fits_any(&self, actor: u16, kept: &KeptEntry, next: usize) -> bool
-        ensures { IsTrue result ↔ LooksAt self.now actor kept.now.ask (place_of self.now.cells (shared_of self.now).books kept.now.at next kept.now.ask kept.now.reply) kept.now.reply }
+    /// Whether an actor's ask with its reply looks right at the index where it is looked at; what an agent took is looked at at the index of the act.
+    fn fits_any(&self, actor: u16, kept: &KeptEntry, act: usize) -> bool
+        ensures { IsTrue result ↔ LooksAt self.now actor kept.now.ask (place_of self.now.cells (shared_of self.now).books kept.now.at act kept.now.ask kept.now.reply) kept.now.reply }
     {
         let own = kept.at as usize;
         let reply = &kept.reply;
@@ -695,7 +759,7 @@ impl Index<'_> {
             Ask::Fail { at, view } => self.fails(actor, own, *at, *view, reply),
             Ask::Peek { cell } => self.peeks(actor, own, *cell, reply),
             Ask::Send { action } => self.sends(actor, own, action, reply),
-            Ask::Take { agent } => self.takes(actor, next, *agent, reply),
+            Ask::Take { agent } => self.takes(actor, act, *agent, reply),
             Ask::Finish { agent, new, sends } => {
                 self.finishes(actor, own, *agent, new, sends.as_slice(), reply)
             }
@@ -706,8 +770,8 @@ impl Index<'_> {
     }
 
     /// The same of an entry as it is stored.
-    pub(crate) fn fits(&self, actor: u16, stored: &Stored, next: usize) -> bool
-        ensures { IsTrue result ↔ LooksAt self.now actor (kept_in stored.now).ask (place_of self.now.cells (shared_of self.now).books (kept_in stored.now).at next (kept_in stored.now).ask (kept_in stored.now).reply) (kept_in stored.now).reply }
+    pub(crate) fn fits(&self, actor: u16, stored: &Stored, act: usize) -> bool
+        ensures { IsTrue result ↔ LooksAt self.now actor (kept_in stored.now).ask (place_of self.now.cells (shared_of self.now).books (kept_in stored.now).at act (kept_in stored.now).ask (kept_in stored.now).reply) (kept_in stored.now).reply }
     {
         match stored {
             Stored::Begun { read, .. } => self.is_read_point(actor, *read),
@@ -732,7 +796,7 @@ impl Index<'_> {
                 new,
                 at,
             } => self.closed(actor, *at as usize, *cell, Some(*from), new),
-            Stored::Other(kept) => self.fits_any(actor, kept, next),
+            Stored::Other(kept) => self.fits_any(actor, kept, act),
         }
     }
 }

@@ -6,6 +6,7 @@ ghost use Rattle.txs_world_book.specs.Book.{has_cell, goes_on, has_agent, actor_
 ghost use Rattle.txs_world_book.specs.Served.{cells_of};
 ghost use Rattle.txs_theorem_runs.specs.Told.{places_by};
 ghost use Rattle.txs_world.specs.Store.{next_action};
+ghost use Rattle.txs_threads_replay.specs.Fits.{may_commit};
 ghost use Rattle.txs_threads_replay.specs.Past.{PlainPast, value_in, action_in};
 
 use crate::lists::{Lists, note_all};
@@ -130,11 +131,11 @@ impl<'a> Past<'a> {
         numbers_of(self.lists.own.as_slice(), actor)
     }
 
-    /// How many threads there are.
-    pub(crate) fn threads(&self) -> u16
-        ensures { result ≡ self.now.threads }
+    /// Whether an actor makes commits that send this.
+    pub(crate) fn may_commit(&self, actor: u16, sends: &[Action]) -> bool
+        ensures { result ≡ may_commit self.now.threads actor self.now.cells sends.now }
     {
-        self.threads
+        self.cells.may_commit(self.threads, actor, sends)
     }
 
     /// Whether the ref was written at a place or later, up to another.

@@ -2,12 +2,13 @@
 
 ghost use Rattle.std.specs.Prelude.{◌≡◌, ◌≤◌, IfErr, IfOk};
 ghost use Rattle.txs_theorem_runs.specs.Shared.{book_for};
+ghost use Rattle.txs_theorem_runs.specs.Placed.{is_take, is_finish};
 ghost use Rattle.txs_threads_replay.specs.Adds.{adds_event};
 ghost use Rattle.txs_threads_replay.specs.ByPlace.{held_after, in_turn};
 ghost use Rattle.txs_threads_replay.specs.Storing.{kept_in};
 
 use crate::agrees::adds_event;
-use crate::by_place::{held_after, in_turn};
+use crate::by_place::{asks_on, held_after, in_turn, is_finish, is_take};
 use crate::kept::KeptEntry;
 use std::alloc::Global;
 use txs_value_data::{CellId, Value};
@@ -242,12 +243,32 @@ impl Stored {
     }
 
     /// Whether an actor that runs an action, or runs none, may ask for it.
-    pub(crate) fn in_turn(&self, held: bool) -> bool
-        ensures { result ≡ in_turn held (kept_in self.now).ask }
+    pub(crate) fn in_turn(&self, agent: bool, held: bool) -> bool
+        ensures { result ≡ in_turn agent held (kept_in self.now).ask }
     {
         match self {
-            Stored::Other(kept) => in_turn(held, &kept.ask),
-            _ => true,
+            Stored::Other(kept) => in_turn(agent, held, &kept.ask),
+            _ => asks_on(agent, held),
+        }
+    }
+
+    /// Whether it takes an action.
+    pub(crate) fn is_take(&self) -> bool
+        ensures { result ≡ is_take (kept_in self.now).ask }
+    {
+        match self {
+            Stored::Other(kept) => is_take(&kept.ask),
+            _ => false,
+        }
+    }
+
+    /// Whether it hands an action in.
+    pub(crate) fn is_finish(&self) -> bool
+        ensures { result ≡ is_finish (kept_in self.now).ask }
+    {
+        match self {
+            Stored::Other(kept) => is_finish(&kept.ask),
+            _ => false,
         }
     }
 

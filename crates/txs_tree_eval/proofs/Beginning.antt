@@ -1,4 +1,4 @@
--- Where a thread waits before an event that it doesn't allow, this is the first that gives it no meaning.
+-- Where a thread, or an action, waits before an event that it doesn't allow, this is the first that gives it no meaning.
 use Rattle.std.proofs.Common.{◌≡◌, ℕ, suc, ◌+◌, ◌-◌, ◌≤◌, Bool, true, false, List, [], ◌∷◌, ◌++◌, length, take, refl, sym, ap, ◌∙◌, subst, inl, inr, ⊎_elim, ◌⊎◌, if◌then◌else◌, append_assoc, length-append, arith}
 use Rattle.std.proofs.Math.Seq.{take-append_seam}
 use Rattle.std.proofs.lemmas.Bool.{false≢true}
@@ -6,9 +6,8 @@ use Rattle.std.proofs.lemmas.List.{append-nil}
 use Rattle.txs_world_protocol.specs.SeenEvent.{SeenEvent}
 use Rattle.txs_value_data.specs.declared.value.Value.{Value}
 use Rattle.txs_tree_meaning.specs.Meaning.{Completion, Completes, Recurs, Faults, Retries, Waits, OutOfTurns, Invalid}
-use Rattle.txs_tree_meaning.specs.Right.{is_wrong, eats_right, right_meaning}
-use Rattle.txs_tree_meaning.specs.Thread.{ThreadState, thread_meaning}
-use Rattle.txs_tree_meaning.specs.Tree.{ThreadSource}
+use Rattle.txs_tree_meaning.specs.Right.{is_wrong, right_events}
+use Rattle.txs_tree_meaning.specs.Thread.{ThreadState}
 use Rattle.txs_tree_eval.proofs.Right.{Steady, longer, Later, Three}
 
 -- ---- answers that wait
@@ -98,10 +97,7 @@ right_before f Invalid x y t h w is left = absurd (false≢true (sym w))
 
 -- ---- the first event that gives no meaning
 
-module _ (p : ThreadSource) (n : ℕ) where
-  abbrev means : List SeenEvent → Completion ThreadState Value
-  means es = thread_meaning p n es
-
+module _ (means : List SeenEvent → Completion ThreadState Value) where
   -- the events before it, and it
   pub record First (done es : List SeenEvent) : Type 0 where
     pub front : List SeenEvent
@@ -110,7 +106,7 @@ module _ (p : ThreadSource) (n : ℕ) where
     pub all : done ++ es ≡ front ++ event ∷ rest
     pub right : is_wrong (means front) ≡ false
     pub wrong : is_wrong (means (front ++ event ∷ [])) ≡ true
-    pub many : eats_right p n done es ≡ length front
+    pub many : right_events means done es ≡ length front
 
   first : (done es : List SeenEvent) → is_wrong (means done) ≡ false → is_wrong (means (done ++ es)) ≡ true → First done es
   first done [] right wrong = absurd (false≢true (sym right ∙ sym (ap (λ l. is_wrong (means l)) (append-nil done)) ∙ wrong))
@@ -128,7 +124,7 @@ module _ (p : ThreadSource) (n : ℕ) where
             all = refl;
             right = right;
             wrong = is;
-            many = ap (λ (c : Bool). if c then length done else eats_right p n (done ++ e ∷ []) es) is;
+            many = ap (λ (c : Bool). if c then length done else right_events means (done ++ e ∷ []) es) is;
           }
       test false is later =
           let found = later is in
@@ -139,7 +135,7 @@ module _ (p : ThreadSource) (n : ℕ) where
             all = sym joined ∙ found.all;
             right = found.right;
             wrong = found.wrong;
-            many = ap (λ (c : Bool). if c then length done else eats_right p n (done ++ e ∷ []) es) is ∙ found.many;
+            many = ap (λ (c : Bool). if c then length done else right_events means (done ++ e ∷ []) es) is ∙ found.many;
           }
 
   -- the thread that waits before what it doesn't allow
@@ -172,7 +168,7 @@ module _ (p : ThreadSource) (n : ℕ) where
 
     -- how many events are right, and what the thread means on them
     pub goes_right : (es : List SeenEvent) (s : ThreadState) → means es ≡ Invalid → goes es ≡ Waits s
-        → (eats_right p n [] es ≡ length es - length s.todo) × (t : ThreadState) × (right_meaning p n es ≡ Waits t) × (s.printed ≡ t.printed) × (s.txs ≡ t.txs)
+        → (right_events means [] es ≡ length es - length s.todo) × (t : ThreadState) × (means (take (right_events means [] es) es) ≡ Waits t) × (s.printed ≡ t.printed) × (s.txs ≡ t.txs)
     goes_right es s none is =
         let it = first [] es (begins es s is) (ap is_wrong none) in
         let whole : goes (it.front ++ it.event ∷ it.rest) ≡ Waits s = ap goes (sym it.all) ∙ is in
@@ -181,7 +177,7 @@ module _ (p : ThreadSource) (n : ℕ) where
         let all : length es ≡ length it.front + suc (length it.rest) = ap length it.all ∙ length-append it.front (it.event ∷ it.rest) in
         let one : stop.0.todo ≡ it.event ∷ [] = ap (λ t. t.todo) now.3 ∙ ap (λ l. l ++ it.event ∷ []) now.2 in
         let left : length s.todo ≡ suc (length it.rest) = ap length stop.3 ∙ ap (λ l. length (l ++ it.rest)) one in
-        let before : right_meaning p n es ≡ means it.front = ap (λ k. means (take k es)) it.many ∙ ap (λ l. means (take (length it.front) l)) it.all ∙ ap means (take-append_seam it.front (it.event ∷ it.rest)) in (
+        let before : means (take (right_events means [] es) es) ≡ means it.front = ap (λ k. means (take k es)) it.many ∙ ap (λ l. means (take (length it.front) l)) it.all ∙ ap means (take-append_seam it.front (it.event ∷ it.rest)) in (
           omega (arith, it.many, all, left),
           now.0,
           before ∙ now.1,

@@ -5,7 +5,7 @@ use Rattle.txs_world_protocol.specs.Ask.{same_writes, same_actions}
 use Rattle.txs_world_protocol.specs.SeenEvent.{SeenEvent, home}
 use Rattle.txs_world_protocol.specs.declared.event.EventKind.{EventKind}
 use Rattle.txs_world_protocol.specs.declared.event.EventKind.TheVariants.{Read, Commit, Retry, Fail, Refused, Send as Sent, SendRefused, Act as Acted, Swap as Swapped, Broke}
-use Rattle.txs_frame.specs.Frame.{PlainTxFrame}
+use Rattle.txs_frame.specs.Frame.{PlainTxFrame, sends_of_commit}
 use Rattle.txs_frame.specs.declared.frame.Commute.{Commute}
 use Rattle.txs_value_apply.specs.Core.{core, vector_of}
 use Rattle.txs_value_apply.specs.Truth.{choose}
@@ -28,7 +28,7 @@ use Rattle.txs_tree_meaning.specs.Known.{Known, is_pure, known_of, known}
 use Rattle.txs_tree_meaning.specs.Meaning.{Completion, Completes, Recurs, Faults, Retries, Waits, OutOfTurns, Invalid, bind, closed, give, result_of, Applies, Effects, turns, apply, eval, eval_all, eval_let, eval_do, call_at}
 use Rattle.txs_tree_meaning.specs.Pure.{no_effects}
 use Rattle.txs_tree_meaning.specs.Sound.{in_thread, in_dosync, SoundCall, SoundCallee, SoundCells, SoundTree, SoundAll, SoundLet, SoundDo, SoundFunctions}
-use Rattle.txs_tree_meaning.specs.Thread.{ThreadState, Transacting, Surroundings, with_tx, run_of, uneaten, eats, meant, resets, swaps, over, faulted, faultless, ends_tx, is_retry, eats_tx, accepts, thread_put, thread_update, outside_form, on_events}
+use Rattle.txs_tree_meaning.specs.Thread.{ThreadState, Transacting, Surroundings, with_tx, holding, run_of, uneaten, eats, meant, resets, swaps, over, faulted, faultless, ends_tx, is_retry, eats_tx, accepts, thread_put, thread_update, outside_form, on_events}
 use Rattle.txs_tree_meaning.specs.Transaction.{TxState, on_cell, in_transaction, tx_start, tx_meaning, validated, final_writes}
 use Rattle.txs_tree_meaning.specs.Tree.{Mark, Tree, Const, Local, If, Do, Let, Loop, Recur, Core, Call, VectorOf, Println, Dosync, Look, Put, Update, Send, Trees, none, more, count, PlainFunction}
 use Rattle.txs_tree_meaning.specs.View.{functions_of}
@@ -146,9 +146,9 @@ module _ (ks : List Known) (q : Applies (Unit {0})) (f g : Applies ThreadState) 
 
     ends_same : (k : EventKind) (R Q C : World) (t : ThreadState) → ends_tx d f k R Q C t ≡ ends_tx d g k R Q C t
     ends_same (Commit at view writes sent) R Q C t =
-        over_same t (d.on R) (λ v z. faultless (final_writes f d.validators d.mark.span z.done C t) (λ ws t1. meant (same_writes ws writes && same_actions z.done.sends sent) v (with_tx (run_of d v z) t1)))
-        (λ v z. faultless (final_writes g d.validators d.mark.span z.done C t) (λ ws t1. meant (same_writes ws writes && same_actions z.done.sends sent) v (with_tx (run_of d v z) t1))) (λ e. Invalid)
-        (λ v z is. ap (λ r. faultless r (λ ws t1. meant (same_writes ws writes && same_actions z.done.sends sent) v (with_tx (run_of d v z) t1))) (last_same R C v z t is))
+        over_same t (d.on R) (λ v z. faultless (final_writes f d.validators d.mark.span z.done C t) (λ ws t1. meant (same_writes ws writes && same_actions (sends_of_commit t1.held z.done.sends) sent) v (holding z.done.sends (with_tx (run_of d v z) t1))))
+        (λ v z. faultless (final_writes g d.validators d.mark.span z.done C t) (λ ws t1. meant (same_writes ws writes && same_actions (sends_of_commit t1.held z.done.sends) sent) v (holding z.done.sends (with_tx (run_of d v z) t1)))) (λ e. Invalid)
+        (λ v z is. ap (λ r. faultless r (λ ws t1. meant (same_writes ws writes && same_actions (sends_of_commit t1.held z.done.sends) sent) v (holding z.done.sends (with_tx (run_of d v z) t1)))) (last_same R C v z t is))
     ends_same (Fail at view) R Q C t =
         over_same t (d.on R) (λ v z. faulted (final_writes f d.validators d.mark.span z.done Q t) (λ e t1. Faults e t1)) (λ v z. faulted (final_writes g d.validators d.mark.span z.done Q t) (λ e t1. Faults e t1)) (λ e. Faults e t)
         (λ v z is. ap (λ r. faulted r (λ e t1. Faults e t1)) (last_same R Q v z t is))
@@ -365,3 +365,17 @@ module _ (cells : List CellDefinition) (functions : List function.Function) (n :
       let enough : pure_ones + others ks all ≤ all = omega (arith, both) in
       let wide : SoundTree (take all ks) in_thread 0 None main = tree-widened ks (take all ks) (λ f k found. nth-before all ks f k (omega (arith, length-known fs, nth-length ks f k found)) found) main in_thread 0 None h in
       ap closed (tree_same all all enough (omega arith) (omega arith) (calls_same all all enough (omega arith)) main 0 None [] s wide)
+
+  -- a function that is called outside every transaction
+  pub call_same : (i k : ℕ) → SoundCall ks in_thread i k → (vs : List Value) (t : ThreadState) → low_calls (length fs) false i vs t ≡ deep_calls (length fs) false i vs t
+  call_same i k h vs t =
+      let all = length fs in
+      let both = both_kinds ks all in
+      let enough : pure_ones + others ks all ≤ all = omega (arith, both) in
+      let here : nth (take all ks) i ≡ Some h.function = nth-before all ks i h.function (omega (arith, length-known fs, nth-length ks i h.function h.found)) h.found in
+      calls_same all all enough (omega arith) i k (record {
+        function = h.function;
+        found = here;
+        arity = h.arity;
+        zoned = h.zoned;
+      }) vs t

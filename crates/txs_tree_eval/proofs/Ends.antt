@@ -59,7 +59,7 @@ closed_given : (r : Result Value ThreadStop) (s : ThreadState) (c : Completion T
 closed_given (Ok v) s c h = ap closed h
 closed_given (Err y) s c h = stops_again false y s c (λ vs t. Invalid) h
 
-abbrev IsWaiting : Completion ThreadState Value → Type 0
+abbrev pub IsWaiting : Completion ThreadState Value → Type 0
 IsWaiting (Completes v s) = ⊥
 IsWaiting (Recurs vs s) = ⊥
 IsWaiting (Faults f s) = ⊥
@@ -117,7 +117,7 @@ module _ (m : ThreadMeaning) (k right : ℕ) (before : Completion ThreadState Va
       ⊎_elim (λ same. tells_same r needs outcome same h e a) (λ stop. tells_stopped r needs outcome stop.0 stop.1 (told stop.0) h e a) (either_way f gs c x y three)
 
 -- some event
-abbrev any_event : SeenEvent
+abbrev pub any_event : SeenEvent
 any_event = record { book = 0; kind = Broke 0; R = λ k. Nil; Q = λ k. Nil; C = λ k. Nil }
 
 -- a read of the lent threads, as a read of the program's
@@ -177,7 +177,7 @@ module _ (us : List Thread) (parts : Parts) (k : ℕ) (r : Thread) (same : us �
         let whole_of_it : Gives false end s (closed (body_on es deep)) = subst (λ d. Gives false end s (closed (body_on es d))) (sym (length-functions_of parts.functions)) (closed_given end s (body_on es (length parts.functions)) begun) in
         let account : Account m (length es - length s.todo) s needs outcome = subst (λ i. Account m (i - length s.todo) s needs outcome) many a in
         let told : Tells m source n es = tells_end m (length es) (eats_right source n [] es) (right_meaning source n es) any_event [] (thread_meaning source n es) (closed (body_on es deep)) (closed (body_on (es ++ any_event ∷ []) deep)) (three any_event [] es) s end needs outcome
-        (λ none waits. goes_right source n (λ l. closed (body_on l deep)) three steady any_event es s none waits) whole_of_it e account in
+        (λ none waits. goes_right (thread_meaning source n) (λ l. closed (body_on l deep)) three steady any_event es s none waits) whole_of_it e account in
         subst (λ o. IfSome (source_in (program_of parts) o) (λ p. Tells m p n es)) (sym (thread-at parts.threads k (get_or us k r) lt at_place)) told
 
     pub told_account : {E : Type 0} (a : Result ThreadMeaning E) (j : ℕ) (es : List SeenEvent) (env : List Value) (st st1 : State) (end : Result Value ThreadStop) → j ≡ length es → env ≡ [] → thread_state st.thread ≡ idle es

@@ -1,3 +1,4 @@
+pub mod ActionEnds
 pub mod Beginning
 pub mod Deeply
 pub mod Ends

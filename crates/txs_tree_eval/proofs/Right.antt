@@ -18,6 +18,7 @@ use Rattle.txs_value_cell.specs.declared.form.UpdateForm.{UpdateForm}
 use Rattle.txs_value_cell.specs.declared.form.UpdateForm.TheVariants.{Alter, Commute, Swap}
 use Rattle.txs_value_cell.specs.declared.form.Standing.{Standing}
 use Rattle.txs_value_cell.specs.declared.form.Standing.TheVariants.{Anywhere, Inside, Outside}
+use Rattle.txs_frame.specs.Frame.{sends_of_commit}
 use Rattle.txs_value_apply.specs.Core.{core, vector_of}
 use Rattle.txs_value_apply.specs.Truth.{choose}
 use Rattle.txs_value_base.specs.Places.{nth, fault_at}
@@ -31,11 +32,11 @@ use Rattle.txs_value_data.specs.Limits.{reruns}
 use Rattle.txs_value_data.specs.declared.value.CellId.{CellId}
 use Rattle.txs_value_data.specs.declared.value.Value.{Value}
 use Rattle.txs_value_data.specs.declared.value.Value.TheVariants.{Nil, Truth, Int, Key, Text, Vector, Cell}
-use Rattle.txs_tree_meaning.specs.Meaning.{Completion, Completes, Recurs, Faults, Retries, Waits, OutOfTurns, Invalid, bind, again, closed, give, result_of, allowed, Applies, Effects, turns, eval, eval_all, eval_let, eval_do, call_at}
+use Rattle.txs_tree_meaning.specs.Meaning.{Completion, Completes, Recurs, Faults, Retries, Waits, OutOfTurns, Invalid, bind, again, closed, give, result_of, allowed, Applies, Effects, apply, turns, eval, eval_all, eval_let, eval_do, call_at}
 use Rattle.txs_tree_meaning.specs.Known.{Known, known}
 use Rattle.txs_tree_meaning.specs.Right.{up_to, behind_retries, on_right}
-use Rattle.txs_tree_meaning.specs.Sound.{MayStand, in_thread, in_dosync, SoundCall, SoundCallee, SoundCells, SoundValidator, SoundTree, SoundAll, SoundLet, SoundDo, SoundFunctions}
-use Rattle.txs_tree_meaning.specs.Thread.{ThreadState, Transacting, with_tx, run_of, uneaten, eats, meant, reads, resets, faulted, faultless, swaps, sends, sends_or_holds, over, ends_tx, is_retry, eats_tx, accepts, Surroundings, thread_look, thread_put, thread_update, on_events}
+use Rattle.txs_tree_meaning.specs.Sound.{MayStand, in_thread, in_dosync, SoundCall, SoundCallee, SentCallee, SoundCells, SoundValidator, SoundTree, SoundAll, SoundLet, SoundDo, SoundFunctions}
+use Rattle.txs_tree_meaning.specs.Thread.{ThreadState, Transacting, with_tx, holding, run_of, uneaten, eats, meant, reads, resets, faulted, faultless, swaps, sends, sends_or_holds, over, ends_tx, is_retry, eats_tx, accepts, Surroundings, thread_look, thread_put, thread_update, on_events}
 use Rattle.txs_tree_meaning.specs.Transaction.{TxState, in_transaction, tx_start, tx_meaning, judged, validated, final_writes}
 use Rattle.txs_tree_meaning.specs.Tree.{Mark, Tree, Const, Local, If, Do, Let, Loop, Recur, Core, Call, VectorOf, Println, Dosync, Look, Put, Update, Send, Trees, none, more, count, PlainFunction}
 use Rattle.txs_tree_meaning.specs.View.{functions_of}
@@ -521,18 +522,27 @@ module _ (f : SeenEvent) (gs : List SeenEvent) where
 
   -- ---- transactions
 
-  calm_noted : (b : Bool) (v : Value) (x : Value → TxState → ThreadState → ThreadState) (z : TxState) → ((s : ThreadState) → x v z (longer s) ≡ longer (x v z s)) → ((t : ThreadState) → (x v z t).todo ≡ t.todo) → Calm (λ t. meant b v (x v z t)) (λ t. meant b v (x v z t))
-  calm_noted true v x z same left = (λ s. (refl, ap (λ u. Completes v u) (same s)), λ t. omega (arith, ap length (left t)))
-  calm_noted false v x z same left = calm_wrong
+  -- a run that is noted where its writes are such, and its sends are those that a commit makes
+  calm_committed : (w : Bool) (made sent : List Action) (v : Value) (x : ThreadState → ThreadState) → ((s : ThreadState) → x (longer s) ≡ longer (x s)) → ((t : ThreadState) → (x t).todo ≡ t.todo)
+      → Calm (λ t. meant (w && same_actions (sends_of_commit t.held made) sent) v (x t)) (λ t. meant (w && same_actions (sends_of_commit t.held made) sent) v (x t))
+  calm_committed w made sent v x same left = (λ s. alike (w && same_actions (sends_of_commit s.held made) sent) s, λ t. steady (w && same_actions (sends_of_commit t.held made) sent) t)
+    where
+      alike : (b : Bool) (s : ThreadState) → Same (meant b v (x s)) (meant b v (x s)) (meant b v (x (longer s)))
+      alike true s = (refl, ap (λ u. Completes v u) (same s))
+      alike false s = (refl, refl)
+
+      steady : (b : Bool) (t : ThreadState) → Steady (length t.todo) (meant b v (x t))
+      steady true t = omega (arith, ap length (left t))
+      steady false t = tt
 
   module _ (d : Transacting) (k g : Applies ThreadState) (pure : (R : World) (v : Value) (z : TxState) → d.on R ≡ Completes v z → (C : World) → Calm (λ t. final_writes k d.validators d.mark.span z.done C t) (λ t. final_writes g d.validators d.mark.span z.done C t)) where
     calm_ends : (e : EventKind) (R Q C : World) → Calm (λ t. ends_tx d k e R Q C t) (λ t. ends_tx d g e R Q C t)
     calm_ends (Commit at view writes sent) R Q C =
-        let noted : Value → TxState → ThreadState → ThreadState = λ v z t. with_tx (run_of d v z) t in
-        let meets : Value → TxState → Writes → ThreadState → Completion ThreadState Value = λ v z ws t. meant (same_writes ws writes && same_actions z.done.sends sent) v (noted v z t) in
+        let noted : Value → TxState → ThreadState → ThreadState = λ v z t. holding z.done.sends (with_tx (run_of d v z) t) in
+        let meets : Value → TxState → Writes → ThreadState → Completion ThreadState Value = λ v z ws t. meant (same_writes ws writes && same_actions (sends_of_commit t.held z.done.sends) sent) v (noted v z t) in
         calm_over (d.on R) (λ v z t. faultless (final_writes k d.validators d.mark.span z.done C t) (meets v z)) (λ v z t. faultless (final_writes g d.validators d.mark.span z.done C t) (meets v z)) (λ e t. Invalid)
         (λ v z is. calm_faultless (λ t. final_writes k d.validators d.mark.span z.done C t) (λ t. final_writes g d.validators d.mark.span z.done C t) (meets v z) (meets v z) (pure R v z is C)
-        (λ ws. calm_noted (same_writes ws writes && same_actions z.done.sends sent) v noted z (λ s. refl) (λ t. refl)))
+        (λ ws. calm_committed (same_writes ws writes) z.done.sends sent v (noted v z) (λ s. refl) (λ t. refl)))
         (λ e. calm_wrong)
     calm_ends (Fail at view) R Q C =
         calm_over (d.on R) (λ v z t. faulted (final_writes k d.validators d.mark.span z.done Q t) (λ e u. Faults e u)) (λ v z t. faulted (final_writes g d.validators d.mark.span z.done Q t) (λ e u. Faults e u)) (λ e t. Faults e t)
@@ -792,6 +802,17 @@ module _ (f : SeenEvent) (gs : List SeenEvent) where
     pub calls_go : (b i k : ℕ) → SoundCall (callable (at b)) in_thread i k → (vs : List Value) → Goes (plain_calls b false i vs) (right_calls b false i vs)
     calls_go zero i k h vs = goes_wrong
     calls_go (suc b) i k h vs = body_goes b i k h (λ j m below us. calls_go b j m below us) (nth (functions_of functions) i) refl vs
+
+    -- a callee, outside every transaction
+    pub callee_goes : (b : ℕ) (span : Span) (callee : Callee) (k : ℕ) → SentCallee (callable (at b)) callee k → (vs : List Value) → Goes (apply (plain_calls b false) span callee vs) (apply (right_calls b false) span callee vs)
+    callee_goes b span (CoreOp op) k h vs = goes_result (core op vs) span
+    callee_goes b span (Function i) k h vs =
+        calls_go b i k (record {
+          function = h.function;
+          found = h.found;
+          arity = h.arity;
+          zoned = h.zoned;
+        }) vs
 
     goes_closed : (F G : ThreadState → Completion ThreadState Value) → Goes F G → Goes (λ s. closed (F s)) (λ s. closed (G s))
     goes_closed F G h = goes_again F G (λ vs s. Invalid) (λ vs s. Invalid) h (λ vs. goes_wrong)

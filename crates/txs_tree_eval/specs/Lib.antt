@@ -1,1 +1,2 @@
+pub mod ActionTold
 pub mod Told

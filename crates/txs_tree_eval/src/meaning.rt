@@ -48,7 +48,10 @@ fn told_one(run: Transacted<'_>) -> TxMeaning
 }
 
 /// What is known of these transactions.
-fn told(alloc: Global, runs: Vec<Transacted<'_>>) -> Result<Listed<TxMeaning>, AllocError>
+pub(crate) fn told(
+    alloc: Global,
+    runs: Vec<Transacted<'_>>,
+) -> Result<Listed<TxMeaning>, AllocError>
     ensures { IfOk result (λ txs. txs ≡ map told_run runs.entry.items) }
 {
     let mut txs = Vec::with_capacity(alloc, runs.len())?;
@@ -79,7 +82,7 @@ fn account(
 }
 
 /// What a thread lacks that waits where so many events are left.
-fn lacking(left: usize) -> Needs
+pub(crate) fn lacking(left: usize) -> Needs
     ensures { result ≡ lacking left }
 {
     if left == 0 {

@@ -2,6 +2,7 @@
 use Rattle.std.proofs.Common.{◌≡◌, ℕ, zero, suc, ◌==◌, ◌&&◌, Bool, true, false, if◌then◌else◌, List, [], ◌∷◌, ◌++◌, map, Option, Some, None, Result, Ok, Err, MatchResult, is_some, refl, sym, ap, ◌∙◌, subst}
 use Rattle.std.proofs.lemmas.Bool.{false≢true}
 use Rattle.std.proofs.lemmas.List.{map-append}
+use Rattle.txs_frame.specs.Frame.{sends_of_commit}
 use Rattle.txs_world_protocol.specs.Ask.{Writes, same_writes, same_actions}
 use Rattle.txs_world_protocol.specs.SeenEvent.{SeenEvent}
 use Rattle.txs_world_protocol.specs.declared.event.EventKind.{EventKind}
@@ -13,7 +14,7 @@ use Rattle.txs_tree_meaning.specs.Meaning.{Completion, Completes, Recurs, Faults
 use Rattle.txs_tree_eval_node.specs.Setting.{Setting, callable, deepest, on_view, zone_on}
 use Rattle.txs_tree_meaning.specs.Sound.{SoundCells, SoundFunctions, SoundTree, in_dosync}
 use Rattle.txs_tree_meaning.specs.Right.{up_to, behind_retries}
-use Rattle.txs_tree_meaning.specs.Thread.{TxRun, ThreadState, Transacting, over, faultless, faulted, meant, with_tx, run_of, ends_tx, is_retry, uneaten, eats_tx}
+use Rattle.txs_tree_meaning.specs.Thread.{TxRun, ThreadState, Transacting, over, faultless, faulted, meant, with_tx, holding, run_of, ends_tx, is_retry, uneaten, eats_tx}
 use Rattle.txs_tree_meaning.specs.Transaction.{TxState, tx_start, final_writes}
 use Rattle.txs_tree_meaning.specs.Tree.{Mark, Tree}
 use Rattle.txs_tree_meaning.specs.View.{functions_of}
@@ -175,7 +176,7 @@ module _ (x : Setting) (m : Mark) (body : Tree) (env : List Value) (t : ThreadSt
   -- an event of the end
   pub ends_viewed : (k : EventKind) → end_view k q c ≡ Some w → ends_tx (transacting x m body env) (at_end x m.span) k (world_of r) (world_of q) (world_of c) t ≡ closes k m.span (ended x m body env r w t)
   ends_viewed (Commit at view writes sent) h =
-      over_faultless t run (λ y. final_writes (at_end x m.span) (validators_of x.cells) m.span y.done (world_of c) t) (body_means x body env r) (λ p s. meant (same_writes p.1 writes && same_actions p.0.state.done.sends sent) p.0.result (with_tx p.0 s))
+      over_faultless t run (λ y. final_writes (at_end x m.span) (validators_of x.cells) m.span y.done (world_of c) t) (body_means x body env r) (λ p s. meant (same_writes p.1 writes && same_actions (sends_of_commit s.held p.0.state.done.sends) sent) p.0.result (holding p.0.state.done.sends (with_tx p.0 s)))
       ∙ ap (λ o. commit_closes writes sent (ended x m body env r (view_or c o) t)) h
   ends_viewed (Fail at view) h =
       over_faulted t run (λ y. final_writes (at_end x m.span) (validators_of x.cells) m.span y.done (world_of q) t) (body_means x body env r)
@@ -217,7 +218,7 @@ noted_more p r txs e =
 
 -- a stop of the body or a commute
 pub end_stops : (k : EventKind) (span : Span) (y : ThreadStop) (t : ThreadState) (c : Completion ThreadState (TxRun × Writes)) → HaltsAt y t c → HaltsAt (end_stop k y) t (closes k span c)
-end_stops (Commit at view writes sent) span y t c h = faultless_stop y t c (λ r s. meant (same_writes r.1 writes && same_actions r.0.state.done.sends sent) r.0.result (with_tx r.0 s)) h
+end_stops (Commit at view writes sent) span y t c h = faultless_stop y t c (λ r s. meant (same_writes r.1 writes && same_actions (sends_of_commit s.held r.0.state.done.sends) sent) r.0.result (holding r.0.state.done.sends (with_tx r.0 s))) h
 end_stops (Fail at view) span y t c h = faulted_stop y t c h
 end_stops (Refused at view agent) span y t c h = faultless_stop y t c (λ r s. Faults (fault_at AgentFailed span) (with_tx r.0 s)) h
 end_stops (Read d) span y t c h = refl
@@ -233,13 +234,13 @@ module _ (span : Span) (r : TxRun) (ws : Writes) (t : ThreadState) (res : Result
   no_end : Closes (Stopped Wrong) span r res t u → AnswersAt {A = Value} res u Invalid
   no_end h = subst (λ q. AnswersAt {A = Value} q u Invalid) (sym h.0) refl
 
-  as_meant : (b : Bool) → Closes (if b then Committed else Stopped Wrong) span r res t u → AnswersAt res u (meant b r.result (with_tx r t))
+  as_meant : (b : Bool) → Closes (if b then Committed else Stopped Wrong) span r res t u → AnswersAt res u (meant b r.result (holding r.state.done.sends (with_tx r t)))
   as_meant true h = h
   as_meant false h = no_end h
 
-  ended_as : (k : EventKind) → Closes (ends_as k ws r.state.done.sends) span r res t u → AnswersAt res u (closes k span (Completes (r, ws) t))
+  ended_as : (k : EventKind) → Closes (ends_as k ws (sends_of_commit t.held r.state.done.sends)) span r res t u → AnswersAt res u (closes k span (Completes (r, ws) t))
   ended_as (Refused at view agent) h = h
-  ended_as (Commit at view writes sent) h = as_meant (same_writes ws writes && same_actions r.state.done.sends sent) h
+  ended_as (Commit at view writes sent) h = as_meant (same_writes ws writes && same_actions (sends_of_commit t.held r.state.done.sends) sent) h
   ended_as (Fail at view) h = no_end h
   ended_as (Read d) h = no_end h
   ended_as (Retry since d b) h = no_end h
@@ -253,7 +254,7 @@ module _ (span : Span) (r : TxRun) (ws : Writes) (t : ThreadState) (res : Result
 module _ (x : Setting) (m : Mark) (body : Tree) (env : List Value) (r w : PlainView) (t : ThreadState) (sound : SoundFunctions [] (functions_of x.functions)) (cells : SoundCells (callable (deepest x)) x.cells) (q : Transacted) (run : Runs (Ok q) m body env (body_means x body env r))
     (calm : SoundCommutes (callable (deepest x)) q.work.done.commutes) where
   pub ended_closed : {V : Type 0} (f : V → Writes) (last : Result V ThreadStop) (k : EventKind) (res : Result Value ThreadStop) (u : ThreadState) → ToldOf f last (final_means (deepest x) q.work.done w m.span)
-      → Closes (closing f k last q.work.done.sends) m.span (tx_run q) res t u → AnswersAt res u (closes k m.span (ended x m body env r w t))
+      → Closes (closing f k last (sends_of_commit t.held q.work.done.sends)) m.span (tx_run q) res t u → AnswersAt res u (closes k m.span (ended x m body env r w t))
   ended_closed f (Ok v) k res u told h =
       subst (λ c. AnswersAt res u (closes k m.span c)) (sym (ended_done x m body env r w t sound cells q run calm (f v) told)) (ended_as m.span (tx_run q) (f v) t res u k h)
   ended_closed f (Err y) k res u told h =
@@ -288,7 +289,7 @@ gives_todo es (Err Memory) u c h = tt
 
 pub closes_todo : (q : Closing) (span : Span) (r : TxRun) (es : List SeenEvent) (res : Result Value ThreadStop) (t u : ThreadState) → Closes q span r res t u → Closes q span r res (with_todo es t) (with_todo es u)
 closes_todo ARefused span r es res t u h = gives_todo es res u (Faults (fault_at AgentFailed span) (with_tx r t)) h
-closes_todo Committed span r es res t u h = gives_todo es res u (Completes r.result (with_tx r t)) h
+closes_todo Committed span r es res t u h = gives_todo es res u (Completes r.result (holding r.state.done.sends (with_tx r t))) h
 closes_todo (Stopped y) span r es res t u h = (h.0, ap (with_todo es) h.1)
 
 -- where the event isn't allowed, the thread is as it was
@@ -305,7 +306,7 @@ closes_other q span r (Err Event) t u h o = absurd o
 closes_other q span r (Err Turns) t u h o = absurd o
 closes_other q span r (Err Memory) t u h o = absurd o
 closes_other ARefused span r (Err Wrong) t u h o = absurd (no_fault (Faults (fault_at AgentFailed span) (with_tx r t)) tt h)
-closes_other Committed span r (Err Wrong) t u h o = absurd (no_value (Completes r.result (with_tx r t)) tt h)
+closes_other Committed span r (Err Wrong) t u h o = absurd (no_value (Completes r.result (holding r.state.done.sends (with_tx r t))) tt h)
 closes_other (Stopped y) span r (Err Wrong) t u h o = sym h.1
 
 -- ---- the events that it eats

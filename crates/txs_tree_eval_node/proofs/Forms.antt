@@ -1,22 +1,22 @@
 -- Forms on cells, one after the other: what the parts give is what the form means.
-use Rattle.std.proofs.Common.{◌≡◌, ℕ, suc, Bool, true, false, if◌then◌else◌, List, [], ◌∷◌, ◌++◌, length, Option, Some, None, Result, Ok, Err, MatchResult, refl, sym, ap, ◌∙◌, subst, arith}
+use Rattle.std.proofs.Common.{◌≡◌, ℕ, suc, Bool, true, false, if◌then◌else◌, List, [], ◌∷◌, ◌++◌, length, Option, Some, None, Result, Ok, Err, MatchResult, OnOk, refl, sym, ap, ◌∙◌, subst, arith, Vec, Global}
 use Rattle.std.proofs.lemmas.Bool.{false≢true}
 use Rattle.std.proofs.lemmas.List.{length_push}
 use Rattle.txs_world_protocol.specs.Ask.{same_cell, same_value, same_action}
-use Rattle.txs_world_protocol.specs.SeenEvent.{SeenEvent, atoms_below, home}
+use Rattle.txs_world_protocol.specs.SeenEvent.{SeenEvent, home}
 use Rattle.txs_world_protocol.specs.declared.event.EventKind.{EventKind}
 use Rattle.txs_world_protocol.specs.declared.event.EventKind.TheVariants.{Read, Commit, Retry, Fail, Refused, Send as Sent, SendRefused, Act as Acted, Swap as Swapped, Broke}
-use Rattle.txs_frame.specs.Frame.{set_ref, hold_send}
-use Rattle.txs_tree_eval_node.specs.Evaluated.{HaltsAt, AnswersAt, Comes, ComesNone, with_todo, after, ReadyIn, forms_on, calls_on, around_it, inside_means, outside_means, update_means, swap_means, applied, quiet, wholly, makes, made_means, accept_means, FirstAccepted, FirstStops, PutAccepted, PutStops, IsSwap, IsNoSwap, swap_ends, swap_gives, swap_of, is_broke, is_read_of, is_swap_to, sending, sent_as, part, is_on, Yields, Finishes, Steps, step_of, call_means, finish_means, thread_state}
+use Rattle.txs_frame.specs.Frame.{set_ref, hold_send, with_sends}
+use Rattle.txs_tree_eval_node.specs.Evaluated.{held_of, HaltsAt, AnswersAt, Comes, ComesNone, with_todo, after, ReadyIn, forms_on, calls_on, around_it, inside_means, outside_means, update_means, swap_means, applied, quiet, wholly, makes, made_means, accept_means, FirstAccepted, FirstStops, PutAccepted, PutStops, IsSwap, IsNoSwap, swap_ends, swap_gives, swap_of, is_broke, is_read_of, is_swap_to, sending, sent_as, part, is_on, Yields, Finishes, Steps, step_of, call_means, applies_means, finish_means, thread_state}
 use Rattle.txs_tree_eval_transaction.specs.Worked.{Stops, Gives, Told, RefCell, UpdatesRef, update_begins, update_ends, of_one, stop_without_fault, with_work, tx_state}
 use Rattle.txs_tree_eval_node.specs.Events.{seen_event}
 use Rattle.txs_tree_eval_node.specs.Shapes.{form_of_act}
 use Rattle.txs_value_apply.specs.Core.{core, vector_of}
 use Rattle.txs_tree_meaning.specs.Meaning.{Completion, Completes, Recurs, Faults, Retries, Waits, OutOfTurns, Invalid, bind, result_of, allowed, Applies, apply}
-use Rattle.txs_tree_eval_node.specs.Setting.{Setting, callable, deepest, on_view, zone_on}
-use Rattle.txs_tree_meaning.specs.Sound.{SoundCallee, SoundCells, PureCall, SoundFunctions, MayStand, in_thread, in_dosync}
+use Rattle.txs_tree_eval_node.specs.Setting.{Setting, callable, deepest, on_view, zone_in, zone_on}
+use Rattle.txs_tree_meaning.specs.Sound.{SoundCall, SoundCallee, SoundCells, SentCallee, PureCall, SoundFunctions, MayStand, in_thread, in_dosync}
 use Rattle.txs_tree_meaning.specs.Right.{up_to}
-use Rattle.txs_tree_meaning.specs.Thread.{ThreadState, Surroundings, uneaten, eats, reads, resets, sends, sends_or_holds, swaps, meant, faultless, faulted, accepts, thread_look, thread_put, thread_update, outside_form}
+use Rattle.txs_tree_meaning.specs.Thread.{ThreadState, Surroundings, holding, uneaten, eats, reads, resets, sends, sends_or_holds, swaps, meant, faultless, faulted, accepts, thread_look, thread_put, thread_update, outside_form}
 use Rattle.txs_tree_meaning.specs.Transaction.{TxState, on_cell, done_as, tx_look, tx_put, tx_update}
 use Rattle.txs_tree_meaning.specs.Tree.{Mark}
 use Rattle.txs_tree_meaning.specs.View.{functions_of}
@@ -27,6 +27,7 @@ use Rattle.txs_tree_eval_node.specs.declared.shape.Strict.{Strict}
 use Rattle.txs_tree_eval_node.specs.declared.shape.Strict.TheVariants.{Core as a_core, Call as a_call, Vector as a_vector, Println as a_println}
 use Rattle.txs_tree_eval_node.specs.declared.evaluate.Step.{Step}
 use Rattle.txs_tree_eval_node.specs.declared.seen.Seen.{Seen}
+use Rattle.txs_tree_eval_node.specs.declared.state.Progress.{Progress}
 use Rattle.txs_tree_eval_node.specs.declared.state.State.{State}
 use Rattle.txs_tree_eval_node.specs.declared.thread.Sending.{Sending}
 use Rattle.txs_tree_eval_node.specs.declared.thread.Sending.TheVariants.{Sent as WasSent, Refused as WasRefused, Other as NotSent}
@@ -55,12 +56,13 @@ use Rattle.txs_value_cell.specs.declared.form.Standing.{Standing}
 use Rattle.txs_value_cell.specs.declared.form.Standing.TheVariants.{Anywhere, Inside, Outside}
 use Rattle.txs_value_base.specs.declared.op.Callee.{Callee}
 use Rattle.txs_value_base.specs.declared.op.Op.{Op}
-use Rattle.txs_value_base.specs.declared.op.Callee.TheVariants.{Function}
+use Rattle.txs_value_base.specs.declared.op.Callee.TheVariants.{Core as CoreOp, Function}
 use Rattle.txs_value_data.specs.declared.value.CellId.{CellId}
 use Rattle.txs_value_data.specs.declared.value.CellKind.{CellKind}
 use Rattle.txs_value_data.specs.declared.value.CellKind.TheVariants.{Ref, Atom, Agent}
 use Rattle.txs_value_data.specs.declared.value.Value.{Value}
 use Rattle.txs_value_data.specs.declared.value.Value.TheVariants.{Nil, Truth, Int, Key, Text, Vector, Cell}
+use Rattle.txs_tree_eval_node.proofs.Leaf.{held_more}
 use Rattle.txs_tree_eval_node.proofs.Applying.{callee_agrees, told_applies, told_from, answers_from, carried, whole_agrees, validated_agrees, made_agrees}
 use Rattle.txs_tree_eval_node.proofs.Called.{validator_sound}
 use Rattle.txs_tree_eval_node.proofs.Evaluation.{stops_bind}
@@ -213,13 +215,12 @@ module _ (x : Setting) (m : Mark) (v : Value) (t : ThreadState) (cell : CellId) 
   look_outside Deref vs ready told h = subst (λ c. Gives false res t1 (up_to t c)) (sym (took_outside x m v t (form_of.Look Deref) (λ c s. thread_look (around_it x) Deref c s) cell ready told)) h
   look_outside Ensure vs ready told h = absurd ready
 
-  -- a send eats its event, where no sends are held
-  pub send_outside : t.held ≡ None → (callee : Callee) (vs : List Value) → Told (Ok cell) (result_of (cell_of (rule form_of.Send) false v) m.span tt)
-      → Gives false res t1 (up_to t (eats 0 (λ e s. sends (record { agent = cell; callee = callee; args = vs; span = m.span }) m.span e.kind s) t.todo t)) → Gives false res t1 (outside_means x (a_send callee) m v vs t)
-  send_outside none callee vs told h =
+  -- a send eats its event, or is held
+  pub send_outside : (callee : Callee) (vs : List Value) → Told (Ok cell) (result_of (cell_of (rule form_of.Send) false v) m.span tt)
+      → Gives false res t1 (up_to t (sends_or_holds t.held (record { agent = cell; callee = callee; args = vs; span = m.span }) m.span t)) → Gives false res t1 (outside_means x (a_send callee) m v vs t)
+  send_outside callee vs told h =
       subst (λ c. Gives false res t1 (up_to t c))
-      (sym (took false t form_of.Send false m.span v (λ c s. sends_or_holds s.held (record { agent = c; callee = callee; args = vs; span = m.span }) m.span s) cell told
-      ∙ ap (λ o. sends_or_holds o (record { agent = cell; callee = callee; args = vs; span = m.span }) m.span t) none)) h
+      (sym (took false t form_of.Send false m.span v (λ c s. sends_or_holds s.held (record { agent = c; callee = callee; args = vs; span = m.span }) m.span s) cell told)) h
 
   -- an atom is swapped
   pub update_outside : (form : UpdateForm) (callee : Callee) (vs : List Value) → ReadyIn (callable x) in_thread (an_update form callee) (length vs) → Told (Ok cell) (result_of (cell_of (rule (form_of.Update form)) false v) m.span tt)
@@ -397,7 +398,7 @@ comes : {A : Type 0} (book : ℕ) (go : SeenEvent → ThreadState → Completion
 comes book go e t h =
     ap (λ es. eats book go es t) h.1 ∙ ap (λ (b : Bool). if b then uneaten (seen_event e ∷ h.0) (go (seen_event e) (with_todo h.0 t)) else Invalid) h.2
 
-comes_none : (book : ℕ) (go : SeenEvent → ThreadState → Completion ThreadState Value) (y : ThreadStop) (t : ThreadState) → ComesNone book y t → Stops false y t (up_to t (eats book go t.todo t))
+pub comes_none : (book : ℕ) (go : SeenEvent → ThreadState → Completion ThreadState Value) (y : ThreadStop) (t : ThreadState) → ComesNone book y t → Stops false y t (up_to t (eats book go t.todo t))
 comes_none book go Event t h = (refl, ap (λ es. up_to t (eats book go es t)) h)
 comes_none book go Wrong t h =
     (refl, ap (λ es. up_to t (eats book go es t)) h.2 ∙ ap (λ (b : Bool). up_to t (if b then uneaten (h.0 ∷ h.1) (go h.0 (with_todo h.1 t)) else Invalid)) h.3)
@@ -475,6 +476,25 @@ module _ (a : Action) (span : Span) (t : ThreadState) where
 pub read_as : (c : CellId) (b : Bool) (k : EventKind) (C : World) (t : ThreadState) → b ≡ is_read_of c k → reads c k C t ≡ meant b (C c.number) t
 read_as c b k C t is = reads_as c k C t ∙ ap (λ q. meant q (C c.number) t) (sym is)
 
+-- a send of an action is held
+pub send_held : (p : Progress) (v w : Vec Action Global) (a : Action) (span : Span) → p.held ≡ Some v → w.items ≡ v.items ++ a ∷ [] → up_to (thread_state p) (sends_or_holds (thread_state p).held a span (thread_state p)) ≡ Completes (Cell a.agent) (thread_state (record p { held = Some w }))
+send_held p v w a span is longer =
+    let t = thread_state p in
+    let was : t.held ≡ Some v.items = ap held_of is in
+    ap (λ o. up_to t (sends_or_holds o a span t)) was
+    ∙ ap (λ o. Completes (Cell a.agent) (record t { held = with_sends (a ∷ []) o })) was
+    ∙ ap (λ l. Completes (Cell a.agent) (record t { held = Some l })) (sym longer)
+
+-- a send of a thread is at its event
+pub send_eaten : (p : Progress) (a : Action) (span : Span) (r : Result Value ThreadStop) (u : ThreadState) → p.held ≡ None → Gives false r u (up_to (thread_state p) (eats 0 (λ e s. sends a span e.kind s) (thread_state p).todo (thread_state p)))
+    → Gives false r u (up_to (thread_state p) (sends_or_holds (thread_state p).held a span (thread_state p)))
+send_eaten p a span r u is h = subst (λ o. Gives false r u (up_to (thread_state p) (sends_or_holds o a span (thread_state p)))) (sym (ap held_of is)) h
+
+-- sends that are held behind those that were, where there was memory for them
+pub held_where : {A E : Type 0} (r : Result A E) (p : Progress) (v w : Vec Action Global) (sends : List Action) → p.held ≡ Some v → OnOk r (w.items ≡ v.items ++ sends) → OnOk r (thread_state (record p { held = Some w }) ≡ holding sends (thread_state p))
+held_where (Ok a) p v w sends is longer = held_more p v w sends is longer
+held_where (Err e) p v w sends is longer = longer
+
 -- the last of the arguments is all, where they are one
 pub only_one : (us vs : List Value) (v : Value) → vs ≡ us ++ v ∷ [] → length vs ≡ 1 → vs ≡ v ∷ []
 only_one [] vs v is one = is
@@ -498,39 +518,23 @@ pub reset_eaten : (book b : ℕ) → book ≡ b → (e : Seen) (t u : ThreadStat
 reset_eaten book b is e t u h r eaten [] one given = absurd (omega (arith, one))
 reset_eaten book b is e t u h r eaten (w ∷ ws) one given = gives_at book b is (λ a s. resets w a.kind s) e t u h r eaten given
 
--- an agent is of the store's book
-module _ (span : Span) (fault : FaultKind) (d : CellId) where
-  agent_took : (k : CellKind) (c : CellId) → c.kind ≡ k → Told (Ok d) (result_of (cell_if (same_kind k Agent) fault c) span tt) → d.kind ≡ Agent
-  agent_took Agent c is h = sym (ap (λ a. a.kind) (send_took true fault span c d h)) ∙ is
-  agent_took Ref c is h = absurd (subst Whole (sym h) tt)
-  agent_took Atom c is h = absurd (subst Whole (sym h) tt)
-
-agent_of : (v : Value) (span : Span) (d : CellId) → Told (Ok d) (result_of (cell_of (rule form_of.Send) false v) span tt) → d.kind ≡ Agent
-agent_of (Cell c) span d h = agent_took span NotAnAgent d c.kind c refl h
-agent_of Nil span d h = absurd (subst Whole (sym h) tt)
-agent_of (Truth b) span d h = absurd (subst Whole (sym h) tt)
-agent_of (Int z) span d h = absurd (subst Whole (sym h) tt)
-agent_of (Key bs) span d h = absurd (subst Whole (sym h) tt)
-agent_of (Text bs) span d h = absurd (subst Whole (sym h) tt)
-agent_of (Vector ds) span d h = absurd (subst Whole (sym h) tt)
-
-pub send_home : (x : Setting) (v : Value) (span : Span) (d : CellId) → Told (Ok d) (result_of (cell_of (rule form_of.Send) false v) span tt) → home x.cells d ≡ 0
-send_home x v span d told = ap (λ k. if same_kind k Atom then suc (atoms_below x.cells d.number) else 0) (agent_of v span d told)
+-- the forms that eat an event, wherever they are outside transactions
+abbrev pub MeetsEvent : Act → Type 0
+MeetsEvent (a_send callee) = ⊥
+MeetsEvent _ = Unit {0}
 
 -- where there was no such event
 module _ (x : Setting) (sound : SoundFunctions [] (functions_of x.functions)) (cells : SoundCells (callable (deepest x)) x.cells) (m : Mark) (v : Value) (t : ThreadState) (cell : CellId) where
-  pub none_outside : (act : Act) (vs : List Value) (y : ThreadStop) (book : ℕ) → t.held ≡ None → book ≡ home x.cells cell → ReadyIn (callable x) in_thread act (length vs) → Told (Ok cell) (result_of (cell_of (rule (form_of_act act)) false v) m.span tt) → PutAccepted (deepest x) act cell m.span vs
+  pub none_outside : (act : Act) (vs : List Value) (y : ThreadStop) (book : ℕ) → MeetsEvent act → book ≡ home x.cells cell → ReadyIn (callable x) in_thread act (length vs) → Told (Ok cell) (result_of (cell_of (rule (form_of_act act)) false v) m.span tt) → PutAccepted (deepest x) act cell m.span vs
       → ComesNone book y t → Stops false y t (outside_means x act m v vs t)
-  none_outside (a_look form) vs y book held is ready told ok none = look_outside x m v t cell (Err y) t form vs ready told (subst (λ b. Stops false y t (up_to t (eats b (λ e s. reads cell e.kind e.C s) t.todo t))) is (comes_none book (λ e s. reads cell e.kind e.C s) y t none))
-  none_outside (a_put form) [] y book held is ready told ok none = absurd (omega (arith, ready.1))
-  none_outside (a_put form) (w ∷ ws) y book held is ready told ok none =
+  none_outside (a_look form) vs y book meets is ready told ok none = look_outside x m v t cell (Err y) t form vs ready told (subst (λ b. Stops false y t (up_to t (eats b (λ e s. reads cell e.kind e.C s) t.todo t))) is (comes_none book (λ e s. reads cell e.kind e.C s) y t none))
+  none_outside (a_put form) [] y book meets is ready told ok none = absurd (omega (arith, ready.1))
+  none_outside (a_put form) (w ∷ ws) y book meets is ready told ok none =
       put_outside x sound cells m v t cell (Err y) t form (w ∷ ws) ready told ok (subst (λ b. Stops false y t (up_to t (eats b (λ e s. resets w e.kind s) t.todo t))) is (comes_none book (λ e s. resets w e.kind s) y t none))
-  none_outside (an_update form callee) vs y book held is ready told ok none =
+  none_outside (an_update form callee) vs y book meets is ready told ok none =
       let go : SeenEvent → ThreadState → Completion ThreadState Value = λ e s. swap_means x callee cell vs m.span e s in
       update_outside x m v t cell (Err y) t form callee vs ready told (subst (λ b. Stops false y t (up_to t (eats b go t.todo t))) is (comes_none book go y t none))
-  none_outside (a_send callee) vs y book held is ready told ok none =
-      let go : SeenEvent → ThreadState → Completion ThreadState Value = λ e s. sends (record { agent = cell; callee = callee; args = vs; span = m.span }) m.span e.kind s in
-      send_outside x m v t cell (Err y) t held callee vs told (subst (λ b. Stops false y t (up_to t (eats b go t.todo t))) (is ∙ send_home x v m.span cell told) (comes_none book go y t none))
+  none_outside (a_send callee) vs y book meets is ready told ok none = absurd meets
 
 -- what a swap makes of what the callee gave
 swap_named : (w : Value) (u : ThreadState) (b : Bool) → AnswersAt (if b then Ok w else Err Wrong) u (meant b w u)
@@ -565,6 +569,25 @@ called_alone x inner w same sound span callee f vs is fits r st out h =
     let here : Yields (on_view x w) r out (call_means (on_view x w) f vs st) = subst (λ y. Yields y r out (call_means y f vs st)) same h in
     let agrees : Agrees s (applied x (Function f) vs span) (call_means (on_view x w) f vs st) = callee_agrees true s x sound (forms_on (Some w) (around_it (on_view x w))) true span (Function f) vs fits in
     subst (λ k. Told r (applied x k vs span)) (sym is) (told_from s (tx_state out.tx) r (applied x (Function f) vs span) (call_means (on_view x w) f vs st) agrees here)
+
+-- ---- a callee outside every transaction
+
+-- a function that may be sent may be called outside
+pub sent_call : (x : Setting) (f n : ℕ) → x.world ≡ None → SentCallee (callable x) (Function f) n → SoundCall (callable x) (zone_in x) f n
+sent_call x f n none h =
+    subst (λ o. SoundCall (callable x) (zone_on o) f n) (sym none) (record {
+      function = h.function;
+      found = h.found;
+      arity = h.arity;
+      zoned = h.zoned;
+    })
+
+module _ (x : Setting) (callee : Callee) (span : Span) (vs : List Value) (st : State) where
+  pub outside_core : (op : Op) (r : Result Value ThreadStop) → callee ≡ CoreOp op → Told r (result_of (core op vs) span tt) → Yields x r st (applies_means x span callee vs st)
+  outside_core op r is h = subst (λ k. Yields x r st (applies_means x span k vs st)) (sym is) (gives_result (is_on x.world) (part x.world st) (core op vs) span r h)
+
+  pub outside_call : (f : ℕ) (r : Result Value ThreadStop) (out : State) → callee ≡ Function f → Yields x r out (call_means x f vs st) → Yields x r out (applies_means x span callee vs st)
+  outside_call f r out is h = subst (λ k. Yields x r out (applies_means x span k vs st)) (sym is) h
 
 -- ---- `println`
 

@@ -1,9 +1,12 @@
 -- Events, item by item.
-use Rattle.std.proofs.Common.{◌≡◌, ℕ, zero, suc, ◌+◌, ◌<◌, List, [], ◌∷◌, length, get_or, drop, refl, sym, ap, subst, arith}
+use Rattle.std.proofs.Common.{◌≡◌, ℕ, zero, suc, ◌+◌, ◌<◌, List, [], ◌∷◌, ◌++◌, length, get_or, drop, Option, Some, None, refl, sym, ap, ◌∙◌, subst, arith, Vec, Global}
+use Rattle.txs_frame.specs.Frame.{with_sends}
 use Rattle.txs_tree_eval_node.specs.Events.{seen_event, seen_events}
 use Rattle.txs_tree_eval_node.specs.declared.seen.Seen.{Seen}
 use Rattle.txs_tree_eval_node.specs.declared.state.Progress.{Progress}
-use Rattle.txs_tree_eval_node.specs.Evaluated.{thread_state}
+use Rattle.txs_tree_eval_node.specs.Evaluated.{held_of, thread_state}
+use Rattle.txs_tree_meaning.specs.Thread.{holding}
+use Rattle.txs_value_cell.specs.declared.action.Action.{Action}
 use Rattle.txs_world_protocol.specs.SeenEvent.{SeenEvent}
 
 todo_suc : (es : List Seen) (i : ℕ) (e : Seen) → i < length es → e ≡ get_or es i e → drop i (seen_events es) ≡ seen_event e ∷ drop (suc i) (seen_events es)
@@ -41,3 +44,17 @@ event_skipped es i e fs h =
 pub length-seen : (es : List Seen) → length (seen_events es) ≡ length es
 length-seen [] = refl
 length-seen (e ∷ es) = ap suc (length-seen es)
+
+-- an action holds these sends, too
+pub held_more : (p : Progress) (v w : Vec Action Global) (sends : List Action) → p.held ≡ Some v → w.items ≡ v.items ++ sends → thread_state (record p { held = Some w }) ≡ holding sends (thread_state p)
+held_more p v w sends is longer =
+    let t = thread_state p in
+    let was : t.held ≡ Some v.items = ap held_of is in
+    ap (λ l. record t { held = Some l }) longer ∙ ap (λ o. record t { held = with_sends sends o }) (sym was)
+
+-- a thread holds none
+pub held_none : (p : Progress) (sends : List Action) → p.held ≡ None → thread_state p ≡ holding sends (thread_state p)
+held_none p sends is =
+    let t = thread_state p in
+    let was : t.held ≡ None = ap held_of is in
+    ap (λ o. record t { held = o }) was ∙ ap (λ o. record t { held = with_sends sends o }) (sym was)

@@ -1,10 +1,11 @@
 -- What the plain evaluators answer.
-use Rattle.std.specs.Prelude.{◌≡◌, ◌&&◌, ◌==◌, ℕ, suc, Bool, true, false, List, [], ◌∷◌, ◌++◌, map, drop, length, Option, Some, None, Result, Ok, Err, if◌then◌else◌, ⊤}
+use Rattle.std.specs.Prelude.{◌≡◌, ◌&&◌, ◌==◌, ℕ, suc, Bool, true, false, List, [], ◌∷◌, ◌++◌, map, drop, length, Option, Some, None, Result, Ok, Err, if◌then◌else◌, ⊤, Vec}
+use Rattle.std.specs.Global.{Global}
 use Rattle.txs_world_protocol.specs.Ask.{Writes, same_cell, same_value, same_writes, same_action, same_actions}
 use Rattle.txs_world_protocol.specs.SeenEvent.{SeenEvent}
 use Rattle.txs_world_protocol.specs.declared.event.EventKind.{EventKind}
 use Rattle.txs_world_protocol.specs.declared.event.EventKind.TheVariants.{Read, Commit as Committed, Fail as Failing, Refused as Refusing, Send as Sent, SendRefused, Swap as Swapped, Broke}
-use Rattle.txs_frame.specs.Frame.{PlainTxFrame}
+use Rattle.txs_frame.specs.Frame.{PlainTxFrame, sends_of_commit}
 use Rattle.txs_frame.specs.declared.frame.Commute.{Commute}
 use Rattle.txs_value_apply.specs.Core.{core, vector_of, takes}
 use Rattle.txs_value_apply.specs.Truth.{choose}
@@ -15,7 +16,7 @@ use Rattle.txs_tree_meaning.specs.Pure.{pure_calls}
 use Rattle.txs_tree_eval_node.specs.Setting.{Setting, callable, zone_in}
 use Rattle.txs_tree_meaning.specs.Sound.{Zone, MayStand, SoundCall, SoundCallee}
 use Rattle.txs_tree_meaning.specs.Right.{up_to, behind_retries, on_right}
-use Rattle.txs_tree_meaning.specs.Thread.{TxRun, ThreadState, Surroundings, Transacting, swaps, faultless, faulted, meant, with_tx, run_of, ends_tx, uneaten, eats_tx, accepts}
+use Rattle.txs_tree_meaning.specs.Thread.{TxRun, ThreadState, Surroundings, Transacting, swaps, faultless, faulted, meant, with_tx, holding, run_of, ends_tx, uneaten, eats_tx, accepts}
 use Rattle.txs_tree_meaning.specs.Transaction.{TxState, in_transaction, tx_update, tx_meaning, redone, validated, accepted, final_writes}
 use Rattle.txs_tree_meaning.specs.Tree.{Mark, Tree, Trees, count}
 use Rattle.txs_tree_meaning.specs.View.{tree_of, functions_of}
@@ -64,9 +65,14 @@ idle es = record { todo = es; printed = []; held = None; txs = [] }
 abbrev pub tx_run : Transacted → TxRun
 tx_run r = record { body = tree_of r.body.now; locals = r.locals; wanted = r.wanted; result = r.result; state = tx_state r.work }
 
+-- the sends that an action holds
+abbrev pub held_of : Option (Vec Action Global) → Option (List Action)
+held_of None = None
+held_of (Some v) = Some v.items
+
 -- how far a thread is
 abbrev pub thread_state : Progress → ThreadState
-thread_state p = record { todo = drop p.eaten (seen_events p.events.now); printed = p.printed.items; held = None; txs = map tx_run p.txs.items }
+thread_state p = record { todo = drop p.eaten (seen_events p.events.now); printed = p.printed.items; held = held_of p.held; txs = map tx_run p.txs.items }
 
 -- what counts while this transaction runs, or none
 abbrev pub Part : Option PlainView → Type 0
@@ -289,6 +295,10 @@ loop_means x es body env s =
 abbrev pub call_means : (x : Setting) → ℕ → List Value → State → Completion (Part x.world) Value
 call_means x f vs s = calls_in x (is_on x.world) f vs (part x.world s)
 
+-- a callee on these values
+abbrev pub applies_means : (x : Setting) → Span → Callee → List Value → State → Completion (Part x.world) Value
+applies_means x span callee vs s = apply (calls_in x (is_on x.world)) span callee vs (part x.world s)
+
 -- what is done with the values of a node's parts
 abbrev pub finishes : (x : Setting) → Strict → Span → List Value → Part x.world → Completion (Part x.world) Value
 finishes x a_recur span vs s = Recurs vs s
@@ -502,9 +512,9 @@ end_view (Failing at view) q c = Some q
 end_view (Refusing at view agent) q c = Some q
 end_view _ q c = None
 
--- a commit with these writes and sends
+-- a commit with these writes and sends; an action sends nothing, and holds the sends
 abbrev pub commit_closes : Writes → List Action → Completion ThreadState (TxRun × Writes) → Completion ThreadState Value
-commit_closes writes sent c = faultless c (λ r t. meant (same_writes r.1 writes && same_actions r.0.state.done.sends sent) r.0.result (with_tx r.0 t))
+commit_closes writes sent c = faultless c (λ r t. meant (same_writes r.1 writes && same_actions (sends_of_commit t.held r.0.state.done.sends) sent) r.0.result (holding r.0.state.done.sends (with_tx r.0 t)))
 
 -- a refusal
 abbrev pub refuse_closes : Span → Completion ThreadState (TxRun × Writes) → Completion ThreadState Value
@@ -538,7 +548,7 @@ closing f k (Err y) held = AStopped (end_stop k y)
 -- what is given then, and the state that is left
 abbrev pub Closes : Closing → Span → TxRun → Result Value ThreadStop → ThreadState → ThreadState → Type 0
 Closes ARefused span r res t u = AnswersAt res u (Faults (fault_at AgentFailed span) (with_tx r t))
-Closes ACommitted span r res t u = AnswersAt res u (Completes r.result (with_tx r t))
+Closes ACommitted span r res t u = AnswersAt res u (Completes r.result (holding r.state.done.sends (with_tx r t)))
 Closes (AStopped y) span r res t u = (res ≡ Err y) × (u ≡ t)
 
 -- a run, where the body gave a value

@@ -1,11 +1,13 @@
 //! What the event at the end of a transaction makes of what its body and its commutes gave.
 
 ghost use Rattle.std.specs.Prelude.{◌≡◌};
+ghost use Rattle.txs_frame.specs.Frame.{sends_of_commit};
 ghost use Rattle.txs_tree_eval_node.specs.Evaluated.{Closes, closing, end_stop, end_view, ends_as, thread_state, tx_run};
 ghost use Rattle.txs_tree_eval_transaction.specs.Views.{plain_view, plain_world};
 
 use crate::seen::Seen;
 use crate::state::{Progress, Transacted};
+use std::alloc::Global;
 use txs_tree_eval_transaction::{RefView, ThreadStop, same_commit};
 use txs_value_base::Span;
 use txs_value_cell::Action;
@@ -79,18 +81,20 @@ fn closes_as(
 /// What a dosync gives at the event of its transaction's end, where its run came to these final writes: a run is noted where it is
 /// refused, or is what the commit says.
 pub(crate) fn close<'a>(
+    alloc: Global,
     kind: &EventKind,
     run: Transacted<'a>,
     last: Result<Vec<(CellId, Value)>, ThreadStop>,
     span: Span,
     thread: &mut Progress<'a>,
 ) -> Result<Value, ThreadStop>
-    ensures value { Closes (closing (λ ws. ws.items) kind.now last run.entry.work.done.sends) span (tx_run run.entry) result (thread_state thread.old) (thread_state thread.new) }
+    ensures value { Closes (closing (λ ws. ws.items) kind.now last (sends_of_commit (thread_state thread.old).held run.entry.work.done.sends)) span (tx_run run.entry) result (thread_state thread.old) (thread_state thread.new) }
     ensures kept { (thread_state thread.new).todo ≡ (thread_state thread.old).todo }
 {
-    match closes_as(kind, last, run.work.done.sends()) {
+    let sends = thread.commits(run.work.done.sends());
+    match closes_as(kind, last, sends) {
         Closing::Refused => thread.refuse(run, span),
-        Closing::Committed => thread.note(run),
+        Closing::Committed => thread.note(alloc, run),
         Closing::Stopped(stop) => {
             drop(run);
             Err(stop)

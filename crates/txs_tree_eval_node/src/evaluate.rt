@@ -3,12 +3,12 @@
 ghost use Rattle.std.specs.Prelude.{true, false, ◌≡◌, ◌≤◌, ◌-◌, ◌+◌, ◌++◌, ◌∷◌, [], suc, Bool, length, take, drop, None, Some, IsTrue, IfOk, OnOk, MatchResult};
 ghost use Rattle.txs_frame.specs.Frame.{commuted, phase_work, set_writes};
 ghost use Rattle.txs_tree_eval_node.specs.Events.{seen_event};
-ghost use Rattle.txs_tree_eval_node.specs.Evaluated.{AnswersAt, Steps, Yields, GivesAll, FirstAccepted, FirstStops, PutAccepted, PutStops, Ready, ReadyIn, Finishes, Runs, SoundCommutes, means, all_mean, do_means, if_means, let_means, locals_mean, loop_means, turns_mean, call_means, finish_means, strict_means, form_means, inside_means, outside_means, update_means, swap_means, applied, accept_means, accepted_means, made_means, dosync_means, eat_means, body_means, final_means, redone_means, step_of, thread_state};
+ghost use Rattle.txs_tree_eval_node.specs.Evaluated.{AnswersAt, Steps, Yields, GivesAll, FirstAccepted, FirstStops, PutAccepted, PutStops, Ready, ReadyIn, Finishes, Runs, SoundCommutes, means, all_mean, do_means, if_means, let_means, locals_mean, loop_means, turns_mean, call_means, applies_means, finish_means, strict_means, form_means, inside_means, outside_means, update_means, swap_means, applied, accept_means, accepted_means, made_means, dosync_means, eat_means, body_means, final_means, redone_means, step_of, thread_state};
 ghost use Rattle.txs_tree_eval_transaction.specs.Worked.{Told, ToldOf, Gives, RefCell, UpdatesRef, tx_state};
 ghost use Rattle.txs_tree_eval_node.specs.declared.evaluate.Step.TheVariants.{Value as AValue};
 ghost use Rattle.txs_tree_eval_transaction.specs.declared.stop.ThreadStop.TheVariants.{Memory};
 ghost use Rattle.txs_tree_eval_node.specs.Setting.{callable, zone_in};
-ghost use Rattle.txs_tree_meaning.specs.Sound.{InSomeTail, SoundCall, SoundCallee, SoundCells, SoundTree, SoundAll, SoundDo, SoundLet, in_thread, in_dosync};
+ghost use Rattle.txs_tree_meaning.specs.Sound.{InSomeTail, SoundCall, SentCallee, SoundCallee, SoundCells, SoundTree, SoundAll, SoundDo, SoundLet, in_thread, in_dosync};
 ghost use Rattle.txs_tree_meaning.specs.Thread.{ThreadState};
 ghost use Rattle.txs_tree_meaning.specs.Transaction.{judged, valued as first_values, merged};
 ghost use Rattle.txs_tree_meaning.specs.Tree.{count};
@@ -22,7 +22,7 @@ use crate::context::Context;
 use crate::seen::Seen;
 use crate::shape::{Act, Shape, Strict, shape_of};
 use crate::state::{Progress, State, Transacted};
-use crate::thread::{end_swap, read_at, reset_at, send_at, swap_at};
+use crate::thread::{end_swap, read_at, reset_at, swap_at};
 use std::alloc::{AllocError, Global};
 use txs_frame::{Commute, TxFrame, validator_of};
 use txs_tree_eval_transaction::{
@@ -399,7 +399,7 @@ fn update_inside<'a>(
     tx.end_update(form, cell, callee, args, new, span, wanted)
 }
 
-/// What a form on a cell does outside every transaction.
+/// What a form on a cell does outside every transaction. A send of a thread is at its event too, and an action's is held.
 #[cycle(evaluate)]
 fn act_outside<'a>(
     alloc: Global,
@@ -419,15 +419,22 @@ fn act_outside<'a>(
     let cell = take_cell(act.form(), false, value, span)?;
     let inner = context.deepest();
     let values = accept_put(alloc, &inner, act, cell, args, span)?;
-    let event = thread.next(context.home(cell))?;
+    let book = context.home(cell);
     match act {
-        Act::Look(_) => thread.eat(read_at(event, cell)),
-        Act::Put(_) => thread.eat(reset_at(event, values)),
+        Act::Look(_) => {
+            let event = thread.next(book)?;
+            thread.eat(read_at(event, cell))
+        }
+        Act::Put(_) => {
+            let event = thread.next(book)?;
+            thread.eat(reset_at(event, values))
+        }
         Act::Update(_, callee) => {
+            let event = thread.next(book)?;
             let args = values.as_slice();
             thread.eat(swap(alloc, context, callee, cell, args, span, event))
         }
-        Act::Send(callee) => thread.eat(send_at(event, cell, callee, values, span)),
+        Act::Send(callee) => thread.send(cell, callee, values, span),
     }
 }
 
@@ -598,6 +605,25 @@ pub fn apply_callee<'a>(
     }
 }
 
+/// A callee on these values outside every transaction, as an action applies one; an operation's fault has the span.
+pub fn apply_outside<'a>(
+    alloc: Global,
+    context: &Context<'a>,
+    callee: Callee,
+    values: Vec<Value>,
+    span: Span,
+    state: &mut State<'a>,
+) -> Result<Value, ThreadStop>
+    requires world { context.now.world ≡ None }
+    requires callee { SentCallee (callable context.now) callee (length values.items) }
+    ensures { Yields context.now result state.new (applies_means context.now span callee values.items state.old) }
+{
+    match callee {
+        Callee::Core(op) => operate(alloc, op, values, span),
+        Callee::Function(number) => call(alloc, context, number, values, state),
+    }
+}
+
 /// A dosync: in a transaction its body, which joins it; else a transaction of its own.
 #[cycle(evaluate)]
 fn evaluate_dosync<'a>(
@@ -646,7 +672,7 @@ fn eat_dosync<'a>(
     };
     let inner = context.deepest();
     let last = final_writes(alloc, &inner, &run.work.done, world, dosync.span);
-    let given = close(event.kind, run, last, dosync.span, thread);
+    let given = close(alloc, event.kind, run, last, dosync.span, thread);
     thread.eat(given)
 }
 

@@ -1,11 +1,12 @@
 //! What an evaluation has done so far.
 
-ghost use Rattle.std.specs.Prelude.{◌≡◌, ◌<◌, ◌∷◌, List, length, MatchResult};
-ghost use Rattle.txs_tree_eval_node.specs.Evaluated.{AnswersAt, Comes, ComesNone, Eats, with_todo, thread_state, tx_run, idle};
+ghost use Rattle.std.specs.Prelude.{◌≡◌, ◌<◌, ◌∷◌, ◌++◌, [], Some, List, length, MatchResult, OnOk};
+ghost use Rattle.txs_frame.specs.Frame.{sends_of_commit};
+ghost use Rattle.txs_tree_eval_node.specs.Evaluated.{AnswersAt, Comes, ComesNone, Eats, with_todo, held_of, thread_state, tx_run, idle};
 ghost use Rattle.txs_tree_eval_transaction.specs.Worked.{tx_state};
 ghost use Rattle.txs_tree_eval_transaction.specs.declared.stop.ThreadStop.TheVariants.{Memory};
 ghost use Rattle.txs_tree_meaning.specs.Meaning.{Faults};
-ghost use Rattle.txs_tree_meaning.specs.Thread.{with_tx};
+ghost use Rattle.txs_tree_meaning.specs.Thread.{from_events, holding, with_tx};
 ghost use Rattle.txs_value_base.specs.Places.{fault_at};
 ghost use Rattle.txs_value_base.specs.declared.fault.FaultKind.TheVariants.{AgentFailed};
 ghost use Rattle.txs_tree_meaning.specs.Transaction.{tx_start};
@@ -13,11 +14,12 @@ ghost use Rattle.txs_tree_eval_node.specs.Events.{seen_events};
 ghost use Rattle.txs_world_protocol.specs.SeenEvent.{SeenEvent};
 
 use crate::seen::Seen;
-use std::alloc::Global;
+use std::alloc::{AllocError, Global};
 use txs_frame::TxFrame;
 use txs_tree_eval_transaction::{ThreadStop, TxWork};
 use txs_tree_meaning::Node;
 use txs_value_base::{Fault, FaultKind, Span};
+use txs_value_cell::{Action, copy_action};
 use txs_value_data::{Listed, Value, copy_value};
 
 /// A transaction that came to its end: its body with its locals, whether its result is wanted, its result, and what it did.
@@ -30,13 +32,14 @@ pub struct Transacted<'a> {
     pub work: TxWork,
 }
 
-/// How far a thread is: its events and how many of them it ate, the bytes that it printed, and its transactions that were committed
-/// or refused.
+/// How far a thread is: its events and how many of them it ate, the bytes that it printed, the sends that an action holds, and its
+/// transactions that were committed or refused. A thread holds no sends, and an action is run as a thread is.
 #[derive(Drop)]
 pub struct Progress<'a> {
     pub events: &'a [Seen<'a>],
     pub eaten: usize,
     pub printed: Vec<u8>,
+    pub held: Option<Vec<Action>>,
     pub txs: Vec<Transacted<'a>>,
 }
 
@@ -53,11 +56,28 @@ impl<'a> State<'a> {
         ensures thread { thread_state result.thread ≡ idle (seen_events events.now) }
         ensures tx { tx_state result.tx ≡ tx_start }
     {
+        State::begin(alloc, events, None)
+    }
+
+    /// Before an action with these events, which holds no sends yet.
+    pub fn of_action(alloc: Global, events: &'a [Seen<'a>]) -> State<'a>
+        ensures thread { thread_state result.thread ≡ from_events (Some []) (seen_events events.now) }
+        ensures tx { tx_state result.tx ≡ tx_start }
+    {
+        State::begin(alloc, events, Some(Vec::new(alloc)))
+    }
+
+    /// Before a thread or an action with these events, where these sends are held.
+    fn begin(alloc: Global, events: &'a [Seen<'a>], held: Option<Vec<Action>>) -> State<'a>
+        ensures thread { thread_state result.thread ≡ from_events (held_of held) (seen_events events.now) }
+        ensures tx { tx_state result.tx ≡ tx_start }
+    {
         State {
             thread: Progress {
                 events,
                 eaten: 0,
                 printed: Vec::new(alloc),
+                held,
                 txs: Vec::new(alloc),
             },
             tx: TxWork {
@@ -81,6 +101,16 @@ impl<'a> State<'a> {
     {
         self.thread
     }
+}
+
+/// Appends the same actions.
+fn push_actions(alloc: Global, held: &mut Vec<Action>, sends: &[Action]) -> Result<(), AllocError>
+    ensures { OnOk result (held.new.items ≡ held.old.items ++ sends.now) }
+{
+    for action in sends {
+        held.push(copy_action(alloc, action)?)?;
+    }
+    Ok(())
 }
 
 impl<'a> Progress<'a> {
@@ -126,17 +156,40 @@ impl<'a> Progress<'a> {
         }
     }
 
-    /// A transaction came to its end, and gives its result.
-    pub(crate) fn note(&mut self, run: Transacted<'a>) -> Result<Value, ThreadStop>
-        ensures value { MatchResult result (λ v. (v ≡ run.entry.result) × (thread_state self.new ≡ with_tx (tx_run run.entry) (thread_state self.old))) (λ y. y ≡ Memory) }
+    /// What a commit sends of these: an action's sends nothing, for they are held.
+    pub(crate) fn commits<'b>(&self, sends: &'b [Action]) -> &'b [Action]
+        ensures { result.now ≡ sends_of_commit (thread_state self.now).held sends.now }
+    {
+        match &self.held {
+            Some(_) => &[],
+            None => sends,
+        }
+    }
+
+    /// These sends are held too, in an action.
+    fn hold(&mut self, alloc: Global, sends: &[Action]) -> Result<(), AllocError>
+        ensures held { OnOk result (thread_state self.new ≡ holding sends.now (thread_state self.old)) }
         ensures kept { (thread_state self.new).todo ≡ (thread_state self.old).todo }
     {
-        let value = match copy_value(&run.result) {
-            Ok(value) => value,
-            Err(_) => {
-                drop(run);
-                return Err(ThreadStop::Memory);
-            }
+        match &mut self.held {
+            Some(held) => push_actions(alloc, held, sends),
+            None => Ok(()),
+        }
+    }
+
+    /// A transaction came to its end, and gives its result; an action holds its sends.
+    pub(crate) fn note(&mut self, alloc: Global, run: Transacted<'a>) -> Result<Value, ThreadStop>
+        ensures value { MatchResult result (λ v. (v ≡ run.entry.result) × (thread_state self.new ≡ holding run.entry.work.done.sends (with_tx (tx_run run.entry) (thread_state self.old)))) (λ y. y ≡ Memory) }
+        ensures kept { (thread_state self.new).todo ≡ (thread_state self.old).todo }
+    {
+        let Ok(value) = copy_value(&run.result) else {
+            drop(run);
+            return Err(ThreadStop::Memory);
+        };
+        let Ok(()) = self.hold(alloc, run.work.done.sends()) else {
+            drop(value);
+            drop(run);
+            return Err(ThreadStop::Memory);
         };
         self.txs.push(run)?;
         Ok(value)

@@ -1,11 +1,12 @@
 //! What the forms on cells do outside every transaction, at the events that they eat, but for applying callees.
 
-ghost use Rattle.std.specs.Prelude.{◌≡◌, length, option_copied, MatchResult};
+ghost use Rattle.std.specs.Prelude.{◌≡◌, false, length, option_copied, MatchResult};
 ghost use Rattle.txs_tree_eval_node.specs.Evaluated.{AnswersAt, EndComes, EndsNone, IsSwap, IsNoSwap, thread_state, is_swap_to, sending, swap_gives};
 ghost use Rattle.txs_tree_eval_node.specs.Events.{seen_event};
-ghost use Rattle.txs_tree_eval_transaction.specs.Worked.{of_one};
 ghost use Rattle.txs_tree_eval_transaction.specs.Views.{plain_view, world_of};
-ghost use Rattle.txs_tree_meaning.specs.Thread.{ThreadState, reads, resets, sends, is_retry};
+ghost use Rattle.txs_tree_eval_transaction.specs.Worked.{Gives, of_one};
+ghost use Rattle.txs_tree_meaning.specs.Right.{up_to};
+ghost use Rattle.txs_tree_meaning.specs.Thread.{ThreadState, reads, resets, sends, sends_or_holds, is_retry};
 
 use crate::seen::Seen;
 use crate::state::Progress;
@@ -104,6 +105,35 @@ impl<'a> Progress<'a> {
             kind: FaultKind::RetryLimit,
             span,
         }))
+    }
+
+    /// `send` of this callee with these arguments: a thread's is at its event, an action's is held and gives the agent.
+    pub(crate) fn send(
+        &mut self,
+        agent: CellId,
+        callee: Callee,
+        args: Vec<Value>,
+        span: Span,
+    ) -> Result<Value, ThreadStop>
+        ensures { Gives false result (thread_state self.new) (up_to (thread_state self.old)
+            (sends_or_holds (thread_state self.old).held (record { agent = agent; callee = callee; args = args.items; span = span }) span (thread_state self.old))) }
+    {
+        match &mut self.held {
+            Some(held) => {
+                let args = Listed::from_vec(args);
+                held.push(Action {
+                    agent,
+                    callee,
+                    args,
+                    span,
+                })?;
+                Ok(Value::Cell(agent))
+            }
+            None => {
+                let event = self.next(0)?;
+                self.eat(send_at(event, agent, callee, args, span))
+            }
+        }
     }
 }
 

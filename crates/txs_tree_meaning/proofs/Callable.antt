@@ -11,7 +11,7 @@ use Rattle.txs_value_cell.specs.declared.form.Standing.TheVariants.{Anywhere, In
 use Rattle.txs_value_base.specs.declared.op.Callee.{Callee}
 use Rattle.txs_value_base.specs.declared.op.Callee.TheVariants.{Core as CoreOp, Function}
 use Rattle.txs_tree_meaning.specs.Known.{Known, only_inside, only_outside, is_inside, is_outside, is_pure, inside_in, outside_in, any_inside, any_outside, pure_in, all_pure, known_of, known_from, known}
-use Rattle.txs_tree_meaning.specs.Sound.{Zone, in_function, in_thread, in_dosync, MayStand, SoundCall, SoundCallee, SoundTree, SoundAll, SoundDo, SoundLet, SoundFunction, SoundFunctions}
+use Rattle.txs_tree_meaning.specs.Sound.{Zone, in_function, in_thread, in_dosync, MayStand, SoundCall, SoundCallee, SoundSent, SoundTree, SoundAll, SoundDo, SoundLet, SoundFunction, SoundFunctions}
 use Rattle.txs_tree_meaning.specs.Tree.{Tree, Const, Local, If, Do, Let, Loop, Recur, Core, Call, VectorOf, Println, Dosync, Look, Put, Update, Send, Trees, none, more, count, PlainFunction}
 use Rattle.txs_tree_meaning.specs.View.{function_of, functions_of}
 use Rattle.txs_tree_meaning.specs.declared.node.Function as function
@@ -81,6 +81,10 @@ module _ (ks ls : List Known) (grows : (f : ℕ) (k : Known) → nth ks f ≡ So
   callee-widened (CoreOp op) n h = h
   callee-widened (Function f) n h = record { function = h.function; found = grows f h.function h.found; arity = h.arity; pure = h.pure }
 
+  pub sent-widened : (callee : Callee) (n : ℕ) → SoundSent ks callee n → SoundSent ls callee n
+  sent-widened (CoreOp op) n h = h
+  sent-widened (Function f) n h = record { function = h.function; found = grows f h.function h.found; arity = h.arity; zoned = h.zoned }
+
   mutual
     pub tree-widened : (e : Tree) (zone : Zone) (d : ℕ) (tail : Option ℕ) → SoundTree ks zone d tail e → SoundTree ls zone d tail e
     tree-widened (Const v m) zone d tail h = h
@@ -100,7 +104,7 @@ module _ (ks ls : List Known) (grows : (f : ℕ) (k : Known) → nth ks f ≡ So
     tree-widened (Update form cell callee args m) zone d tail h =
         (h.0, tree-widened cell zone d None h.1, callee-widened callee (suc (count args)) h.2, all-widened args zone d h.3)
     tree-widened (Send cell callee args m) zone d tail h =
-        (tree-widened cell zone d None h.0, callee-widened callee (suc (count args)) h.1, all-widened args zone d h.2)
+        (tree-widened cell zone d None h.0, sent-widened callee (suc (count args)) h.1, all-widened args zone d h.2)
 
     all-widened : (es : Trees) (zone : Zone) (d : ℕ) → SoundAll ks zone d es → SoundAll ls zone d es
     all-widened none zone d h = h

@@ -1,5 +1,5 @@
 -- Worked examples of the meanings, each by computing.
-use Rattle.std.proofs.Common.{ℕ, suc, Bool, true, false, List, [], ◌∷◌, Some, None, ◌≡◌, refl}
+use Rattle.std.proofs.Common.{ℕ, suc, Bool, true, false, List, [], ◌∷◌, Option, Some, None, ◌≡◌, refl}
 use Rattle.std.specs.Fmt.{digits}
 use Rattle.std.specs.Prelude.{pos, negsuc}
 use Rattle.txs_world_protocol.specs.SeenEvent.{SeenEvent}
@@ -12,7 +12,7 @@ use Rattle.txs_tree_meaning.specs.Meaning.{Completion, Completes, Recurs, Faults
 use Rattle.txs_tree_meaning.specs.Pure.{pure_calls, pure_meaning, nowhere}
 use Rattle.txs_tree_meaning.specs.Sound.{SoundTree, in_thread}
 use Rattle.txs_tree_meaning.specs.Right.{eats_right, right_meaning}
-use Rattle.txs_tree_meaning.specs.Thread.{ThreadState, Surroundings, thread_in, thread_meaning}
+use Rattle.txs_tree_meaning.specs.Thread.{ThreadState, Surroundings, thread_in, thread_meaning, action_in}
 use Rattle.txs_tree_meaning.specs.Transaction.{tx_meaning, final_writes}
 use Rattle.txs_tree_meaning.specs.Tree.{Mark, Tree, Const, Local, Do, Loop, Recur, Call, Core, VectorOf, Println, Dosync, Look, Put, Update, Send, none, more, PlainFunction, ThreadSource}
 use Rattle.txs_value_cell.specs.Cells.{World}
@@ -527,3 +527,50 @@ always_written_between = refl
 written_between_twice : run alters_once (retry false ∷ retry false ∷ seen (Commit 2 2 ((ref_of 0, int 3) ∷ []) []) (all_are 2) (all_are 2) (all_are 2) ∷ []) ≡ Completes (int 3) 0
 unfolding core
 written_between_twice = refl
+
+-- ---- actions
+
+-- what an action holds that came to a value
+abbrev held_at : Completion ThreadState Value → Option (List Action)
+held_at (Completes v t) = t.held
+held_at (Recurs vs t) = None
+held_at (Faults f t) = None
+held_at (Retries t) = None
+held_at (Waits t) = None
+held_at (OutOfTurns t) = None
+held_at Invalid = None
+
+-- the send of an increment, as an action of its own
+abbrev an_increment : Action
+an_increment = record { agent = an_agent; callee = CoreOp Inc; args = []; span = at 4 9 }
+
+-- (defn f [s] ..) with this body, sent to an agent whose state is 0
+abbrev acts : Tree → List SeenEvent → Completion ThreadState Value
+acts body es =
+    action_in (record { cells = []; tries = 3; turns = 3; functions = record { parameters = 1; body = body; span = at 0 0 } ∷ [] }) (Function 0) (at 0 0) (int 0 ∷ []) es
+
+-- a send outside transactions eats no event, and is held
+send_held : held_at (acts one_send []) ≡ Some (an_increment ∷ [])
+send_held = refl
+
+-- a commit has none of the sends, which the action holds
+abbrev commits : List Action → SeenEvent
+commits sends = seen (Commit 1 1 ((ref_of 1, int 1) ∷ []) sends) (all_are 0) (all_are 0) (all_are 0)
+
+commit_holds : held_at (acts held_send (commits [] ∷ [])) ≡ Some (an_increment ∷ [])
+unfolding core
+commit_holds = refl
+
+commit_sends_nothing : brief (acts held_send (commits (an_increment ∷ []) ∷ [])) ≡ Invalid
+unfolding core
+commit_sends_nothing = refl
+
+-- those of a try that ran again are dropped
+tried_again : held_at (acts held_send (retry false ∷ commits [] ∷ [])) ≡ Some (an_increment ∷ [])
+unfolding core
+tried_again = refl
+
+-- a fault stands at its form, as a thread's does
+faults_behind_a_send : brief (acts (in_turn one_send (Core Quot (more (Local 0 (wanted 0 0)) (more (constant (int 0)) none)) (wanted 10 20))) []) ≡ Faults (fault_at DivideByZero (at 10 20)) 0
+unfolding core
+faults_behind_a_send = refl

@@ -16,11 +16,15 @@ is_wrong (Waits t) = false
 is_wrong (OutOfTurns t) = false
 is_wrong Invalid = true
 
--- how many events a thread eats before the first that it doesn't allow, where it is known to allow the first of these lists and the
--- second comes behind
+-- how many events something that means this on events eats before the first that it doesn't allow, where it is known to allow the first of
+-- these lists and the second comes behind
+abbrev pub right_events : (List SeenEvent → Completion ThreadState Value) → List SeenEvent → List SeenEvent → ℕ
+right_events m done [] = length done
+right_events m done (e ∷ es) = if is_wrong (m (done ++ e ∷ [])) then length done else right_events m (done ++ e ∷ []) es
+
+-- so many events a thread eats
 abbrev pub eats_right : ThreadSource → ℕ → List SeenEvent → List SeenEvent → ℕ
-eats_right p n done [] = length done
-eats_right p n done (e ∷ es) = if is_wrong (thread_meaning p n (done ++ e ∷ [])) then length done else eats_right p n (done ++ e ∷ []) es
+eats_right p n done es = right_events (thread_meaning p n) done es
 
 -- what the thread means on the events before that one
 abbrev pub right_meaning : ThreadSource → ℕ → List SeenEvent → Completion ThreadState Value

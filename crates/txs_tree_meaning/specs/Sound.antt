@@ -59,6 +59,23 @@ abbrev pub SoundCallee : List Known → Callee → ℕ → Type 0
 SoundCallee ks (CoreOp op) n = TakesFew op n
 SoundCallee ks (Function f) n = PureCall ks f n
 
+-- a function that is defined before takes so many arguments, and isn't for transactions alone
+pub record SentCall (ks : List Known) (f n : ℕ) : Type 0 where
+  pub function : Known
+  pub found : nth ks f ≡ Some function
+  pub arity : function.parameters ≡ n
+  pub zoned : function.inside ≡ false
+
+-- what may be sent, of so many arguments, the agent's state among them
+abbrev pub SoundSent : List Known → Callee → ℕ → Type 0
+SoundSent ks (CoreOp op) n = TakesFew op n
+SoundSent ks (Function f) n = SentCall ks f n
+
+-- what may be applied as an action to so many values, the agent's state among them: an operation that takes them, or a function that may be sent
+abbrev pub SentCallee : List Known → Callee → ℕ → Type 0
+SentCallee ks (CoreOp op) n = takes op n ≡ true
+SentCallee ks (Function f) n = SentCall ks f n
+
 -- A node with so many locals, where these functions are defined, in this zone. In tail position of a loop or function the
 -- number of its values is given: a recur is there alone, with as many.
 abbrev mutual
@@ -86,7 +103,7 @@ abbrev mutual
   SoundTree ks zone d tail (Update form cell callee args m) =
       MayStand zone (rule (form_of.Update form)).stands × SoundTree ks zone d None cell × SoundCallee ks callee (suc (count args)) × SoundAll ks zone d args
   SoundTree ks zone d tail (Send cell callee args m) =
-      SoundTree ks zone d None cell × SoundCallee ks callee (suc (count args)) × SoundAll ks zone d args
+      SoundTree ks zone d None cell × SoundSent ks callee (suc (count args)) × SoundAll ks zone d args
 
   -- each of these, none of them in tail position
   pub SoundAll : List Known → Zone → ℕ → Trees → Type 0

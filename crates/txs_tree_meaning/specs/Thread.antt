@@ -4,7 +4,7 @@ use Rattle.txs_world_protocol.specs.Ask.{same_writes, same_cell, same_value, sam
 use Rattle.txs_world_protocol.specs.SeenEvent.{SeenEvent, home}
 use Rattle.txs_world_protocol.specs.declared.event.EventKind.{EventKind}
 use Rattle.txs_world_protocol.specs.declared.event.EventKind.TheVariants.{Read, Commit, Retry, Fail, Refused, Send as Sent, SendRefused, Swap as Swapped, Broke}
-use Rattle.txs_tree_meaning.specs.Meaning.{Completion, Completes, Recurs, Faults, Retries, Waits, OutOfTurns, Invalid, closed, allowed, Applies, Effects, eval, call_at, bind}
+use Rattle.txs_tree_meaning.specs.Meaning.{Completion, Completes, Recurs, Faults, Retries, Waits, OutOfTurns, Invalid, closed, allowed, Applies, Effects, eval, call_at, bind, apply}
 use Rattle.txs_tree_meaning.specs.Transaction.{TxState, on_cell, tx_meaning, final_writes, validated}
 use Rattle.txs_tree_meaning.specs.Tree.{Mark, Tree, PlainFunction, ThreadSource}
 use Rattle.txs_value_cell.specs.Cells.{World, Validators, validators_of, validator_at}
@@ -29,6 +29,7 @@ use Rattle.txs_value_base.specs.declared.op.Callee.{Callee}
 use Rattle.txs_value_data.specs.declared.value.CellId.{CellId}
 use Rattle.txs_value_data.specs.declared.value.Value.{Value}
 use Rattle.txs_value_data.specs.declared.value.Value.TheVariants.{Nil, Cell}
+use Rattle.txs_frame.specs.Frame.{sends_of_commit, with_sends}
 
 -- a transaction that came to its end: its body with its locals, whether its result is wanted, and its meaning at its read point
 pub record TxRun : Type 0 where
@@ -79,11 +80,6 @@ reads c _ C t = Invalid
 abbrev pub resets : Value → EventKind → ThreadState → Completion ThreadState Value
 resets v (Swapped new) t = meant (same_value v new) v t
 resets v _ t = Invalid
-
--- what an action holds, with these sends behind it
-abbrev pub with_sends : List Action → Option (List Action) → Option (List Action)
-with_sends sends None = None
-with_sends sends (Some held) = Some (held ++ sends)
 
 -- these sends are held too, in an action
 abbrev pub holding : List Action → ThreadState → ThreadState
@@ -150,9 +146,9 @@ run_of d v x = record { body = d.body; locals = d.locals; wanted = d.mark.wanted
 
 -- A transaction at the event of its end: the body on the world at its read point, its commutes, and the validators.
 abbrev pub ends_tx : Transacting → Applies ThreadState → EventKind → World → World → World → ThreadState → Completion ThreadState Value
--- a commit: neither the body nor a commute nor a validator faults, and the writes and sends are those of the event
+-- a commit: neither the body nor a commute nor a validator faults, and the writes and sends are those of the event; an action holds the sends
 ends_tx d f (Commit at view writes sent) R Q C t =
-    over t (d.on R) (λ v x. faultless (final_writes f d.validators d.mark.span x.done C t) (λ ws t1. meant (same_writes ws writes && same_actions x.done.sends sent) v (with_tx (run_of d v x) t1))) (λ g. Invalid)
+    over t (d.on R) (λ v x. faultless (final_writes f d.validators d.mark.span x.done C t) (λ ws t1. meant (same_writes ws writes && same_actions (sends_of_commit t1.held x.done.sends) sent) v (holding x.done.sends (with_tx (run_of d v x) t1)))) (λ g. Invalid)
 -- a failure: the body's fault, else the first one of the commutes and then the validators on the world that was viewed
 ends_tx d f (Fail at view) R Q C t =
     over t (d.on R) (λ v x. faulted (final_writes f d.validators d.mark.span x.done Q t) (λ g t1. Faults g t1)) (λ g. Faults g t)
@@ -221,10 +217,26 @@ on_events x d = record {
   dosync = λ inside m node env body f t. eats_tx x.tries (record { mark = m; body = node; locals = env; on = tx_meaning x.turns x.functions d node env; validators = validators_of x.cells }) f t.todo t;
 }
 
--- the thread in its surroundings, on these events
+-- where a body begins, with these events to come: an action's holds its sends, of which there are none yet, and a thread's holds none
+abbrev pub from_events : Option (List Action) → List SeenEvent → ThreadState
+from_events held es = record { todo = es; printed = []; held = held; txs = [] }
+
+-- a body with its locals in its surroundings, outside every transaction, on these events, where sends are held or not
+abbrev pub body_in : Surroundings → Option (List Action) → Tree → List Value → List SeenEvent → Completion ThreadState Value
+body_in x held body locals es =
+    closed (eval (on_events x (length x.functions)) (call_at (on_events x) x.turns x.functions (length x.functions)) x.turns false body locals (from_events held es))
+
+-- the thread in its surroundings, on these events: its body, which has no locals and holds no sends
 abbrev pub thread_in : Surroundings → Tree → List SeenEvent → Completion ThreadState Value
-thread_in x main es =
-    closed (eval (on_events x (length x.functions)) (call_at (on_events x) x.turns x.functions (length x.functions)) x.turns false main [] (record { todo = es; printed = []; held = None; txs = [] }))
+thread_in x main es = body_in x None main [] es
+
+-- a callee, applied outside every transaction; an operation faults at this span
+abbrev pub applies_in : Surroundings → Span → Applies ThreadState
+applies_in x span = apply (call_at (on_events x) x.turns x.functions (length x.functions) false) span
+
+-- an action in its surroundings, on these events: its callee on the agent's state and the arguments, with its sends held
+abbrev pub action_in : Surroundings → Callee → Span → List Value → List SeenEvent → Completion ThreadState Value
+action_in x callee span vs es = applies_in x span callee vs (from_events (Some []) es)
 
 -- what surrounds a source's thread, where each loop makes at most n turns
 abbrev pub around : ThreadSource → ℕ → Surroundings
@@ -233,3 +245,14 @@ around p n = record { cells = p.cells; tries = suc reruns; turns = n; functions 
 -- the thread meaning: the thread on these events, where each loop makes at most n turns
 abbrev pub thread_meaning : ThreadSource → ℕ → List SeenEvent → Completion ThreadState Value
 thread_meaning p n es = thread_in (around p n) p.main es
+
+-- what surrounds an action, where each loop makes at most n turns
+abbrev pub around_action : List CellDefinition → List PlainFunction → ℕ → Surroundings
+around_action cells functions n = record { cells = cells; tries = suc reruns; turns = n; functions = functions }
+
+-- The action meaning: the action on its agent's state and these events (Clojure's docstring of `send`), where the agent's validator accepts
+-- what that gives, and each loop makes at most n turns. A refused state, and an operation that faults, have the span of the send.
+abbrev pub action_meaning : List CellDefinition → List PlainFunction → ℕ → Action → Value → List SeenEvent → Completion ThreadState Value
+action_meaning cells functions n a v es =
+    let x = around_action cells functions n in
+    bind (action_in x a.callee a.span (v ∷ a.args) es) (λ w t. accepts x (applies_in x a.span) a.agent a.span w t)

@@ -20,7 +20,7 @@ use Rattle.txs_verify.specs.Alone.{HasLocal, TakesSo, NamedTakesSo, HasCount, Is
 use Rattle.txs_verify.specs.Going.{JumpsWithin}
 use Rattle.txs_verify.specs.Paths.{EndsWell, opens, before, before_that, stage_behind, stage_for}
 use Rattle.txs_verify.specs.Refused.{BreaksOff, IsMet}
-use Rattle.txs_verify.specs.Standing.{IsEnd, EndsSo, IsImpureCallee, NestsWrongly, ends_within, outside_within, inside_without, sends_impure, opens_impure, StandsWrongly, or_pure, kind_of}
+use Rattle.txs_verify.specs.Standing.{IsEnd, EndsSo, IsInsideCallee, NestsWrongly, ends_within, outside_within, inside_without, sends_inside, opens_impure, StandsWrongly, or_pure, kind_of}
 use Rattle.txs_verify.specs.Validators.{EachValidator, IsPure, IsRefusedValidator, TakesOne}
 use Rattle.txs_verify.specs.Verdict.{AreKinds, AreRightBodies, IsWrongOnPaths, IsRefusedAlone, IsRefusedOnPaths, IsRefusedFunction, AreKnownKinds, of_all, up_to_a_refused, IsRefusedWalk, of_a_validator, of_a_function, IsRefused, in_a_cell, in_a_function, in_a_thread, on_paths_of_functions, on_paths_of_a_thread, IsIllTyped, OrMemory}
 use Rattle.txs_verify.proofs.Ends.{or_map, or_memory}
@@ -147,18 +147,26 @@ unless_so : (b : Bool) → (b ≡ true → ⊥) → not b ≡ true
 unless_so true h = absurd (h refl)
 unless_so false h = refl
 
+-- nothing is told to be for transactions alone that isn't
+not_inside : (ks : List Kind) (kinds : List FunctionKind) (f : ℕ) (o : Option Kind) → nth ks f ≡ o → AreBelow ks kinds → (kind : FunctionKind) × (nth kinds f ≡ Some kind) × (kind.inside ≡ false) → (or_pure o).inside ≡ true → ⊥
+not_inside ks kinds f None is_o below sent h = true_is (sym h)
+not_inside ks kinds f (Some told) is_o below sent h =
+    let b = below f told is_o in
+    let same : b.0 ≡ sent.0 = some_is b.0 sent.0 (sym b.1 ∙ sent.1) in
+    true_is (sym (b.2.inside h) ∙ ap (λ x. x.inside) same ∙ sent.2)
+
 -- what is pure isn't told to be impure
 told_pure : (ks : List Kind) (kinds : List FunctionKind) (f : Callee) → AreBelow ks kinds → IsPureCallee kinds f → IsPure ks f
 told_pure ks kinds (callee.Core o) below pure = refl
 told_pure ks kinds (callee.Function g) below pure = unless_so (or_pure (nth ks g)).impure (not_impure ks kinds g (nth ks g) refl below pure)
 
 module _ (fs : Functions) (ks : List Kind) (below : AreBelow ks fs.kinds) where
-  -- where a send fits a stage, its callee is pure
-  send_pure : (owner : Owner) (ss : Stages) (p n : ℕ) (c : Callee) (s : Stage) → FitsStage fs owner ss p s (Send c n) → IsImpureCallee ks c → ⊥
-  send_pure owner ss p n (callee.Core o) (plain t) f h = h
-  send_pure owner ss p n (callee.Function g) (plain t) f h = not_impure ks fs.kinds g (nth ks g) refl below f.1 h
-  send_pure owner ss p n c (opened t m by) f h = f
-  send_pure owner ss p n c (applied t by) f h = f
+  -- where a send fits a stage, its callee isn't for transactions alone
+  send_zoned : (owner : Owner) (ss : Stages) (p n : ℕ) (c : Callee) (s : Stage) → FitsStage fs owner ss p s (Send c n) → IsInsideCallee ks c → ⊥
+  send_zoned owner ss p n (callee.Core o) (plain t) f h = h
+  send_zoned owner ss p n (callee.Function g) (plain t) f h = not_inside ks fs.kinds g (nth ks g) refl below f.1 h
+  send_zoned owner ss p n c (opened t m by) f h = f
+  send_zoned owner ss p n c (applied t by) f h = f
 
   -- where a call behind an open fits a stage, the function is pure
   call_pure : (owner : Owner) (ss : Stages) (p t g : ℕ) (x : OpenForm × ℕ) (y : Option (OpenForm × ℕ)) (o : Option (OpenForm × ℕ)) → o ≡ Some x → FitsStage fs owner ss p (stage_behind o y t) (Call g) → (or_pure (nth ks g)).impure ≡ true → ⊥
@@ -178,9 +186,9 @@ module _ (fs : Functions) (ks : List Kind) (below : AreBelow ks fs.kinds) (all :
   never_nests p (ends_within d t i met end within) = within (ends_one owner d t i end (ends_well p d t i met)).1
   never_nests p (outside_within d t i met within h) = no_outside owner t (kind_of ks i) (may_here p d t i met) within h
   never_nests p (inside_without d t i met none is_thread_so h) = no_inside owner t (kind_of ks i) (may_here p d t i met) none (is_thread thread owner so is_thread_so) h
-  never_nests p (sends_impure d t c m met h) =
+  never_nests p (sends_inside d t c m met h) =
       let s = staged_at fs owner n consts b room typed p d t (Send c m) met in
-      send_pure fs ks below owner s.0 p m c (stage_for b.instrs p t) s.1 h
+      send_zoned fs ks below owner s.0 p m c (stage_for b.instrs p t) s.1 h
   never_nests p (opens_impure x d t g is_open met h) =
       let s = staged_at fs owner n consts b room typed (suc p) d t (Call g) met in
       call_pure fs ks below owner s.0 (suc p) t g x (opens (before_that b.instrs (suc p))) (opens (before b.instrs (suc p))) is_open s.1 h

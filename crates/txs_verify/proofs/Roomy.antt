@@ -6,7 +6,7 @@ use Rattle.txs_value_base.specs.declared.op.Callee.{Callee}
 use Rattle.txs_value_base.specs.declared.op.Callee.TheVariants as callee
 use Rattle.txs_value_data.specs.declared.value.Value.{Value}
 use Rattle.txs_code_meaning.specs.PlainCode.{CodeBody, parameters_of}
-use Rattle.txs_code_meaning.specs.WellTyped.{FunctionKind, Owner, Stages, Stage, plain, opened, FitsStage, IsStaging, IsPureFunction, IsPureCallee, WellTypedBody}
+use Rattle.txs_code_meaning.specs.WellTyped.{FunctionKind, Owner, Stages, Stage, plain, opened, FitsStage, IsStaging, IsPureFunction, MayBeSent, WellTypedBody}
 use Rattle.txs_code_meaning.specs.declared.instr.Instr.{Instr}
 use Rattle.txs_code_meaning.specs.declared.instr.Instr.TheVariants.{Call, Send}
 use Rattle.txs_verify.specs.declared.error.Stop.{Stop}
@@ -87,14 +87,14 @@ nth_front (y ∷ xs) ys (suc f) x e = nth_front xs ys f x e
 pure_more : (xs ys : List FunctionKind) (f : ℕ) → IsPureFunction xs f → IsPureFunction (xs ++ ys) f
 pure_more xs ys f h = (h.0, nth_front xs ys f h.0 h.1, h.2)
 
-callee_more : (xs ys : List FunctionKind) (c : Callee) → IsPureCallee xs c → IsPureCallee (xs ++ ys) c
-callee_more xs ys (callee.Core o) h = tt
-callee_more xs ys (callee.Function f) h = pure_more xs ys f h
+sent_more : (xs ys : List FunctionKind) (c : Callee) → MayBeSent xs c → MayBeSent (xs ++ ys) c
+sent_more xs ys (callee.Core o) h = tt
+sent_more xs ys (callee.Function f) h = (h.0, nth_front xs ys f h.0 h.1, h.2)
 
 module _ (ps : List ℕ) (xs ys : List FunctionKind) (owner : Owner) (ss : Stages) where
   stage_more : (at : ℕ) (s : Stage) (i : Instr) → FitsStage (record { parameters = ps; kinds = xs }) owner ss at s i → FitsStage (record { parameters = ps; kinds = xs ++ ys }) owner ss at s i
   stage_more at (plain t) (Call f) h = ((h.0.0, nth_front xs ys f h.0.0 h.0.1, h.0.2), h.1)
-  stage_more at (plain t) (Send c n) h = (h.0, callee_more xs ys c h.1, h.2)
+  stage_more at (plain t) (Send c n) h = (h.0, sent_more xs ys c h.1, h.2)
   stage_more at (opened t n by) (Call f) h = (h.0, pure_more xs ys f h.1, h.2, h.3)
   stage_more at _ _ h = h
 

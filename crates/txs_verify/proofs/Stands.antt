@@ -9,7 +9,7 @@ use Rattle.txs_value_cell.specs.declared.form.Standing.{Standing}
 use Rattle.txs_value_cell.specs.declared.form.Standing.TheVariants.{Anywhere, Inside, Outside}
 use Rattle.txs_value_base.specs.declared.op.Callee.{Callee}
 use Rattle.txs_value_base.specs.declared.op.Callee.TheVariants as callee
-use Rattle.txs_code_meaning.specs.WellTyped.{Owner, a_thread, a_function, opened, IsImpure, MayStand, KindMayStand, IsPureFunction, IsPureCallee, form_of}
+use Rattle.txs_code_meaning.specs.WellTyped.{Owner, a_thread, a_function, opened, IsImpure, MayStand, KindMayStand, IsPureFunction, MayBeSent, form_of}
 use Rattle.txs_code_meaning.specs.declared.instr.OpenForm.{OpenForm}
 use Rattle.txs_code_meaning.specs.declared.instr.Instr.{Instr}
 use Rattle.txs_code_meaning.specs.declared.instr.Instr.TheVariants.{Call, Return, Print, Look, Put, TxBegin, Open, Send, Halt}
@@ -22,7 +22,7 @@ use Rattle.txs_verify.specs.Going.{AreReached}
 use Rattle.txs_verify.specs.Marks.{Marks, mark_at, mark_behind, IsClosed}
 use Rattle.txs_verify.specs.Paths.{LeadsTo, EndsWell, MayBe, IsAllowed, Steps, ComesIn, opens, before, before_that, stage_behind, stage_for}
 use Rattle.txs_verify.specs.Refused.{IsMet}
-use Rattle.txs_verify.specs.Standing.{kind_from, kinds_from, impure_kind, or_pure, kind_of, seen_from, Flag, for_inside, for_outside, not_pure, has, Meets, IsKindOf, IsEnd, EndsSo, IsImpureCallee, ends_within, outside_within, inside_without, sends_impure, opens_impure, StandsWrongly, unless, first, end_wrong, ends_wrong, kind_wrong, is_pure, send_wrong, call_wrong, wrong, IsMarked, IsSeen, IsWrong}
+use Rattle.txs_verify.specs.Standing.{kind_from, kinds_from, impure_kind, or_pure, kind_of, seen_from, Flag, for_inside, for_outside, not_pure, has, Meets, IsKindOf, IsEnd, EndsSo, IsInsideCallee, ends_within, outside_within, inside_without, sends_inside, opens_impure, StandsWrongly, unless, first, end_wrong, ends_wrong, kind_wrong, may_be_sent, send_wrong, call_wrong, wrong, IsMarked, IsSeen, IsWrong}
 use Rattle.txs_verify.specs.Walk.{refusal}
 
 some_is : {A : Type 0} (x y : A) → Some x ≡ Some y → x ≡ y
@@ -102,14 +102,14 @@ module _ (ks : List Kind) (thread : Bool) (ps : List ℕ) (is : List Instr) wher
   ends_on p m Halt r met e = end_on p m Halt r met thread tt (λ never so. true_is (sym so ∙ never)) e
   ends_on p m _ r met e = absurd (none_is r e)
 
-  impure_by : (c : Callee) → is_pure ks c ≡ false → IsImpureCallee ks c
-  impure_by (callee.Core op) e = true_is e
-  impure_by (callee.Function f) e = not_false (or_pure (nth ks f)).impure e
+  inside_by : (c : Callee) → may_be_sent ks c ≡ false → IsInsideCallee ks c
+  inside_by (callee.Core op) e = true_is e
+  inside_by (callee.Function f) e = not_false (or_pure (nth ks f)).inside e
 
   send_on : (p : ℕ) (m : Mark) (i : Instr) (r : Refusal) → IsMet ps is p m.depth m.txs i → send_wrong ks p i ≡ Some r → StandsWrongly ks thread ps is r.kind r.at
   send_on p m (Send c n) r met e =
-      let u = unless_some (is_pure ks c) TxNesting p r e in
-      here TxNesting p r u.1 (sends_impure m.depth m.txs c n met (impure_by c u.0))
+      let u = unless_some (may_be_sent ks c) TxNesting p r e in
+      here TxNesting p r u.1 (sends_inside m.depth m.txs c n met (inside_by c u.0))
   send_on p m _ r met e = absurd (none_is r e)
 
   call_by : (q d t : ℕ) (i : Instr) (r : Refusal) (o : Option (OpenForm × ℕ)) → opens (nth is q) ≡ o → IsMet ps is (suc q) d t i → call_wrong ks (is_some o) (suc q) i ≡ Some r → StandsWrongly ks thread ps is r.kind r.at
@@ -220,9 +220,9 @@ CallsBelow n _ = Unit {0}
 pure_by : (ks : List Kind) (f : ℕ) → f < length ks → not (or_pure (nth ks f)).impure ≡ true → IsPureFunction (kinds_from ks) f
 pure_by ks f below e = (kind_from (or_pure (nth ks f)), nth_from ks f below, e)
 
-callee_may : (ks : List Kind) (c : Callee) → CalleeBelow (length ks) c → is_pure ks c ≡ true → IsPureCallee (kinds_from ks) c
+callee_may : (ks : List Kind) (c : Callee) → CalleeBelow (length ks) c → may_be_sent ks c ≡ true → MayBeSent (kinds_from ks) c
 callee_may ks (callee.Core op) below e = tt
-callee_may ks (callee.Function f) below e = pure_by ks f below e
+callee_may ks (callee.Function f) below e = (kind_from (or_pure (nth ks f)), nth_from ks f below, not_true (or_pure (nth ks f)).inside e)
 
 may_be : (ps : List ℕ) (ks : List Kind) (owner : Owner) (p t : ℕ) (i : Instr) → CallsBelow (length ks) i → KindMayStand owner t (kind_from (kind_of ks i)) → send_wrong ks p i ≡ None → MayBe (record { parameters = ps; kinds = kinds_from ks }) owner t i
 may_be ps ks owner p t (Call f) below may sent = (kind_from (or_pure (nth ks f)), nth_from ks f below, may)
@@ -231,7 +231,7 @@ may_be ps ks owner p t (Look look) below may sent = form_may owner t (rule (form
 may_be ps ks owner p t (Put put) below may sent = form_may owner t (rule (form.Put put)).stands may
 may_be ps ks owner p t TxBegin below may sent = may.pure refl
 may_be ps ks owner p t (Open by n) below may sent = form_may owner t (rule (form.Update (form_of by))).stands may
-may_be ps ks owner p t (Send c n) below may sent = (form_may owner t (rule form.Send).stands may, callee_may ks c below (unless_none (is_pure ks c) TxNesting p sent))
+may_be ps ks owner p t (Send c n) below may sent = (form_may owner t (rule form.Send).stands may, callee_may ks c below (unless_none (may_be_sent ks c) TxNesting p sent))
 may_be ps ks owner p t _ below may sent = tt
 
 end_right : (so : Bool) (p : ℕ) (m : Mark) → end_wrong so p m ≡ None → (so ≡ true) × (m.depth ≡ 1) × (m.txs ≡ 0)

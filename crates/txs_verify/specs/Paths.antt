@@ -3,7 +3,7 @@ use Rattle.std.specs.Prelude.{◌≡◌, ◌⊎◌, ℕ, zero, suc, ◌+◌, ◌
 use Rattle.txs_value_base.specs.Places.{nth}
 use Rattle.txs_value_cell.specs.declared.form.CellForm.TheVariants as form
 use Rattle.txs_value_cell.specs.declared.form.Standing.TheVariants.{Outside}
-use Rattle.txs_code_meaning.specs.WellTyped.{Functions, Owner, Returns, Halts, IsImpure, MayStand, FormMayStand, MayCall, IsPureFunction, IsPureCallee, Stage, plain, opened, applied, form_of}
+use Rattle.txs_code_meaning.specs.WellTyped.{Functions, Owner, Returns, Halts, IsImpure, MayStand, FormMayStand, MayCall, IsPureFunction, MayBeSent, Stage, plain, opened, applied, form_of}
 use Rattle.txs_code_meaning.specs.declared.instr.OpenForm.{OpenForm}
 use Rattle.txs_code_meaning.specs.declared.instr.Instr.{Instr}
 use Rattle.txs_code_meaning.specs.declared.instr.Instr.TheVariants.{Const, Local, Store, Pop, Jump, JumpFalse, Core, Call, Return, Vector, Print, Look, Put, TxBegin, TxEnd, Open, Close, Send, Halt}
@@ -135,7 +135,7 @@ MayBe fs owner t (Look look) = FormMayStand owner t (form.Look look)
 MayBe fs owner t (Put put) = FormMayStand owner t (form.Put put)
 MayBe fs owner t TxBegin = IsImpure owner
 MayBe fs owner t (Open by n) = FormMayStand owner t (form.Update (form_of by))
-MayBe fs owner t (Send callee n) = FormMayStand owner t form.Send × IsPureCallee fs.kinds callee
+MayBe fs owner t (Send callee n) = FormMayStand owner t form.Send × MayBeSent fs.kinds callee
 MayBe fs owner t _ = Unit {0}
 
 -- so; and behind an open a function that is called is pure

@@ -100,10 +100,10 @@ EndsSo thread Return = thread ≡ false
 EndsSo thread Halt = thread ≡ true
 EndsSo thread _ = Unit {0}
 
--- a function of this number isn't pure
-abbrev pub IsImpureCallee : List Kind → Callee → Type 0
-IsImpureCallee ks (callee.Core op) = ⊥
-IsImpureCallee ks (callee.Function f) = (or_pure (nth ks f)).impure ≡ true
+-- a function of this number is for transactions alone
+abbrev pub IsInsideCallee : List Kind → Callee → Type 0
+IsInsideCallee ks (callee.Core op) = ⊥
+IsInsideCallee ks (callee.Function f) = (or_pure (nth ks f)).inside ≡ true
 
 -- What is wrong with transactions at a place of a body that a path comes to.
 pub data NestsWrongly (ks : List Kind) (thread : Bool) (ps : List ℕ) (is : List Instr) (p : ℕ) : Type 0 where
@@ -113,8 +113,8 @@ pub data NestsWrongly (ks : List Kind) (thread : Bool) (ps : List ℕ) (is : Lis
   outside_within : (d t : ℕ) (i : Instr) → IsMet ps is p d t i → (t ≡ 0 → ⊥) → (kind_of ks i).outside ≡ true → NestsWrongly ks thread ps is p
   -- in a thread, outside transactions, stands what is for transactions alone
   inside_without : (d t : ℕ) (i : Instr) → IsMet ps is p d t i → t ≡ 0 → thread ≡ true → (kind_of ks i).inside ≡ true → NestsWrongly ks thread ps is p
-  -- a callee that isn't pure is sent
-  sends_impure : (d t : ℕ) (c : Callee) (n : ℕ) → IsMet ps is p d t (Send c n) → IsImpureCallee ks c → NestsWrongly ks thread ps is p
+  -- a callee that is for transactions alone is sent
+  sends_inside : (d t : ℕ) (c : Callee) (n : ℕ) → IsMet ps is p d t (Send c n) → IsInsideCallee ks c → NestsWrongly ks thread ps is p
   -- behind an open, a function that isn't pure is called
   opens_impure : (x : OpenForm × ℕ) (d t f : ℕ) → opens (nth is p) ≡ Some x → IsMet ps is (suc p) d t (Call f) → (or_pure (nth ks f)).impure ≡ true → NestsWrongly ks thread ps is p
 
@@ -161,9 +161,14 @@ abbrev pub is_pure : List Kind → Callee → Bool
 is_pure ks (callee.Core op) = true
 is_pure ks (callee.Function f) = not (or_pure (nth ks f)).impure
 
+-- whether a callee may be sent: it isn't for transactions alone
+abbrev pub may_be_sent : List Kind → Callee → Bool
+may_be_sent ks (callee.Core op) = true
+may_be_sent ks (callee.Function f) = not (or_pure (nth ks f)).inside
+
 -- what is wrong with a callee that is sent
 abbrev pub send_wrong : List Kind → ℕ → Instr → Option Refusal
-send_wrong ks p (Send c n) = unless (is_pure ks c) TxNesting p
+send_wrong ks p (Send c n) = unless (may_be_sent ks c) TxNesting p
 send_wrong ks p _ = None
 
 -- what is wrong with a call behind an open, told at the open

@@ -4,7 +4,7 @@ ghost use Rattle.std.specs.Prelude.{◌≡◌, ◌<◌, ◌+◌, length, slice_i
 ghost use Rattle.txs_value_base.specs.Places.{nth};
 ghost use Rattle.txs_code_meaning.specs.WellTyped.{form_of};
 ghost use Rattle.txs_code_meaning.specs.declared.instr.Instr.{Instr as AnInstr};
-ghost use Rattle.txs_verify.specs.Standing.{IsSeen, IsWrong, call_wrong, end_wrong, ends_wrong, first, impure_kind, is_pure, joined, judged, kind_of, kind_wrong, or_pure, pure_kind, seen_from, send_wrong, unless, wrong};
+ghost use Rattle.txs_verify.specs.Standing.{IsSeen, IsWrong, call_wrong, end_wrong, ends_wrong, first, impure_kind, is_pure, joined, judged, kind_of, kind_wrong, may_be_sent, or_pure, pure_kind, seen_from, send_wrong, unless, wrong};
 
 use crate::alone::{before, is_open};
 use crate::error::{Refusal, VerifyErrorKind};
@@ -176,12 +176,26 @@ pub(crate) fn is_pure(kinds: &[Kind], callee: Callee) -> bool
     }
 }
 
+/// Whether a callee may be sent: it isn't for transactions alone, as its action runs outside them.
+fn may_be_sent(kinds: &[Kind], callee: Callee) -> bool
+    ensures { result ≡ may_be_sent kinds.now callee }
+{
+    match callee {
+        Callee::Core(_) => true,
+        Callee::Function(f) => !kind_at(kinds, f).inside,
+    }
+}
+
 /// What is wrong with a callee that is sent.
 fn send_wrong(kinds: &[Kind], at: usize, instr: Instr) -> Option<Refusal>
     ensures { result ≡ send_wrong kinds.now at instr }
 {
     match instr {
-        Instr::Send(callee, _) => unless(is_pure(kinds, callee), VerifyErrorKind::TxNesting, at),
+        Instr::Send(callee, _) => unless(
+            may_be_sent(kinds, callee),
+            VerifyErrorKind::TxNesting,
+            at,
+        ),
         _ => None,
     }
 }

@@ -1,5 +1,5 @@
 -- What the store answers, by what was found.
-use Rattle.std.proofs.Common.{◌≡◌, ◌<◌, ◌≤◌, ℕ, suc, Bool, true, false, nat_lt, List, [], ◌∷◌, ◌++◌, length, set, Option, Some, None, Result, refl, sym, ap, subst, ◌∙◌, arith, if◌then◌else◌}
+use Rattle.std.proofs.Common.{◌≡◌, ◌<◌, ◌≤◌, ℕ, suc, Bool, true, false, nat_lt, List, [], ◌∷◌, ◌++◌, length, set, Option, Some, None, Result, Err, refl, sym, ap, subst, ◌∙◌, arith, if◌then◌else◌}
 use Rattle.std.specs.Prelude.{is_some, ◌↔◌}
 use Rattle.std.proofs.lemmas.Bool.{false≢true, ltb-true}
 use Rattle.std.proofs.lemmas.Bool.Decides.{nat_tests}
@@ -13,18 +13,21 @@ use Rattle.txs_world_protocol.specs.declared.event.EventKind.TheVariants.{Commit
 use Rattle.txs_value_cell.specs.Cells.{World}
 use Rattle.txs_value_data.specs.Limits.{most_events}
 use Rattle.txs_value_cell.specs.declared.action.Action.{Action}
+use Rattle.txs_value_base.specs.Places.{fault_at}
 use Rattle.txs_value_base.specs.declared.fault.Fault.{Fault}
+use Rattle.txs_value_base.specs.declared.fault.FaultKind.TheVariants.{AgentFailed}
+use Rattle.txs_value_base.specs.declared.fault.Span.{Span}
 use Rattle.txs_value_data.specs.declared.value.CellId.{CellId}
 use Rattle.txs_value_data.specs.declared.value.Value.{Value}
-use Rattle.txs_world_book.specs.Book.{cells_in, opening, after, newest, written, is_outdated, is_there, value_or, least_written, first_failed, is_failed, mail_after, LegalKind, Guarded}
-use Rattle.txs_world.specs.Kept.{IsEnd, kept_at}
-use Rattle.txs_world.specs.Store.{PlainStore, store_with, merged, is_lawful, looks, commits, first_action, next_action, takes, hands_out, serve, store_after, TakesMemory, sends_to, Answers, Replies}
+use Rattle.txs_world_book.specs.Book.{actors, is_empty, cells_in, opening, after, newest, written, is_outdated, is_there, value_or, least_written, first_failed, is_failed, mail_after, LegalKind, Guarded}
+use Rattle.txs_world.specs.Kept.{IsEnd, kept_at, end_reply, Ends}
+use Rattle.txs_world.specs.Store.{PlainStore, store_with, merged, is_lawful, looks, commits, first_action, next_action, takes, span_of, finishes, hands_out, is_over, serve, store_after, TakesMemory, sends_to, Answers, Replies}
 use Rattle.txs_world_book.specs.Served.{Served, served, adds, event_of}
 use Rattle.txs_world.specs.declared.commit.End.{End}
 use Rattle.txs_world.specs.declared.commit.End.TheVariants.{Reruns, Redoes, Refuses, Commits}
 use Rattle.txs_world.proofs.Merging.{ltb_yes, ltb_no, refs_has, Finds, finds, untouched_parts}
 use Rattle.txs_world_book.proofs.Older.{ends, outdated_written}
-use Rattle.txs_world.proofs.Serves.{Lawful, lawful_commit, refs_tested, legal_commit, guarded_commit, FindsFailed, finds_failed}
+use Rattle.txs_world.proofs.Serves.{actor_in, sender_in, Lawful, lawful_commit, refs_tested, legal_commit, guarded_commit, FindsFailed, finds_failed}
 
 -- ---- reads
 
@@ -102,26 +105,60 @@ has_room b n most h e = go (nat_lt n most) refl
     go true q = ltb-true n most q
     go false q = absurd (false≢true (sym e ∙ h.1 (no_less q)))
 
+-- the reply to the end of an action takes memory, and says that it is over
+end_takes : (o : Option CellId) → TakesMemory (end_reply o)
+end_takes None = tt
+end_takes (Some h) = tt
+
+end_over : (o : Option CellId) → is_over (end_reply o) ≡ true
+end_over None = refl
+end_over (Some h) = refl
+
+-- the event of an action with this state or fault and these sends
+abbrev pub act_event : PlainStore → ℕ → CellId → Result Value Fault → List Action → Event
+act_event s a g new sends = event_of a (Act g (suc (mail_after s.cells s.book g.number).acts) new sends)
+
+-- the same store and action, where the book has room or hasn't
+abbrev pub EndsAs : PlainStore → CellId → Reply → Event → Bool → Reply → PlainStore → Type 0
+EndsAs s g p e b r t =
+    Answers s (if b then served p (s.book ++ e ∷ []) else served reply.Full s.book)
+    (store_with s.cells s.threads (if b then served p (s.book ++ e ∷ []) else served reply.Full s.book).book (if is_over (if b then served p (s.book ++ e ∷ []) else served reply.Full s.book).reply then set s.taken g.number false else s.taken)) r t
+
 -- an action is over
-pub acted_so : (s t : PlainStore) (a : ℕ) (g : CellId) (new : Result Value Fault) (sends : List Action) → length s.book < most_events
-    → t ≡ store_with s.cells s.threads (s.book ++ event_of a (Act g (suc (mail_after s.cells s.book g.number).acts) new sends) ∷ []) (set s.taken g.number false)
-    → Answers s (serve s.cells a (ask.Finish g new sends) s.book) (store_after s (ask.Finish g new sends) (serve s.cells a (ask.Finish g new sends) s.book)) reply.Done t
-acted_so s t a g new sends lt is =
-    let e = event_of a (Act g (suc (mail_after s.cells s.book g.number).acts) new sends) in
-    subst (λ b. Answers s (if b then served reply.Done (s.book ++ e ∷ []) else served reply.Full s.book) (store_after s (ask.Finish g new sends) (if b then served reply.Done (s.book ++ e ∷ []) else served reply.Full s.book)) reply.Done t) (sym (ltb_yes (length s.book) most_events lt)) (refl, is)
+pub acted_so : (s t : PlainStore) (a : ℕ) (g : CellId) (new : Result Value Fault) (sends : List Action) (o : Option CellId) → length s.book < most_events
+    → t ≡ store_with s.cells s.threads (s.book ++ act_event s a g new sends ∷ []) (set s.taken g.number false)
+    → Ends s a g new sends o (end_reply o) t
+acted_so s t a g new sends o lt is =
+    let e = act_event s a g new sends in
+    subst (λ b. EndsAs s g (end_reply o) e b (end_reply o) t) (sym (ltb_yes (length s.book) most_events lt))
+    (answers_so s (served (end_reply o) (s.book ++ e ∷ [])) (store_with s.cells s.threads (s.book ++ e ∷ []) (if is_over (end_reply o) then set s.taken g.number false else s.taken)) (end_reply o) t (end_takes o) refl
+    (is ∙ ap (λ b. store_with s.cells s.threads (s.book ++ e ∷ []) (if b then set s.taken g.number false else s.taken)) (sym (end_over o))))
 
 -- there is no memory for that
-pub acted_not : (s t : PlainStore) (a : ℕ) (g : CellId) (new : Result Value Fault) (sends : List Action) → length s.book < most_events → t ≡ s
-    → Answers s (serve s.cells a (ask.Finish g new sends) s.book) (store_after s (ask.Finish g new sends) (serve s.cells a (ask.Finish g new sends) s.book)) reply.Memory t
-acted_not s t a g new sends lt is =
-    let e = event_of a (Act g (suc (mail_after s.cells s.book g.number).acts) new sends) in
-    subst (λ b. Answers s (if b then served reply.Done (s.book ++ e ∷ []) else served reply.Full s.book) (store_after s (ask.Finish g new sends) (if b then served reply.Done (s.book ++ e ∷ []) else served reply.Full s.book)) reply.Memory t) (sym (ltb_yes (length s.book) most_events lt)) (tt, is)
+pub acted_not : (s t : PlainStore) (a : ℕ) (g : CellId) (new : Result Value Fault) (sends : List Action) (o : Option CellId) → length s.book < most_events → t ≡ s → Ends s a g new sends o reply.Memory t
+acted_not s t a g new sends o lt is = subst (λ b. EndsAs s g (end_reply o) (act_event s a g new sends) b reply.Memory t) (sym (ltb_yes (length s.book) most_events lt)) (end_takes o, is)
 
 -- there is no room for that
-pub acted_full : (s : PlainStore) (a : ℕ) (g : CellId) (new : Result Value Fault) (sends : List Action) → most_events ≤ length s.book → Answers s (serve s.cells a (ask.Finish g new sends) s.book) (store_after s (ask.Finish g new sends) (serve s.cells a (ask.Finish g new sends) s.book)) reply.Full s
-acted_full s a g new sends le =
-    let e = event_of a (Act g (suc (mail_after s.cells s.book g.number).acts) new sends) in
-    subst (λ b. Answers s (if b then served reply.Done (s.book ++ e ∷ []) else served reply.Full s.book) (store_after s (ask.Finish g new sends) (if b then served reply.Done (s.book ++ e ∷ []) else served reply.Full s.book)) reply.Full s) (sym (ltb_no (length s.book) most_events le)) (refl, refl)
+pub acted_full : (s : PlainStore) (a : ℕ) (g : CellId) (new : Result Value Fault) (sends : List Action) (o : Option CellId) → most_events ≤ length s.book → Ends s a g new sends o reply.Full s
+acted_full s a g new sends o le = subst (λ b. EndsAs s g (end_reply o) (act_event s a g new sends) b reply.Full s) (sym (ltb_no (length s.book) most_events le)) (refl, refl)
+
+-- what is served where no agent of its sends has failed
+pub finishes_so : (s t : PlainStore) (a : ℕ) (g : CellId) (new : Result Value Fault) (sends : List Action) (r : Reply) → first_failed s.cells s.book sends ≡ None → Ends s a g new sends None r t
+    → Answers s (serve s.cells a (ask.Finish g new sends) s.book) (store_after s (ask.Finish g new sends) (serve s.cells a (ask.Finish g new sends) s.book)) r t
+finishes_so s t a g new sends r none h =
+    let n = suc (mail_after s.cells s.book g.number).acts in
+    let span = span_of (mail_after s.cells s.book g.number).actions in
+    subst (λ o. Answers s (finishes o a g n new sends span s.book) (store_after s (ask.Finish g new sends) (finishes o a g n new sends span s.book)) r t) (sym none) h
+
+-- and where one has
+pub finishes_failed : (s t : PlainStore) (a : ℕ) (g x : CellId) (new : Result Value Fault) (sends nothing : List Action) (span : Span) (r : Reply) → first_failed s.cells s.book sends ≡ Some x → span ≡ span_of (mail_after s.cells s.book g.number).actions → nothing ≡ []
+    → Ends s a g (Err (fault_at AgentFailed span)) nothing (Some x) r t
+    → Answers s (serve s.cells a (ask.Finish g new sends) s.book) (store_after s (ask.Finish g new sends) (serve s.cells a (ask.Finish g new sends) s.book)) r t
+finishes_failed s t a g x new sends nothing span r some at empty h =
+    let n = suc (mail_after s.cells s.book g.number).acts in
+    let here = span_of (mail_after s.cells s.book g.number).actions in
+    subst (λ o. Answers s (finishes o a g n new sends here s.book) (store_after s (ask.Finish g new sends) (finishes o a g n new sends here s.book)) r t) (sym some)
+    (subst (λ p. Ends s a g (Err (fault_at AgentFailed p)) [] (Some x) r t) at (subst (λ l. Ends s a g (Err (fault_at AgentFailed span)) l (Some x) r t) empty h))
 
 -- a send, by whether its agent has failed
 pub sends_so : (s t : PlainStore) (a : ℕ) (x : Action) (r : Reply) (b : Bool) → is_failed s.cells s.book x.agent ≡ b → Replies s (sends_to b a x s.book) r t → Replies s (sends_to (is_failed s.cells s.book x.agent) a x s.book) r t
@@ -168,6 +205,18 @@ ended_as s a at view sets ws commuted ensured sends xs e h sets_are sends_are is
     ended s a at view sets commuted ensured sends e h
     (subst (λ l. IsEnd (least_written s.book at (cells_in l ++ ensured)) (least_written s.book view (cells_in commuted)) (first_failed s.cells s.book sends) e) sets_are
     (subst (λ l. IsEnd (least_written s.book at (cells_in ws ++ ensured)) (least_written s.book view (cells_in commuted)) (first_failed s.cells s.book l) e) sends_are is))
+
+-- a transaction that is refused for an agent that has failed is a thread's
+pub refused_by_thread : (s : PlainStore) (a at view : ℕ) (sets commuted : Writes) (ensured : List CellId) (sends xs : List Action) (g : CellId) → is_lawful s a (ask.Commit at sets ensured view commuted sends) ≡ true → xs ≡ sends
+    → first_failed s.cells s.book xs ≡ Some g → nat_lt a s.threads ≡ true
+refused_by_thread s a at view sets commuted ensured sends xs g h same is =
+    let l = lawful_commit s a at view sets commuted ensured sends h in
+    let f = subst (FindsFailed s.cells s.book sends) (ap (first_failed s.cells s.book) (sym same) ∙ is) (finds_failed s.cells s.book sends l.to_agents) in
+    sender_in s.cells s.threads a (is_empty sends) l.maker f.2
+
+-- who ends a transaction is an actor
+pub ended_by_actor : (s : PlainStore) (a at view : ℕ) (sets commuted : Writes) (ensured : List CellId) (sends : List Action) → is_lawful s a (ask.Commit at sets ensured view commuted sends) ≡ true → nat_lt a (actors s.threads s.cells) ≡ true
+ended_by_actor s a at view sets commuted ensured sends h = actor_in s.cells s.threads a (is_empty sends) (lawful_commit s a at view sets commuted ensured sends h).maker
 
 -- what is served then
 abbrev pub by_end : End → ℕ → ℕ → ℕ → Writes → List Action → List Event → Served

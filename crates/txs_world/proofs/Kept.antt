@@ -1,5 +1,5 @@
 -- The store's parts agree from its opening on, and after each event.
-use Rattle.std.proofs.Common.{◌≡◌, ◌≢◌, ◌<◌, ℕ, zero, suc, Bool, true, false, ◌&&◌, ◌==◌, nat_lt, nat_le, List, [], ◌∷◌, ◌++◌, length, get_or, set, Option, Some, None, Result, Ok, Err, refl, ap, subst, sym, ◌∙◌, arith, append-nil, if◌then◌else◌}
+use Rattle.std.proofs.Common.{◌≡◌, ◌≢◌, ◌<◌, ℕ, zero, suc, Bool, true, false, ◌&&◌, ◌==◌, nat_lt, nat_le, List, [], ◌∷◌, ◌++◌, length, get_or, set, Option, Some, None, Result, Ok, Err, refl, ap, subst, sym, ◌∙◌, arith, if◌then◌else◌}
 use Rattle.std.proofs.lemmas.Bool.{ltb-true, false≢true}
 use Rattle.std.proofs.lemmas.Bool.Decides.{nat_tests}
 use Rattle.std.proofs.lemmas.List.{get_or-set_same, get_or-set_other, length-set}
@@ -16,7 +16,7 @@ use Rattle.txs_value_base.specs.declared.fault.Fault.{Fault}
 use Rattle.txs_value_data.specs.declared.value.CellId.{CellId}
 use Rattle.txs_value_data.specs.declared.value.CellKind.TheVariants.{Ref, Agent}
 use Rattle.txs_value_data.specs.declared.value.Value.{Value}
-use Rattle.txs_world_book.specs.Book.{is_of_kind, goes_on, opening, are_refs, are_sends, cells_in, state_of, writes_of, after, is_there, counts, no_mail, Mail, waits, is_empty, acted, mailed, sent_to, mail_after, mail_changed, has_cell, has_ref, has_agent, makes, LegalKind, Guarded}
+use Rattle.txs_world_book.specs.Book.{is_of_kind, goes_on, opening, are_refs, are_sends, cells_in, state_of, writes_of, after, is_there, counts, no_mail, Mail, waits, acted, mailed, sent_to, mail_after, mail_changed, has_cell, has_ref, has_agent, makes, LegalKind, Guarded}
 use Rattle.txs_value_data.specs.Limits.{most_events}
 use Rattle.txs_world.specs.Inboxes.{PlainInbox, no_inbox, open_inboxes, inbox_of, mailed_all, all_sent_below, finished, fault_of, taken_up}
 use Rattle.txs_world.specs.Kept.{version, slot_of, no_slot, IsSlot, open_slots, put_version, put_one, put_all, all_below, IsInbox, ChangesNothing, IsKept}
@@ -292,22 +292,18 @@ sent cells threads slots inboxes boxes views tries vs ts book more a x h lt by l
     (kept_more cells threads slots slots inboxes (mailed_all inboxes (x ∷ [])) views tries vs ts book more a (Send x) h lt by l tt
     refl (λ k lt2. refl) (mailed_many inboxes (x ∷ [])) (λ k in_old i. moves_mailed cells inboxes book (x ∷ []) k in_old i) all some is)
 
--- where an action sends nothing, the mail is as before
-unmailed : (xs : List Action) (k : ℕ) (m : Mail) → is_empty xs ≡ true → mailed (sent_to k xs) m ≡ m
-unmailed [] k m e = ap (λ l. record m { actions = l }) (append-nil m.actions)
-unmailed (x ∷ xs) k m e = absurd (false≢true e)
-
--- one more action that is over, which sends nothing
+-- one more action that is over, with what it sends
 pub acted_on : (cells : List StoreCell) (threads : ℕ) (slots put : List Slot) (inboxes boxes : List PlainInbox) (views tries vs ts : List ℕ) (book more : List Event) (a n i : ℕ) (g : CellId) (new : Result Value Fault) (sends : List Action)
     → IsKept cells threads slots inboxes views tries book → length book < most_events → makes cells threads a (Act g i new sends) ≡ true → LegalKind cells book a (Act g i new sends)
     → Marked true a (suc (length book)) views vs → Marked true a (suc (length book)) tries ts → more ≡ book ++ event_of a (Act g i new sends) ∷ []
-    → n ≡ suc (length book) → put ≡ put_all n slots (state_of g new) → boxes ≡ set inboxes g.number (finished (fault_of new) (get_or inboxes g.number no_inbox)) → IsKept cells threads put boxes vs ts more
+    → n ≡ suc (length book) → put ≡ put_all n slots (state_of g new) → boxes ≡ mailed_all (set inboxes g.number (finished (fault_of new) (get_or inboxes g.number no_inbox))) sends → IsKept cells threads put boxes vs ts more
 acted_on cells threads slots put inboxes boxes views tries vs ts book more a n i g new sends h lt by l all some is many put_is boxes_are =
     let to : put ≡ put_all (suc (length book)) slots (state_of g new) = put_is ∙ ap (λ j. put_all j slots (state_of g new)) many in
     subst (λ u. IsKept cells threads u boxes vs ts more) (sym to)
     (subst (λ u. IsKept cells threads (put_all (suc (length book)) slots (state_of g new)) u vs ts more) (sym boxes_are)
-    (kept_more cells threads slots (put_all (suc (length book)) slots (state_of g new)) inboxes (set inboxes g.number over) views tries vs ts book more a (Act g i new sends) h lt by l tt
-    (put_many (suc (length book)) slots (state_of g new)) (put_moves (suc (length book)) 0 slots (state_of g new) (state_ascends g new)) (length-set inboxes g.number over) (λ k in_old e. sends_no_more k (go k in_old e (g.number == k) refl)) all some is))
+    (kept_more cells threads slots (put_all (suc (length book)) slots (state_of g new)) inboxes (mailed_all (set inboxes g.number over) sends) views tries vs ts book more a (Act g i new sends) h lt by l tt
+    (put_many (suc (length book)) slots (state_of g new)) (put_moves (suc (length book)) 0 slots (state_of g new) (state_ascends g new)) (mailed_many (set inboxes g.number over) sends ∙ length-set inboxes g.number over)
+    (λ k in_old e. sends_more k in_old (go k in_old e (g.number == k) refl)) all some is))
   where
     over : PlainInbox
     over = finished (fault_of new) (get_or inboxes g.number no_inbox)
@@ -318,8 +314,12 @@ acted_on cells threads slots put inboxes boxes views tries vs ts book more a n i
     mail_acted : ℕ → Mail
     mail_acted k = if g.number == k then acted (goes_on (nth cells k)) new (mail_after cells book k) else mail_after cells book k
 
-    sends_no_more : (k : ℕ) → IsInbox (goes_on (nth cells k)) (mail_acted k) (get_or (set inboxes g.number over) k no_inbox) → IsInbox (goes_on (nth cells k)) (mailed (sent_to k sends) (mail_acted k)) (get_or (set inboxes g.number over) k no_inbox)
-    sends_no_more k = subst (λ m. IsInbox (goes_on (nth cells k)) m (get_or (set inboxes g.number over) k no_inbox)) (sym (unmailed sends k (mail_acted k) l.4))
+    -- what is sent enters behind what waits once the action is over
+    sends_more : (k : ℕ) → k < length inboxes → IsInbox (goes_on (nth cells k)) (mail_acted k) (get_or (set inboxes g.number over) k no_inbox)
+        → IsInbox (goes_on (nth cells k)) (mailed (sent_to k sends) (mail_acted k)) (get_or (mailed_all (set inboxes g.number over) sends) k no_inbox)
+    sends_more k in_old e =
+        subst (λ b. IsInbox (goes_on (nth cells k)) (mailed (sent_to k sends) (mail_acted k)) b) (sym (mailed_at (set inboxes g.number over) sends k (omega (arith, in_old, length-set inboxes g.number over))))
+        (inbox_entered (goes_on (nth cells k)) (mail_acted k) (get_or (set inboxes g.number over) k no_inbox) (sent_to k sends) e)
 
     go : (k : ℕ) → k < length inboxes → IsInbox (goes_on (nth cells k)) (mail_after cells book k) (get_or inboxes k no_inbox) → (t : Bool) → (g.number == k) ≡ t
         → IsInbox (goes_on (nth cells k)) (if t then acted (goes_on (nth cells k)) new (mail_after cells book k) else mail_after cells book k) (get_or (set inboxes g.number over) k no_inbox)

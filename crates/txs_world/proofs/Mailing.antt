@@ -299,6 +299,17 @@ room_used ns ms a rest f h = λ k. go k (a.agent.number == k) (f k) (h k)
     go k true p q = omega (arith, p, q)
     go k false p q = omega (arith, p, q)
 
+-- where no inbox has less room, they have it still
+pub room_stays : (ns ms : List ℕ) (xs : List Action) → ((k : ℕ) → get_or ns k 0 ≤ get_or ms k 0) → HaveRoom ns xs → HaveRoom ms xs
+room_stays ns ms xs f h = λ k. let p = f k in let q = h k in omega (arith, p, q)
+
+-- the inboxes after an action is over, and behind that what it sent has entered
+pub mails_so : (old mid over now : List PlainInbox) (n : ℕ) (f g : Option Fault) (queue sends : List Action) → mid ≡ old → over ≡ set mid n (finished f (get_or mid n no_inbox)) → now ≡ mailed_all over queue → f ≡ g → queue ≡ sends
+    → now ≡ mailed_all (set old n (finished g (get_or old n no_inbox))) sends
+mails_so old mid over now n f g queue sends same gone put fault is =
+    put ∙ ap (λ b. mailed_all b queue) (gone ∙ ap (λ b. set b n (finished f (get_or b n no_inbox))) same ∙ ap (λ e. set old n (finished e (get_or old n no_inbox))) fault)
+    ∙ ap (mailed_all (set old n (finished g (get_or old n no_inbox)))) is
+
 own_number : (n : ℕ) → (n == n) ≡ true
 own_number n = grind (arith, nat_tests)
 

@@ -1,5 +1,5 @@
 -- What the store does keeps its book legal, its commits undisturbed, and what is taken waiting.
-use Rattle.std.proofs.Common.{◌≡◌, ◌<◌, ℕ, zero, suc, Bool, true, false, not, ◌&&◌, ◌==◌, nat_lt, nat_le, List, [], ◌∷◌, ◌++◌, length, get_or, set, Option, Some, None, refl, sym, ap, subst, ◌∙◌, arith, length-append, if◌then◌else◌}
+use Rattle.std.proofs.Common.{◌≡◌, ◌<◌, ℕ, zero, suc, Bool, true, false, not, ◌&&◌, ◌==◌, nat_lt, nat_le, ◌||◌, ◌+◌, List, [], ◌∷◌, ◌++◌, length, get_or, set, Option, Some, None, Result, Ok, Err, refl, sym, ap, subst, ◌∙◌, arith, length-append, if◌then◌else◌}
 use Rattle.std.proofs.lemmas.Bool.{ltb-true, false≢true}
 use Rattle.std.proofs.lemmas.List.{get_or-set_other}
 use Rattle.txs_world_protocol.specs.Ask.{Writes}
@@ -14,16 +14,19 @@ use Rattle.txs_value_cell.specs.declared.action.Action.{Action}
 use Rattle.txs_value_data.specs.declared.value.CellId.{CellId}
 use Rattle.txs_value_data.specs.declared.value.Value.{Value}
 use Rattle.txs_value_data.specs.Limits.{most_events}
-use Rattle.txs_value_base.specs.Places.{nth}
-use Rattle.txs_world_book.specs.Book.{has_ref, has_agent, cells_in, are_refs, has_refs, are_sends, makes, least, least_written, goes_on, is_there, Mail, no_mail, sent_to, acted, mail_after, mail_changed, is_failed, first_failed, waits, is_empty, may_name, may_end, written, LegalKind, Untouched, Guarded, Legal, Undisturbed, opening, is_outdated}
+use Rattle.txs_value_base.specs.Places.{nth, fault_at}
+use Rattle.txs_value_base.specs.declared.fault.Fault.{Fault}
+use Rattle.txs_value_base.specs.declared.fault.FaultKind.TheVariants.{AgentFailed}
+use Rattle.txs_value_base.specs.declared.fault.Span.{Span}
+use Rattle.txs_world_book.specs.Book.{has_ref, has_agent, cells_in, are_refs, has_refs, are_sends, actor_of, actors, agents_below, may_send, makes, least, least_written, goes_on, is_there, Mail, no_mail, sent_to, acted, mail_after, mail_changed, is_failed, first_failed, waits, is_empty, may_name, may_end, written, LegalKind, Untouched, Guarded, Legal, Undisturbed, opening, is_outdated}
 use Rattle.txs_world.specs.Laws.{TakenWait, StoreStands}
-use Rattle.txs_world.specs.Store.{PlainStore, store_with, may_ask, has_named, is_lawful, is_taken, are_apart, merged, looks, commits, sends_to, first_action, takes, hands_out, is_done, serve, store_after}
+use Rattle.txs_world.specs.Store.{PlainStore, store_with, may_ask, has_named, is_lawful, is_taken, are_apart, merged, looks, commits, sends_to, first_action, takes, span_of, finishes, hands_out, is_over, serve, store_after}
 use Rattle.txs_world_book.specs.Served.{event_of, adds, served}
 use Rattle.txs_world_book.specs.declared.cell.StoreCell.{StoreCell}
 use Rattle.txs_world_book.proofs.Growth.{each_more, mail_last}
 use Rattle.txs_world.proofs.Mailing.{equal, unequal}
 use Rattle.txs_world_book.proofs.Outcomes.{both}
-use Rattle.txs_world.proofs.Merging.{Finds, finds, refs_has, refs_joined, untouched_parts, refs_merged, untouched_merged, untouched_later}
+use Rattle.txs_world.proofs.Merging.{ltb_yes, Finds, finds, refs_has, refs_joined, untouched_parts, refs_merged, untouched_merged, untouched_later}
 use Rattle.txs_world_book.proofs.Older.{ends, outdated_written}
 
 abbrev pub Kept : List StoreCell → ℕ → List Event → Type 0
@@ -49,15 +52,35 @@ adds_kept cells threads book a d r h by l g = go (nat_lt (length book) most_even
     go true e = keeps cells threads book a d h (ltb-true (length book) most_events e) by l g
     go false e = h
 
-looks_kept : (cells : List StoreCell) (threads : ℕ) (b : Bool) (a : ℕ) (c : CellId) (p : ℕ) (book : List Event) → is_outdated c.number p book ≡ b → has_ref cells c ≡ true → may_name false book a p ≡ true → nat_lt a threads ≡ true → Kept cells threads book
+looks_kept : (cells : List StoreCell) (threads : ℕ) (b : Bool) (a : ℕ) (c : CellId) (p : ℕ) (book : List Event) → is_outdated c.number p book ≡ b → has_ref cells c ≡ true → may_name false book a p ≡ true → nat_lt a (actors threads cells) ≡ true → Kept cells threads book
     → Kept cells threads (looks b (opening cells) a c p book).book
 looks_kept cells threads true a c p book e has n by h = adds_kept cells threads book a (Retry p c false) _ h by (has, n, outdated_written c.number p book e) tt
 looks_kept cells threads false a c p book e has n by h = h
 
+-- who makes a commit with sends or without is an actor
+pub actor_in : (cells : List StoreCell) (threads a : ℕ) (e : Bool) → (nat_lt a threads || (e && nat_lt a (actors threads cells))) ≡ true → nat_lt a (actors threads cells) ≡ true
+actor_in cells threads a e h = go (nat_lt a threads) refl h
+  where
+    more : a < threads → a < threads + agents_below cells (length cells)
+    more lt = omega (arith, lt)
+
+    go : (t : Bool) → nat_lt a threads ≡ t → (t || (e && nat_lt a (actors threads cells))) ≡ true → nat_lt a (actors threads cells) ≡ true
+    go true q r = ltb_yes a (actors threads cells) (more (ltb-true a threads q))
+    go false q r = (both e (nat_lt a (actors threads cells)) r).1
+
+-- who makes one with sends is a thread
+pub sender_in : (cells : List StoreCell) (threads a : ℕ) (e : Bool) → (nat_lt a threads || (e && nat_lt a (actors threads cells))) ≡ true → e ≡ false → nat_lt a threads ≡ true
+sender_in cells threads a true h none = absurd (false≢true (sym none))
+sender_in cells threads a false h none = go (nat_lt a threads) h
+  where
+    go : (t : Bool) → (t || false) ≡ true → t ≡ true
+    go true q = refl
+    go false q = q
+
 -- a failed agent of a send is one of the store's
 abbrev pub FindsFailed : List StoreCell → List Event → List Action → Option CellId → Type 0
 FindsFailed cells book xs None = first_failed cells book xs ≡ None
-FindsFailed cells book xs (Some g) = (has_agent cells g ≡ true) × (is_failed cells book g ≡ true)
+FindsFailed cells book xs (Some g) = (has_agent cells g ≡ true) × (is_failed cells book g ≡ true) × (is_empty xs ≡ false)
 
 pub finds_failed : (cells : List StoreCell) (book : List Event) (xs : List Action) → are_sends cells xs ≡ true → FindsFailed cells book xs (first_failed cells book xs)
 finds_failed cells book [] h = refl
@@ -68,15 +91,15 @@ finds_failed cells book (x ∷ xs) h = go (finds_failed cells book xs m.1) (is_f
 
     rest : (o : Option CellId) → first_failed cells book xs ≡ o → is_failed cells book x.agent ≡ false → FindsFailed cells book xs o → FindsFailed cells book (x ∷ xs) o
     rest None q e d = ap (λ t. if t then Some x.agent else first_failed cells book xs) e ∙ d
-    rest (Some g) q e d = d
+    rest (Some g) q e d = (d.0, d.1, refl)
 
     go : FindsFailed cells book xs (first_failed cells book xs) → (t : Bool) → is_failed cells book x.agent ≡ t → FindsFailed cells book (x ∷ xs) (if t then Some x.agent else first_failed cells book xs)
-    go d true e = (m.0, e)
+    go d true e = (m.0, e, refl)
     go d false e = rest (first_failed cells book xs) refl e d
 
 -- what a lawful commit tells
 pub record Lawful (s : PlainStore) (a at view : ℕ) (sets commuted : Writes) (ensured : List CellId) (sends : List Action) : Type 0 where
-  pub thread : nat_lt a s.threads ≡ true
+  pub maker : (nat_lt a s.threads || (is_empty sends && nat_lt a (actors s.threads s.cells))) ≡ true
   pub refs_set : are_refs s.cells 0 (cells_in sets) ≡ true
   pub refs_ensured : has_refs s.cells ensured ≡ true
   pub refs_commuted : are_refs s.cells 0 (cells_in commuted) ≡ true
@@ -86,13 +109,13 @@ pub record Lawful (s : PlainStore) (a at view : ℕ) (sets commuted : Writes) (e
 
 pub lawful_commit : (s : PlainStore) (a at view : ℕ) (sets commuted : Writes) (ensured : List CellId) (sends : List Action) → is_lawful s a (ask.Commit at sets ensured view commuted sends) ≡ true → Lawful s a at view sets commuted ensured sends
 lawful_commit s a at view sets commuted ensured sends h =
-    let m0 = both (nat_lt a s.threads) _ h in
+    let m0 = both (nat_lt a s.threads || (is_empty sends && nat_lt a (actors s.threads s.cells))) _ h in
     let m1 = both (are_refs s.cells 0 (cells_in sets)) _ m0.1 in
     let m2 = both (has_refs s.cells ensured) _ m1.1 in
     let m3 = both (are_refs s.cells 0 (cells_in commuted)) _ m2.1 in
     let m4 = both (are_apart (cells_in commuted) (cells_in sets)) _ m3.1 in
     let m5 = both (are_sends s.cells sends) _ m4.1 in
-    record { thread = m0.0; refs_set = m1.0; refs_ensured = m2.0; refs_commuted = m3.0; apart = m4.0; to_agents = m5.0; end = m5.1 }
+    record { maker = m0.0; refs_set = m1.0; refs_ensured = m2.0; refs_commuted = m3.0; apart = m4.0; to_agents = m5.0; end = m5.1 }
 
 -- what was set or ensured are refs of the store
 pub refs_tested : (s : PlainStore) (a at view : ℕ) (sets commuted : Writes) (ensured : List CellId) (sends : List Action) → Lawful s a at view sets commuted ensured sends → has_refs s.cells (cells_in sets ++ ensured) ≡ true
@@ -110,14 +133,14 @@ commits_kept : (s : PlainStore) (a at view : ℕ) (sets commuted : Writes) (ensu
     → Finds s.cells s.book at (cells_in sets ++ ensured) o1 → Finds s.cells s.book view (cells_in commuted) o2 → FindsFailed s.cells s.book sends o3 → Kept s.cells s.threads s.book
     → Kept s.cells s.threads (commits o1 o2 o3 a at view (merged sets commuted) sends s.book).book
 commits_kept s a at view sets commuted ensured sends (Some c) o2 o3 l f1 f2 f3 h =
-    adds_kept s.cells s.threads s.book a (Retry at c false) _ h l.thread (f1.0, (ends s.book a at view l.end).tried, f1.1) tt
+    adds_kept s.cells s.threads s.book a (Retry at c false) _ h (actor_in s.cells s.threads a (is_empty sends) l.maker) (f1.0, (ends s.book a at view l.end).tried, f1.1) tt
 commits_kept s a at view sets commuted ensured sends None (Some c) o3 l f1 f2 f3 h =
-    adds_kept s.cells s.threads s.book a (Retry view c true) _ h l.thread (f2.0, (ends s.book a at view l.end).viewed, f2.1) tt
+    adds_kept s.cells s.threads s.book a (Retry view c true) _ h (actor_in s.cells s.threads a (is_empty sends) l.maker) (f2.0, (ends s.book a at view l.end).viewed, f2.1) tt
 commits_kept s a at view sets commuted ensured sends None None (Some g) l f1 f2 f3 h =
-    adds_kept s.cells s.threads s.book a (Refused at view g) _ h l.thread (f3.0, l.end, f3.1) tt
+    adds_kept s.cells s.threads s.book a (Refused at view g) _ h (sender_in s.cells s.threads a (is_empty sends) l.maker f3.2) (f3.0, l.end, f3.1) tt
 commits_kept s a at view sets commuted ensured sends None None None l f1 f2 f3 h =
     let free = untouched_parts s.book at (cells_in sets) ensured f1 in
-    adds_kept s.cells s.threads s.book a (Commit at view (merged sets commuted) sends) _ h l.thread (legal_commit s.cells s.book a at view sets commuted sends l.refs_set l.refs_commuted l.to_agents l.end f3)
+    adds_kept s.cells s.threads s.book a (Commit at view (merged sets commuted) sends) _ h l.maker (legal_commit s.cells s.book a at view sets commuted sends l.refs_set l.refs_commuted l.to_agents l.end f3)
     (guarded_commit s.book a at view sets commuted sends l.end free.0 f2)
 
 commit_kept : (s : PlainStore) (a at view : ℕ) (sets commuted : Writes) (ensured : List CellId) (sends : List Action) → Lawful s a at view sets commuted ensured sends → Kept s.cells s.threads s.book
@@ -134,6 +157,28 @@ sends_kept cells threads false a x book e by has h = adds_kept cells threads boo
 pub lawful : (s : PlainStore) (a : ℕ) (q : Ask) → is_lawful s a q ≡ true → (may_ask s.cells s.threads a q ≡ true) × (has_named s a q ≡ true)
 lawful s a q h = both (may_ask s.cells s.threads a q) (has_named s a q) h
 
+-- what a lawful end of an action tells
+pub record LawfulEnd (s : PlainStore) (g : CellId) (new : Result Value Fault) (sends : List Action) : Type 0 where
+  pub agent : has_agent s.cells g ≡ true
+  pub taken : is_taken s.taken g ≡ true
+  pub held : may_send new sends ≡ true
+  pub to_agents : are_sends s.cells sends ≡ true
+
+pub lawful_end : (s : PlainStore) (a : ℕ) (g : CellId) (new : Result Value Fault) (sends : List Action) → has_named s a (ask.Finish g new sends) ≡ true → LawfulEnd s g new sends
+lawful_end s a g new sends h =
+    let n = both (has_agent s.cells g) (is_taken s.taken g && (may_send new sends && are_sends s.cells sends)) h in
+    let k = both (is_taken s.taken g) (may_send new sends && are_sends s.cells sends) n.1 in
+    let m = both (may_send new sends) (are_sends s.cells sends) k.1 in
+    record { agent = n.0; taken = k.0; held = m.0; to_agents = m.1 }
+
+finishes_kept : (s : PlainStore) (a : ℕ) (g : CellId) (new : Result Value Fault) (sends : List Action) (span : Span) (o : Option CellId) → (a == actor_of s.threads s.cells g) ≡ true → has_agent s.cells g ≡ true
+    → is_there (mail_after s.cells s.book g.number).fault ≡ false → waits (mail_after s.cells s.book g.number).actions ≡ true → may_send new sends ≡ true → are_sends s.cells sends ≡ true → first_failed s.cells s.book sends ≡ o → Kept s.cells s.threads s.book
+    → Kept s.cells s.threads (finishes o a g (suc (mail_after s.cells s.book g.number).acts) new sends span s.book).book
+finishes_kept s a g new sends span None own has runs wait held to f h =
+    adds_kept s.cells s.threads s.book a (Act g (suc (mail_after s.cells s.book g.number).acts) new sends) _ h own (has, runs, wait, refl, held, to, f) tt
+finishes_kept s a g new sends span (Some x) own has runs wait held to f h =
+    adds_kept s.cells s.threads s.book a (Act g (suc (mail_after s.cells s.book g.number).acts) (Err (fault_at AgentFailed span)) []) _ h own (has, runs, wait, refl, refl, refl, refl) tt
+
 pub serve_kept : (s : PlainStore) (a : ℕ) (q : Ask) → is_lawful s a q ≡ true → StoreStands s → Kept s.cells s.threads (serve s.cells a q s.book).book
 serve_kept s a ask.Begin l h = (h.legal, h.undisturbed)
 serve_kept s a (ask.Look c p) l h =
@@ -148,10 +193,9 @@ serve_kept s a (ask.Send x) l h = let m = lawful s a (ask.Send x) l in sends_kep
 serve_kept s a (ask.Take g) l h = (h.legal, h.undisturbed)
 serve_kept s a (ask.Finish g new sends) l h =
     let m = lawful s a (ask.Finish g new sends) l in
-    let n = both (has_agent s.cells g) (is_taken s.taken g && is_empty sends) m.1 in
-    let k = both (is_taken s.taken g) (is_empty sends) n.1 in
-    let t = h.taken g.number k.0 in
-    adds_kept s.cells s.threads s.book a (Act g (suc (mail_after s.cells s.book g.number).acts) new sends) _ (h.legal, h.undisturbed) m.0 (n.0, t.0, t.1, refl, k.1) tt
+    let n = lawful_end s a g new sends m.1 in
+    let t = h.taken g.number n.taken in
+    finishes_kept s a g new sends (span_of (mail_after s.cells s.book g.number).actions) (first_failed s.cells s.book sends) m.0 n.agent t.0 t.1 n.held n.to_agents refl (h.legal, h.undisturbed)
 serve_kept s a (ask.OpenAt c) l h = absurd (false≢true (lawful s a (ask.OpenAt c) l).1)
 serve_kept s a (ask.CloseAt c at new) l h = absurd (false≢true (lawful s a (ask.CloseAt c at new) l).1)
 serve_kept s a (ask.Broke c at) l h = absurd (false≢true (lawful s a (ask.Broke c at) l).1)
@@ -231,18 +275,24 @@ takes_waits s g false (x ∷ xs) n v f e h = λ k t. go k (g.number == k) refl t
     go k true q t = subst (Held s.cells s.book) (equal g.number k q) (f, ap waits e)
     go k false q t = h k (sym (other_item s.taken g.number k true q) ∙ t)
 
-finish_waits : (s : PlainStore) (a : ℕ) (g : CellId) (d : EventKind) → ((k : ℕ) → (g.number == k) ≡ false → no_act d k ≡ true) → TakenWait s
-    → TakenWait (store_with s.cells s.threads (adds a d reply.Done s.book).book (if is_done (adds a d reply.Done s.book).reply then set s.taken g.number false else s.taken))
-finish_waits s a g d n h = go (nat_lt (length s.book) most_events)
+finish_waits : (s : PlainStore) (a : ℕ) (g : CellId) (d : EventKind) (r : Reply) → is_over r ≡ true → ((k : ℕ) → (g.number == k) ≡ false → no_act d k ≡ true) → TakenWait s
+    → TakenWait (store_with s.cells s.threads (adds a d r s.book).book (if is_over (adds a d r s.book).reply then set s.taken g.number false else s.taken))
+finish_waits s a g d r is n h = go (nat_lt (length s.book) most_events)
   where
     other : (k : ℕ) (b : Bool) → (g.number == k) ≡ b → get_or (set s.taken g.number false) k false ≡ true → Held s.cells (s.book ++ event_of a d ∷ []) k
     other k true q t = absurd (false≢true (sym (put_false s.taken g.number) ∙ ap (λ i. get_or (set s.taken g.number false) i false) (equal g.number k q) ∙ t))
     other k false q t = held_more s.cells s.book a d k (n k q) (h k (sym (other_item s.taken g.number k false q) ∙ t))
 
-    go : (b : Bool) → TakenWait (store_with s.cells s.threads (if b then served reply.Done (s.book ++ event_of a d ∷ []) else served reply.Full s.book).book
-        (if is_done (if b then served reply.Done (s.book ++ event_of a d ∷ []) else served reply.Full s.book).reply then set s.taken g.number false else s.taken))
-    go true = λ k t. other k (g.number == k) refl t
+    go : (b : Bool) → TakenWait (store_with s.cells s.threads (if b then served r (s.book ++ event_of a d ∷ []) else served reply.Full s.book).book
+        (if is_over (if b then served r (s.book ++ event_of a d ∷ []) else served reply.Full s.book).reply then set s.taken g.number false else s.taken))
+    go true = subst (λ t. TakenWait (store_with s.cells s.threads (s.book ++ event_of a d ∷ []) (if t then set s.taken g.number false else s.taken))) (sym is) (λ k t. other k (g.number == k) refl t)
     go false = h
+
+-- the end of an action, by whether an agent of its sends has failed
+finishes_waits : (s : PlainStore) (a : ℕ) (g : CellId) (n : ℕ) (new : Result Value Fault) (sends : List Action) (span : Span) (o : Option CellId) → TakenWait s
+    → TakenWait (store_with s.cells s.threads (finishes o a g n new sends span s.book).book (if is_over (finishes o a g n new sends span s.book).reply then set s.taken g.number false else s.taken))
+finishes_waits s a g n new sends span None h = finish_waits s a g (Act g n new sends) reply.Done refl (λ k e. ap not e) h
+finishes_waits s a g n new sends span (Some x) h = finish_waits s a g (Act g n (Err (fault_at AgentFailed span)) []) (reply.AgentIsFailed x) refl (λ k e. ap not e) h
 
 pub serve_waits : (s : PlainStore) (a : ℕ) (q : Ask) → is_lawful s a q ≡ true → TakenWait s → TakenWait (store_after s q (serve s.cells a q s.book))
 serve_waits s a ask.Begin l h = h
@@ -254,7 +304,7 @@ serve_waits s a (ask.Fail p q) l h = λ k t. held_adds s.cells s.book a (Fail p 
 serve_waits s a (ask.Peek c) l h = λ k t. held_adds s.cells s.book a (Read c) _ k refl (h k t)
 serve_waits s a (ask.Send x) l h = sends_waits s (is_failed s.cells s.book x.agent) a x h
 serve_waits s a (ask.Take g) l h = takes_waits s g (is_failed s.cells s.book g) (mail_after s.cells s.book g.number).actions _ _ refl refl h
-serve_waits s a (ask.Finish g new sends) l h = finish_waits s a g (Act g (suc (mail_after s.cells s.book g.number).acts) new sends) (λ k e. ap not e) h
+serve_waits s a (ask.Finish g new sends) l h = finishes_waits s a g (suc (mail_after s.cells s.book g.number).acts) new sends (span_of (mail_after s.cells s.book g.number).actions) (first_failed s.cells s.book sends) h
 serve_waits s a (ask.OpenAt c) l h = h
 serve_waits s a (ask.CloseAt c at new) l h = h
 serve_waits s a (ask.Broke c at) l h = h
@@ -282,6 +332,11 @@ done_none book p (c ∷ cs) h = go (λ e. done_none book p cs e) (written c.numb
     go : (least_written book p cs ≡ None → Untouched book p cs) → (t : Bool) → written c.number p book ≡ t → (if t then least (Some c) (least_written book p cs) else least_written book p cs) ≡ None → (written c.number p book ≡ false) × Untouched book p cs
     go r true e f = absurd (least_some c (least_written book p cs) f)
     go r false e f = (e, r f)
+
+-- whether a reply says that what was asked is done
+abbrev is_done : Reply → Bool
+is_done reply.Done = true
+is_done _ = false
 
 not_done : (a : ℕ) (d : EventKind) (r : Reply) (book : List Event) → is_done r ≡ false → (adds a d r book).reply ≡ reply.Done → ⊥
 not_done a d r book n h = go (nat_lt (length book) most_events) h

@@ -1,25 +1,26 @@
 -- What becomes of a store's book and of what is taken.
 use Rattle.std.proofs.Common.{◌≡◌, ◌≤◌, ◌<◌, ◌+◌, ℕ, zero, suc, Bool, nat_lt, true, false, List, [], ◌∷◌, ◌++◌, length, get_or, set, Option, Some, None, Result, refl, sym, ap, ◌∙◌, subst, arith, Fits, w32}
 use Rattle.std.specs.Prelude.{is_some}
-use Rattle.std.proofs.lemmas.Bool.{ltb-true}
+use Rattle.std.proofs.lemmas.Bool.{false≢true, ltb-true}
 use Rattle.std.proofs.lemmas.Bool.Decides.{nat_tests}
 use Rattle.txs_world_protocol.specs.declared.event.Event.{Event}
 use Rattle.txs_world_protocol.specs.declared.event.EventKind.TheVariants.{Act}
-use Rattle.txs_mail.specs.Mailbox.{IsMailbox, next}
+use Rattle.txs_mail.specs.Mailbox.{IsMailbox, first, next}
 use Rattle.txs_value_data.specs.Limits.{most_events}
 use Rattle.txs_value_base.specs.Places.{nth}
 use Rattle.txs_value_cell.specs.declared.action.Action.{Action}
 use Rattle.txs_value_base.specs.declared.fault.Fault.{Fault}
+use Rattle.txs_value_base.specs.declared.fault.Span.{Span}
 use Rattle.txs_value_data.specs.declared.value.CellId.{CellId}
 use Rattle.txs_value_data.specs.declared.value.Value.{Value}
-use Rattle.txs_world_book.specs.Book.{goes_on, has_agent, has_cell, has_ref, is_failed, mail_after, newest, opening, waits, written}
+use Rattle.txs_world_book.specs.Book.{goes_on, has_agent, has_cell, has_ref, is_failed, is_there, mail_after, newest, opening, waits, written}
 use Rattle.txs_world.specs.Inboxes.{PlainInbox, plain_inbox, plain_inboxes, no_inbox, open_inboxes, mailed_all, finished, taken_up, taken_of}
 use Rattle.circular_buffer.specs.Buffer.{last_item}
 use Rattle.txs_value_cell.specs.Cells.{World}
 use Rattle.txs_value_cell.specs.Forms.{same_kind}
 use Rattle.txs_value_data.specs.declared.value.CellKind.TheVariants.{Ref}
 use Rattle.txs_world.specs.Kept.{IsKept, IsSlot, no_slot}
-use Rattle.txs_world.specs.Store.{PlainStore, store_with, is_taken, next_action, none_taken}
+use Rattle.txs_world.specs.Store.{PlainStore, store_with, is_taken, next_action, none_taken, span_of}
 use Rattle.txs_world_book.specs.Served.{event_of}
 use Rattle.txs_world_book.specs.declared.cell.StoreCell.{StoreCell}
 use Rattle.txs_world.specs.declared.inbox.Inbox.{Inbox}
@@ -51,14 +52,14 @@ unstored s cells threads book more old now is none same = ap (λ b. store_with c
 pub entered_leaves : (old mid now : List PlainInbox) (xs : List Action) → mid ≡ old → now ≡ mailed_all mid xs → taken_of now ≡ taken_of old
 entered_leaves old mid now xs same put = ap taken_of put ∙ taken_mailed mid xs ∙ ap taken_of same
 
--- an action that is over
+-- an action that is over, with what it sends
 pub over : (s : PlainStore) (cells : List StoreCell) (threads : ℕ) (book more : List Event) (old now : List PlainInbox) (a n : ℕ) (g : CellId) (new : Result Value Fault) (sends : List Action) (f : Option Fault) → store_with cells threads book (taken_of old) ≡ s
-    → more ≡ book ++ event_of a (Act g n new sends) ∷ [] → now ≡ set old g.number (finished f (get_or old g.number no_inbox)) → n ≡ suc (mail_after s.cells s.book g.number).acts
+    → more ≡ book ++ event_of a (Act g n new sends) ∷ [] → now ≡ mailed_all (set old g.number (finished f (get_or old g.number no_inbox))) sends → n ≡ suc (mail_after s.cells s.book g.number).acts
     → store_with cells threads more (taken_of now) ≡ store_with s.cells s.threads (s.book ++ event_of a (Act g (suc (mail_after s.cells s.book g.number).acts) new sends) ∷ []) (set s.taken g.number false)
 over s cells threads book more old now a n g new sends f is added gone number =
     subst (λ (u : PlainStore). store_with cells threads more (taken_of now) ≡ store_with u.cells u.threads (u.book ++ event_of a (Act g n new sends) ∷ []) (set u.taken g.number false)) is
     (ap (λ b. store_with cells threads b (taken_of now)) added
-    ∙ ap (store_with cells threads (book ++ event_of a (Act g n new sends) ∷ [])) (ap taken_of gone ∙ taken_set old g.number (finished f (get_or old g.number no_inbox))))
+    ∙ ap (store_with cells threads (book ++ event_of a (Act g n new sends) ∷ [])) (ap taken_of gone ∙ taken_mailed (set old g.number (finished f (get_or old g.number no_inbox))) sends ∙ taken_set old g.number (finished f (get_or old g.number no_inbox))))
     ∙ ap (λ m. store_with s.cells s.threads (s.book ++ event_of a (Act g m new sends) ∷ []) (set s.taken g.number false)) number
 
 -- an action that is taken
@@ -84,6 +85,26 @@ pub fault_read : (s : PlainStore) (cells : List StoreCell) (threads : ℕ) (slot
 fault_read s cells threads slots bs views tries book i b g is h has at there =
     let in_cells = agent_in cells g (subst (λ (u : PlainStore). has_agent u.cells g ≡ true) (sym is) has) in
     ap (λ (y : PlainInbox). y.fault) (inbox_is cells threads slots bs views tries book g.number i b h in_cells at there) ∙ ap (λ (u : PlainStore). (mail_after u.cells u.book g.number).fault) is
+
+-- the actions that wait in it
+pub actions_read : (s : PlainStore) (cells : List StoreCell) (threads : ℕ) (slots : List Slot) (bs : List Inbox) (views tries : List ℕ) (book : List Event) (i : ℕ) (b : Inbox) (g : CellId) → store_with cells threads book (taken_of (plain_inboxes bs)) ≡ s
+    → IsKept cells threads slots (plain_inboxes bs) views tries book → has_agent s.cells g ≡ true → i ≡ g.number → b ≡ get_or bs i b → b.mailbox.plain.actions ≡ (mail_after s.cells s.book g.number).actions
+actions_read s cells threads slots bs views tries book i b g is h has at there =
+    let in_cells = agent_in cells g (subst (λ (u : PlainStore). has_agent u.cells g ≡ true) (sym is) has) in
+    ap (λ (y : PlainInbox). y.mailbox.actions) (inbox_is cells threads slots bs views tries book g.number i b h in_cells at there) ∙ ap (λ (u : PlainStore). (mail_after u.cells u.book g.number).actions) is
+
+-- the span of the first of them
+pub span_first : (xs : List Action) (x : Action) → Some x ≡ first xs → x.span ≡ span_of xs
+span_first [] x e = absurd (false≢true (sym (ap is_there e)))
+span_first (y ∷ xs) x e = ap (λ (o : Option Action). span_or y o) e
+  where
+    span_or : Action → Option Action → Span
+    span_or z None = z.span
+    span_or z (Some w) = w.span
+
+pub span_none : (xs : List Action) → None ≡ first xs → span_of [] ≡ span_of xs
+span_none [] e = refl
+span_none (y ∷ xs) e = absurd (false≢true (ap is_there e))
 
 -- how many actions wait in it
 pub waiting_read : (s : PlainStore) (cells : List StoreCell) (threads : ℕ) (slots : List Slot) (bs : List Inbox) (views tries : List ℕ) (book : List Event) (i : ℕ) (b : Inbox) (g : CellId) → store_with cells threads book (taken_of (plain_inboxes bs)) ≡ s

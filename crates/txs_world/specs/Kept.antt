@@ -1,5 +1,5 @@
 -- How a store keeps the last values of its cells, the places of its actors and the agents' mail beside its book, and of its cells which actor is whose.
-use Rattle.std.specs.Prelude.{◌≡◌, ◌<◌, ℕ, suc, true, false, Bool, ◌&&◌, nat_lt, nat_le, List, [], ◌∷◌, ◌++◌, length, map, slice_index, Option, Some, None, if◌then◌else◌}
+use Rattle.std.specs.Prelude.{◌≡◌, ◌<◌, ℕ, suc, true, false, Bool, ◌&&◌, nat_lt, nat_le, List, [], ◌∷◌, ◌++◌, length, map, slice_index, Option, Some, None, Result, if◌then◌else◌}
 use Rattle.std.proofs.Common.{get_or, set}
 use Rattle.circular_buffer.specs.Buffer.{buffer, keep_last}
 use Rattle.txs_world_protocol.specs.Ask.{Writes, buffered}
@@ -8,11 +8,18 @@ use Rattle.txs_value_base.specs.Places.{nth}
 use Rattle.txs_world_protocol.specs.declared.event.Event.{Event}
 use Rattle.txs_world_protocol.specs.declared.event.EventKind.{EventKind}
 use Rattle.txs_world_protocol.specs.declared.event.EventKind.TheVariants.{Read, Commit, Retry, Fail, Refused, Send, SendRefused, Act, Swap, Broke}
+use Rattle.txs_world_protocol.specs.declared.ask.Ask.TheVariants as ask
+use Rattle.txs_world_protocol.specs.declared.ask.Reply.{Reply}
+use Rattle.txs_world_protocol.specs.declared.ask.Reply.TheVariants as reply
+use Rattle.txs_value_base.specs.declared.fault.Fault.{Fault}
+use Rattle.txs_value_cell.specs.declared.action.Action.{Action}
 use Rattle.txs_value_data.specs.declared.value.CellId.{CellId}
 use Rattle.txs_value_data.specs.declared.value.Value.{Value}
 use Rattle.txs_value_data.specs.declared.value.Value.TheVariants.{Nil}
 use Rattle.txs_world_book.specs.Book.{opening, after, writes_of, is_outdated, most_older, goes_on, Mail, mail_after, Legal, Undisturbed}
 use Rattle.txs_world.specs.Inboxes.{PlainInbox, inbox_of, no_inbox}
+use Rattle.txs_world.specs.Store.{PlainStore, store_after, Answers}
+use Rattle.txs_world_book.specs.Served.{Served, adds}
 use Rattle.txs_world.specs.declared.commit.End.{End}
 use Rattle.txs_world.specs.declared.commit.End.TheVariants.{Reruns, Redoes, Refuses, Commits}
 use Rattle.txs_world_book.specs.Stands.{StandsAt}
@@ -113,6 +120,19 @@ IsEnd o1 o2 o3 (Reruns c) = o1 ≡ Some c
 IsEnd o1 o2 o3 (Redoes c) = (o1 ≡ None) × (o2 ≡ Some c)
 IsEnd o1 o2 o3 (Refuses g) = (o1 ≡ None) × (o2 ≡ None) × (o3 ≡ Some g)
 IsEnd o1 o2 o3 Commits = (o1 ≡ None) × (o2 ≡ None) × (o3 ≡ None)
+
+-- the reply to the end of an action: that it is done, or that this agent of its sends has failed
+abbrev pub end_reply : Option CellId → Reply
+end_reply None = reply.Done
+end_reply (Some h) = reply.AgentIsFailed h
+
+-- the end of an action with this state or fault and these sends, and that reply
+abbrev pub end_served : PlainStore → ℕ → CellId → Result Value Fault → List Action → Option CellId → Served
+end_served s a g new sends failed = adds a (Act g (suc (mail_after s.cells s.book g.number).acts) new sends) (end_reply failed) s.book
+
+-- it is answered so, and the agent's action is taken no longer
+abbrev pub Ends : PlainStore → ℕ → CellId → Result Value Fault → List Action → Option CellId → Reply → PlainStore → Type 0
+Ends s a g new sends failed r t = Answers s (end_served s a g new sends failed) (store_after s (ask.Finish g new sends) (end_served s a g new sends failed)) r t
 
 -- a store's parts agree
 pub record IsKept (cells : List StoreCell) (threads : ℕ) (slots : List Slot) (inboxes : List PlainInbox) (views tries : List ℕ) (book : List Event) : Type 0 where

@@ -1,5 +1,5 @@
 -- What the store answers, and what becomes of its book.
-use Rattle.std.specs.Prelude.{◌≡◌, ℕ, suc, Bool, true, false, not, ◌&&◌, ◌||◌, ◌==◌, nat_lt, List, [], ◌∷◌, ◌++◌, length, map, set, Option, Some, None, if◌then◌else◌}
+use Rattle.std.specs.Prelude.{◌≡◌, ℕ, suc, Bool, true, false, not, ◌&&◌, ◌||◌, ◌==◌, nat_lt, List, [], ◌∷◌, ◌++◌, length, map, set, Option, Some, None, if◌then◌else◌, Result, Ok, Err}
 use Rattle.std.proofs.Common.{get_or}
 use Rattle.txs_world_protocol.specs.Ask.{Writes, with_write}
 use Rattle.txs_value_cell.specs.Cells.{World}
@@ -16,10 +16,14 @@ use Rattle.txs_world_protocol.specs.declared.event.EventKind.{EventKind}
 use Rattle.txs_world_protocol.specs.declared.event.EventKind.TheVariants.{Read, Commit, Retry, Fail, Refused, Send, SendRefused, Act}
 use Rattle.txs_value_data.specs.declared.value.CellId.{CellId}
 use Rattle.txs_value_data.specs.declared.value.Value.{Value}
-use Rattle.txs_world_book.specs.Book.{has_ref, has_agent, has_readable, cells_in, are_refs, has_refs, are_sends, actor_of, may_name, may_end, opening, after, newest, written, least_written, mail_after, is_failed, first_failed, is_empty, is_outdated}
+use Rattle.txs_world_book.specs.Book.{has_ref, has_agent, has_readable, cells_in, are_refs, has_refs, are_sends, actor_of, actors, may_name, may_end, may_send, opening, after, newest, written, least_written, mail_after, is_failed, first_failed, is_empty, is_outdated}
 use Rattle.txs_value_data.specs.Limits.{most_events}
 use Rattle.txs_world_book.specs.Served.{Served, served, adds}
 use Rattle.txs_world_book.specs.declared.cell.StoreCell.{StoreCell}
+use Rattle.txs_value_base.specs.declared.fault.Fault.{Fault}
+use Rattle.txs_value_base.specs.declared.fault.Span.{Span}
+use Rattle.txs_value_base.specs.declared.fault.FaultKind.TheVariants.{AgentFailed}
+use Rattle.txs_value_base.specs.Places.{fault_at}
 
 -- a store as contracts see it: its cells as they opened, how many threads there are, its book, and of each cell whether it is an agent whose first action is taken
 pub record PlainStore : Type 0 where
@@ -55,23 +59,24 @@ abbrev pub merged : Writes → Writes → Writes
 merged ws [] = ws
 merged ws (x ∷ xs) = merged (with_write ws x.0 x.1) xs
 
--- whether an actor makes such asks: a thread all but to take and to finish actions, an agent's actor these of its agent
+-- whether an actor makes such asks: a thread all but to take and to finish actions; an agent's actor these of its agent, and all others but to
+-- send, where its commits send nothing, since an action holds its sends up to its end
 abbrev pub may_ask : List StoreCell → ℕ → ℕ → Ask → Bool
-may_ask cells threads a ask.Begin = nat_lt a threads
-may_ask cells threads a (ask.Look c at) = nat_lt a threads
-may_ask cells threads a (ask.View cs) = nat_lt a threads
-may_ask cells threads a (ask.Commit at sets ensured view commuted sends) = nat_lt a threads
-may_ask cells threads a (ask.Fail at view) = nat_lt a threads
-may_ask cells threads a (ask.Peek c) = nat_lt a threads
+may_ask cells threads a ask.Begin = nat_lt a (actors threads cells)
+may_ask cells threads a (ask.Look c at) = nat_lt a (actors threads cells)
+may_ask cells threads a (ask.View cs) = nat_lt a (actors threads cells)
+may_ask cells threads a (ask.Commit at sets ensured view commuted sends) = nat_lt a threads || (is_empty sends && nat_lt a (actors threads cells))
+may_ask cells threads a (ask.Fail at view) = nat_lt a (actors threads cells)
+may_ask cells threads a (ask.Peek c) = nat_lt a (actors threads cells)
 may_ask cells threads a (ask.Send x) = nat_lt a threads
 may_ask cells threads a (ask.Take g) = a == actor_of threads cells g
 may_ask cells threads a (ask.Finish g new sends) = a == actor_of threads cells g
-may_ask cells threads a (ask.OpenAt c) = nat_lt a threads
-may_ask cells threads a (ask.CloseAt c at new) = nat_lt a threads
-may_ask cells threads a (ask.Broke c at) = nat_lt a threads
+may_ask cells threads a (ask.OpenAt c) = nat_lt a (actors threads cells)
+may_ask cells threads a (ask.CloseAt c at new) = nat_lt a (actors threads cells)
+may_ask cells threads a (ask.Broke c at) = nat_lt a (actors threads cells)
 
 -- whether the store has what an actor names: the cells, of the kind that is wanted; what is written ascends, and no ref is both set and commuted; the actor may name the places;
--- an agent takes an action where it has none, and finishes one where it has, which sends nothing. What names an atom goes to the atom's book
+-- an agent takes an action where it has none, and finishes one where it has, which sends to agents, and nothing where it faults. What names an atom goes to the atom's book
 abbrev pub has_named : PlainStore → ℕ → Ask → Bool
 has_named s a ask.Begin = true
 has_named s a (ask.Look c at) = has_ref s.cells c && may_name false s.book a at
@@ -82,7 +87,7 @@ has_named s a (ask.Fail at view) = may_end s.book a at view
 has_named s a (ask.Peek c) = has_readable s.cells c
 has_named s a (ask.Send x) = has_agent s.cells x.agent
 has_named s a (ask.Take g) = has_agent s.cells g && not (is_taken s.taken g)
-has_named s a (ask.Finish g new sends) = has_agent s.cells g && (is_taken s.taken g && is_empty sends)
+has_named s a (ask.Finish g new sends) = has_agent s.cells g && (is_taken s.taken g && (may_send new sends && are_sends s.cells sends))
 has_named s a (ask.OpenAt c) = false
 has_named s a (ask.CloseAt c at new) = false
 has_named s a (ask.Broke c at) = false
@@ -123,6 +128,16 @@ first_action false (x ∷ xs) = Some x
 abbrev pub next_action : List StoreCell → List Event → CellId → Option Action
 next_action cells book g = first_action (is_failed cells book g) (mail_after cells book g.number).actions
 
+-- the span of the first action, which is that of its send
+abbrev pub span_of : List Action → Span
+span_of [] = record { from = 0; to = 0 }
+span_of (x ∷ xs) = x.span
+
+-- the end of an action: where an agent of its sends has failed, the action faults at its own span, and sends nothing
+abbrev pub finishes : Option CellId → ℕ → CellId → ℕ → Result Value Fault → List Action → Span → List Event → Served
+finishes None a g n new sends span book = adds a (Act g n new sends) reply.Done book
+finishes (Some h) a g n new sends span book = adds a (Act g n (Err (fault_at AgentFailed span)) []) (reply.AgentIsFailed h) book
+
 -- what the store answers an actor, and its book after that
 abbrev pub serve : List StoreCell → ℕ → Ask → List Event → Served
 -- the read point is the number of events
@@ -143,7 +158,8 @@ serve cells a (ask.Send x) book = sends_to (is_failed cells book x.agent) a x bo
 -- the agent's first action
 serve cells a (ask.Take g) book = served (takes (next_action cells book g) (suc (mail_after cells book g.number).acts) (newest (opening cells) book g.number)) book
 -- what an agent's action came to, with its sends
-serve cells a (ask.Finish g new sends) book = adds a (Act g (suc (mail_after cells book g.number).acts) new sends) reply.Done book
+serve cells a (ask.Finish g new sends) book =
+    finishes (first_failed cells book sends) a g (suc (mail_after cells book g.number).acts) new sends (span_of (mail_after cells book g.number).actions) book
 -- an atom's book answers these; no such ask is lawful here
 serve cells a (ask.OpenAt c) book = served reply.Idle book
 serve cells a (ask.CloseAt c at new) book = served reply.Idle book
@@ -154,10 +170,11 @@ abbrev pub hands_out : Reply → Bool
 hands_out (reply.Action n x v) = true
 hands_out _ = false
 
--- whether a reply says that what was asked is done
-abbrev pub is_done : Reply → Bool
-is_done reply.Done = true
-is_done _ = false
+-- whether a reply says that an action is over
+abbrev pub is_over : Reply → Bool
+is_over reply.Done = true
+is_over (reply.AgentIsFailed g) = true
+is_over _ = false
 
 -- of each cell whether it is an agent whose first action is taken, after an ask and its reply
 abbrev pub taken_after : Ask → Reply → List Bool → List Bool
@@ -169,7 +186,7 @@ taken_after (ask.Fail at view) r taken = taken
 taken_after (ask.Peek c) r taken = taken
 taken_after (ask.Send x) r taken = taken
 taken_after (ask.Take g) r taken = if hands_out r then set taken g.number true else taken
-taken_after (ask.Finish g new sends) r taken = if is_done r then set taken g.number false else taken
+taken_after (ask.Finish g new sends) r taken = if is_over r then set taken g.number false else taken
 taken_after (ask.OpenAt c) r taken = taken
 taken_after (ask.CloseAt c at new) r taken = taken
 taken_after (ask.Broke c at) r taken = taken

@@ -5,7 +5,7 @@ ghost use Rattle.txs_world_protocol.specs.declared.ask.Ask.TheVariants as ask;
 ghost use Rattle.txs_world_protocol.specs.declared.ask.Reply.TheVariants as reply;
 ghost use Rattle.txs_world_protocol.specs.declared.event.EventKind.TheVariants as event;
 ghost use Rattle.txs_value_data.specs.Limits.{most_events};
-ghost use Rattle.txs_world_book.specs.Book.{cells_in, are_refs, are_sends, has_ref, has_refs, has_agent, may_end, least, least_written, first_failed, is_failed, LegalKind, Guarded};
+ghost use Rattle.txs_world_book.specs.Book.{actors, makes, cells_in, are_refs, are_sends, has_ref, has_refs, has_agent, may_end, least, least_written, first_failed, is_failed, LegalKind, Guarded};
 ghost use Rattle.txs_world.specs.Inboxes.{plain_inboxes, all_sent_below, rooms, HaveRoom};
 ghost use Rattle.txs_world.specs.Kept.{IsEnd};
 ghost use Rattle.txs_world.specs.Places.{Ascend};
@@ -188,7 +188,7 @@ impl Store {
     }
 
     /// The agent of the first of these actions whose agent has failed.
-    fn first_failed(&self, sends: &[Action]) -> Option<CellId>
+    pub(crate) fn first_failed(&self, sends: &[Action]) -> Option<CellId>
         requires { are_sends self.now.cells sends.now ≡ true }
         ensures { result ≡ first_failed self.now.cells self.now.book sends.now }
     {
@@ -210,7 +210,7 @@ impl Store {
 
     /// The transaction has to run again, since the ref was written after its read point.
     pub(crate) fn rerun(&mut self, actor: u16, cell: CellId, at: u32) -> Reply
-        requires thread { nat_lt actor self.old.threads ≡ true }
+        requires actor { nat_lt actor (actors self.old.threads self.old.cells) ≡ true }
         requires legal { LegalKind self.old.cells self.old.book actor (event.Retry at cell false) }
         ensures { Replies self.old (adds actor (event.Retry at cell false) (reply.Retry cell) self.old.book) result self.new }
     {
@@ -232,7 +232,7 @@ impl Store {
         commuted: &[(CellId, Value)],
         sends: Listed<Action>,
     ) -> Reply
-        requires thread { nat_lt actor self.old.threads ≡ true }
+        requires made { makes self.old.cells self.old.threads actor (event.Commit at view (merged sets commuted.now) sends) ≡ true }
         requires ascend { Ascend 0 commuted.now }
         requires apart { are_apart (cells_in commuted.now) (cells_in sets) ≡ true }
         requires legal { LegalKind self.old.cells self.old.book actor (event.Commit at view (merged sets commuted.now) sends) }
@@ -264,7 +264,7 @@ impl Store {
         sends: Listed<Action>,
     ) -> Reply
         requires room { length self.old.book < most_events }
-        requires thread { nat_lt actor self.old.threads ≡ true }
+        requires made { makes self.old.cells self.old.threads actor (event.Commit at view writes sends) ≡ true }
         requires legal { LegalKind self.old.cells self.old.book actor (event.Commit at view writes sends) }
         requires guarded { Guarded self.old.book (event.Commit at view writes sends) }
         ensures { Replies self.old (adds actor (event.Commit at view writes sends) reply.Done self.old.book) result self.new }

@@ -50,7 +50,8 @@ impl Inbox {
     fn finish(&mut self, fault: Option<Fault>)
         requires taken { self.old.mailbox.plain.is_taken ≡ true }
         requires few { self.old.acts < u32.MAX }
-        ensures { plain_inbox self.new ≡ finished fault (plain_inbox self.old) }
+        ensures finished { plain_inbox self.new ≡ finished fault (plain_inbox self.old) }
+        ensures kept { self.old.mailbox.room ≤ self.new.mailbox.room }
     {
         self.mailbox.finish(fault.is_some());
         if self.mailbox.has_failed() {
@@ -159,12 +160,14 @@ pub(crate) fn take_at(
     inbox.take(alloc)
 }
 
-/// Removes the action that was taken of one inbox, which came to this fault or to none.
+/// Removes the action that was taken of one inbox, which came to this fault or to none. No inbox has less room then.
 pub(crate) fn finish_at(inboxes: &mut Vec<Inbox>, number: u16, fault: Option<Fault>)
     requires place { number < length inboxes.old.items }
     requires taken { (get_or (plain_inboxes inboxes.old.items) number no_inbox).mailbox.is_taken ≡ true }
     requires few { (get_or (plain_inboxes inboxes.old.items) number no_inbox).acts < u32.MAX }
-    ensures { plain_inboxes inboxes.new.items ≡ set (plain_inboxes inboxes.old.items) number (finished fault (get_or (plain_inboxes inboxes.old.items) number no_inbox)) }
+    ensures many { length inboxes.new.items ≡ length inboxes.old.items }
+    ensures finished { plain_inboxes inboxes.new.items ≡ set (plain_inboxes inboxes.old.items) number (finished fault (get_or (plain_inboxes inboxes.old.items) number no_inbox)) }
+    ensures kept { (k : ℕ) → get_or (rooms inboxes.old.items) k 0 ≤ get_or (rooms inboxes.new.items) k 0 }
 {
     let place = usize::from(number);
     let inbox = &mut inboxes[place];

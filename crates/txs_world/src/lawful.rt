@@ -1,26 +1,20 @@
 //! Which asks the store takes.
 
-ghost use Rattle.std.specs.Prelude.{◌≡◌, ◌≤◌, ◌<◌, ◌==◌, ◌↔◌, length, true, false, IsTrue};
+ghost use Rattle.std.specs.Prelude.{◌≡◌, ◌≤◌, ◌<◌, ◌==◌, ◌&&◌, ◌||◌, ◌↔◌, nat_lt, length, true, false, IsTrue};
 ghost use Rattle.txs_world_protocol.specs.declared.ask.Ask.TheVariants as ask;
-ghost use Rattle.txs_world_book.specs.Book.{has_cell, has_ref, has_agent, has_readable, are_refs, has_refs, are_sends, cells_in, actor_of, all_before, may_name, may_end, is_empty};
+ghost use Rattle.txs_world_book.specs.Book.{has_cell, has_ref, has_agent, has_readable, are_refs, has_refs, are_sends, cells_in, actor_of, actors, all_before, may_name, may_end, may_send, is_empty};
 ghost use Rattle.txs_world_book.specs.Stands.{StandsAt};
 ghost use Rattle.txs_world.specs.Store.{is_lawful, may_ask, has_named, is_taken};
 
 use crate::slot::are_apart;
 use crate::store::Store;
+use txs_value_base::Fault;
 use txs_value_cell::Action;
 use txs_value_data::{CellId, Listed, Value};
 use txs_world_book::{
-    are_sends, are_written, has_agent, has_readable, has_ref, has_refs, stand_of,
+    are_sends, are_written, has_agent, has_readable, has_ref, has_refs, may_send, stand_of,
 };
 use txs_world_protocol::Ask;
-
-/// Whether these are no actions.
-fn sends_nothing(sends: &Listed<Action>) -> bool
-    ensures { result ≡ is_empty sends.now }
-{
-    sends.as_slice().is_empty()
-}
 
 impl Store {
     /// Whether the actor may ask this of the store: it makes such asks, and the store has what it names.
@@ -30,21 +24,39 @@ impl Store {
         self.may_ask(actor, ask) && self.has_named(actor, ask)
     }
 
-    /// Whether the actor makes such asks: a thread all but to take and to finish actions, an agent's actor these of its agent.
+    /// Whether the actor makes such asks: a thread all but to take and to finish actions; an agent's actor these of its agent, and
+    /// all others but to send, where its commits send nothing.
     fn may_ask(&self, actor: u16, ask: &Ask) -> bool
         ensures { result ≡ may_ask self.now.cells self.now.threads actor ask.now }
     {
         match ask {
             Ask::Take { agent } => self.is_actor_of(actor, *agent),
             Ask::Finish { agent, .. } => self.is_actor_of(actor, *agent),
-            _ => actor < self.threads,
+            Ask::Send { .. } => actor < self.threads,
+            Ask::Commit { sends, .. } => self.may_commit(actor, sends),
+            _ => self.is_actor(actor),
         }
+    }
+
+    /// Whether there is such an actor: a thread, or an agent's.
+    fn is_actor(&self, actor: u16) -> bool
+        ensures { result ≡ nat_lt actor (actors self.now.threads self.now.cells) }
+    {
+        usize::from(actor) < self.actors()
+    }
+
+    /// Whether the actor makes commits with these sends: an agent's actor makes those alone that send nothing.
+    fn may_commit(&self, actor: u16, sends: &Listed<Action>) -> bool
+        ensures { result ≡ (nat_lt actor self.now.threads || (is_empty sends.now && nat_lt actor (actors self.now.threads self.now.cells))) }
+    {
+        self.cells.may_commit(self.threads, actor, sends.as_slice())
     }
 
     /// Whether the store has what an actor names: the cells, each of the kind that is wanted; what is written ascends, and no ref
     /// is both set and commuted; each place is at most the number of events, with all that the actor did before it (but for
     /// commute phases made again, where it is a read point), and a read point is at most its view; an agent takes an action where
-    /// it has none in hand, and finishes one where it has, which sends nothing. An atom's book takes what names an atom.
+    /// it has taken none, and finishes one that it has taken, which sends to agents, and nothing where it faults. An atom's book
+    /// takes what names an atom.
     fn has_named(&self, actor: u16, ask: &Ask) -> bool
         ensures { result ≡ has_named self.now actor ask.now }
     {
@@ -65,9 +77,7 @@ impl Store {
             Ask::Peek { cell } => has_readable(all, *cell),
             Ask::Send { action } => has_agent(all, action.agent),
             Ask::Take { agent } => has_agent(all, *agent) && !self.is_taken(*agent),
-            Ask::Finish { agent, sends, .. } => {
-                has_agent(all, *agent) && self.is_taken(*agent) && sends_nothing(sends)
-            }
+            Ask::Finish { agent, new, sends } => self.has_end(*agent, new, sends),
             Ask::OpenAt { .. } | Ask::CloseAt { .. } | Ask::Broke { .. } => false,
         }
     }
@@ -99,6 +109,20 @@ impl Store {
         are_apart(commuted, sets)
             && are_sends(cells, sends.as_slice())
             && self.may_end(actor, at, view)
+    }
+
+    /// Whether the store has what the end of an action names, and the action may send this.
+    fn has_end(&self, agent: CellId, new: &Result<Value, Fault>, sends: &Listed<Action>) -> bool
+        ensures { result ≡ (has_agent self.now.cells agent && (is_taken self.now.taken agent && (may_send new.now sends.now && are_sends self.now.cells sends.now))) }
+    {
+        let cells = self.cells.as_slice();
+        if !has_agent(cells, agent) {
+            return false;
+        }
+        if !self.is_taken(agent) {
+            return false;
+        }
+        may_send(new, sends.as_slice()) && are_sends(cells, sends.as_slice())
     }
 
     /// Whether this is the agent's actor.

@@ -1,7 +1,7 @@
 //! What the store answers.
 
 ghost use Rattle.std.specs.Prelude.{◌≡◌, ◌≤◌, ◌<◌, nat_lt, [], ◌↔◌, map, length, true, false, option_copied, IsTrue, IfOk, OnOk};
-ghost use Rattle.txs_world_book.specs.Book.{has_cell, has_ref, has_readable, has_refs, may_name, may_end, opening, newest, written, is_outdated, makes, LegalKind};
+ghost use Rattle.txs_world_book.specs.Book.{actors, has_cell, has_ref, has_readable, has_refs, may_name, may_end, opening, newest, written, is_outdated, makes, LegalKind};
 ghost use Rattle.txs_value_data.specs.Limits.{most_events};
 ghost use Rattle.txs_world.specs.Kept.{kept_at, ChangesNothing};
 ghost use Rattle.txs_world.specs.Store.{is_lawful, looks, serve, store_after, TakesMemory, Answers, Replies};
@@ -107,7 +107,7 @@ impl Store {
 
     /// The value at the read point, or that it is no longer kept, since the ref was written too often since.
     fn look(&mut self, actor: u16, cell: CellId, at: u32) -> Reply
-        requires thread { nat_lt actor self.old.threads ≡ true }
+        requires actor { nat_lt actor (actors self.old.threads self.old.cells) ≡ true }
         requires cell { has_ref self.old.cells cell ≡ true }
         requires place { may_name false self.old.book actor at ≡ true }
         ensures { Replies self.old (looks (is_outdated cell.number at self.old.book) (opening self.old.cells) actor cell at self.old.book) result self.new }
@@ -165,7 +165,7 @@ impl Store {
 
     /// The end of a transaction that faulted.
     fn fail(&mut self, actor: u16, at: u32, view: u32) -> Reply
-        requires thread { nat_lt actor self.old.threads ≡ true }
+        requires actor { nat_lt actor (actors self.old.threads self.old.cells) ≡ true }
         requires ends { may_end self.old.book actor at view ≡ true }
         ensures { Replies self.old (adds actor (event.Fail at view) reply.Done self.old.book) result self.new }
     {
@@ -174,7 +174,7 @@ impl Store {
 
     /// The newest value.
     fn peek(&mut self, actor: u16, cell: CellId) -> Reply
-        requires thread { nat_lt actor self.old.threads ≡ true }
+        requires actor { nat_lt actor (actors self.old.threads self.old.cells) ≡ true }
         requires cell { has_readable self.old.cells cell ≡ true }
         ensures { Replies self.old (adds actor (event.Read cell) (reply.Is (newest (opening self.old.cells) self.old.book cell.number)) self.old.book) result self.new }
     {

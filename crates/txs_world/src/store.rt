@@ -1,7 +1,7 @@
 //! The store of refs and agents, with its book.
 
 ghost use Rattle.std.specs.Prelude.{◌≡◌, ◌↔◌, [], length, true, false, IsTrue, IfOk};
-ghost use Rattle.txs_world_book.specs.Book.{has_cell, has_agent, opening, newest, mail_after, Legal, Undisturbed};
+ghost use Rattle.txs_world_book.specs.Book.{actors, has_cell, has_agent, opening, newest, mail_after, Legal, Undisturbed};
 ghost use Rattle.txs_world.specs.Laws.{StoreStands};
 ghost use Rattle.txs_world.specs.Store.{PlainStore, store_with, none_taken};
 ghost use Rattle.txs_world_book.specs.Served.{cell_of, cells_of};
@@ -82,6 +82,13 @@ impl Store {
         ensures { result ≡ self.now.threads }
     {
         self.threads
+    }
+
+    /// How many actors there are: the threads, and behind them the agents.
+    pub fn actors(&self) -> usize
+        ensures { result ≡ actors self.now.threads self.now.cells }
+    {
+        self.cells.actors(self.threads)
     }
 
     /// The events so far.

@@ -83,6 +83,10 @@ agents_below (s ∷ cells) (suc k) = if same_kind s.kind Agent then suc (agents_
 abbrev pub actor_of : ℕ → List StoreCell → CellId → ℕ
 actor_of threads cells g = threads + agents_below cells g.number
 
+-- how many actors there are: the threads and the agents
+abbrev pub actors : ℕ → List StoreCell → ℕ
+actors threads cells = threads + agents_below cells (length cells)
+
 -- ---- the replay
 
 -- the value that is there, else another one
@@ -232,18 +236,24 @@ is_empty (x ∷ xs) = false
 
 -- ---- legal books
 
--- whether an actor makes such events: a thread all but actions, an agent's actor those of its agent
+-- whether an action that came to this may send these: one that faults sends nothing
+abbrev pub may_send : Result Value Fault → List Action → Bool
+may_send (Ok v) sends = true
+may_send (Err f) sends = is_empty sends
+
+-- whether an actor makes such events: a thread all but actions; an agent's actor those of its agent, and all others but sends and refused
+-- transactions, where its commits send nothing, since an action holds its sends up to its end
 abbrev pub makes : List StoreCell → ℕ → ℕ → EventKind → Bool
-makes cells threads a (Read c) = nat_lt a threads
-makes cells threads a (Commit at view ws sends) = nat_lt a threads
-makes cells threads a (Retry since c commute) = nat_lt a threads
-makes cells threads a (Fail at view) = nat_lt a threads
+makes cells threads a (Read c) = nat_lt a (actors threads cells)
+makes cells threads a (Commit at view ws sends) = nat_lt a threads || (is_empty sends && nat_lt a (actors threads cells))
+makes cells threads a (Retry since c commute) = nat_lt a (actors threads cells)
+makes cells threads a (Fail at view) = nat_lt a (actors threads cells)
 makes cells threads a (Refused at view g) = nat_lt a threads
 makes cells threads a (Send x) = nat_lt a threads
 makes cells threads a (SendRefused g) = nat_lt a threads
 makes cells threads a (Act g n new sends) = a == actor_of threads cells g
-makes cells threads a (Swap new) = nat_lt a threads
-makes cells threads a (Broke at) = nat_lt a threads
+makes cells threads a (Swap new) = nat_lt a (actors threads cells)
+makes cells threads a (Broke at) = nat_lt a (actors threads cells)
 
 -- whether an event is the end of a commute phase that has to be made again
 abbrev pub is_redo : EventKind → Bool
@@ -276,7 +286,7 @@ may_name all done a p = nat_le p (length done) && all_before all a p done
 abbrev pub may_end : List Event → ℕ → ℕ → ℕ → Bool
 may_end done a at view = nat_le at view && (may_name false done a at && may_name true done a view)
 
--- what an actor may have done after these events; an action sends nothing
+-- what an actor may have done after these events; an action sends to agents that haven't failed, and nothing where it faults
 abbrev pub LegalKind : List StoreCell → List Event → ℕ → EventKind → Type 0
 LegalKind cells done a (Read c) = has_readable cells c ≡ true
 LegalKind cells done a (Commit at view ws sends) =
@@ -288,7 +298,7 @@ LegalKind cells done a (Send x) = (has_agent cells x.agent ≡ true) × (is_fail
 LegalKind cells done a (SendRefused g) = (has_agent cells g ≡ true) × (is_failed cells done g ≡ true)
 LegalKind cells done a (Act g n new sends) =
     (has_agent cells g ≡ true) × (is_failed cells done g ≡ false) × (waits (mail_after cells done g.number).actions ≡ true) × (n ≡ suc (mail_after cells done g.number).acts)
-    × (is_empty sends ≡ true)
+    × (may_send new sends ≡ true) × (are_sends cells sends ≡ true) × (first_failed cells done sends ≡ None)
 LegalKind cells done a (Swap new) = ⊥
 LegalKind cells done a (Broke at) = ⊥
 

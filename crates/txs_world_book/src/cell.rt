@@ -1,13 +1,14 @@
 //! The cells of a store.
 
-ghost use Rattle.std.specs.Prelude.{◌≡◌, ◌≤◌, [], IfOk, length, vec_capacity};
-ghost use Rattle.txs_world_book.specs.Book.{agents_below};
+ghost use Rattle.std.specs.Prelude.{◌≡◌, ◌≤◌, ◌||◌, ◌&&◌, nat_lt, [], IfOk, length, vec_capacity};
+ghost use Rattle.txs_world_book.specs.Book.{actors, agents_below, is_empty};
 ghost use Rattle.txs_world_book.specs.Stands.{AreCounted};
 ghost use Rattle.txs_world_book.specs.Served.{continues, cells_of};
 
+use crate::named::sends_nothing;
 use std::alloc::{AllocError, Global};
 use std::marker::Model;
-use txs_value_cell::{CellDefinition, ErrorMode, agents_in};
+use txs_value_cell::{Action, CellDefinition, ErrorMode, agents_in};
 use txs_value_data::{CellKind, Value, copy_value};
 
 /// A cell of a store: its kind, the value that it opened with, and of an agent whether it continues after a fault.
@@ -76,6 +77,21 @@ impl Cells {
         } else {
             self.agents
         }
+    }
+
+    /// How many actors there are beside these cells: so many threads, and the agents.
+    pub fn actors(&self, threads: u16) -> usize
+        ensures { result ≡ actors threads self.now }
+    {
+        usize::from(threads) + self.agents
+    }
+
+    /// Whether an actor, where there are so many threads, makes commits that send this: an agent's actor makes those alone that
+    /// send nothing, since an action holds its sends up to its end.
+    pub fn may_commit(&self, threads: u16, actor: u16, sends: &[Action]) -> bool
+        ensures { result ≡ (nat_lt actor threads || (is_empty sends.now && nat_lt actor (actors threads self.now))) }
+    {
+        actor < threads || (sends_nothing(sends) && usize::from(actor) < self.actors(threads))
     }
 }
 

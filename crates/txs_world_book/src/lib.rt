@@ -12,4 +12,7 @@ pub mod named;
 pub use atom::AtomBook;
 pub use cell::{Cells, StoreCell, continues};
 pub use journal::{Journal, stand_of};
-pub use named::{are_sends, are_written, has_agent, has_cell, has_readable, has_ref, has_refs};
+pub use named::{
+    are_sends, are_written, has_agent, has_cell, has_readable, has_ref, has_refs, may_send,
+    sends_nothing,
+};

@@ -1,9 +1,10 @@
 //! Whether a store has the cells that an ask or an event names.
 
 ghost use Rattle.std.specs.Prelude.{◌≡◌};
-ghost use Rattle.txs_world_book.specs.Book.{has_cell, has_ref, has_refs, has_agent, has_readable, cells_in, are_refs, are_sends};
+ghost use Rattle.txs_world_book.specs.Book.{has_cell, has_ref, has_refs, has_agent, has_readable, cells_in, are_refs, are_sends, is_empty, may_send};
 
 use crate::cell::StoreCell;
+use txs_value_base::Fault;
 use txs_value_cell::Action;
 use txs_value_data::{CellId, CellKind, Value};
 
@@ -72,4 +73,21 @@ pub fn are_sends(cells: &[StoreCell], sends: &[Action]) -> bool
         }
     }
     true
+}
+
+/// Whether these are no actions.
+pub fn sends_nothing(sends: &[Action]) -> bool
+    ensures { result ≡ is_empty sends.now }
+{
+    sends.is_empty()
+}
+
+/// Whether an action that came to this may send these: one that faults sends nothing.
+pub fn may_send(new: &Result<Value, Fault>, sends: &[Action]) -> bool
+    ensures { result ≡ may_send new.now sends.now }
+{
+    match new {
+        Ok(_) => true,
+        Err(_) => sends_nothing(sends),
+    }
 }

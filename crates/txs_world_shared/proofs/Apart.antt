@@ -13,14 +13,14 @@ use Rattle.txs_value_data.specs.declared.value.CellId.{CellId}
 use Rattle.txs_value_data.specs.declared.value.CellKind.TheVariants.{Atom}
 use Rattle.txs_world_book.specs.Atom.{PlainAtom, LegalAtom, is_lawful_atom}
 use Rattle.txs_world_book.specs.Atom as world
-use Rattle.txs_world_book.specs.Book.{Each, may_name}
+use Rattle.txs_world_book.specs.Book.{actors, Each, may_name}
 use Rattle.txs_world_book.specs.Served.{cells_of}
 use Rattle.txs_world.specs.Laws.{StoreStands}
 use Rattle.txs_world.specs.Store.{PlainStore, store_with}
-use Rattle.txs_theorem_runs.specs.Explains.{AreThreads}
+use Rattle.txs_theorem_runs.specs.Explains.{AreActors}
 use Rattle.txs_theorem_runs.specs.Invariant.{SharedStands}
 use Rattle.txs_theorem_runs.specs.Shared.{is_atom, has_atom, atom_of, may_close}
-use Rattle.txs_world_shared.specs.Apart.{MadeByThreads, AllByThreads, AreLegal, ArePartsOf, is_cell, may_ask_atom}
+use Rattle.txs_world_shared.specs.Apart.{MadeByActors, AllByActors, AreLegal, ArePartsOf, is_cell, may_ask_atom}
 use Rattle.txs_world_shared.specs.Kept.{state_of, opens_atom, new_atom, atoms_of, places_of, without_book, no_atom, atom_named, names_place, IsKept}
 use Rattle.txs_world_shared.specs.SharedState.{PlainShared, shared_of}
 use Rattle.txs_world_shared.proofs.Placing.{AtomIs, atom_is, book_at, unbooked_many}
@@ -64,14 +64,14 @@ alone_lawful threads a (ask.Broke c p) x h =
 
 -- ---- parts of a state
 
-threads_each : (threads : ℕ) (done es : List Event) → MadeByThreads threads es → Each (λ xs e. e.actor < threads) done es
-threads_each threads done [] h = tt
-threads_each threads done (e ∷ es) h = (h.0, threads_each threads (done ++ e ∷ []) es h.1)
+actors_each : (n : ℕ) (done es : List Event) → MadeByActors n es → Each (λ xs e. e.actor < n) done es
+actors_each n done [] h = tt
+actors_each n done (e ∷ es) h = (h.0, actors_each n (done ++ e ∷ []) es h.1)
 
-threads_at : (threads : ℕ) (xs : List PlainAtom) (i : ℕ) → AllByThreads threads xs → AreThreads threads (get_or (map (λ (x : PlainAtom). x.book) xs) i [])
-threads_at threads [] i h = tt
-threads_at threads (x ∷ xs) zero h = threads_each threads [] x.book h.0
-threads_at threads (x ∷ xs) (suc i) h = threads_at threads xs i h.1
+actors_at : (n : ℕ) (xs : List PlainAtom) (i : ℕ) → AllByActors n xs → AreActors n (get_or (map (λ (x : PlainAtom). x.book) xs) i [])
+actors_at n [] i h = tt
+actors_at n (x ∷ xs) zero h = actors_each n [] x.book h.0
+actors_at n (x ∷ xs) (suc i) h = actors_at n xs i h.1
 
 legal_at : (xs : List PlainAtom) (i : ℕ) → AreLegal xs → i < length xs → LegalAtom (get_or xs i no_atom).cell (get_or xs i no_atom).book
 legal_at [] i h lt = absurd (omega (arith, lt))
@@ -184,7 +184,8 @@ module _ (cells : List CellDefinition) (store : PlainStore) (atoms : List PlainA
   parts_stand st = record {
     store = subst (λ cs. StoreStands (store_with cs store.threads store.book store.taken)) parts.store_is st;
     atoms = λ c has. subst (LegalAtom c) (sym (book_there c has)) (atom_stands c has);
-    by_threads = λ c has. subst (AreThreads store.threads) (sym (book_there c has)) (threads_at store.threads atoms (atoms_below cells c.number) parts.by_threads);
+    by_threads = λ c has. subst (λ ds. AreActors (actors store.threads ds) (get_or (store.book ∷ map (λ (x : PlainAtom). x.book) atoms) (home cells c) [])) parts.store_is
+        (subst (AreActors (actors store.threads store.cells)) (sym (book_there c has)) (actors_at (actors store.threads store.cells) atoms (atoms_below cells c.number) parts.by_actors));
   }
 
 pub joined_kept : (cells own : List CellDefinition) (store : PlainStore) (atoms : List PlainAtom) (places : List ℕ) → own ≡ cells → places ≡ places_of 0 own → ArePartsOf cells store atoms → AreLegal atoms → StoreStands store → IsKept own store atoms places

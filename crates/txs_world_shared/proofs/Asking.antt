@@ -11,7 +11,7 @@ use Rattle.txs_value_cell.specs.declared.cell.CellDefinition.{CellDefinition}
 use Rattle.txs_value_data.specs.declared.value.CellId.{CellId}
 use Rattle.txs_value_data.specs.declared.value.Value.{Value}
 use Rattle.txs_world_book.specs.Atom as world
-use Rattle.txs_world_book.specs.Book.{is_there, has_cell, may_name, opening}
+use Rattle.txs_world_book.specs.Book.{is_there, actors, has_cell, may_name, opening}
 use Rattle.txs_world.specs.Store.{store_with, is_lawful, serve, taken_after}
 use Rattle.txs_world_book.specs.Served.{cells_of}
 use Rattle.txs_theorem_runs.specs.Shared.{is_atom, has_atom, atom_of, book_for, serve_atom, serve_on, may_close, may_ask}
@@ -31,7 +31,7 @@ also false = refl
 -- an ask that is for the book of an atom
 pub record AsksAtom (cells : List CellDefinition) (threads : ℕ) (taken : List Bool) (a : ℕ) (q : Ask) (book : List Event) (c : CellId) : Type 0 where
   pub book_is : book_for cells q ≡ home cells c
-  pub may : (nat_lt a threads && (has_atom cells c && names_place a q book)) ≡ may_ask cells threads taken a q book
+  pub may : (nat_lt a (actors threads (cells_of cells)) && (has_atom cells c && names_place a q book)) ≡ may_ask cells threads taken a q book
   pub lawful : may_ask cells threads taken a q book ≡ true → world.is_lawful_atom c a q book ≡ true
   pub served : serve_on cells a q book ≡ world.serve_atom c (opening (cells_of cells) c.number) a q book
   pub untaken : (r : Reply) → taken_after q r taken ≡ taken
@@ -53,20 +53,20 @@ module _ (cells : List CellDefinition) (threads : ℕ) (taken : List Bool) (a : 
   peeks : (c : CellId) → is_atom c ≡ true → AsksAtom cells threads taken a (ask.Peek c) book c
   peeks c e = record {
     book_is = refl;
-    may = ap (λ b. nat_lt a threads && b) (also (has_atom cells c) ∙ ap (λ b. b && has_cell (cells_of cells) c) e);
+    may = ap (λ b. nat_lt a (actors threads (cells_of cells)) && b) (also (has_atom cells c) ∙ ap (λ b. b && has_cell (cells_of cells) c) e);
     lawful = λ h. number-itself c.number;
     served = ap (λ b. if b then serve_atom (atom_of cells c book) a (ask.Peek c) else serve (cells_of cells) a (ask.Peek c) book) e;
     untaken = λ r. refl;
   }
 
   opens_at : (c : CellId) → AsksAtom cells threads taken a (ask.OpenAt c) book c
-  opens_at c = record { book_is = refl; may = ap (λ b. nat_lt a threads && b) (also (has_atom cells c)); lawful = λ h. number-itself c.number; served = refl; untaken = λ r. refl }
+  opens_at c = record { book_is = refl; may = ap (λ b. nat_lt a (actors threads (cells_of cells)) && b) (also (has_atom cells c)); lawful = λ h. number-itself c.number; served = refl; untaken = λ r. refl }
 
   closes_at : (c : CellId) (p : Option ℕ) (v : Value) → AsksAtom cells threads taken a (ask.CloseAt c p v) book c
   closes_at c p v = record {
     book_is = refl;
     may = refl;
-    lawful = λ h. ap (λ b. b && world.may_close book a p) (number-itself c.number) ∙ sym (closes_same book a p) ∙ (and_both (has_atom cells c) (may_close book a p) (and_both (nat_lt a threads) (has_atom cells c && may_close book a p) h).1).1;
+    lawful = λ h. ap (λ b. b && world.may_close book a p) (number-itself c.number) ∙ sym (closes_same book a p) ∙ (and_both (has_atom cells c) (may_close book a p) (and_both (nat_lt a (actors threads (cells_of cells))) (has_atom cells c && may_close book a p) h).1).1;
     served = refl;
     untaken = λ r. refl;
   }
@@ -75,7 +75,7 @@ module _ (cells : List CellDefinition) (threads : ℕ) (taken : List Bool) (a : 
   breaks c p = record {
     book_is = refl;
     may = refl;
-    lawful = λ h. ap (λ b. b && may_name true book a p) (number-itself c.number) ∙ (and_both (has_atom cells c) (may_name true book a p) (and_both (nat_lt a threads) (has_atom cells c && may_name true book a p) h).1).1;
+    lawful = λ h. ap (λ b. b && may_name true book a p) (number-itself c.number) ∙ (and_both (has_atom cells c) (may_name true book a p) (and_both (nat_lt a (actors threads (cells_of cells))) (has_atom cells c && may_name true book a p) h).1).1;
     served = refl;
     untaken = λ r. refl;
   }
@@ -101,7 +101,7 @@ module _ (cells : List CellDefinition) (threads : ℕ) (taken : List Bool) (a : 
   peeks_store : (c : CellId) → is_atom c ≡ false → AsksStore cells threads taken a (ask.Peek c) book
   peeks_store c e = record {
     book_is = ap (λ b. if b then suc (atoms_below cells c.number) else 0) e;
-    may = ap (λ b. nat_lt a threads && (not b && has_cell (cells_of cells) c)) (sym e);
+    may = ap (λ b. nat_lt a (actors threads (cells_of cells)) && (not b && has_cell (cells_of cells) c)) (sym e);
     served = ap (λ b. if b then serve_atom (atom_of cells c book) a (ask.Peek c) else serve (cells_of cells) a (ask.Peek c) book) e;
   }
 

@@ -15,6 +15,7 @@ use Rattle.txs_value_cell.specs.declared.cell.CellDefinition.{CellDefinition}
 use Rattle.txs_value_data.specs.declared.value.CellId.{CellId}
 use Rattle.txs_world_book.specs.Atom as world
 use Rattle.txs_world_book.specs.Atom.{PlainAtom, AtomAnswers, AtomTakesMemory, atom_with}
+use Rattle.txs_world_book.specs.Book.{actors}
 use Rattle.txs_world.specs.Laws.{ServeKeeps}
 use Rattle.txs_world.specs.Store as world_store
 use Rattle.txs_world.specs.Store.{PlainStore, store_with, store_after, serve, taken_after, TakesMemory}
@@ -223,7 +224,7 @@ atom_serves cells store atoms a q c are lt named may =
     let book = numbered_book s (book_for cells q) in
     let k = atoms_below cells c.number in
     let asks = asks_atom cells store.threads store.taken a book q c named in
-    let has = (and_both (has_atom cells c) (names_place a q book) (and_both (nat_lt a store.threads) (has_atom cells c && names_place a q book) (asks.may ∙ may)).1).0 in
+    let has = (and_both (has_atom cells c) (names_place a q book) (and_both (nat_lt a (actors store.threads (cells_of cells))) (has_atom cells c && names_place a q book) (asks.may ∙ may)).1).0 in
     let is = atom_is cells atoms c are has lt in
     let at = asks.book_is ∙ is.home_is in
     let here : get_or atoms k no_atom ≡ atom_of cells c book = is.is ∙ ap (λ n. atom_of cells c (numbered_book s n)) (sym at) in

@@ -148,28 +148,28 @@ fn serve_atom(atom: &mut AtomBook, actor: u16, ask: Ask) -> Reply
     }
 }
 
-/// What an atom answers an actor, which is one of so many threads, and adds to its book; nothing, and nothing is added, where the actor may not ask it of this
-/// atom. An atom under a lock of its own is served so.
-pub fn serve_alone(atom: &mut AtomBook, threads: u16, actor: u16, ask: Ask) -> Option<Reply>
+/// What an atom answers an actor, which is one of so many, and adds to its book; nothing, and nothing is added, where the actor
+/// may not ask it of this atom. An atom under a lock of its own is served so.
+pub fn serve_alone(atom: &mut AtomBook, actors: usize, actor: u16, ask: Ask) -> Option<Reply>
     ensures served { IfSome result (λ r. AtomAnswers atom.old (serve_atom atom.old.cell atom.old.opening actor ask atom.old.book) r atom.new) }
-    ensures lawful { (result ≡ None → may_ask_atom threads actor ask atom.old ≡ false) × (may_ask_atom threads actor ask atom.old ≡ false → result ≡ None) }
+    ensures lawful { (result ≡ None → may_ask_atom actors actor ask atom.old ≡ false) × (may_ask_atom actors actor ask atom.old ≡ false → result ≡ None) }
     ensures refused { result ≡ None → atom.new ≡ atom.old }
 {
-    if !may_ask_atom(atom, threads, actor, &ask) {
+    if !may_ask_atom(atom, actors, actor, &ask) {
         drop(ask);
         return None;
     }
     Some(serve_atom(atom, actor, ask))
 }
 
-/// Whether the actor may ask this of this atom: it is one of so many threads, the ask names the atom, and the actor may name the place.
-fn may_ask_atom(atom: &AtomBook, threads: u16, actor: u16, ask: &Ask) -> bool
-    ensures { result ≡ may_ask_atom threads actor ask.now atom.now }
+/// Whether the actor may ask this of this atom: it is one of so many, the ask names the atom, and the actor may name the place.
+fn may_ask_atom(atom: &AtomBook, actors: usize, actor: u16, ask: &Ask) -> bool
+    ensures { result ≡ may_ask_atom actors actor ask.now atom.now }
 {
     let Some(cell) = atom_named(ask) else {
         return false;
     };
-    actor < threads && cell == atom.cell() && names_place(atom, actor, ask)
+    usize::from(actor) < actors && cell == atom.cell() && names_place(atom, actor, ask)
 }
 
 /// What the atom at a place answers, and adds to its book.

@@ -1,32 +1,32 @@
 //! Whether a store and atoms, each with its book, are the parts of a state.
 
 ghost use Rattle.std.specs.Prelude.{◌≡◌, ◌↔◌, map, IsTrue};
-ghost use Rattle.txs_world_shared.specs.Apart.{MadeByThreads, AllByThreads, AreLegal};
+ghost use Rattle.txs_world_shared.specs.Apart.{MadeByActors, AllByActors, AreLegal};
 ghost use Rattle.txs_world_shared.specs.Kept.{without_book};
 
 use txs_value_data::same;
 use txs_world_book::AtomBook;
 use txs_world_protocol::Event;
 
-/// Whether each of these events is one of the first so many actors, which are the threads.
-fn are_by_threads(threads: u16, events: &[Event]) -> bool
-    ensures { IsTrue result ↔ MadeByThreads threads events.now }
+/// Whether each of these events is of an actor, of which there are so many.
+fn are_by_actors(actors: usize, events: &[Event]) -> bool
+    ensures { IsTrue result ↔ MadeByActors actors events.now }
 {
     for event in events {
-        if event.actor >= threads {
+        if usize::from(event.actor) >= actors {
             return false;
         }
     }
     true
 }
 
-/// Whether each event of these atoms is a thread's.
-pub(crate) fn all_by_threads(threads: u16, atoms: &[AtomBook]) -> bool
-    ensures threads { IsTrue result ↔ AllByThreads threads atoms.now }
+/// Whether each event of these atoms is of an actor, of which there are so many.
+pub(crate) fn all_by_actors(actors: usize, atoms: &[AtomBook]) -> bool
+    ensures actors { IsTrue result ↔ AllByActors actors atoms.now }
     ensures legal { IsTrue result → AreLegal atoms.now }
 {
     for atom in atoms {
-        if !are_by_threads(threads, atom.events()) {
+        if !are_by_actors(actors, atom.events()) {
             return false;
         }
     }

@@ -17,7 +17,7 @@ impl SharedState {
     {
         match atom_named(ask) {
             Some(cell) => {
-                actor < self.store.threads()
+                usize::from(actor) < self.store.actors()
                     && self.has_atom(cell)
                     && names_place(self.atom(cell), actor, ask)
             }

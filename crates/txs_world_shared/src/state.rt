@@ -8,11 +8,11 @@ ghost use Rattle.txs_world_shared.specs.Apart.{AreLegal, ArePartsOf};
 ghost use Rattle.txs_world.specs.Laws.{StoreStands};
 ghost use Rattle.txs_world_shared.specs.Kept.{atom_named, atoms_of, without_book, state_of};
 ghost use Rattle.txs_world_shared.specs.SharedState.{PlainShared, shared_of, numbered_book, book_of, newest_of};
-ghost use Rattle.txs_world_book.specs.Book.{has_cell, has_agent, mail_after};
+ghost use Rattle.txs_world_book.specs.Book.{actors, has_cell, has_agent, mail_after};
 ghost use Rattle.txs_world_book.specs.Served.{cells_of};
 
 use crate::atoms::{atom_named, copy_cells, open_atoms, open_places};
-use crate::joining::{all_by_threads, open_like};
+use crate::joining::{all_by_actors, open_like};
 use crate::parts::move_books;
 use std::alloc::{AllocError, Global};
 use std::marker::Model;
@@ -108,6 +108,13 @@ impl SharedState {
         self.store.threads()
     }
 
+    /// How many actors there are: the threads, and behind them the agents.
+    pub fn actors(&self) -> usize
+        ensures { result ≡ actors self.now.threads (cells_of self.now.cells) }
+    {
+        self.store.actors()
+    }
+
     /// The events of the store's book. All books are legal, those of the atoms as well, and the commits undisturbed.
     pub fn events(&self) -> &[Event]
         ensures value { result.now ≡ numbered_book self.now 0 }
@@ -192,7 +199,7 @@ impl SharedState {
         let fresh = SharedState::open(alloc, cells, store.threads())?;
         let made = store.made_for(cells)
             && open_like(fresh.atoms.as_slice(), atoms.as_slice())
-            && all_by_threads(store.threads(), atoms.as_slice());
+            && all_by_actors(store.actors(), atoms.as_slice());
         if !made {
             drop(store);
             drop(atoms);

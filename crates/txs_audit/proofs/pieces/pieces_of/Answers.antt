@@ -1,6 +1,6 @@
 use Rattle.std.proofs.Common.{◌≤◌, ◌++◌, ◌∙◌, ap, length, subst, sym}
 use Rattle.std.specs.Prelude.{map}
-use Rattle.txs_theorem_audit.specs.Audited.{ran_as}
+use Rattle.txs_theorem_audit.specs.Audited.{books_of, ran_as}
 use Rattle.txs_theorem_audit.specs.Pieces.{agent_pieces, thread_pieces}
 use Rattle.txs_tree_meaning.specs.Sound.{Sound}
 use Rattle.txs_tree_meaning.specs.View.{program_of}
@@ -24,7 +24,7 @@ pub returns : goal.returns
 returns c =
     let r = c.report-report.result.now in
     c.in_ok-add_agents.ensures
-    ∙ ap (λ l. l ++ agent_pieces 0 (map ran_as c.as_slice-2.result.now)) (c.in_ok-add_threads.ensures ∙ ap (λ l. pieces_as l ++ thread_pieces 0 (map ran_as c.as_slice.result.now)) c.new-pieces.ensures.items)
-    ∙ ap (λ l. thread_pieces 0 (map ran_as l) ++ agent_pieces 0 (map ran_as c.as_slice-2.result.now)) c.as_slice.ensures.value
-    ∙ ap (λ l. thread_pieces 0 (map ran_as r.threads.items) ++ agent_pieces 0 (map ran_as l)) c.as_slice-2.ensures.value
-    ∙ ap (λ x. thread_pieces 0 x.threads ++ agent_pieces 0 x.agents) c.report-report.ensures
+    ∙ ap (λ l. l ++ agent_pieces (books_of c.args.books.now.report) 0 (map ran_as c.as_slice-2.result.now)) (c.in_ok-add_threads.ensures ∙ ap (λ l. pieces_as l ++ thread_pieces 0 (map ran_as c.as_slice.result.now)) c.new-pieces.ensures.items)
+    ∙ ap (λ l. thread_pieces 0 (map ran_as l) ++ agent_pieces (books_of c.args.books.now.report) 0 (map ran_as c.as_slice-2.result.now)) c.as_slice.ensures.value
+    ∙ ap (λ l. thread_pieces 0 (map ran_as r.threads.items) ++ agent_pieces (books_of c.args.books.now.report) 0 (map ran_as l)) c.as_slice-2.ensures.value
+    ∙ ap (λ x. thread_pieces 0 x.threads ++ agent_pieces (books_of c.args.books.now.report) 0 x.agents) c.report-report.ensures

@@ -6,12 +6,12 @@ use Rattle.txs_audit_book.proofs.atom.go_through_atom.Goals as goal
 
 pub returns-then-i-ge-MOST_EVENTS : goal.returns-then-i-ge-MOST_EVENTS
 unfolding most_events
-returns-then-i-ge-MOST_EVENTS c = found_full (atom_test c.args.cell c.args.threads) c.args.book.now c.loop-i.i c.index-book-i.result c.loop-i-test.true c.index-book-i.is c.if-i-ge-MOST_EVENTS.true c.loop-i.invariant.rest
+returns-then-i-ge-MOST_EVENTS c = found_full (atom_test c.args.cell c.args.actors) c.args.book.now c.loop-i.i c.index-book-i.result c.loop-i-test.true c.index-book-i.is c.if-i-ge-MOST_EVENTS.true c.loop-i.invariant.rest
 
 pub returns-then-not-is_legal : goal.returns-then-not-is_legal
 returns-then-not-is_legal c =
     let e = c.index-book-i.result in
-    let test = atom_test c.args.cell c.args.threads in
+    let test = atom_test c.args.cell c.args.actors in
     found_off test c.args.book.now c.loop-i.i e c.loop-i-test.true c.index-book-i.is (ap (λ l. test l e) (sym c.split_at.ensures.front) ∙ sym c.is_legal.ensures ∙ c.if-not-is_legal.true) c.loop-i.invariant.rest
 
 pub put-requires-clause-few : goal.put-requires-clause-few
@@ -24,7 +24,7 @@ loop-i-preserved c =
     let e = c.index-book-i.result in
     let book = c.args.book.now in
     let i = c.loop-i.i in
-    let test = atom_test c.args.cell c.args.threads in
+    let test = atom_test c.args.cell c.args.actors in
     let now = c.put.new.swaps in
     let front = c.split_at.ensures.front in
     let holds : test (take i book) e ≡ true = ap (λ l. test l e) (sym front) ∙ sym c.is_legal.ensures ∙ c.if-not-is_legal.false in

@@ -8,5 +8,5 @@ abbrev pub invariant-loop-i : goal.invariant-loop-i
 invariant-loop-i l =
     record {
       gone : GoneSwaps l.swaps.swaps l.swaps.views.items (take l.i l.book);
-      rest : (index : ℕ → ℕ → ℕ) → book_found (atom_test l.cell l.threads) index (take l.i l.book) (drop l.i l.book) ≡ book_found (atom_test l.cell l.threads) index [] l.book;
+      rest : (index : ℕ → ℕ → ℕ) → book_found (atom_test l.cell l.actors) index (take l.i l.book) (drop l.i l.book) ≡ book_found (atom_test l.cell l.actors) index [] l.book;
     }

@@ -1,4 +1,7 @@
-use Rattle.std.proofs.Common.{◌≡◌, ◌+◌, ◌∙◌, ap, arith, get_or, length, suc, sym}
+use Rattle.std.proofs.Common.{◌≡◌, ◌+◌, ◌∙◌, ap, arith, get_or, length, refl, suc, sym}
+use Rattle.txs_value_cell.specs.Agents.{agents_from}
+use Rattle.txs_world_book.specs.Book.{actors}
+use Rattle.txs_world_book.specs.Served.{cells_of}
 use Rattle.txs_theorem_audit.specs.Audited.{Off, books_of, entry_of, report_as}
 use Rattle.txs_theorem_audit.specs.Verdict.{index_if}
 use Rattle.txs_audit_book.specs.Replayed.{actor_in}
@@ -6,18 +9,22 @@ use Rattle.txs_audit_book.specs.Swapped.{atom_test}
 use Rattle.txs_audit_piece.specs.Judged.{as_found, is_fine}
 use Rattle.txs_theorem_audit.proofs.Listing.{within}
 use Rattle.txs_audit_evidence.proofs.Bookwise.{atom_off, atom_through, fine_is, legal_few}
-use Rattle.txs_audit_evidence.proofs.Numbering.{atoms_few}
-use Rattle.txs_audit_evidence.proofs.Opened.{atom_gone, atom_up_to, book_in, book_read}
+use Rattle.txs_audit_evidence.proofs.Numbering.{agents_few, atoms_few}
+use Rattle.txs_audit_evidence.proofs.Opened.{actors_many, atom_gone, atom_up_to, book_in, book_read}
 use Rattle.txs_audit_evidence.proofs.Sized.{nth_at, threads_many}
 use Rattle.txs_theorem_audit.specs.Verdict.{atoms_from}
 use Rattle.txs_audit_evidence.proofs.opening.open_atom.Goals as goal
 
-pub overflow_cast-threads : goal.overflow_cast-threads
-overflow_cast-threads c =
+pub overflow_add-actors : goal.overflow_add-actors
+overflow_add-actors c =
+    let p = c.args.program.now in
     let few = c.is_sound.ensures.scoped.few_threads in
-    let many = threads_many c.args.program.now.threads in
+    let many = threads_many p.threads in
     let rows = ap length c.threads.ensures.value in
-    omega (arith, few, many, rows)
+    let agents = agents_few p.cells in
+    let same = c.count_agents.ensures ∙ ap (λ l. length (agents_from 0 l)) c.cells.ensures in
+    let cells = c.is_sound.ensures.scoped.few_cells in
+    omega (arith, few, many, rows, agents, same, cells)
 
 pub index-requires : goal.index-requires
 index-requires c =
@@ -50,7 +57,7 @@ returns-in-UpTo c =
     let e = get_or c.as_slice-events.result.now at c.index-events-at.result in
     let there = book_in p r n c.args.cell c.requires.fits c.requires.there in
     let same = book_read r n c.index.result.now c.as_slice-events.result.now there c.index.ensures c.as_slice-events.ensures in
-    let off = atom_up_to c.args.cell (length c.threads.result.now) (length p.threads) c.as_slice-events.result.now (books_of (report_as r) (suc n)) (ap length c.threads.ensures.value) same c.in_ok-at.field-0 c.in_ok-at.ensures at c.in-UpTo.is in
+    let off = atom_up_to c.args.cell (length c.threads.result.now + c.count_agents.result) (actors (length p.threads) (cells_of p.cells)) c.as_slice-events.result.now (books_of (report_as r) (suc n)) (actors_many p c.threads.result.now c.cells.result.now c.count_agents.result (length c.threads.result.now + c.count_agents.result) c.threads.ensures.value c.cells.ensures c.count_agents.ensures refl) same c.in_ok-at.field-0 c.in_ok-at.ensures at c.in-UpTo.is in
     let is = nth_at (books_of (report_as r) (suc n)) at e off.0 (ap (get_or c.as_slice-events.result.now at) c.index-events-at.is ∙ ap (λ l. get_or l at e) same) in
     let next : n + 1 ≡ suc n = omega arith in
     let found = c.off_at.ensures ∙ ap (λ b. Off e.actor (index_if b at (entry_of (report_as r) e.actor))) next in
@@ -64,8 +71,8 @@ atom_left-left-requires-clause-few c =
     let n = c.args.n in
     let there = book_in p r n c.args.cell c.requires.fits c.requires.there in
     let same = book_read r n c.index.result.now c.as_slice-events.result.now there c.index.ensures c.as_slice-events.ensures in
-    let gone = atom_gone c.args.cell (length c.threads.result.now) (length p.threads) c.as_slice-events.result.now (books_of (report_as r) (suc n)) (ap length c.threads.ensures.value) same c.in_ok-at.field-0 c.in_ok-at.ensures c.in-Through.swaps c.in-Through.is in
-    legal_few (atom_test c.args.cell (length p.threads)) (books_of (report_as r) (suc n)) gone.0
+    let gone = atom_gone c.args.cell (length c.threads.result.now + c.count_agents.result) (actors (length p.threads) (cells_of p.cells)) c.as_slice-events.result.now (books_of (report_as r) (suc n)) (actors_many p c.threads.result.now c.cells.result.now c.count_agents.result (length c.threads.result.now + c.count_agents.result) c.threads.ensures.value c.cells.ensures c.count_agents.ensures refl) same c.in_ok-at.field-0 c.in_ok-at.ensures c.in-Through.swaps c.in-Through.is in
+    legal_few (atom_test c.args.cell (actors (length p.threads) (cells_of p.cells))) (books_of (report_as r) (suc n)) gone.0
 
 pub atom_left-left-requires-clause-swapped : goal.atom_left-left-requires-clause-swapped
 atom_left-left-requires-clause-swapped c =
@@ -74,7 +81,7 @@ atom_left-left-requires-clause-swapped c =
     let n = c.args.n in
     let there = book_in p r n c.args.cell c.requires.fits c.requires.there in
     let same = book_read r n c.index.result.now c.as_slice-events.result.now there c.index.ensures c.as_slice-events.ensures in
-    let gone = atom_gone c.args.cell (length c.threads.result.now) (length p.threads) c.as_slice-events.result.now (books_of (report_as r) (suc n)) (ap length c.threads.ensures.value) same c.in_ok-at.field-0 c.in_ok-at.ensures c.in-Through.swaps c.in-Through.is in
+    let gone = atom_gone c.args.cell (length c.threads.result.now + c.count_agents.result) (actors (length p.threads) (cells_of p.cells)) c.as_slice-events.result.now (books_of (report_as r) (suc n)) (actors_many p c.threads.result.now c.cells.result.now c.count_agents.result (length c.threads.result.now + c.count_agents.result) c.threads.ensures.value c.cells.ensures c.count_agents.ensures refl) same c.in_ok-at.field-0 c.in_ok-at.ensures c.in-Through.swaps c.in-Through.is in
     gone.1
 
 pub returns-then-is_fine : goal.returns-then-is_fine
@@ -84,7 +91,7 @@ returns-then-is_fine c =
     let n = c.args.n in
     let there = book_in p r n c.args.cell c.requires.fits c.requires.there in
     let same = book_read r n c.index.result.now c.as_slice-events.result.now there c.index.ensures c.as_slice-events.ensures in
-    let gone = atom_gone c.args.cell (length c.threads.result.now) (length p.threads) c.as_slice-events.result.now (books_of (report_as r) (suc n)) (ap length c.threads.ensures.value) same c.in_ok-at.field-0 c.in_ok-at.ensures c.in-Through.swaps c.in-Through.is in
+    let gone = atom_gone c.args.cell (length c.threads.result.now + c.count_agents.result) (actors (length p.threads) (cells_of p.cells)) c.as_slice-events.result.now (books_of (report_as r) (suc n)) (actors_many p c.threads.result.now c.cells.result.now c.count_agents.result (length c.threads.result.now + c.count_agents.result) c.threads.ensures.value c.cells.ensures c.count_agents.ensures refl) same c.in_ok-at.field-0 c.in_ok-at.ensures c.in-Through.swaps c.in-Through.is in
     let fine = fine_is (as_found c.atom_left-left.result) (sym c.is_fine.ensures ∙ c.if-is_fine.true) in
     (gone.0, gone.1, atom_through p r n c.args.cell c.requires.there gone.0 ∙ sym c.atom_left-left.ensures ∙ fine)
 
@@ -95,5 +102,5 @@ returns c =
     let n = c.args.n in
     let there = book_in p r n c.args.cell c.requires.fits c.requires.there in
     let same = book_read r n c.index.result.now c.as_slice-events.result.now there c.index.ensures c.as_slice-events.ensures in
-    let gone = atom_gone c.args.cell (length c.threads.result.now) (length p.threads) c.as_slice-events.result.now (books_of (report_as r) (suc n)) (ap length c.threads.ensures.value) same c.in_ok-at.field-0 c.in_ok-at.ensures c.in-Through.swaps c.in-Through.is in
+    let gone = atom_gone c.args.cell (length c.threads.result.now + c.count_agents.result) (actors (length p.threads) (cells_of p.cells)) c.as_slice-events.result.now (books_of (report_as r) (suc n)) (actors_many p c.threads.result.now c.cells.result.now c.count_agents.result (length c.threads.result.now + c.count_agents.result) c.threads.ensures.value c.cells.ensures c.count_agents.ensures refl) same c.in_ok-at.field-0 c.in_ok-at.ensures c.in-Through.swaps c.in-Through.is in
     (c.atom_left-left.ensures ∙ sym (atom_through p r n c.args.cell c.requires.there gone.0), sym c.is_fine.ensures ∙ c.if-is_fine.false)

@@ -18,7 +18,7 @@ returns-then-not-is_fine c =
     let p = program_of b.program in
     let m = c.args.meaning.now in
     let f = as_found c.in_ok-found.found.finding in
-    let calm = told_found (cells_of p.cells) (books_of b.report) c.args.thread f c.as_slice.result.now c.args.ran.now.trace.items c.as_slice-2.result.now m.txs c.as_slice.ensures.value c.as_slice-2.ensures c.in_ok-found.ensures.found in
+    let calm = told_found (cells_of p.cells) (books_of b.report) c.args.thread f c.as_slice-trace.result.now c.args.ran.now.trace.items c.as_slice.result.now m.txs c.as_slice-trace.ensures.value c.as_slice.ensures c.in_ok-found.ensures.found in
     let not : is_fine f ≡ false = sym c.is_fine.ensures ∙ c.if-not-is_fine.true in
     record {
       finding = λ t e tells. off_found p b.report c.args.turns c.args.thread t (ran_as c.args.ran.now) c.calm_is_answered.ensures c.noted_are_answered.ensures m (subst (λ (es : List SeenEvent). Tells m (source_of p t) c.args.turns es) c.requires.events tells) f calm not;
@@ -34,7 +34,7 @@ returns c =
     let a = c.args.thread in
     let ran = ran_as c.args.ran.now in
     let f = as_found c.in_ok-found.found.finding in
-    let calm = told_found (cells_of p.cells) (books_of b.report) c.args.thread f c.as_slice.result.now c.args.ran.now.trace.items c.as_slice-2.result.now m.txs c.as_slice.ensures.value c.as_slice-2.ensures c.in_ok-found.ensures.found in
+    let calm = told_found (cells_of p.cells) (books_of b.report) c.args.thread f c.as_slice-trace.result.now c.args.ran.now.trace.items c.as_slice.result.now m.txs c.as_slice-trace.ensures.value c.as_slice.ensures c.in_ok-found.ensures.found in
     let g = as_found c.in_ok-finding.finding in
     let fine : is_fine f ≡ true = sym c.is_fine.ensures ∙ c.if-not-is_fine.false in
     let ends = end_so c.program.result.now b.program c.program.ensures _ _ c.requires.events n a ran m g c.in_ok-finding.ensures in
@@ -44,5 +44,5 @@ returns c =
           end_found_last p b.report n a t ran c.calm_is_answered.ensures c.noted_are_answered.ensures m told f calm fine g (ends t e tells);
       serial = λ t e tells is.
           let told = subst (λ (es : List SeenEvent). Tells m (source_of p t) n es) c.requires.events tells in
-          told_covered (books_of b.report) c.in_ok-found.found.serial c.as_slice.result.now c.args.ran.now.trace.items c.as_slice-2.result.now m.txs c.as_slice.ensures.value c.as_slice-2.ensures (c.in_ok-found.ensures.serial (fine_is f fine)) ∙ covered_found p b.report n a t ran c.covered_is_answered.ensures c.noted_are_answered.ensures m told g (ends t e tells) is;
+          told_covered (books_of b.report) c.in_ok-found.found.serial c.as_slice-trace.result.now c.args.ran.now.trace.items c.as_slice.result.now m.txs c.as_slice-trace.ensures.value c.as_slice.ensures (c.in_ok-found.ensures.serial (fine_is f fine)) ∙ covered_found p b.report n a t ran c.covered_is_answered.ensures c.noted_are_answered.ensures m told g (ends t e tells) is;
     }

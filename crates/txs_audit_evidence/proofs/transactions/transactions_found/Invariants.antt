@@ -5,4 +5,4 @@ use Rattle.txs_audit_evidence.proofs.transactions.transactions_found.Given as go
 
 -- what is found of the rest is what is found of all
 abbrev pub invariant-loop-i : goal.invariant-loop-i
-invariant-loop-i l = Left (cells_of l.books.program.cells) (books_of l.books.report) l.actor l.trace l.txs l.i l.next l.serial
+invariant-loop-i l = Left (cells_of l.books.program.cells) (books_of l.books.report) l.actor l.first l.trace l.txs l.i l.next l.serial

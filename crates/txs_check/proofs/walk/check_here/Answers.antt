@@ -3,7 +3,7 @@ use Rattle.txs_value_cell.specs.declared.form.CellForm.TheVariants as form_of
 use Rattle.txs_tree_meaning.specs.Tree.{count}
 use Rattle.txs_tree_meaning.specs.View.{trees_of}
 use Rattle.txs_check.specs.declared.error.CheckErrorKind.TheVariants.{Arity}
-use Rattle.txs_check.specs.Refused.{applied, calls, here, only, operates, recurs}
+use Rattle.txs_check.specs.Refused.{◌>>◌, applied, calls, formed, here, only, operates, recurs, sent}
 use Rattle.txs_check.specs.Signatures.{known_as}
 use Rattle.txs_check.proofs.Lists.{count_nodes}
 use Rattle.txs_tree_meaning.proofs.Trees.{recur_node, core_node, call_node, update_node, send_node}
@@ -44,5 +44,5 @@ pub returns-in-Send : goal.returns-in-Send
 returns-in-Send c =
     let ks = known_as c.args.signatures.now in
     let ns = c.deref-in-Send.result.now in
-    c.check_applied-in-Send.ensures ∙ ap (λ n. applied ks c.args.zone form_of.Send c.in-Send.callee (suc n) c.args.node.now.span) (sym (count_nodes ns))
+    c.check_send.ensures ∙ ap (λ n. sent ks c.in-Send.callee (suc n) c.args.node.now.span >> formed c.args.zone form_of.Send c.args.node.now.span) (sym (count_nodes ns))
     ∙ sym (ap (λ e. here ks c.args.zone c.args.target e) (send_node c.args.node.now c.in-Send.field-0 c.in-Send.callee c.in-Send.args c.in-Send.field-0.value ns c.in-Send.is refl c.deref-in-Send.ensures.value))

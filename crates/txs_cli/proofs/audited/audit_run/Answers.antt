@@ -1,4 +1,4 @@
-use Rattle.std.proofs.Common.{arith, ◌≡◌, ◌≤◌, ◌∙◌, ℕ, List, ap, length, subst, sym}
+use Rattle.std.proofs.Common.{arith, ◌≡◌, ◌≤◌, ◌++◌, ◌∙◌, ℕ, List, ap, length, subst, sym}
 use Rattle.txs_code_load.proofs.Formed.{few_cells, few_threads}
 use Rattle.txs_cli_audit.specs.Audit.{AuditTells, HasNoAnswer}
 use Rattle.txs_audit_answer.specs.declared.verdict.AuditError.{AuditError}
@@ -47,7 +47,7 @@ returns g c =
     let script = script_of c.args.script in
     let shared = c.args.ran.0 in
     let entries = c.args.ran.1 in
-    let printed = all_printed entries.threads.items in
+    let printed = all_printed (entries.threads.items ++ entries.agents.items) in
     let lines = lines_of c.in_ok-told.told in
     let ran = behind_bytes printed lines in
     let report = c.in_ok-report.report in
@@ -70,4 +70,6 @@ returns g c =
     }
     in
     let threads : entries.threads.items ≡ c.swap.new.x.items = ap (λ v. v.items) (sym (c.swap.ensures.x_after ∙ made.threads)) in
-    subst (λ (rs : List ActorReport). AuditedRunTells unaudited parts code script o (behind_bytes (all_printed rs) more)) threads is
+    let agents : entries.agents.items ≡ c.swap-2.new.x.items = ap (λ v. v.items) (sym (c.swap-2.ensures.x_after ∙ made.agents)) in
+    subst (λ (rs : List ActorReport). AuditedRunTells unaudited parts code script o (behind_bytes (all_printed (rs ++ c.swap-2.new.x.items)) more)) threads
+    (subst (λ (rs : List ActorReport). AuditedRunTells unaudited parts code script o (behind_bytes (all_printed (entries.threads.items ++ rs)) more)) agents is)

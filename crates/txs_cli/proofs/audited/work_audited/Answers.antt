@@ -12,7 +12,7 @@ use Rattle.txs_tree_meaning.specs.View.{Parts}
 use Rattle.txs_world_protocol.specs.declared.report.Report.{Report}
 
 pub work_compiled-requires-clause-compiled : goal.work_compiled-requires-clause-compiled
-work_compiled-requires-clause-compiled g c = let of = c.in-Ok.ensures in record { program = of.program; generated = of.generated; follows = of.code; agents = of.agents; sends = of.sends; same = of.cells }
+work_compiled-requires-clause-compiled g c = let of = c.in-Ok.ensures in record { program = of.program; generated = of.generated; follows = of.code; agents = of.agents; agents_send = of.sends.1; sends = of.sends.0; same = of.cells }
 
 -- the script is refused
 pub returns-in-Err : goal.returns-in-Err

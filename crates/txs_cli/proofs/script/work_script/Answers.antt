@@ -25,7 +25,7 @@ returns-in-Ok g c =
     let of = c.in-Ok.ensures in
     let script = script_of c.args.script in
     let working = c.args.working in
-    let compiled : IsCompiled script.text p code = record { program = of.program; generated = of.generated; follows = of.code; agents = of.agents; sends = of.sends; same = of.cells } in
+    let compiled : IsCompiled script.text p code = record { program = of.program; generated = of.generated; follows = of.code; agents = of.agents; agents_send = of.sends.1; sends = of.sends.0; same = of.cells } in
     let failed : PlainCode → RunError → Type 0 = λ d. HasFailed (goal.X-post g c.args.runner.now) d working.workers working.options.steps in
     ok_maps c.run_told.result (λ t. RunTold (failed code) code script working.options.steps working.options.cells working.options.events (told_of t)) (λ t. WorkedTells failed script working.options.steps working.options.cells working.options.events (told_of t))
     (λ t told. of_script failed script p code working.options.steps working.options.cells working.options.events (told_of t) compiled told) c.run_told.ensures

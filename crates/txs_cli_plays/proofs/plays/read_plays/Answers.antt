@@ -2,7 +2,7 @@ use Rattle.std.proofs.Common.{◌≡◌, ◌+◌, ◌-◌, ◌∷◌, suc, Resul
 use Rattle.std.proofs.lemmas.Str.Pattern.{split_parts}
 use Rattle.txs_machine.specs.Schedule.{spread}
 use Rattle.txs_machine.specs.declared.schedule.Repeated.{Repeated}
-use Rattle.txs_cli_plays.specs.Plays.{plays_in, plays_of, items_in, IsListError}
+use Rattle.txs_cli_plays.specs.Plays.{plays_of, items_in, IsListError}
 use Rattle.txs_cli_plays.specs.declared.plays.ListError.{ListError}
 use Rattle.txs_cli_plays.proofs.Reading.{begun_on, some_last, text_said, said_more, said_last, item_wrong, last_wrong}
 use Rattle.txs_cli_plays.proofs.plays.read_plays.Goals as goal

@@ -1,6 +1,6 @@
 use Rattle.std.proofs.Common.{◌≡◌, ◌∷◌, ◌++◌, ◌∙◌, [], ℕ, List, ap, append_assoc, sym}
 use Rattle.txs_value_data.proofs.PrintedLemmas.{Extends-after}
-use Rattle.txs_cli_report.specs.Explained.{explained, shown_where}
+use Rattle.txs_cli_report.specs.Explained.{shown_where}
 use Rattle.txs_cli_report.proofs.Fronts.{on_ok}
 use Rattle.txs_cli_report.proofs.explain.append_explained.Goals as goal
 

@@ -6,7 +6,6 @@ use Rattle.txs_cli_report.specs.Lent.{script_of, told_of}
 use Rattle.txs_cli_report.specs.Told.{ReportTells}
 use Rattle.txs_cli_report.proofs.Turns.{whole_run}
 use Rattle.txs_cli_report.proofs.script.run_code.Goals as goal
-use Rattle.txs_world_shared.specs.SharedState.{PlainShared}
 
 pub report_run-requires-clause-few_cells : goal.report_run-requires-clause-few_cells
 report_run-requires-clause-few_cells c = subst (λ (d : PlainCode). length d.cells ≤ 1000) (sym c.code.ensures.value) c.requires.few_cells

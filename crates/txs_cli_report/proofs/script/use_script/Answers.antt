@@ -6,7 +6,7 @@ use Rattle.txs_cli_report.proofs.script.use_script.Goals as goal
 pub use_compiled-requires-clause-compiled : goal.use_compiled-requires-clause-compiled
 use_compiled-requires-clause-compiled c =
     let of = c.in-Ok.ensures in
-    record { program = of.program; generated = of.generated; follows = of.code; agents = of.agents; sends = of.sends; same = of.cells }
+    record { program = of.program; generated = of.generated; follows = of.code; agents = of.agents; agents_send = of.sends.1; sends = of.sends.0; same = of.cells }
 
 pub returns-in-Err : goal.returns-in-Err
 returns-in-Err c =

@@ -6,4 +6,4 @@ pub returns-clause-status : goal.returns-clause-status
 returns-clause-status c = search rules
 
 pub returns-clause-whole : goal.returns-clause-whole
-returns-clause-whole c = none_printed c.new.result.items c.args.output.items c.args.output.items c.new.ensures.items refl
+returns-clause-whole c = none_printed c.new.result.items c.new-2.result.items c.args.output.items c.args.output.items c.new.ensures.items c.new-2.ensures.items refl

@@ -6,4 +6,4 @@ pub returns-clause-status : goal.returns-clause-status
 returns-clause-status c = search rules
 
 pub returns-clause-output : goal.returns-clause-output
-returns-clause-output c = none_printed c.new.result.items c.new-2.result.items [] c.new.ensures.items c.new-2.ensures.items
+returns-clause-output c = none_printed c.new.result.items c.new-2.result.items c.new-3.result.items [] c.new.ensures.items c.new-2.ensures.items c.new-3.ensures.items

@@ -18,4 +18,4 @@ returns c =
     let told : IsLesson script (refused_line e) (refused_place e) errors =
     subst₂ (λ (l : List ℕ) (at : Option Span). IsLesson script l at errors) (sym of.line) (sym of.place) (line_behind script line (Some r.at) c.new-errors.result.items errors _ (is_refusal_line r.number r.name.now r.at) c.new-errors.ensures.items c.in_ok-write_refusal.ensures)
     in
-    λ wanted. of_refused wanted e of.told c.requires (none_printed c.new.result.items c.new-2.result.items [] c.new.ensures.items c.new-2.ensures.items) told refl
+    λ wanted. of_refused wanted e of.told c.requires (none_printed c.new.result.items c.new-2.result.items c.new-3.result.items [] c.new.ensures.items c.new-2.ensures.items c.new-3.ensures.items) told refl

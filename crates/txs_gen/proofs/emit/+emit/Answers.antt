@@ -4,7 +4,7 @@ use Rattle.txs_tree_meaning.specs.Tree.{count, is_none}
 use Rattle.txs_tree_meaning.specs.View.{tree_of, trees_of, mark_of}
 use Rattle.txs_code_meaning.specs.declared.instr.Instr.TheVariants as instr
 use Rattle.txs_gen.specs.Emission.{Emission, emission, above, emits, emits_all, emits_do, emits_let, in_transaction, IsPlaced, IsPlacedAll, IsPlacedLet, IsWithin, with_instr, with_locals, with_pop, with_room, with_set, with_stores, with_update}
-use Rattle.txs_gen.proofs.Emissions.{IsPlacedLeft, around, emits_const, emits_local, emits_do_is, emits_core, emits_call, emits_vector, emits_println, emits_bound_is, bound_made, emits_if_is, emits_loop_is, emits_dosync_is, emits_look, emits_put, emits_update_is, whole_update, emits_send, emits_recur_is, emits_all_none, emits_all_more, emits_let_none, emits_let_more, emits_do_none, emits_do_more, is_none_trees, left_placed, left_first, left_rest, within_more, nodes_positive, emits_constants, emits_let_constants, emits_instrs, emits_let_instrs, let_locals, left_is, nothing_left, nodes_left, pop_constants, pop_instrs, put_instrs, set_instrs, emits_grows, if_tested, if_first, if_else, if_made, loop_made, dosync_made, recur_made, callee_few}
+use Rattle.txs_gen.proofs.Emissions.{IsPlacedLeft, around, emits_const, emits_local, emits_do_is, emits_core, emits_call, emits_vector, emits_println, emits_bound_is, bound_made, emits_if_is, emits_loop_is, emits_dosync_is, emits_look, emits_put, emits_update_is, whole_update, emits_send, emits_recur_is, emits_all_none, emits_all_more, emits_let_none, emits_let_more, emits_do_none, emits_do_more, is_none_trees, left_placed, left_first, left_rest, within_more, nodes_positive, emits_constants, emits_let_constants, emits_instrs, emits_let_instrs, let_locals, left_is, nothing_left, nodes_left, pop_constants, pop_instrs, put_instrs, set_instrs, emits_grows, if_tested, if_first, if_else, if_made, loop_made, dosync_made, recur_made, callee_few, sent_few}
 use Rattle.txs_tree_meaning.proofs.Soundness.{count-trees_of}
 use Rattle.txs_tree_meaning.proofs.Trees.{const_node, local_node, if_node, do_node, let_node, loop_node, recur_node, core_node, call_node, vector_node, println_node, dosync_node, look_node, put_node, update_node, send_node}
 use Rattle.txs_gen.proofs.emit.+emit.Goals as goal
@@ -571,7 +571,7 @@ emit-overflow_cast-instr-in-Send t c =
     let xs = c.in-Send.args.items in
     let e = send_node c.args.node.now c.in-Send.cell c.in-Send.callee c.in-Send.args c.in-Send.cell.value xs c.in-Send.is refl refl in
     let p = subst (λ x. IsPlaced c.args.at.depth c.args.at.base x) e c.requires.part in
-    omega (arith, callee_few p.0 c.in-Send.callee (count (trees_of xs)) p.3.1, count-trees_of xs)
+    omega (arith, sent_few p.0 c.in-Send.callee (count (trees_of xs)) p.3.1, count-trees_of xs)
 
 pub emit-emit_send-requires : goal.emit-emit_send-requires
 emit-emit_send-requires t c =

@@ -22,14 +22,14 @@ returns-then-not-is_agent c =
 
 pub overflow_cast-number : goal.overflow_cast-number
 overflow_cast-number c =
-    let few = agents_fit c.args.code.now c.args.max_steps _ c.args.threads c.args.cell c.args.agents.now.items c.requires.opened.attending in
+    let few = agents_fit c.args.code.now c.args.max_steps c.args.threads c.args.cell c.args.agents.now.items c.requires.opened.attending in
     let most = c.requires.few in
     let len : c.len.result ≡ length c.args.agents.now.items = search rules in
     omega (arith, few, most, len)
 
 pub overflow_add-number : goal.overflow_add-number
 overflow_add-number c =
-    let few = agents_fit c.args.code.now c.args.max_steps _ c.args.threads c.args.cell c.args.agents.now.items c.requires.opened.attending in
+    let few = agents_fit c.args.code.now c.args.max_steps c.args.threads c.args.cell c.args.agents.now.items c.requires.opened.attending in
     let most = c.requires.few in
     let many = c.requires.many in
     let len : c.len.result ≡ length c.args.agents.now.items = search rules in

@@ -27,4 +27,4 @@ first_working-requires-clause-attending c =
     let code = c.args.code.now in
     let limit = c.requires.playing.0 in
     let k = length code.threads in
-    (limit, k, subst (λ (xs : List AgentPlayer). AreAttending code limit c.args.shared.now.taken k (agents_of code) xs) (sym c.as_slice-2.ensures.value) c.requires.playing.1.agents)
+    (limit, k, subst (λ (xs : List AgentPlayer). AreAttending code limit k (agents_of code) xs) (sym c.as_slice-2.ensures.value) c.requires.playing.1.agents)

@@ -5,8 +5,6 @@ use Rattle.txs_machine_actor.proofs.Following.{actors_run}
 use Rattle.txs_value_cell.specs.Agents.{agents_from}
 use Rattle.txs_machine_actor.specs.Turns.{IsNew}
 use Rattle.txs_theorem_runs.proofs.Typed.{typed_stands}
-use Rattle.txs_world_book.specs.Served.{cells_of}
-use Rattle.txs_world.specs.Store.{none_taken}
 use Rattle.txs_machine.specs.Agents.{agents_of}
 use Rattle.txs_machine.specs.Playing.{IsBetween, AreBetween, AreNew}
 use Rattle.txs_machine.specs.Plays.{AreOpenedFor}
@@ -75,7 +73,7 @@ returns c =
     in
     record {
       many = xs.many;
-      agents = as_attending code c.args.max_steps (none_taken (cells_of code.cells)) c.args.threads (agents_of code) c.loop-cell.players.agents.items gs.attending;
+      agents = as_attending code c.args.max_steps c.args.threads (agents_of code) c.loop-cell.players.agents.items gs.attending;
       playing = λ s same. opened_playing actors_run code c.args.max_steps c.args.threads s c.loop-cell.players same c.requires.many xs.many xs.between xs.opened gs.attending gs.opened;
     }
 

@@ -1,12 +1,12 @@
-use Rattle.std.proofs.Common.{◌≡◌, ◌<◌, ◌+◌, ◌-◌, ℕ, length, get_or, rules, refl, sym, subst, arith}
+use Rattle.std.proofs.Common.{◌≡◌, ◌<◌, ◌+◌, ◌-◌, ℕ, length, get_or, Some, rules, refl, sym, subst, arith}
 use Rattle.std.specs.Vec.{with_item}
+use Rattle.txs_value_base.specs.Places.{nth}
 use Rattle.txs_machine.specs.Agents.{agents_of}
 use Rattle.txs_machine.specs.RunOver.{books_of}
 use Rattle.txs_machine.specs.Running.{IsAttending}
 use Rattle.txs_machine.specs.declared.player.Players.{Players}
-use Rattle.txs_machine.proofs.Laws.{keeps, traced}
-use Rattle.txs_machine.proofs.Mail.{next_may}
-use Rattle.txs_machine.proofs.PlayedAt.{thread_play_at, agent_play_at}
+use Rattle.txs_machine.proofs.Laws.{keeps, lawful, traced}
+use Rattle.txs_machine.proofs.PlayedAt.{thread_play_at, agent_may, agent_play_at}
 use Rattle.txs_machine.proofs.Playing.{between_of, nth_read}
 use Rattle.txs_machine.proofs.Together.{attending_at}
 use Rattle.txs_machine.proofs.schedule.play_at.Goals as goal
@@ -44,18 +44,24 @@ play_agent-requires-clause-attending c =
     let len : c.len-threads.result ≡ length xs = search rules in
     let within : i < length gs = omega (arith, len, c.if-at-threads.false, c.requires.there) in
     let read : x ≡ get_or gs i x = search rules in
-    let a = attending_at code c.args.max_steps c.args.shared.now.taken (length code.threads) i (agents_of code) gs x c.requires.playing.agents (nth_read gs i x within read) in
+    let a = attending_at code c.args.max_steps (length code.threads) i (agents_of code) gs x c.requires.playing.agents (nth_read gs i x within read) in
     let place : length code.threads + i ≡ c.args.k = omega (arith, len, c.if-at-threads.false, c.requires.playing.many) in
-    subst (λ g. IsAttending code g c.args.k c.args.max_steps c.args.shared.now.taken x) (sym a.2.agent) (subst (λ (n : ℕ). IsAttending code a.0 n c.args.max_steps c.args.shared.now.taken x) place a.2)
+    subst (λ g. IsAttending code g c.args.k c.args.max_steps x) (sym a.2.agent) (subst (λ (n : ℕ). IsAttending code a.0 n c.args.max_steps x) place a.2)
 
-pub play_agent-requires-clause-long : goal.play_agent-requires-clause-long
-play_agent-requires-clause-long c = c.requires.playing.long
-
--- what waits for an agent the code has sent
+-- what it comes to ask it may ask, and what waits for any agent the code has sent
 pub play_agent-requires-clause-may : goal.play_agent-requires-clause-may
-play_agent-requires-clause-may c x e =
-    next_may keeps c.args.code.now c.rooms.result.0.now c.rooms.result.1.now c.rooms.ensures c.args.shared.now c.args.players.now.threads.items c.args.players.now.agents.items c.requires.playing.run
-    c.index_mut-else-at-threads.result.now.agent x e
+play_agent-requires-clause-may c going =
+    let code = c.args.code.now in
+    let s = c.args.shared.now in
+    let xs = c.args.players.now.threads.items in
+    let gs = c.args.players.now.agents.items in
+    let x = c.index_mut-else-at-threads.result.now in
+    let i = c.args.k - c.len-threads.result in
+    let len : c.len-threads.result ≡ length xs = search rules in
+    let within : i < length gs = omega (arith, len, c.if-at-threads.false, c.requires.there) in
+    let read : x ≡ get_or gs i x = search rules in
+    let there : nth gs i ≡ Some x = nth_read gs i x within read in
+    agent_may lawful keeps code c.rooms.result.0.now c.rooms.result.1.now c.rooms.ensures c.code-own_cells.ensures.own_cells c.args.max_steps i c.args.budget s c.args.players.now x c.requires.of c.requires.playing there going
 
 pub returns-else-at-threads : goal.returns-else-at-threads
 returns-else-at-threads c =

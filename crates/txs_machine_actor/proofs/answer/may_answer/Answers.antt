@@ -112,19 +112,19 @@ not_done (ask.CloseAt c p v) n0 n1 n2 n3 n4 n5 m = n4 c p v refl
 not_done (ask.Broke c p) n0 n1 n2 n3 n4 n5 m = n5 c p refl
 
 -- only a commit and a send are refused
-not_refused : (q0 : Ask) (a : CellId) → ((p : ℕ) (ws : Writes) (es : List CellId) (q : ℕ) (cs : Writes) (xs : List Action) → q0 ≡ ask.Commit p ws es q cs xs → ⊥) → ((x : Action) → q0 ≡ ask.Send x → ⊥) → MayAnswer q0 (reply.AgentIsFailed a) → ⊥
-not_refused ask.Begin a n0 n1 m = m
-not_refused (ask.Look c p) a n0 n1 m = m
-not_refused (ask.View cs) a n0 n1 m = m
-not_refused (ask.Commit p ws es q cs xs) a n0 n1 m = n0 p ws es q cs xs refl
-not_refused (ask.Fail p q) a n0 n1 m = m
-not_refused (ask.Peek c) a n0 n1 m = m
-not_refused (ask.Send x) a n0 n1 m = n1 x refl
-not_refused (ask.Take g) a n0 n1 m = m
-not_refused (ask.Finish g new sends) a n0 n1 m = m
-not_refused (ask.OpenAt c) a n0 n1 m = m
-not_refused (ask.CloseAt c p v) a n0 n1 m = m
-not_refused (ask.Broke c p) a n0 n1 m = m
+not_refused : (q0 : Ask) (a : CellId) → ((p : ℕ) (ws : Writes) (es : List CellId) (q : ℕ) (cs : Writes) (xs : List Action) → q0 ≡ ask.Commit p ws es q cs xs → ⊥) → ((x : Action) → q0 ≡ ask.Send x → ⊥) → ((g : CellId) (new : Result Value Fault) (xs : List Action) → q0 ≡ ask.Finish g new xs → ⊥) → MayAnswer q0 (reply.AgentIsFailed a) → ⊥
+not_refused ask.Begin a n0 n1 n2 m = m
+not_refused (ask.Look c p) a n0 n1 n2 m = m
+not_refused (ask.View cs) a n0 n1 n2 m = m
+not_refused (ask.Commit p ws es q cs xs) a n0 n1 n2 m = n0 p ws es q cs xs refl
+not_refused (ask.Fail p q) a n0 n1 n2 m = m
+not_refused (ask.Peek c) a n0 n1 n2 m = m
+not_refused (ask.Send x) a n0 n1 n2 m = n1 x refl
+not_refused (ask.Take g) a n0 n1 n2 m = m
+not_refused (ask.Finish g new sends) a n0 n1 n2 m = n2 g new sends refl
+not_refused (ask.OpenAt c) a n0 n1 n2 m = m
+not_refused (ask.CloseAt c p v) a n0 n1 n2 m = m
+not_refused (ask.Broke c p) a n0 n1 n2 m = m
 
 -- only the open of an atom opens it
 not_opened : (q0 : Ask) (n : ℕ) (v0 : Value) → ((c : CellId) → q0 ≡ ask.OpenAt c → ⊥) → MayAnswer q0 (reply.Opened n v0) → ⊥
@@ -151,10 +151,11 @@ has_retry : (q0 : Ask) (d : CellId) → ((c : CellId) × (p : ℕ) × (q0 ≡ as
 has_retry q0 d (inl h) = subst (λ (q : Ask). MayAnswer q (reply.Retry d)) (sym h.2) tt
 has_retry q0 d (inr h) = subst (λ (q : Ask). MayAnswer q (reply.Retry d)) (sym h.6) tt
 
--- a commit and a send may be refused
-has_refusal : (q0 : Ask) (a : CellId) → ((p : ℕ) × (ws : Writes) × (es : List CellId) × (q : ℕ) × (cs : Writes) × (xs : List Action) × (q0 ≡ ask.Commit p ws es q cs xs)) ⊎ ((x : Action) × (q0 ≡ ask.Send x)) → MayAnswer q0 (reply.AgentIsFailed a)
+-- a commit, a send and an action may be refused
+has_refusal : (q0 : Ask) (a : CellId) → ((p : ℕ) × (ws : Writes) × (es : List CellId) × (q : ℕ) × (cs : Writes) × (xs : List Action) × (q0 ≡ ask.Commit p ws es q cs xs)) ⊎ ((x : Action) × (q0 ≡ ask.Send x)) ⊎ ((g : CellId) × (new : Result Value Fault) × (xs : List Action) × (q0 ≡ ask.Finish g new xs)) → MayAnswer q0 (reply.AgentIsFailed a)
 has_refusal q0 a (inl h) = subst (λ (q : Ask). MayAnswer q (reply.AgentIsFailed a)) (sym h.6) tt
-has_refusal q0 a (inr h) = subst (λ (q : Ask). MayAnswer q (reply.AgentIsFailed a)) (sym h.1) tt
+has_refusal q0 a (inr (inl h)) = subst (λ (q : Ask). MayAnswer q (reply.AgentIsFailed a)) (sym h.1) tt
+has_refusal q0 a (inr (inr h)) = subst (λ (q : Ask). MayAnswer q (reply.AgentIsFailed a)) (sym h.3) tt
 
 -- a commit, a fault, a send, an action and the close of an atom may be done
 may_be_done : (q0 : Ask) → ((p : ℕ) × (ws : Writes) × (es : List CellId) × (q : ℕ) × (cs : Writes) × (xs : List Action) × (q0 ≡ ask.Commit p ws es q cs xs)) ⊎ ((p : ℕ) × (q : ℕ) × (q0 ≡ ask.Fail p q)) ⊎ ((x : Action) × (q0 ≡ ask.Send x)) ⊎ ((g : CellId) × (new : Result Value Fault) × (xs : List Action) × (q0 ≡ ask.Finish g new xs)) ⊎ ((c : CellId) × (p : Option ℕ) × (v : Value) × (q0 ≡ ask.CloseAt c p v)) ⊎ ((c : CellId) × (p : ℕ) × (q0 ≡ ask.Broke c p)) → MayAnswer q0 reply.Done
@@ -178,7 +179,7 @@ pub returns-in_default-matches-2 : goal.returns-in_default-matches-2
 returns-in_default-matches-2 c = no (λ m. not_done c.args.ask.now c.in_default-matches-2.not-Commit c.in_default-matches-2.not-Fail c.in_default-matches-2.not-Send c.in_default-matches-2.not-Finish c.in_default-matches-2.not-CloseAt c.in_default-matches-2.not-Broke (subst (λ (r : Reply). MayAnswer c.args.ask.now r) c.in-Done.is m))
 
 pub returns-in_default-matches-5 : goal.returns-in_default-matches-5
-returns-in_default-matches-5 c = no (λ m. not_refused c.args.ask.now c.in-AgentIsFailed.field-0 c.in_default-matches-5.not-Commit c.in_default-matches-5.not-Send (subst (λ (r : Reply). MayAnswer c.args.ask.now r) c.in-AgentIsFailed.is m))
+returns-in_default-matches-5 c = no (λ m. not_refused c.args.ask.now c.in-AgentIsFailed.field-0 c.in_default-matches-5.not-Commit c.in_default-matches-5.not-Send c.in_default-matches-5.not-Finish (subst (λ (r : Reply). MayAnswer c.args.ask.now r) c.in-AgentIsFailed.is m))
 
 pub returns-in_default-matches-6 : goal.returns-in_default-matches-6
 returns-in_default-matches-6 c = no (λ m. not_opened c.args.ask.now c.in-Opened.field-0 c.in-Opened.field-1 c.in_default-matches-6.not-OpenAt (subst (λ (r : Reply). MayAnswer c.args.ask.now r) c.in-Opened.is m))
@@ -211,6 +212,9 @@ returns-in-Commit-matches-2 c = yes (subst (λ (r : Reply). MayAnswer c.args.ask
 
 pub returns-in-Commit-matches-2-2 : goal.returns-in-Commit-matches-2-2
 returns-in-Commit-matches-2-2 c = yes (subst (λ (r : Reply). MayAnswer c.args.ask.now r) (sym c.in-AgentIsFailed.is) (has_refusal c.args.ask.now c.in-AgentIsFailed.field-0 c.in-Commit-matches-2.is))
+
+pub returns-in-Commit-matches-2-3 : goal.returns-in-Commit-matches-2-3
+returns-in-Commit-matches-2-3 c = yes (subst (λ (r : Reply). MayAnswer c.args.ask.now r) (sym c.in-AgentIsFailed.is) (has_refusal c.args.ask.now c.in-AgentIsFailed.field-0 c.in-Commit-matches-2.is))
 
 pub returns-in-Commit : goal.returns-in-Commit
 returns-in-Commit c = yes (subst (λ (r : Reply). MayAnswer c.args.ask.now r) (sym c.in-Done.is) (may_be_done c.args.ask.now c.in-Commit.is))

@@ -1,4 +1,4 @@
-use Rattle.std.proofs.Common.{◌≡◌, ◌∙◌, ℕ, Result, Ok, Err, None, Some, ◌⊎◌, inl, inr, ap, sym, subst}
+use Rattle.std.proofs.Common.{◌≡◌, ◌∙◌, ℕ, List, Result, Ok, Err, None, Some, ◌⊎◌, inl, inr, ap, sym, subst}
 use Rattle.std.specs.Prelude.{IfErr, IfOk}
 use Rattle.txs_world_protocol.specs.declared.ask.Ask.{Ask}
 use Rattle.txs_world_protocol.specs.declared.ask.Ask.TheVariants as ask
@@ -6,6 +6,8 @@ use Rattle.txs_frame.specs.Frame.{PlainTxFrame}
 use Rattle.txs_machine_transaction.specs.Asks.{applied_in, ask_for, AskWantsMemory}
 use Rattle.txs_machine_transaction.specs.Transaction.{is_running}
 use Rattle.txs_machine_transaction.specs.declared.state.Pending.{Pending}
+use Rattle.txs_machine_transaction.specs.declared.state.Pending.TheVariants.{Hold}
+use Rattle.txs_value_cell.specs.declared.action.Action.{Action}
 use Rattle.txs_machine_transaction.specs.declared.state.Transaction.{Transaction}
 use Rattle.txs_machine_transaction.proofs.asks.ask_for.Goals as goal
 
@@ -17,6 +19,11 @@ asked tx at view w p = ask_for p (is_running tx) at view (applied_in tx) w
 of_error : {A B P : Type 0} (r : Result A B) → P → IfErr r (λ e. P)
 of_error (Ok x) p = tt
 of_error (Err e) p = p
+
+-- what is asked for, whatever sends are held
+held : (tx : Transaction) (at view : ℕ) (w : PlainTxFrame) (xs : List Action) {E : Type 0} (r : Result Ask E) → IfOk r (λ q. (ys : List Action) → q ≡ asked tx at view w (Hold ys)) → IfOk r (λ q. q ≡ asked tx at view w (Hold xs))
+held tx at view w xs (Ok q) h = h xs
+held tx at view w xs (Err e) h = h
 
 pub returns-in-Begin-clause-ask : goal.returns-in-Begin-clause-ask
 returns-in-Begin-clause-ask c = ap (asked c.args.tx.now c.args.at c.args.view c.args.frame.now) (sym c.in-Begin.is)
@@ -46,6 +53,13 @@ returns-in-Commit-clause-ask c =
 
 pub returns-in-Commit-clause-memory : goal.returns-in-Commit-clause-memory
 returns-in-Commit-clause-memory c = of_error c.ask_of_commit.result (subst AskWantsMemory (sym c.in-Commit.is) tt)
+
+pub returns-in-Hold-clause-ask : goal.returns-in-Hold-clause-ask
+returns-in-Hold-clause-ask c =
+    subst (λ (x : Ask). IfOk c.ask_to_hold.result (λ q. q ≡ x)) (ap (asked c.args.tx.now c.args.at c.args.view c.args.frame.now) (sym c.in-Hold.is)) (held c.args.tx.now c.args.at c.args.view c.args.frame.now c.in-Hold.field-0 c.ask_to_hold.result c.ask_to_hold.ensures)
+
+pub returns-in-Hold-clause-memory : goal.returns-in-Hold-clause-memory
+returns-in-Hold-clause-memory c = of_error c.ask_to_hold.result (subst AskWantsMemory (sym c.in-Hold.is) tt)
 
 pub returns-in-Fail-clause-ask : goal.returns-in-Fail-clause-ask
 returns-in-Fail-clause-ask c = ap (asked c.args.tx.now c.args.at c.args.view c.args.frame.now) (sym c.in-Fail.is)

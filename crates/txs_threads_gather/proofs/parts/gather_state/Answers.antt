@@ -21,7 +21,7 @@ returns c =
     let made : IsMadeFor code s (length ps) = (agrees.cells, agrees.threads, agrees.one_each) in
     let stands : SharedStands s.cells s.threads (shared_of s) = c.events-stands.ensures.stands in
     let staged = c.typed_threads_are_staged.ensures code _ _ c.rooms.ensures in
-    let says : SaysWell code limit s ts rs = c.by_place_explains.ensures code limit s ps ts rs staged stands agrees played threads agents in
+    let says : SaysWell code limit s ts rs = c.by_place_explains.ensures code limit s ps ts rs staged.0 staged.1 stands agrees played threads agents in
     record {
       shared = search rules;
       agrees = agrees;

@@ -2,7 +2,7 @@ use Rattle.std.proofs.Common.{rules, suc, ◌≡◌, ◌+◌, ◌-◌, ◌*◌, 
 use Rattle.std.proofs.lemmas.List.{append-nil, drop_all, length_push, length-drop, take_all}
 use Rattle.txs_world_protocol.specs.Ask.{Writes, buffered}
 use Rattle.txs_world_protocol.specs.SeenEvent.{home}
-use Rattle.txs_frame.specs.Frame.{phase_work, set_writes}
+use Rattle.txs_frame.specs.Frame.{phase_work, set_writes, sends_of_commit}
 use Rattle.txs_value_apply.specs.Core.{is_false}
 use Rattle.txs_value_cell.specs.Cells.{validators_of, validator_at}
 use Rattle.txs_value_cell.specs.Forms.{rule, cell_of}
@@ -16,7 +16,7 @@ use Rattle.txs_tree_meaning.specs.Meaning.{Completes, Waits, result_of}
 use Rattle.txs_tree_eval_node.specs.Setting.{callable, deepest, zone_in, zone_on, on_view}
 use Rattle.txs_tree_meaning.specs.Sound.{SoundCall, SoundCallee, SoundCells, SoundValidator, SoundTree, SoundAll, SoundDo, SoundLet, nodes, nodes_in, in_thread, in_dosync}
 use Rattle.txs_tree_meaning.specs.Right.{up_to}
-use Rattle.txs_tree_meaning.specs.Thread.{uneaten, reads, resets, sends}
+use Rattle.txs_tree_meaning.specs.Thread.{uneaten, reads, resets, sends_or_holds}
 use Rattle.txs_tree_meaning.specs.Transaction.{merged}
 use Rattle.txs_tree_meaning.specs.Tree.{count}
 use Rattle.txs_tree_meaning.specs.View.{tree_of, trees_of, mark_of, function_of, functions_of}
@@ -26,7 +26,7 @@ use Rattle.txs_tree_eval_node.proofs.Called.{in_room, room, room-deeper, room_on
 use Rattle.txs_tree_eval_node.proofs.Counting.{item_smaller, nodes-some, nodes-last}
 use Rattle.txs_tree_eval_node.proofs.Ending.{closes_todo, closes_other, zone_running, body_stop, body_done, body_keeps, ended_unrun, ended_closed, ends_viewed, ends_unviewed, end_stops, running, nowhere_running, joined, begun}
 use Rattle.txs_tree_eval_node.proofs.Evaluation.{halts_answers, StopsAt, collects, collects-start, cell_stop, if_stop, strict_stop, strict_done, rebound, stops_steps, stops_gives, local_done, all_more, all_stop, do_stop, do_done, locals_more, locals_stop, let_stop, let_done, loop_stop, loop_done, turn_value, turn_stop, turn_recur, take_kept, called, if_goes, args_stop, acted, const_done}
-use Rattle.txs_tree_eval_node.proofs.Forms.{IsOther, untaken_inside, untaken_outside, none_outside, refused_outside, answered, gives_at, reset_eaten, send_home, updates_ref, update_takes, update_unbegun, update_stop, update_done, update_inside, called_alone, core_done, vector_done, call_done, print_done, swap_stop, swap_done, put_inside, send_inside, put_outside, update_outside, put_takes, look_inside, look_outside, send_outside}
+use Rattle.txs_tree_eval_node.proofs.Forms.{IsOther, MeetsEvent, untaken_inside, untaken_outside, none_outside, refused_outside, answered, gives_at, reset_eaten, updates_ref, update_takes, update_unbegun, update_stop, update_done, update_inside, called_alone, core_done, vector_done, call_done, print_done, swap_stop, swap_done, put_inside, send_inside, put_outside, update_outside, put_takes, look_inside, look_outside, send_outside}
 use Rattle.txs_tree_eval_node.proofs.Leaf.{event_left}
 use Rattle.txs_tree_eval_node.proofs.Recurs.{recurs_many, never_recurs}
 use Rattle.txs_tree_eval_node.specs.Events.{seen_event}
@@ -358,17 +358,41 @@ act_outside-returns-in_err-values t c =
     λ wanted. stops_gives (λ v. v) false c.from_residual-in_err-values.result y before (outside_means x c.args.act (mark_of c.args.span wanted) c.args.value.now c.args.args.items before) stopped
     (refused_outside x c.is_sound.ensures c.deepest-inner.ensures.sound (mark_of c.args.span wanted) c.args.value.now before cell y c.args.act c.args.args.items c.requires.ready told put)
 
-pub act_outside-returns-in_err-event : goal.act_outside-returns-in_err-event
-act_outside-returns-in_err-event t c =
+pub act_outside-returns-in_err-event-in-Look : goal.act_outside-returns-in_err-event-in-Look
+act_outside-returns-in_err-event-in-Look t c =
     let x = c.args.context.now in
-    let y = c.in_err-event.field-0.0 in
+    let y = c.in_err-event-in-Look.field-0.0 in
     let cell = c.in_ok-cell.cell in
     let before = thread_state c.args.thread.now in
     let told = subst (λ f. Told (Ok cell) (result_of (cell_of (rule f) false c.args.value.now) c.args.span tt)) c.form.ensures c.in_ok-cell.ensures in
-    let stopped : c.from_residual-in_err-event.result ≡ Err y = halted c.from_residual-in_err-event.result y c.from_residual-in_err-event.ensures.1 in
+    let stopped : c.from_residual-in_err-event-in-Look.result ≡ Err y = halted c.from_residual-in_err-event-in-Look.result y c.from_residual-in_err-event-in-Look.ensures.1 in
     let put = subst (λ z. PutAccepted z c.args.act cell c.args.span c.args.args.items) c.deepest-inner.ensures.value c.in_ok-values.ensures.1 in
-    λ wanted. stops_gives (λ v. v) false c.from_residual-in_err-event.result y before (outside_means x c.args.act (mark_of c.args.span wanted) c.args.value.now c.args.args.items before) stopped
-    (none_outside x c.is_sound.ensures c.deepest-inner.ensures.sound (mark_of c.args.span wanted) c.args.value.now before cell c.args.act c.args.args.items y c.home.result refl c.home.ensures c.requires.ready told put c.in_err-event.ensures)
+    λ wanted. stops_gives (λ v. v) false c.from_residual-in_err-event-in-Look.result y before (outside_means x c.args.act (mark_of c.args.span wanted) c.args.value.now c.args.args.items before) stopped
+    (none_outside x c.is_sound.ensures c.deepest-inner.ensures.sound (mark_of c.args.span wanted) c.args.value.now before cell c.args.act c.args.args.items y c.home-book.result (subst MeetsEvent (sym c.in-Look.is) tt) c.home-book.ensures c.requires.ready told put c.in_err-event-in-Look.ensures)
+
+pub act_outside-returns-in_err-event-in-Put : goal.act_outside-returns-in_err-event-in-Put
+act_outside-returns-in_err-event-in-Put t c =
+    let x = c.args.context.now in
+    let y = c.in_err-event-in-Put.field-0.0 in
+    let cell = c.in_ok-cell.cell in
+    let before = thread_state c.args.thread.now in
+    let told = subst (λ f. Told (Ok cell) (result_of (cell_of (rule f) false c.args.value.now) c.args.span tt)) c.form.ensures c.in_ok-cell.ensures in
+    let stopped : c.from_residual-in_err-event-in-Put.result ≡ Err y = halted c.from_residual-in_err-event-in-Put.result y c.from_residual-in_err-event-in-Put.ensures.1 in
+    let put = subst (λ z. PutAccepted z c.args.act cell c.args.span c.args.args.items) c.deepest-inner.ensures.value c.in_ok-values.ensures.1 in
+    λ wanted. stops_gives (λ v. v) false c.from_residual-in_err-event-in-Put.result y before (outside_means x c.args.act (mark_of c.args.span wanted) c.args.value.now c.args.args.items before) stopped
+    (none_outside x c.is_sound.ensures c.deepest-inner.ensures.sound (mark_of c.args.span wanted) c.args.value.now before cell c.args.act c.args.args.items y c.home-book.result (subst MeetsEvent (sym c.in-Put.is) tt) c.home-book.ensures c.requires.ready told put c.in_err-event-in-Put.ensures)
+
+pub act_outside-returns-in_err-event-in-Update : goal.act_outside-returns-in_err-event-in-Update
+act_outside-returns-in_err-event-in-Update t c =
+    let x = c.args.context.now in
+    let y = c.in_err-event-in-Update.field-0.0 in
+    let cell = c.in_ok-cell.cell in
+    let before = thread_state c.args.thread.now in
+    let told = subst (λ f. Told (Ok cell) (result_of (cell_of (rule f) false c.args.value.now) c.args.span tt)) c.form.ensures c.in_ok-cell.ensures in
+    let stopped : c.from_residual-in_err-event-in-Update.result ≡ Err y = halted c.from_residual-in_err-event-in-Update.result y c.from_residual-in_err-event-in-Update.ensures.1 in
+    let put = subst (λ z. PutAccepted z c.args.act cell c.args.span c.args.args.items) c.deepest-inner.ensures.value c.in_ok-values.ensures.1 in
+    λ wanted. stops_gives (λ v. v) false c.from_residual-in_err-event-in-Update.result y before (outside_means x c.args.act (mark_of c.args.span wanted) c.args.value.now c.args.args.items before) stopped
+    (none_outside x c.is_sound.ensures c.deepest-inner.ensures.sound (mark_of c.args.span wanted) c.args.value.now before cell c.args.act c.args.args.items y c.home-book.result (subst MeetsEvent (sym c.in-Update.is) tt) c.home-book.ensures c.requires.ready told put c.in_err-event-in-Update.ensures)
 
 pub apply_callee-call-given-requires : goal.apply_callee-call-given-requires
 apply_callee-call-given-requires t c =
@@ -606,13 +630,13 @@ act_inside-returns-in-Send t c =
     subst (λ a. Gives true c.send.result (tx_state c.send.new.self) (inside_means x r a m c.args.value.now c.args.args.items (tx_state c.args.tx.now))) (sym c.in-Send.is)
     (send_inside x r m c.args.value.now (tx_state c.args.tx.now) c.in_ok-cell.cell c.send.result (tx_state c.send.new.self) c.in-Send.callee c.args.args.items told c.send.ensures)
 
-pub act_outside-returns-in-Put : goal.act_outside-returns-in-Put
-act_outside-returns-in-Put t c =
+pub act_outside-returns-in_ok-event-in-Put : goal.act_outside-returns-in_ok-event-in-Put
+act_outside-returns-in_ok-event-in-Put t c =
     let x = c.args.context.now in
     let form = c.in-Put.field-0 in
     let cell = c.in_ok-cell.cell in
-    let e = c.in_ok-event.event.now in
-    let h = c.in_ok-event.ensures in
+    let e = c.in_ok-event-in-Put.event.now in
+    let h = c.in_ok-event-in-Put.ensures in
     let before = thread_state c.args.thread.now in
     let later = thread_state c.eat-in-Put.new.self in
     let ready = subst (λ a. ReadyIn (callable x) in_thread a (length c.args.args.items)) c.in-Put.is c.requires.ready in
@@ -621,14 +645,14 @@ act_outside-returns-in-Put t c =
     let put = subst (λ z. PutAccepted z c.args.act cell c.args.span c.args.args.items) c.deepest-inner.ensures.value c.in_ok-values.ensures.1 in
     let ok = subst (λ a. PutAccepted (deepest x) a cell c.args.span c.args.args.items) c.in-Put.is put in
     let reset = subst (λ vs. AnswersAt r (with_todo h.0 before) (of_one (λ w. resets w e.kind.now (with_todo h.0 before)) vs)) c.in_ok-values.ensures.0 (c.reset_at.ensures (with_todo h.0 before)) in
-    let given = reset_eaten c.home.result (home x.cells cell) c.home.ensures e before later h r (c.eat-in-Put.ensures.eaten (seen_event e) h.0 h.1) c.args.args.items ready.1 reset in
+    let given = reset_eaten c.home-book.result (home x.cells cell) c.home-book.ensures e before later h r (c.eat-in-Put.ensures.eaten (seen_event e) h.0 h.1) c.args.args.items ready.1 reset in
     λ wanted. subst₂ (λ a q. Gives false q later (outside_means x a (mark_of c.args.span wanted) c.args.value.now c.args.args.items before)) (sym c.in-Put.is) (sym c.eat-in-Put.ensures.same)
     (put_outside x c.is_sound.ensures c.deepest-inner.ensures.sound (mark_of c.args.span wanted) c.args.value.now before cell r later form c.args.args.items ready told ok given)
 
 pub act_outside-eat-requires-in-Put : goal.act_outside-eat-requires-in-Put
 act_outside-eat-requires-in-Put t c =
-    let h = c.in_ok-event.ensures in
-    event_left c.args.thread.now (seen_event c.in_ok-event.event.now) h.0 h.1
+    let h = c.in_ok-event-in-Put.ensures in
+    event_left c.args.thread.now (seen_event c.in_ok-event-in-Put.event.now) h.0 h.1
 
 pub evaluate_let-returns-clause-value : goal.evaluate_let-returns-clause-value
 evaluate_let-returns-clause-value t c =
@@ -861,14 +885,14 @@ act_outside-swap-requires t c =
     let smaller : room x + 4 < room x + 5 = omega arith in
     (search (rules, smaller), (c.requires.world, subst (λ l. SoundCallee (callable x) c.in-Update.callee (suc (length l))) (sym (c.as_slice-args.ensures.value ∙ c.in_ok-values.ensures.0)) ready.1))
 
-pub act_outside-returns-in-Update : goal.act_outside-returns-in-Update
-act_outside-returns-in-Update t c =
+pub act_outside-returns-in_ok-event-in-Update : goal.act_outside-returns-in_ok-event-in-Update
+act_outside-returns-in_ok-event-in-Update t c =
     let x = c.args.context.now in
     let form = c.in-Update.field-0 in
     let callee = c.in-Update.callee in
     let cell = c.in_ok-cell.cell in
-    let e = c.in_ok-event.event.now in
-    let h = c.in_ok-event.ensures in
+    let e = c.in_ok-event-in-Update.event.now in
+    let h = c.in_ok-event-in-Update.ensures in
     let before = thread_state c.args.thread.now in
     let later = thread_state c.eat-in-Update.new.self in
     let vs = c.args.args.items in
@@ -876,14 +900,14 @@ act_outside-returns-in-Update t c =
     let told = subst (λ f. Told (Ok cell) (result_of (cell_of (rule f) false c.args.value.now) c.args.span tt)) (c.form.ensures ∙ ap form_of_act c.in-Update.is) c.in_ok-cell.ensures in
     let r = c.swap.result in
     let swapped = subst (λ l. AnswersAt r (with_todo h.0 before) (swap_means x callee cell l c.args.span (seen_event e) (with_todo h.0 before))) (c.as_slice-args.ensures.value ∙ c.in_ok-values.ensures.0) (c.swap.ensures (with_todo h.0 before)) in
-    let given = gives_at c.home.result (home x.cells cell) c.home.ensures (λ a s. swap_means x callee cell vs c.args.span a s) e before later h r (c.eat-in-Update.ensures.eaten (seen_event e) h.0 h.1) swapped in
+    let given = gives_at c.home-book.result (home x.cells cell) c.home-book.ensures (λ a s. swap_means x callee cell vs c.args.span a s) e before later h r (c.eat-in-Update.ensures.eaten (seen_event e) h.0 h.1) swapped in
     λ wanted. subst₂ (λ a q. Gives false q later (outside_means x a (mark_of c.args.span wanted) c.args.value.now vs before)) (sym c.in-Update.is) (sym c.eat-in-Update.ensures.same)
     (update_outside x (mark_of c.args.span wanted) c.args.value.now before cell r later form callee vs ready told given)
 
 pub act_outside-eat-requires-in-Update : goal.act_outside-eat-requires-in-Update
 act_outside-eat-requires-in-Update t c =
-    let h = c.in_ok-event.ensures in
-    event_left c.args.thread.now (seen_event c.in_ok-event.event.now) h.0 h.1
+    let h = c.in_ok-event-in-Update.ensures in
+    event_left c.args.thread.now (seen_event c.in_ok-event-in-Update.event.now) h.0 h.1
 
 pub eat_dosync-returns-clause-value : goal.eat_dosync-returns-clause-value
 eat_dosync-returns-clause-value t c =
@@ -905,13 +929,13 @@ eat_dosync-returns-clause-value t c =
     let res = c.close-given.result in
     let run = c.in-Ok.run' in
     let items : Vec (CellId × Value) Global → Writes = λ ws. ws.items in
-    let closed = closes_todo (closing items e.kind.now c.final_writes-last.result run.work.done.sends) m.span (tx_run run) h.0 res now shut c.close-given.ensures.value in
+    let closed = closes_todo (closing items e.kind.now c.final_writes-last.result (sends_of_commit now.held run.work.done.sends)) m.span (tx_run run) h.0 res now shut c.close-given.ensures.value in
     let calm = commutes_deepest x run.work.done.commutes c.in-Ok.ensures.sound in
     let last = subst (λ z. ToldOf items c.final_writes-last.result (final_means z run.work.done w m.span)) c.deepest-inner.ensures.value c.final_writes-last.ensures in
     let given = ended_closed x m body env r w before c.is_sound.ensures c.deepest-inner.ensures.sound run c.in-Ok.ensures.value calm items c.final_writes-last.result e.kind.now res (with_todo h.0 shut) last closed in
     let left = c.close-given.ensures.kept ∙ h.1 in
     let start = retried (suc reruns) (thread_state c.args.thread.now) in
-    let as_before : IsOther res → start ≡ shut = λ o. h.2 ∙ closes_other (closing items e.kind.now c.final_writes-last.result run.work.done.sends) m.span (tx_run run) res now shut c.close-given.ensures.value o in
+    let as_before : IsOther res → start ≡ shut = λ o. h.2 ∙ closes_other (closing items e.kind.now c.final_writes-last.result (sends_of_commit now.held run.work.done.sends)) m.span (tx_run run) res now shut c.close-given.ensures.value o in
     subst₂ (λ q o. Gives false q later (up_to start o)) (sym c.eat-2.ensures.same) (sym whole) (answered res (seen_event e) h.0 start shut later end left as_before (c.eat-2.ensures.eaten (seen_event e) h.0 left) given)
 
 pub eat_dosync-eat-requires : goal.eat_dosync-eat-requires
@@ -992,49 +1016,39 @@ act_inside-returns-in-Look t c =
     subst (λ a. Gives true c.look.result (tx_state c.look.new.self) (inside_means x r a m c.args.value.now c.args.args.items (tx_state c.args.tx.now))) (sym c.in-Look.is)
     (look_inside x r m c.args.value.now (tx_state c.args.tx.now) c.in_ok-cell.cell c.look.result (tx_state c.look.new.self) c.in-Look.form c.args.args.items told c.look.ensures)
 
-pub act_outside-returns-in-Look : goal.act_outside-returns-in-Look
-act_outside-returns-in-Look t c =
+pub act_outside-returns-in_ok-event-in-Look : goal.act_outside-returns-in_ok-event-in-Look
+act_outside-returns-in_ok-event-in-Look t c =
     let x = c.args.context.now in
     let form = c.in-Look.field-0 in
     let cell = c.in_ok-cell.cell in
-    let e = c.in_ok-event.event.now in
-    let h = c.in_ok-event.ensures in
+    let e = c.in_ok-event-in-Look.event.now in
+    let h = c.in_ok-event-in-Look.ensures in
     let before = thread_state c.args.thread.now in
     let later = thread_state c.eat.new.self in
     let ready = subst (λ a. ReadyIn (callable x) in_thread a (length c.args.args.items)) c.in-Look.is c.requires.ready in
     let told = subst (λ f. Told (Ok cell) (result_of (cell_of (rule f) false c.args.value.now) c.args.span tt)) (c.form.ensures ∙ ap form_of_act c.in-Look.is) c.in_ok-cell.ensures in
     let r = c.read_at.result in
-    let given = gives_at c.home.result (home x.cells cell) c.home.ensures (λ a s. reads cell a.kind a.C s) e before later h r (c.eat.ensures.eaten (seen_event e) h.0 h.1) (c.read_at.ensures (with_todo h.0 before)) in
+    let given = gives_at c.home-book.result (home x.cells cell) c.home-book.ensures (λ a s. reads cell a.kind a.C s) e before later h r (c.eat.ensures.eaten (seen_event e) h.0 h.1) (c.read_at.ensures (with_todo h.0 before)) in
     λ wanted. subst₂ (λ a q. Gives false q later (outside_means x a (mark_of c.args.span wanted) c.args.value.now c.args.args.items before)) (sym c.in-Look.is) (sym c.eat.ensures.same)
     (look_outside x (mark_of c.args.span wanted) c.args.value.now before cell r later form c.args.args.items ready told given)
 
 pub act_outside-eat-requires : goal.act_outside-eat-requires
 act_outside-eat-requires t c =
-    let h = c.in_ok-event.ensures in
-    event_left c.args.thread.now (seen_event c.in_ok-event.event.now) h.0 h.1
+    let h = c.in_ok-event-in-Look.ensures in
+    event_left c.args.thread.now (seen_event c.in_ok-event-in-Look.event.now) h.0 h.1
 
 pub act_outside-returns-in-Send : goal.act_outside-returns-in-Send
 act_outside-returns-in-Send t c =
     let x = c.args.context.now in
     let cell = c.in_ok-cell.cell in
-    let e = c.in_ok-event.event.now in
-    let h = c.in_ok-event.ensures in
     let before = thread_state c.args.thread.now in
-    let later = thread_state c.eat-in-Send.new.self in
+    let later = thread_state c.send.new.self in
     let callee = c.in-Send.callee in
     let vs = c.args.args.items in
-    let sent = subst (λ us. AnswersAt c.send_at.result (with_todo h.0 before) (sends (record { agent = cell; callee = callee; args = us; span = c.args.span }) c.args.span e.kind.now (with_todo h.0 before))) c.in_ok-values.ensures.0 (c.send_at.ensures (with_todo h.0 before)) in
+    let sent = subst (λ us. Gives false c.send.result later (up_to before (sends_or_holds before.held (record { agent = cell; callee = callee; args = us; span = c.args.span }) c.args.span before))) c.in_ok-values.ensures.0 c.send.ensures in
     let told = subst (λ f. Told (Ok cell) (result_of (cell_of (rule f) false c.args.value.now) c.args.span tt)) (c.form.ensures ∙ ap form_of_act c.in-Send.is) c.in_ok-cell.ensures in
-    let r = c.send_at.result in
-    let given = gives_at c.home.result 0 (c.home.ensures ∙ send_home x c.args.value.now c.args.span cell told) (λ a s. sends (record { agent = cell; callee = callee; args = vs; span = c.args.span }) c.args.span a.kind s) e before later h r (c.eat-in-Send.ensures.eaten (seen_event e) h.0 h.1)
-    sent in
-    λ wanted. subst₂ (λ a q. Gives false q later (outside_means x a (mark_of c.args.span wanted) c.args.value.now vs before)) (sym c.in-Send.is) (sym c.eat-in-Send.ensures.same)
-    (send_outside x (mark_of c.args.span wanted) c.args.value.now before cell r later refl callee vs told given)
-
-pub act_outside-eat-requires-in-Send : goal.act_outside-eat-requires-in-Send
-act_outside-eat-requires-in-Send t c =
-    let h = c.in_ok-event.ensures in
-    event_left c.args.thread.now (seen_event c.in_ok-event.event.now) h.0 h.1
+    λ wanted. subst (λ a. Gives false c.send.result later (outside_means x a (mark_of c.args.span wanted) c.args.value.now vs before)) (sym c.in-Send.is)
+    (send_outside x (mark_of c.args.span wanted) c.args.value.now before cell c.send.result later callee vs told sent)
 
 -- ---- what is kept, and what goes on as it is
 

@@ -1,12 +1,16 @@
-use Rattle.std.proofs.Common.{◌≡◌, ◌∙◌, None, ap, subst, refl}
+use Rattle.std.proofs.Common.{◌≡◌, ◌∙◌, None, ap, subst, sym, refl}
 use Rattle.txs_machine_transaction.specs.Transaction.{IsSwapping}
 use Rattle.txs_machine_transaction.specs.declared.state.Transaction.TheVariants.{Running}
 use Rattle.txs_machine_actor.specs.PlainActor.{PlainActor, end_again}
+use Rattle.txs_machine_actor.specs.Turns.{HasJudged}
 use Rattle.txs_machine_actor.proofs.Trying.{end_next, end_last}
 use Rattle.txs_machine_actor.proofs.actor.Actor.end_again.Goals as goal
 
 pub returns-then-opens_again : goal.returns-then-opens_again
 returns-then-opens_again c = c.opens_again.ensures.open c.if-opens_again.true
+
+pub next_try-requires : goal.next_try-requires
+next_try-requires c = subst (λ (a : PlainActor). HasJudged a.role) (sym (c.opens_again.ensures.left c.if-opens_again.false)) c.requires
 
 pub returns-in_default : goal.returns-in_default
 returns-in_default c =

@@ -69,8 +69,8 @@ returns-in-Asks c =
     let k = x.stack in
     let a : PlainActor = record { number = x.number; role = x.role; body = k.body; frames = k.frames; locals = k.locals; place = k.place; values = k.values; printed = x.printed.items; at = x.at; view = x.view; done = x.frame; commuting = x.commuting; accepted = x.accepted; tx = x.tx; pending = x.pending; outcome = x.outcome; steps = x.steps; limit = x.limit; room = k.room } in
     let m = c.transact_rarely-moved in
-    made (validators_of c.args.cells.now) c.args.self.now a c.args.instr c.args.span c.args.next c.take-tx.result m.result (moved.Asks c.in-Asks.pending) m.new.stack m.new.tx c.put.new.self m.new.frame m.new.commuting c.ask.new.turn c.ask.new.self
-    c.self.view_is c.take-tx.ensures.taken m.ensures.rest m.ensures.comes c.in-Asks.is c.put.ensures c.ask.ensures
+    made (validators_of c.args.cells.now) c.args.self.now a c.args.instr c.args.span c.args.next c.take-tx.result m.result (moved.Asks c.in-Asks.pending) m.new.stack m.new.tx c.put.new.self m.new.frame m.new.commuting c.ask_wanted.new.turn c.ask_wanted.new.self
+    c.self.view_is c.take-tx.ensures.taken m.ensures.rest m.ensures.comes c.in-Asks.is c.put.ensures c.ask_wanted.ensures
 
 pub returns-in-Sends : goal.returns-in-Sends
 returns-in-Sends c =

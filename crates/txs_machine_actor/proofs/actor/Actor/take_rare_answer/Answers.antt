@@ -3,10 +3,10 @@ use Rattle.txs_world_protocol.specs.declared.ask.Reply.{Reply}
 use Rattle.txs_world_protocol.specs.declared.ask.Reply.TheVariants as reply
 use Rattle.txs_world_protocol.specs.declared.event.Outcome.TheVariants as outcome
 use Rattle.txs_machine_transaction.specs.declared.state.Pending.{Pending}
-use Rattle.txs_machine_transaction.specs.declared.state.Pending.TheVariants.{Begin, Read, Ensure, Open, View, Reset, Send, Swap, Close, Commit, Fail, Broke, Take, Finish}
+use Rattle.txs_machine_transaction.specs.declared.state.Pending.TheVariants.{Begin, Read, Ensure, Open, View, Reset, Send, Swap, Close, Commit, Hold, Fail, Broke, Take, Finish}
 use Rattle.txs_value_data.specs.declared.value.CellId.{CellId}
 use Rattle.txs_machine_actor.specs.PlainActor.{PlainActor, answered, answered_if, run_again, stops_as}
-use Rattle.txs_machine_actor.specs.Turns.{TakesAnswer}
+use Rattle.txs_machine_actor.specs.Turns.{HasJudged, TakesAnswer}
 use Rattle.txs_machine_actor.proofs.actor.Actor.take_rare_answer.Goals as goal
 
 -- a full book ends the actor
@@ -22,6 +22,7 @@ full a many (Some (Send x n)) w = refl
 full a many (Some (Swap c n from)) w = refl
 full a many (Some (Close c p v)) w = refl
 full a many (Some Commit) w = refl
+full a many (Some (Hold xs)) w = refl
 full a many (Some (Fail f)) w = refl
 full a many (Some (Broke c p f)) w = refl
 full a many (Some (Take g)) w = refl
@@ -40,6 +41,7 @@ memory a many (Some (Send x n)) w = refl
 memory a many (Some (Swap c n from)) w = refl
 memory a many (Some (Close c p v)) w = refl
 memory a many (Some Commit) w = refl
+memory a many (Some (Hold xs)) w = refl
 memory a many (Some (Fail f)) w = refl
 memory a many (Some (Broke c p f)) w = refl
 memory a many (Some (Take g)) w = refl
@@ -58,10 +60,60 @@ again a many d (Some (Send x n)) w = absurd w
 again a many d (Some (Swap c n from)) w = absurd w
 again a many d (Some (Close c p v)) w = absurd w
 again a many d (Some Commit) w = refl
+again a many d (Some (Hold xs)) w = refl
 again a many d (Some (Fail f)) w = absurd w
 again a many d (Some (Broke c p f)) w = absurd w
 again a many d (Some (Take g)) w = absurd w
 again a many d (Some (Finish g new)) w = absurd w
+
+-- where a transaction runs again, or ends again, the value at which an agent's validator looks is there
+judged_again : (a : PlainActor) (many : ℕ) (d : CellId) (o : Option Pending) → TakesAnswer a many o (reply.Retry d) → HasJudged a.role
+judged_again a many d None w = absurd w
+judged_again a many d (Some (Begin left from)) w = absurd w
+judged_again a many d (Some (Read c)) w = w
+judged_again a many d (Some (Ensure c es)) w = w
+judged_again a many d (Some (Open c n kept)) w = w
+judged_again a many d (Some (View phase)) w = absurd w
+judged_again a many d (Some (Reset c v)) w = absurd w
+judged_again a many d (Some (Send x n)) w = absurd w
+judged_again a many d (Some (Swap c n from)) w = absurd w
+judged_again a many d (Some (Close c p v)) w = absurd w
+judged_again a many d (Some Commit) w = w
+judged_again a many d (Some (Hold xs)) w = w
+judged_again a many d (Some (Fail f)) w = absurd w
+judged_again a many d (Some (Broke c p f)) w = absurd w
+judged_again a many d (Some (Take g)) w = absurd w
+judged_again a many d (Some (Finish g new)) w = absurd w
+
+judged_changed : (a : PlainActor) (many : ℕ) (d : CellId) (o : Option Pending) → TakesAnswer a many o (reply.Changed d) → HasJudged a.role
+judged_changed a many d None w = absurd w
+judged_changed a many d (Some (Begin left from)) w = absurd w
+judged_changed a many d (Some (Read c)) w = absurd w
+judged_changed a many d (Some (Ensure c es)) w = absurd w
+judged_changed a many d (Some (Open c n kept)) w = absurd w
+judged_changed a many d (Some (View phase)) w = absurd w
+judged_changed a many d (Some (Reset c v)) w = absurd w
+judged_changed a many d (Some (Send x n)) w = absurd w
+judged_changed a many d (Some (Swap c n from)) w = absurd w
+judged_changed a many d (Some (Close c p v)) w = w
+judged_changed a many d (Some Commit) w = w
+judged_changed a many d (Some (Hold xs)) w = w
+judged_changed a many d (Some (Fail f)) w = absurd w
+judged_changed a many d (Some (Broke c p f)) w = absurd w
+judged_changed a many d (Some (Take g)) w = absurd w
+judged_changed a many d (Some (Finish g new)) w = absurd w
+
+pub run_again-requires : goal.run_again-requires
+run_again-requires c =
+    let a = c.args.self.now in
+    let many = length c.args.instrs.now in
+    judged_again a many c.in-Retry.field-0 a.pending (subst (λ (r : Reply). TakesAnswer a many a.pending r) c.in-Retry.is c.requires.takes)
+
+pub end_again-requires : goal.end_again-requires
+end_again-requires c =
+    let a = c.args.self.now in
+    let many = length c.args.instrs.now in
+    judged_changed a many c.in-Changed.field-0 a.pending (subst (λ (r : Reply). TakesAnswer a many a.pending r) c.in-Changed.is c.requires.takes)
 
 pub returns-in-Full : goal.returns-in-Full
 returns-in-Full c =

@@ -2,10 +2,9 @@ use Rattle.std.proofs.Common.{◌≡◌, ◌<◌, ◌≤◌, ◌+◌, ◌∷◌,
 use Rattle.std.specs.Prelude.{◌↔◌, IsTrue}
 use Rattle.std.proofs.lemmas.Bool.{false≢true}
 use Rattle.std.proofs.lemmas.List.{drop_all, drop_more}
-use Rattle.txs_world_shared.specs.SharedState.{shared_of, numbered_book}
+use Rattle.txs_world_shared.specs.SharedState.{numbered_book}
 use Rattle.txs_threads_replay.specs.Agrees.{AllClaimed, IsClaimed, LeftAgree}
-use Rattle.txs_threads_replay.specs.ByPlace.{HoldsByPlace, next_place, place_of}
-use Rattle.txs_threads_replay.specs.Fits.{LooksAt}
+use Rattle.txs_threads_replay.specs.ByPlace.{in_turn, HoldsByPlace}
 use Rattle.txs_threads_replay.specs.Storing.{kept_in}
 use Rattle.txs_threads_replay.specs.declared.kept.KeptEntry.{KeptEntry}
 use Rattle.txs_threads_replay.proofs.Agreeing.{looks_of, in_turn_of, left_next, left_back, unclaimed, left_all, left_none, dropped_at, zero_at}
@@ -28,10 +27,10 @@ returns-then-not-in_turn c =
     let within : i < length c.args.kept.now = search rules in
     let here : drop i c.args.kept.now ≡ k ∷ ks = dropped_at c.args.kept.now i k within c.get-one.ensures in
     let to = λ (h : HoldsByPlace s a c.args.kept.now). subst (LeftAgree s a c.loop-i.held c.loop-i.taken.items) here (c.loop-i.invariant.to h) in
-    no (λ h. false≢true (sym c.if-not-in_turn.true ∙ c.in_turn.ensures ∙ in_turn_of s a c.loop-i.held c.loop-i.taken.items k ks (to h)))
+    no (λ h. false≢true (sym c.if-not-in_turn.true ∙ c.in_turn.ensures ∙ ap (λ b. in_turn b c.loop-i.held k.ask) c.is_agent-agent.ensures ∙ in_turn_of s a c.loop-i.held c.loop-i.taken.items k ks (to h)))
 
-pub returns-then-not-fits : goal.returns-then-not-fits
-returns-then-not-fits c =
+pub returns-then-not-fits_at : goal.returns-then-not-fits_at
+returns-then-not-fits_at c =
     let s = c.args.self.now in
     let a = c.args.actor in
     let i = c.loop-i.i in
@@ -40,8 +39,8 @@ returns-then-not-fits c =
     let within : i < length c.args.kept.now = search rules in
     let here : drop i c.args.kept.now ≡ k ∷ ks = dropped_at c.args.kept.now i k within c.get-one.ensures in
     let to = λ (h : HoldsByPlace s a c.args.kept.now). subst (LeftAgree s a c.loop-i.held c.loop-i.taken.items) here (c.loop-i.invariant.to h) in
-    let fits = subst (λ n. IsTrue c.fits.result ↔ LooksAt s a k.ask (place_of s.cells (shared_of s).books k.at n k.ask k.reply) k.reply) c.next_place-next.ensures c.fits.ensures in
-    no (λ h. isnt fits c.if-not-fits.true (looks_of s a c.loop-i.held c.loop-i.taken.items k ks (to h)))
+    let fits = c.fits_at.ensures k c.get-one.ensures in
+    no (λ h. isnt fits c.if-not-fits_at.true (looks_of s a c.loop-i.held c.loop-i.taken.items k ks (to h)))
 
 pub returns-then-not-claim : goal.returns-then-not-claim
 returns-then-not-claim c =
@@ -66,14 +65,14 @@ loop-i-preserved c =
     let within : i < length c.args.kept.now = search rules in
     let here : drop i c.args.kept.now ≡ k ∷ ks = dropped_at c.args.kept.now i k within c.get-one.ensures in
     let to = λ (h : HoldsByPlace s a c.args.kept.now). subst (LeftAgree s a c.loop-i.held c.loop-i.taken.items) here (c.loop-i.invariant.to h) in
-    let fits = subst (λ n. IsTrue c.fits.result ↔ LooksAt s a k.ask (place_of s.cells (shared_of s).books k.at n k.ask k.reply) k.reply) c.next_place-next.ensures c.fits.ensures in
+    let fits = c.fits_at.ensures k c.get-one.ensures in
     let claimed = subst (λ b. IsClaimed s a k b c.loop-i.taken.items c.claim.new.taken.items) c.if-not-claim.false c.claim.ensures in
-    let turn = sym c.in_turn.ensures ∙ c.if-not-in_turn.false in
+    let turn = sym (c.in_turn.ensures ∙ ap (λ b. in_turn b c.loop-i.held k.ask) c.is_agent-agent.ensures) ∙ c.if-not-in_turn.false in
     record {
       many = claimed.0 ∙ c.loop-i.invariant.many;
       to = λ h. subst (λ b. LeftAgree s a b c.claim.new.taken.items ks) (sym c.held_after-held.ensures) (left_next s a c.loop-i.held c.loop-i.taken.items k ks c.claim.new.taken.items claimed (to h));
       back = λ h. c.loop-i.invariant.back (subst (LeftAgree s a c.loop-i.held c.loop-i.taken.items) (sym here)
-          (left_back s a c.loop-i.held c.loop-i.taken.items k ks c.claim.new.taken.items claimed (fits.0 c.if-not-fits.false) turn (subst (λ b. LeftAgree s a b c.claim.new.taken.items ks) c.held_after-held.ensures h)));
+          (left_back s a c.loop-i.held c.loop-i.taken.items k ks c.claim.new.taken.items claimed (fits.0 c.if-not-fits_at.false) turn (subst (λ b. LeftAgree s a b c.claim.new.taken.items ks) c.held_after-held.ensures h)));
     }
 
 pub returns : goal.returns

@@ -16,7 +16,7 @@ use Rattle.txs_threads_replay.proofs.Parting.{test_so}
 use Rattle.txs_value_data.proofs.SameLemmas.{and_both}
 use Rattle.txs_world_protocol.specs.SeenEvent.{home}
 use Rattle.txs_world_book.specs.Atom.{swapped_since}
-use Rattle.txs_world_book.specs.Book.{may_name}
+use Rattle.txs_world_book.specs.Book.{actors, may_name}
 use Rattle.txs_threads_replay.specs.ByPlace.{after_swap}
 use Rattle.txs_world_protocol.specs.declared.event.Event.{Event}
 use Rattle.txs_threads_replay.proofs.index.Index.changed.Goals as goal
@@ -24,8 +24,8 @@ use Rattle.txs_threads_replay.proofs.index.Index.changed.Goals as goal
 pub returns-then-not-same_cell : goal.returns-then-not-same_cell
 returns-then-not-same_cell c = no (λ l. isnt c.same_cell.ensures.equal c.if-not-same_cell.true (changed_from c.args.self.now c.shared-stands.ensures.stands c.args.actor c.args.cell (after_swap c.args.place (numbered_book c.args.self.now (home c.args.self.now.cells c.args.cell))) c.args.place c.args.new.now c.args.changed l).0)
 
-pub returns-then-actor-threads : goal.returns-then-actor-threads
-returns-then-actor-threads c = no (λ l. let lt = (changed_from c.args.self.now c.shared-stands.ensures.stands c.args.actor c.args.cell (after_swap c.args.place (numbered_book c.args.self.now (home c.args.self.now.cells c.args.cell))) c.args.place c.args.new.now c.args.changed l).1 in let ge = c.if-actor-threads.true in let n = c.threads.ensures in omega (arith, lt, ge, n))
+pub returns-then-from-actors : goal.returns-then-from-actors
+returns-then-from-actors c = no (λ l. let lt = (changed_from c.args.self.now c.shared-stands.ensures.stands c.args.actor c.args.cell (after_swap c.args.place (numbered_book c.args.self.now (home c.args.self.now.cells c.args.cell))) c.args.place c.args.new.now c.args.changed l).1 in let ge = c.if-from-actors.true in let n = c.actors.ensures in let f = c.from.ensures in omega (arith, lt, ge, n, f))
 
 pub returns-then-not-has_atom : goal.returns-then-not-has_atom
 returns-then-not-has_atom c = no (λ l. false≢true (sym c.if-not-has_atom.true ∙ c.has_atom.ensures ∙ (changed_from c.args.self.now c.shared-stands.ensures.stands c.args.actor c.args.cell (after_swap c.args.place (numbered_book c.args.self.now (home c.args.self.now.cells c.args.cell))) c.args.place c.args.new.now c.args.changed l).2))
@@ -42,7 +42,7 @@ returns-in-Some c =
     let book = numbered_book c.args.self.now (home c.args.self.now.cells c.args.cell) in
     let same : c.args.changed ≡ c.args.cell = c.same_cell.ensures.equal.0 c.if-not-same_cell.false in
     let has = sym c.has_atom.ensures ∙ c.if-not-has_atom.false in
-    let lt : c.args.actor < c.args.self.now.threads = (let ge = c.if-actor-threads.false in let n = c.threads.ensures in omega (arith, ge, n)) in
+    let lt : c.args.actor < actors c.args.self.now.threads (cells_of c.args.self.now.cells) = (let ge = c.if-from-actors.false in let n = c.actors.ensures in let f = c.from.ensures in omega (arith, ge, n, f)) in
     let is : c.in-Some.behind ≡ after_swap p book = c.in-Some.ensures.some.0 ∙ ap (after_swap p) c.atom_of-atom.ensures in
     let found = subst (λ k. swapped_since p (take k book) ≡ true) is (subst (λ (es : List Event). swapped_since p (take c.in-Some.behind es) ≡ true) c.atom_of-atom.ensures c.in-Some.ensures.some.1) in
     let le = subst (λ k. k ≤ length book) is (subst (λ (es : List Event). c.in-Some.behind ≤ length es) c.atom_of-atom.ensures c.in-Some.ensures.some.2) in

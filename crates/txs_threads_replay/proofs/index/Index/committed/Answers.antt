@@ -18,7 +18,7 @@ use Rattle.txs_world.proofs.Zipping.{ascend_refs}
 use Rattle.txs_threads_replay.proofs.index.Index.committed.Goals as goal
 
 pub is_commit-requires-clause-ascend : goal.is_commit-requires-clause-ascend
-is_commit-requires-clause-ascend c = ascend_refs (cells_of c.args.self.now.cells) 0 c.args.end.commuted.now c.requires.2
+is_commit-requires-clause-ascend c = ascend_refs (cells_of c.args.self.now.cells) 0 c.args.end.commuted.now c.requires.3
 
 pub returns-then-not-is_commit : goal.returns-then-not-is_commit
 returns-then-not-is_commit c = no (λ l. isnt (subst (λ es. IsTrue c.is_commit.result ↔ (nth es c.args.own ≡ Some (event_of c.args.actor (event.Commit c.args.end.at c.args.end.view (merged c.args.end.sets.now c.args.end.commuted.now) c.args.end.sends.now)))) c.events.ensures c.is_commit.ensures) c.if-not-is_commit.true (commit_there c.args.self.now c.shared-stands.ensures.stands c.args.actor c.args.end.at c.args.end.sets.now c.args.end.ensured.now c.args.end.view c.args.end.commuted.now c.args.end.sends.now c.args.own reply.Done tt l))

@@ -1,7 +1,7 @@
 use Rattle.std.proofs.Common.{◌≡◌, sym, subst, true}
 use Rattle.txs_world_book.specs.Book.{cells_in, has_refs, are_sends}
 use Rattle.txs_world.specs.declared.commit.End.TheVariants.{Reruns, Redoes, Refuses, Commits}
-use Rattle.txs_world.proofs.Answering.{ended_as, commit_ends}
+use Rattle.txs_world.proofs.Answering.{ended_as, ended_by_actor, refused_by_thread, commit_ends}
 use Rattle.txs_world.proofs.Merging.{refs_has}
 use Rattle.txs_world.proofs.Serves.{lawful_commit}
 use Rattle.txs_world.proofs.Zipping.{ascend_refs}
@@ -17,6 +17,18 @@ test-end-requires c =
       commuted = refs_has s.cells 0 (cells_in c.args.commuted.now) l.refs_commuted;
       sends = subst (λ xs. are_sends s.cells xs ≡ true) (sym c.as_slice-2.ensures) l.to_agents;
     }
+
+pub rerun-requires-clause-actor : goal.rerun-requires-clause-actor
+rerun-requires-clause-actor c = ended_by_actor c.args.self.now c.args.actor c.args.at c.args.view c.args.sets c.args.commuted.now c.args.ensured.now c.args.sends c.requires
+
+pub tell-requires-clause-made : goal.tell-requires-clause-made
+tell-requires-clause-made c = ended_by_actor c.args.self.now c.args.actor c.args.at c.args.view c.args.sets c.args.commuted.now c.args.ensured.now c.args.sends c.requires
+
+pub tell-requires-in-Refuses-clause-made : goal.tell-requires-in-Refuses-clause-made
+tell-requires-in-Refuses-clause-made c = refused_by_thread c.args.self.now c.args.actor c.args.at c.args.view c.args.sets c.args.commuted.now c.args.ensured.now c.args.sends c.as_slice-2.result.now c.in-Refuses.agent c.requires c.as_slice-2.ensures c.in-Refuses.ensures.2
+
+pub done-requires-clause-made : goal.done-requires-clause-made
+done-requires-clause-made c = (lawful_commit c.args.self.now c.args.actor c.args.at c.args.view c.args.sets c.args.commuted.now c.args.ensured.now c.args.sends c.requires).maker
 
 pub rerun-requires-clause-legal : goal.rerun-requires-clause-legal
 rerun-requires-clause-legal c = ended_as c.args.self.now c.args.actor c.args.at c.args.view c.args.sets c.as_slice.result.now c.args.commuted.now c.args.ensured.now c.args.sends c.as_slice-2.result.now (Reruns c.in-Reruns.cell) c.requires c.as_slice.ensures c.as_slice-2.ensures c.in-Reruns.ensures

@@ -14,6 +14,9 @@ returns-then-is_full c = told_full c.args.self.now c.args.actor (Commit c.args.a
 pub write-requires-clause-room : goal.write-requires-clause-room
 write-requires-clause-room c = has_room c.is_full.result (length c.args.self.now.book) most_events c.is_full.ensures c.if-is_full.false
 
+pub write-requires-clause-made : goal.write-requires-clause-made
+write-requires-clause-made c = c.requires.made
+
 pub write-requires-clause-legal : goal.write-requires-clause-legal
 write-requires-clause-legal c = let s = c.args.self.now in subst (λ ws. LegalKind s.cells s.book c.args.actor (Commit c.args.at c.args.view ws c.args.sends)) (sym c.in-Ok.ensures) c.requires.legal
 

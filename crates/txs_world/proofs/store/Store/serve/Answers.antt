@@ -1,13 +1,17 @@
-use Rattle.std.proofs.Common.{◌≡◌, ◌&&◌, ℕ, Bool, ap, false, length, map, not, refl, subst, sym, true}
+use Rattle.std.proofs.Common.{◌≡◌, ◌&&◌, ℕ, Bool, List, Result, ap, false, length, map, not, refl, subst, sym, true}
 use Rattle.txs_world_protocol.specs.declared.ask.Ask.{Ask}
 use Rattle.txs_world_protocol.specs.declared.ask.Ask.TheVariants as ask
 use Rattle.txs_world_protocol.specs.declared.ask.Reply.{Reply}
 use Rattle.txs_world_protocol.specs.declared.ask.Reply.TheVariants as reply
-use Rattle.txs_world_book.specs.Book.{has_agent, has_ref, may_name, opening, newest, has_refs, is_empty}
+use Rattle.txs_value_base.specs.declared.fault.Fault.{Fault}
+use Rattle.txs_value_cell.specs.declared.action.Action.{Action}
+use Rattle.txs_value_data.specs.declared.value.CellId.{CellId}
+use Rattle.txs_value_data.specs.declared.value.Value.{Value}
+use Rattle.txs_world_book.specs.Book.{has_agent, has_ref, may_name, opening, newest, has_refs}
 use Rattle.txs_world.specs.Store.{PlainStore, has_named, is_lawful, is_taken, may_ask, serve, store_after, Answers, Replies}
 use Rattle.txs_world_book.specs.Served.{served}
 use Rattle.txs_world_book.proofs.Outcomes.{both}
-use Rattle.txs_world.proofs.Serves.{lawful}
+use Rattle.txs_world.proofs.Serves.{lawful, LawfulEnd, lawful_end}
 use Rattle.txs_world.proofs.store.Store.serve.Goals as goal
 
 -- what an ask is that may be asked
@@ -17,6 +21,10 @@ asked s a q r h e = lawful s a r (subst (λ x. is_lawful s a x ≡ true) e h)
 -- it is answered as what it is
 by_kind : (s t : PlainStore) (a : ℕ) (q r : Ask) (p : Reply) → q ≡ r → Answers s (serve s.cells a r s.book) (store_after s r (serve s.cells a r s.book)) p t → Answers s (serve s.cells a q s.book) (store_after s q (serve s.cells a q s.book)) p t
 by_kind s t a q r p e h = subst (λ x. Answers s (serve s.cells a x s.book) (store_after s x (serve s.cells a x s.book)) p t) (sym e) h
+
+-- what the end of an action is that may be asked
+ends : (s : PlainStore) (a : ℕ) (q : Ask) (g : CellId) (new : Result Value Fault) (sends : List Action) → is_lawful s a q ≡ true → q ≡ ask.Finish g new sends → LawfulEnd s g new sends
+ends s a q g new sends h e = lawful_end s a g new sends (asked s a q (ask.Finish g new sends) h e).1
 
 not_so : (b : Bool) → not b ≡ true → b ≡ false
 not_so true e = sym e
@@ -29,8 +37,8 @@ returns-in-View c =
     subst (λ q. Answers s (serve s.cells a q s.book) (store_after s q (serve s.cells a q s.book)) c.view.result s) (sym c.in-View.is)
     (subst (λ l. Replies s (served (reply.Views (length s.book) (map (λ d. newest (opening s.cells) s.book d.number) l)) s.book) c.view.result s) c.as_slice.ensures c.view.ensures)
 
-pub look-requires-clause-thread : goal.look-requires-clause-thread
-look-requires-clause-thread c = (asked c.args.self.now c.args.actor c.args.ask (ask.Look c.in-Look.cell c.in-Look.at) c.requires c.in-Look.is).0
+pub look-requires-clause-actor : goal.look-requires-clause-actor
+look-requires-clause-actor c = (asked c.args.self.now c.args.actor c.args.ask (ask.Look c.in-Look.cell c.in-Look.at) c.requires c.in-Look.is).0
 
 pub look-requires-clause-cell : goal.look-requires-clause-cell
 look-requires-clause-cell c = let s = c.args.self.now in (both (has_ref s.cells c.in-Look.cell) (may_name false s.book c.args.actor c.in-Look.at) (asked c.args.self.now c.args.actor c.args.ask (ask.Look c.in-Look.cell c.in-Look.at) c.requires c.in-Look.is).1).0
@@ -38,14 +46,14 @@ look-requires-clause-cell c = let s = c.args.self.now in (both (has_ref s.cells 
 pub look-requires-clause-place : goal.look-requires-clause-place
 look-requires-clause-place c = let s = c.args.self.now in (both (has_ref s.cells c.in-Look.cell) (may_name false s.book c.args.actor c.in-Look.at) (asked c.args.self.now c.args.actor c.args.ask (ask.Look c.in-Look.cell c.in-Look.at) c.requires c.in-Look.is).1).1
 
-pub fail-requires-clause-thread : goal.fail-requires-clause-thread
-fail-requires-clause-thread c = (asked c.args.self.now c.args.actor c.args.ask (ask.Fail c.in-Fail.at c.in-Fail.view) c.requires c.in-Fail.is).0
+pub fail-requires-clause-actor : goal.fail-requires-clause-actor
+fail-requires-clause-actor c = (asked c.args.self.now c.args.actor c.args.ask (ask.Fail c.in-Fail.at c.in-Fail.view) c.requires c.in-Fail.is).0
 
 pub fail-requires-clause-ends : goal.fail-requires-clause-ends
 fail-requires-clause-ends c = (asked c.args.self.now c.args.actor c.args.ask (ask.Fail c.in-Fail.at c.in-Fail.view) c.requires c.in-Fail.is).1
 
-pub peek-requires-clause-thread : goal.peek-requires-clause-thread
-peek-requires-clause-thread c = (asked c.args.self.now c.args.actor c.args.ask (ask.Peek c.in-Peek.cell) c.requires c.in-Peek.is).0
+pub peek-requires-clause-actor : goal.peek-requires-clause-actor
+peek-requires-clause-actor c = (asked c.args.self.now c.args.actor c.args.ask (ask.Peek c.in-Peek.cell) c.requires c.in-Peek.is).0
 
 pub peek-requires-clause-cell : goal.peek-requires-clause-cell
 peek-requires-clause-cell c = (asked c.args.self.now c.args.actor c.args.ask (ask.Peek c.in-Peek.cell) c.requires c.in-Peek.is).1
@@ -66,21 +74,16 @@ pub finish-requires-clause-own : goal.finish-requires-clause-own
 finish-requires-clause-own c = (asked c.args.self.now c.args.actor c.args.ask (ask.Finish c.in-Finish.agent c.in-Finish.new c.in-Finish.sends) c.requires c.in-Finish.is).0
 
 pub finish-requires-clause-agent : goal.finish-requires-clause-agent
-finish-requires-clause-agent c = let s = c.args.self.now in (both (has_agent s.cells c.in-Finish.agent) (is_taken s.taken c.in-Finish.agent && is_empty c.in-Finish.sends) (asked c.args.self.now c.args.actor c.args.ask (ask.Finish c.in-Finish.agent c.in-Finish.new c.in-Finish.sends) c.requires c.in-Finish.is).1).0
+finish-requires-clause-agent c = (ends c.args.self.now c.args.actor c.args.ask c.in-Finish.agent c.in-Finish.new c.in-Finish.sends c.requires c.in-Finish.is).agent
 
 pub finish-requires-clause-taken : goal.finish-requires-clause-taken
-finish-requires-clause-taken c =
-    let s = c.args.self.now in
-    let h = both (has_agent s.cells c.in-Finish.agent) (is_taken s.taken c.in-Finish.agent && is_empty c.in-Finish.sends)
-    (asked s c.args.actor c.args.ask (ask.Finish c.in-Finish.agent c.in-Finish.new c.in-Finish.sends) c.requires c.in-Finish.is).1 in
-    (both (is_taken s.taken c.in-Finish.agent) (is_empty c.in-Finish.sends) h.1).0
+finish-requires-clause-taken c = (ends c.args.self.now c.args.actor c.args.ask c.in-Finish.agent c.in-Finish.new c.in-Finish.sends c.requires c.in-Finish.is).taken
 
-pub finish-requires-clause-none : goal.finish-requires-clause-none
-finish-requires-clause-none c =
-    let s = c.args.self.now in
-    let h = both (has_agent s.cells c.in-Finish.agent) (is_taken s.taken c.in-Finish.agent && is_empty c.in-Finish.sends)
-    (asked s c.args.actor c.args.ask (ask.Finish c.in-Finish.agent c.in-Finish.new c.in-Finish.sends) c.requires c.in-Finish.is).1 in
-    (both (is_taken s.taken c.in-Finish.agent) (is_empty c.in-Finish.sends) h.1).1
+pub finish-requires-clause-held : goal.finish-requires-clause-held
+finish-requires-clause-held c = (ends c.args.self.now c.args.actor c.args.ask c.in-Finish.agent c.in-Finish.new c.in-Finish.sends c.requires c.in-Finish.is).held
+
+pub finish-requires-clause-to_agents : goal.finish-requires-clause-to_agents
+finish-requires-clause-to_agents c = (ends c.args.self.now c.args.actor c.args.ask c.in-Finish.agent c.in-Finish.new c.in-Finish.sends c.requires c.in-Finish.is).to_agents
 
 pub returns-in-Look : goal.returns-in-Look
 returns-in-Look c = by_kind c.args.self.now c.look.new.self c.args.actor c.args.ask (ask.Look c.in-Look.cell c.in-Look.at) c.look.result c.in-Look.is c.look.ensures

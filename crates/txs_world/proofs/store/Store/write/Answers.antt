@@ -52,7 +52,7 @@ invariant_of-self-in-Ok-add c =
     let room : length x.journal.book.items < most_events = subst (λ (s : PlainStore). length s.book < most_events) (sym c.self.view_is) c.requires.room in
     let legal : LegalKind x.cells x.journal.book.items c.args.actor d = subst (λ (s : PlainStore). LegalKind s.cells s.book c.args.actor d) (sym c.self.view_is) c.requires.legal in
     let guarded : Guarded x.journal.book.items d = subst (λ (s : PlainStore). Guarded s.book d) (sym c.self.view_is) c.requires.guarded in
-    let made : makes x.cells x.threads c.args.actor d ≡ true = subst (λ (s : PlainStore). makes s.cells s.threads c.args.actor d ≡ true) (sym c.self.view_is) c.requires.thread in
+    let made : makes x.cells x.threads c.args.actor d ≡ true = subst (λ (s : PlainStore). makes s.cells s.threads c.args.actor d ≡ true) (sym c.self.view_is) c.requires.made in
     committed x.cells x.threads x.slots.items c.put_all.new.slots.items bs (plain_inboxes c.mail_all.new.inboxes.items) x.journal.views.items x.journal.tries.items c.add.new.self.views.items c.add.new.self.tries.items x.journal.book.items c.add.new.self.book.items
     c.args.actor c.in-Ok-add.events c.args.at c.args.view c.args.writes c.args.sends c.self.invariant room made legal guarded c.in-Ok-add.ensures.views c.in-Ok-add.ensures.tries c.in-Ok-add.ensures.added c.in-Ok-add.ensures.many
     (c.put_all.ensures ∙ ap (put_all c.in-Ok-add.events x.slots.items) c.in-Ok.ensures.copies)
