@@ -1,4 +1,8 @@
 // The comparison of parts that were played by hand: what agrees is gathered, and what doesn't is told.
+ghost use Rattle.std.specs.Prelude.{◌≡◌, ◌<◌, length, get_or, IfSome};
+ghost use Rattle.txs_machine.specs.Agents.{agents_of};
+ghost use Rattle.txs_machine_actor.specs.PlainActor.{Lives};
+ghost use Rattle.txs_machine_actor.specs.Turns.{IsNew};
 ghost use Rattle.txs_threads_gather.specs.Callees.{AreCallees};
 
 use crate::seen::{code_of, has_left};
@@ -9,6 +13,7 @@ use txs_machine::ActorReport;
 use txs_machine_actor::{Actor, Turn};
 use txs_threads::{Gathered, Played, RunError, gather};
 use txs_threads_gather::sent_functions;
+use txs_value_cell::list_agents;
 use txs_value_data::{CellId, CellKind, Value};
 use txs_world_protocol::{Ask, Reply};
 use txs_world_shared::SharedState;
@@ -28,6 +33,10 @@ const FROM_ONE: &str =
 /// One thread that adds one to a ref, and one that reads this and another.
 const READS: &str =
     "(def c (ref 0)) (def d (ref 1)) (future (dosync (commute c inc))) (future (println @c @d))";
+
+/// A thread that sends an action, which commits before it is over.
+const ACTS: &str =
+    "(def g (agent 1)) (def r (ref 0)) (defn add [s n] (dosync (alter r + n)) (+ s n)) (future (send g add 5))";
 
 /// How many steps an actor may make.
 const STEPS: u64 = 1_000;
@@ -49,6 +58,8 @@ enum Change {
     Read,
     /// The second actor has asked, and isn't answered.
     NoReply,
+    /// The end of the second actor's action is recorded as done, and isn't served.
+    NoEnd,
     /// The second actor isn't there.
     NoActor,
     /// The second actor stands before the first.
@@ -124,17 +135,22 @@ fn serve(parts: &mut Parts<'_>, actor: u16, ask: Ask, change: &Change) -> Option
         .numbered_events(parts.shared.book_for(&ask))
         .len();
     let at = u32::try_from(events).unwrap_or(u32::MAX);
+    if matches!(change, Change::NoEnd) && matches!(ask, Ask::Finish { .. }) {
+        drop(ask);
+        return Some((at, Reply::Done));
+    }
     let later = matches!(change, Change::OtherPlace) && parts.answered == 0;
     let reply = told(parts.shared.serve(actor, ask), change);
     Some((at.saturating_add(u32::from(later)), reply))
 }
 
-/// Serves and answers an actor's request: whether it goes on.
+/// Serves and answers an actor's request: whether it goes on. An agent's stops once its action is over.
 fn answer(parts: &mut Parts<'_>, played: &mut Played<'_>, ask: Ask, change: &Change) -> bool {
     if matches!(change, Change::NoReply) {
         drop(ask);
         return false;
     }
+    let is_over = matches!(ask, Ask::Finish { .. });
     let Some((at, reply)) = serve(parts, played.number(), ask, change) else {
         return false;
     };
@@ -144,7 +160,7 @@ fn answer(parts: &mut Parts<'_>, played: &mut Played<'_>, ask: Ask, change: &Cha
     }
     played.answer(at, reply);
     parts.answered = parts.answered.saturating_add(1);
-    true
+    !is_over
 }
 
 /// One turn of an actor, with its ask served and answered: whether it goes on.
@@ -172,7 +188,59 @@ fn play(parts: &mut Parts<'_>, played: &mut Played<'_>, change: &Change) {
     }
 }
 
-/// Plays the actor of a thread, with this change, up to where it doesn't go on, and puts it behind the others: whether there is one.
+/// The agent at this index.
+fn agent_at(agents: &[CellId], i: usize) -> CellId
+    requires { i < length agents.now }
+    ensures { result ≡ get_or agents.now i result }
+{
+    agents[i]
+}
+
+/// The actor with this number, if there is one: those of so many threads come first, and behind them those of these agents.
+fn actor_at(
+    alloc: Global,
+    code: &Verified,
+    agents: &[CellId],
+    threads: usize,
+    number: u16,
+) -> Option<Actor>
+    requires agents { agents.now ≡ agents_of code.now }
+    requires many { threads ≡ length code.now.threads }
+    ensures new { IfSome result (λ a. IsNew code.now number 1000 a) }
+    ensures lives { IfSome result (λ a. Lives code.now a) }
+{
+    let at = usize::from(number);
+    if at < threads {
+        return Actor::thread(alloc, code, number, STEPS).ok();
+    }
+    let i = at - threads;
+    let count = agents.len();
+    if i >= count {
+        return None;
+    }
+    let agent = agent_at(agents, i);
+    Actor::agent(alloc, code, agent, number, STEPS).ok()
+}
+
+/// The actor of a code with this number, if there is one.
+fn actor_of(alloc: Global, code: &Verified, number: u16) -> Option<Actor>
+    ensures new { IfSome result (λ a. IsNew code.now number 1000 a) }
+    ensures lives { IfSome result (λ a. Lives code.now a) }
+{
+    let threads = code.code().threads().len();
+    let cells = code.code().cells();
+    if cells.len() > 65_536 {
+        return None;
+    }
+    let Ok(agents) = list_agents(alloc, cells) else {
+        return None;
+    };
+    let actor = actor_at(alloc, code, agents.as_slice(), threads, number);
+    drop(agents);
+    actor
+}
+
+/// Runs an actor, with this change, up to where it doesn't go on, and puts it behind the others: whether there is one.
 #[tactic(auto, using(txs_threads_gather::proofs::Playing::renewed))]
 fn add<'a>(
     alloc: Global,
@@ -184,10 +252,7 @@ fn add<'a>(
 ) -> bool
     requires { AreCallees code.now callees.now }
 {
-    if usize::from(k) >= code.code().threads().len() {
-        return false;
-    }
-    let Ok(actor) = Actor::thread(alloc, code, k, STEPS) else {
+    let Some(actor) = actor_of(alloc, code, k) else {
         return false;
     };
     let mut played = Played::new(alloc, code, callees, actor, STEPS);
@@ -202,6 +267,11 @@ fn add<'a>(
     }
 }
 
+/// How many threads the script has.
+fn count_threads(code: &Verified) -> u16 {
+    u16::try_from(code.code().threads().len()).unwrap_or(u16::MAX)
+}
+
 /// What both did over a state of their own, the second with this change.
 fn play_both<'a>(
     alloc: Global,
@@ -211,7 +281,8 @@ fn play_both<'a>(
 ) -> Option<Parts<'a>>
     requires { AreCallees code.now callees.now }
 {
-    let Ok(shared) = SharedState::open(alloc, code.code().cells(), 2) else {
+    let threads = count_threads(code);
+    let Ok(shared) = SharedState::open(alloc, code.code().cells(), threads) else {
         return None;
     };
     let mut parts = Parts {
@@ -262,7 +333,7 @@ fn alter(alloc: Global, code: &Verified, parts: &mut Parts<'_>, change: &Change)
         Change::NoActor => drop(parts.both.pop()),
         Change::Order => parts.both.reverse(),
         Change::NoEvents => {
-            let state = SharedState::open(alloc, code.code().cells(), 2).ok();
+            let state = SharedState::open(alloc, code.code().cells(), count_threads(code)).ok();
             return renew(&mut parts.shared, state);
         }
         Change::State(script) => return renew(&mut parts.shared, state_of(alloc, script)),
@@ -271,10 +342,26 @@ fn alter(alloc: Global, code: &Verified, parts: &mut Parts<'_>, change: &Change)
     true
 }
 
-/// Whether parts that agree are gathered as they are. There are two threads: where nothing was changed, the first place in the second's trace is behind
+/// Whether the action's commit comes behind the send, and its end behind that.
+fn has_acted(alloc: Global, gathered: &Gathered) -> bool {
+    match gathered.report.agents.as_slice() {
+        [agent] => match agent.trace.as_slice() {
+            [commit, end] => {
+                u64::from(commit.at) == 1
+                    && u64::from(end.at) == 2
+                    && has_left(alloc, gathered, STEPS, "done idle 6 5 ")
+            }
+            _ => false,
+        },
+        _ => false,
+    }
+}
+
+/// Whether parts that agree are gathered as they are. Of two threads, where nothing was changed, the first index in the second's trace is behind
 /// the event of the first thread, and where it stopped in the middle, it goes on after three steps.
 fn is_gathered(alloc: Global, gathered: &Gathered, change: &Change) -> bool {
     match gathered.report.threads.as_slice() {
+        [_] => matches!(change, Change::Nothing) && has_acted(alloc, gathered),
         [_, second] => match (change, second.trace.as_slice()) {
             (Change::Nothing, [place, ..]) => {
                 u64::from(place.at) == 1
@@ -362,6 +449,14 @@ const READ_CHANGES: [(&str, Change, &str); 5] = [
     (READS, Change::OtherPlace, "other place"),
 ];
 
+/// The same of an agent's actor, whose action commits.
+const ACT_CHANGES: [(&str, Change, &str); 4] = [
+    (ACTS, Change::Nothing, "nothing of an action"),
+    (ACTS, Change::NoEnd, "no end"),
+    (ACTS, Change::NoReply, "no reply to a take"),
+    (ACTS, Change::NoActor, "no agent"),
+];
+
 /// The name of the first of these changes of which the comparison by the code of a script doesn't tell what it should, or nothing.
 fn first_other(
     alloc: Global,
@@ -385,5 +480,7 @@ fn agrees_or_is_told(rt: HostRuntime) {
     let other = first_other(rt.alloc(), ADDERS, &CHANGES);
     assert!(rt; other.is_empty(), "{other}");
     let other = first_other(rt.alloc(), READS, &READ_CHANGES);
+    assert!(rt; other.is_empty(), "{other}");
+    let other = first_other(rt.alloc(), ACTS, &ACT_CHANGES);
     assert!(rt; other.is_empty(), "{other}");
 }
