@@ -1,11 +1,11 @@
 #!/usr/bin/env python3
 """again.py [--times N] [--cpus K] [--load]
-Runs each row of crates/txs_test_examples/data/workers.rows N times (else 200) by the built program, whose workers run threads at once,
-and wants what the row says each time. The gate runs the same rows by a program that starts no worker.
+Runs each row of tests/rows/workers.rows N times (else 200) by the built program, whose workers run threads at once,
+and wants what the row says each time. The gate runs each once by each build.
 --cpus K lets the runs have K processors, --load keeps all processors of the machine busy meanwhile."""
 import argparse, os, subprocess, sys, tempfile
 import beside
-ROWS = os.path.join(beside.HERE, "..", "crates", "txs_test_examples", "data", "workers.rows")
+ROWS = os.path.join(beside.HERE, "..", "tests", "rows", "workers.rows")
 
 
 def rows():

@@ -12,7 +12,8 @@ import re
 import disturbed
 import trial
 
-DATA = os.path.join(trial.HERE, "..", "crates", "txs_test_examples", "data")
+ROWS = os.path.join(trial.HERE, "rows")
+EXAMPLES = os.path.join(trial.HERE, "..", "examples")
 OF_SCRIPTS = re.compile(r"refused (\d+) (\w+) at (\d+)\.\.(\d+)\n")
 OF_BYTES = re.compile(r"refused (3[1-6]) (\w+) at (\d+)\n")
 OF_CODE = re.compile(r"refused (4[1-8]) (\w+) in (fn|thread|cell) (\d+) at (\d+)\n")
@@ -35,7 +36,7 @@ LARGER = [
 def scripts():
     """The script of each row that has one, and of each example."""
     found = []
-    for file in sorted(glob.glob(os.path.join(DATA, "*.rows"))):
+    for file in sorted(glob.glob(os.path.join(ROWS, "*.rows"))):
         script, begun = b"", False
         for line in open(file, "rb").read().split(b"\n"):
             mark = line[:2].strip()
@@ -45,7 +46,7 @@ def scripts():
             elif begun and line and mark not in (b">", b"!", b"$", b"%", b"="):
                 script += line + b"\n"
         found.append(script)
-    for file in sorted(glob.glob(os.path.join(DATA, "*.clj"))):
+    for file in sorted(glob.glob(os.path.join(EXAMPLES, "*.clj"))):
         found.append(open(file, "rb").read())
     return [it for it in dict.fromkeys(found) if it]
 

@@ -1,5 +1,5 @@
 #!/usr/bin/env python3
-"""mark_places.py 'N Name' 'TITLE' 'SCRIPT' : prints a row of txs_test_examples for a script that is refused. In SCRIPT the form
+"""mark_places.py 'N Name' 'TITLE' 'SCRIPT' : prints a row of tests/rows for a script that is refused. In SCRIPT the form
 that is refused stands between two marks, as in
 
     tools/mark_places.py '27 OutsideOnly' 'println in a transaction' '(future (dosync ⟦(println 1)⟧))'

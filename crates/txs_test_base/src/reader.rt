@@ -11,7 +11,7 @@ fn stop(alloc: Global, script: &[u8]) -> (u8, u32, u32) {
     }
 }
 
-/// Scripts that a file of rows can't hold; the others stand in `reading.rows` of txs_test_examples.
+/// Scripts that a file of rows can't hold; the others stand in `tests/rows/reading.rows`.
 const BYTES: [(&[u8], (u8, u32, u32)); 10] = [
     (b"a\xff", (1, 1, 2)),
     (b"\"\xc3\xa9\" \xe2\x82", (1, 5, 6)),

@@ -1,5 +1,5 @@
 // What no clause says: that the calls succeed with ample memory, and printed text. What operations mean at rows that come
-// from Clojure stands in the rows of txs_test_examples.
+// from Clojure stands in `tests/rows`.
 use std::alloc::Global;
 use txs_code_encode::decode;
 use txs_value_apply::{apply, apply_owned, make_vector, takes};

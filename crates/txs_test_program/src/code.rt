@@ -1,4 +1,4 @@
-// Code in its byte form: built, listed, run and refused. What `build` tells of a script that is refused stands in the rows of txs_test_examples
+// Code in its byte form: built, listed, run and refused. What `build` tells of a script that is refused stands in `tests/rows`
 // (`code.rows`).
 use crate::program::{says, write};
 use std::alloc::Global;

@@ -1,4 +1,4 @@
-//! What no contract says of the program, and no row of txs_test_examples shows: the program beside the evaluators, streams that
+//! What no contract says of the program, and no row of `tests/rows` shows: the program beside the evaluators, streams that
 //! fail, and the limits of programs; and of running threads: that a report comes and is no mismatch, that workers run at once,
 //! and that parts that don't agree are told.
 #![tactic(auto)]
@@ -8,6 +8,8 @@ mod at_once;
 #[cfg(test)]
 mod audited;
 #[cfg(test)]
+mod audits;
+#[cfg(test)]
 mod by_hand;
 #[cfg(test)]
 mod changed;
@@ -15,6 +17,8 @@ mod changed;
 mod code;
 #[cfg(test)]
 mod every_schedule;
+#[cfg(test)]
+mod fronts;
 #[cfg(test)]
 mod limits;
 #[cfg(test)]

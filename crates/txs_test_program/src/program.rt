@@ -1,4 +1,4 @@
-// The program by its words, on an input, for tests whose scripts or streams are made by code. Others stand in the rows of txs_test_examples.
+// The program by its words, on an input, for tests whose scripts or streams are made by code. Others stand in `tests/rows`.
 use std::alloc::{AllocError, Global};
 use txs_cli::play;
 
