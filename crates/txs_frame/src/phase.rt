@@ -210,24 +210,29 @@ impl TxFrame {
     {
         let commuted = self.commuted()?;
         let refs = commuted.as_slice();
-        let mut work = self.redone_on(alloc, refs)?;
+        let work = self.tasks_on(alloc, cells, refs)?;
         let mut values = Vec::with_capacity(alloc, refs.len())?;
         for cell in refs {
             values.push_reserved((*cell, Value::Nil));
         }
-        let written = self.written()?;
-        push_validations(&mut work, cells, written.as_slice())?;
         Ok(Phase::begin(alloc, values, work))
     }
 
-    /// The commutes of these refs as tasks, ref by ref.
-    fn redone_on(&self, alloc: Global, refs: &[CellId]) -> Result<Vec<Task>, AllocError>
-        ensures { IfOk result (λ tasks. tasks.items ≡ map redoes (by_ref refs.now self.now.commutes)) }
+    /// The tasks where these refs are commuted and not set: their commutes, ref by ref, and then the validators of all that is written.
+    fn tasks_on(
+        &self,
+        alloc: Global,
+        cells: &[CellDefinition],
+        refs: &[CellId],
+    ) -> Result<Vec<Task>, AllocError>
+        ensures { IfOk result (λ tasks. tasks.items ≡ map redoes (by_ref refs.now self.now.commutes) ++ validations (validators_of cells.now) (written self.now)) }
     {
         let mut tasks = Vec::new(alloc);
         for cell in refs {
             push_redone_of(alloc, &mut tasks, cell.number, self.commutes())?;
         }
+        let written = self.written()?;
+        push_validations(&mut tasks, cells, written.as_slice())?;
         Ok(tasks)
     }
 }

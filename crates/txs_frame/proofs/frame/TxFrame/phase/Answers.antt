@@ -36,12 +36,8 @@ begin-requires c =
     let ds : List CellId = c.as_slice-refs.result.now in
     let all : ds ≡ commuted w = c.as_slice-refs.ensures.value ∙ c.in_ok-commuted.ensures in
     let values : c.loop-cell.values.items ≡ blank (commuted w) = c.loop-cell.invariant.built ∙ ap blank (take_all c.loop-cell.cell-index ds c.loop-cell-test.false ∙ all) in
-    let redone : c.in_ok-work.work.items ≡ map Redoes (by_ref (commuted w) w.commutes) = c.in_ok-work.ensures ∙ ap (λ (cs : List CellId). map Redoes (by_ref cs w.commutes)) all in
-    let work : c.push_validations.new.tasks.items ≡ tasks_of vs w =
-    c.in_ok-push_validations.ensures
-    ∙ ap (λ (xs : List Task). xs ++ validations vs c.as_slice.result.now) redone
-    ∙ ap (λ (cs : List CellId). map Redoes (by_ref (commuted w) w.commutes) ++ validations vs cs) (c.as_slice.ensures.value ∙ c.in_ok-written.ensures) in
-    subst (λ (ws : Writes). IsPhase ws c.push_validations.new.tasks.items) (sym values) (subst (λ (xs : List Task). IsPhase (blank (commuted w)) xs) (sym work) (begins vs w))
+    let work : c.in_ok-work.work.items ≡ tasks_of vs w = c.in_ok-work.ensures ∙ ap (λ (cs : List CellId). map Redoes (by_ref cs w.commutes) ++ validations vs (written w)) all in
+    subst (λ (ws : Writes). IsPhase ws c.in_ok-work.work.items) (sym values) (subst (λ (xs : List Task). IsPhase (blank (commuted w)) xs) (sym work) (begins vs w))
 
 pub returns : goal.returns
 returns c =
@@ -50,10 +46,6 @@ returns c =
     let ds : List CellId = c.as_slice-refs.result.now in
     let all : ds ≡ commuted w = c.as_slice-refs.ensures.value ∙ c.in_ok-commuted.ensures in
     let values : c.loop-cell.values.items ≡ blank (commuted w) = c.loop-cell.invariant.built ∙ ap blank (take_all c.loop-cell.cell-index ds c.loop-cell-test.false ∙ all) in
-    let redone : c.in_ok-work.work.items ≡ map Redoes (by_ref (commuted w) w.commutes) = c.in_ok-work.ensures ∙ ap (λ (cs : List CellId). map Redoes (by_ref cs w.commutes)) all in
-    let work : c.push_validations.new.tasks.items ≡ tasks_of vs w =
-    c.in_ok-push_validations.ensures
-    ∙ ap (λ (xs : List Task). xs ++ validations vs c.as_slice.result.now) redone
-    ∙ ap (λ (cs : List CellId). map Redoes (by_ref (commuted w) w.commutes) ++ validations vs cs) (c.as_slice.ensures.value ∙ c.in_ok-written.ensures) in
+    let work : c.in_ok-work.work.items ≡ tasks_of vs w = c.in_ok-work.ensures ∙ ap (λ (cs : List CellId). map Redoes (by_ref cs w.commutes) ++ validations vs (written w)) all in
     let made : List Task → Writes → PlainPhase = λ xs ws. record { work = xs; values = ws } in
-    c.begin.ensures ∙ ap (made c.push_validations.new.tasks.items) values ∙ ap (λ (xs : List Task). made xs (blank (commuted w))) work
+    c.begin.ensures ∙ ap (made c.in_ok-work.work.items) values ∙ ap (λ (xs : List Task). made xs (blank (commuted w))) work
