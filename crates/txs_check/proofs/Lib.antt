@@ -2,6 +2,7 @@ pub mod Accepted
 pub mod Callees
 pub mod Counting
 pub mod InOrder
+pub mod InTurn
 pub mod Laws
 pub mod Lists
 pub mod Order

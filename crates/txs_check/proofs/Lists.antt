@@ -1,18 +1,14 @@
 -- Nodes, functions and threads from a place on.
-use Rattle.std.proofs.Common.{◌≡◌, ℕ, Bool, zero, suc, ◌+◌, ◌<◌, List, [], ◌∷◌, ◌++◌, length, get_or, map, take, drop, refl, sym, ap, ◌∙◌, arith}
+use Rattle.std.proofs.Common.{◌≡◌, ℕ, zero, suc, ◌+◌, ◌<◌, List, [], ◌∷◌, ◌++◌, length, get_or, map, take, drop, refl, sym, ap, ◌∙◌}
 use Rattle.std.proofs.lemmas.List.{drop_more}
-use Rattle.txs_tree_meaning.specs.Tree.{Tree, Mark, If, none, more, count}
+use Rattle.txs_tree_meaning.specs.Tree.{Mark, more, count}
 use Rattle.txs_tree_meaning.specs.View.{kind_tree, mark_of, tree_of, trees_of, function_of, functions_of, thread_of, threads_of}
 use Rattle.txs_tree_meaning.specs.declared.node.Function.{Function}
 use Rattle.txs_tree_meaning.specs.declared.node.Node.{Node}
 use Rattle.txs_tree_meaning.specs.declared.node.NodeKind.{NodeKind, Const, Local, If', Do', Let', Loop', Recur', Core', Vector', Println', Dosync', Look', Put', Update', Send', Call'}
 use Rattle.txs_tree_meaning.specs.declared.node.Thread.{Thread}
-use Rattle.txs_tree_meaning.specs.Known.{Known}
-use Rattle.txs_check.specs.declared.place.Target.{Target}
-use Rattle.txs_check.specs.declared.place.Zone.{Zone}
-use Rattle.txs_check.specs.Refused.{fine, ◌>>◌, ◌>>=◌, inner, place_of, turned, turned_in, in_turn, checked, checked_all, checked_do, before, function_body, thread_body, in_order, taken, room}
+use Rattle.txs_check.specs.Refused.{◌>>=◌, place_of, before, function_body, thread_body, in_order, taken, room}
 use Rattle.txs_check.proofs.Order.{room_append}
-use Rattle.txs_check.proofs.Steps.{then_same}
 
 pub trees_left : (ns : List Node) (i : ℕ) (n : Node) → i < length ns → n ≡ get_or ns i n → trees_of (drop i ns) ≡ more (tree_of n) (trees_of (drop (i + 1) ns))
 trees_left ns i n lt is = ap trees_of (drop_more ns i n lt) ∙ ap (λ m. more (tree_of m) (trees_of (drop (i + 1) ns))) (sym is)
@@ -56,29 +52,8 @@ place_kind (Put' form q cell span wanted r value span1 wanted1) m = refl
 place_kind (Update' form q cell span wanted callee shape args) m = refl
 place_kind (Send' q cell span wanted callee shape args) m = refl
 
-place_node : (n : Node) → place_of (tree_of n) ≡ n.span
+pub place_node : (n : Node) → place_of (tree_of n) ≡ n.span
 place_node n = place_kind n.kind (mark_of n.span n.wanted)
-
--- the check of a choice, by where it and its branches begin
-pub branches_in_turn : (ks : List Known) (z : Zone) (t : Target) (m : Mark) (test : Tree) (a b : Node) (turn : Bool) → turn ≡ turned m.span.from a.span.from b.span.from →
-    checked ks z t (If test (tree_of a) (tree_of b) m) ≡ checked ks z (inner t) test >> in_turn turn (checked ks z t (tree_of a)) (checked ks z t (tree_of b))
-branches_in_turn ks z t m test a b turn is =
-    let x = checked ks z t (tree_of a) in
-    let y = checked ks z t (tree_of b) in
-    let same : turned_in m (tree_of a) (tree_of b) ≡ turn = (λ i. turned m.span.from (place_node a i).from (place_node b i).from) ∙ sym is in
-    ap (λ w. checked ks z (inner t) test >> in_turn w x y) same
-
--- the nodes before the last one, and the last one
-pub do_parts : (ks : List Known) (z : Zone) (t : Target) (ns : List Node) (x : Node) → checked_do ks z t (trees_of (ns ++ x ∷ [])) ≡ checked_all ks z (inner t) (trees_of ns) >> checked ks z t (tree_of x)
-do_parts ks z t [] x = refl
-do_parts ks z t (m ∷ []) x = sym (then_same (checked ks z (inner t) (tree_of m)) (checked_all ks z (inner t) none) (checked ks z t (tree_of x)))
-do_parts ks z t (m ∷ n ∷ ns) x =
-    ap (λ c. checked ks z (inner t) (tree_of m) >> c) (do_parts ks z t (n ∷ ns) x)
-    ∙ sym (then_same (checked ks z (inner t) (tree_of m)) (checked_all ks z (inner t) (trees_of (n ∷ ns))) (checked ks z t (tree_of x)))
-
-pub do_nothing : (ks : List Known) (z : Zone) (t : Target) (ns : List Node) → length ns ≡ 0 → fine ≡ checked_do ks z t (trees_of ns)
-do_nothing ks z t [] e = refl
-do_nothing ks z t (n ∷ ns) e = absurd (omega (arith, e))
 
 -- a step of a walk over the bodies in script order: the threads before the next function, and the function
 module _ (fs : List Function) (i : ℕ) (f : Function) (lt : i < length fs) (is : f ≡ get_or fs i f) (ts : List Thread) (n : ℕ) (many : n ≡ before f.span.from (threads_of ts)) where

@@ -4,11 +4,14 @@ ghost use Rattle.std.specs.Prelude.{◌≡◌, length, suc};
 ghost use Rattle.txs_tree_meaning.specs.View.{tree_of, trees_of};
 ghost use Rattle.txs_check.specs.Refused.{accepts, applied, called, calls, checked, checked_all, formed, here, sends, sent, sent_zoned, turned, zoned};
 ghost use Rattle.txs_tree_meaning.specs.Known.{is_pure};
+ghost use Rattle.txs_check.specs.Rows.{in_turn_of, place_behind, rows};
 ghost use Rattle.txs_check.specs.Signatures.{known_as, known_if};
 
 use crate::class::{Signature, signature_of};
 use crate::error::{CheckError, CheckErrorKind};
+use crate::parts::parts;
 use crate::place::{Target, Zone, only};
+use std::slice::from_ref;
 use txs_tree_meaning::{Node, NodeKind};
 use txs_value_apply::takes;
 use txs_value_base::{Callee, Span};
@@ -193,6 +196,64 @@ fn is_turned(whole: u32, first: u32, second: u32) -> bool
     whole < second && second < first
 }
 
+/// A node's parts in the order in which they are checked, in up to three rows: those of the first aren't in tail position.
+fn rows_in_turn(node: &Node) -> (&[Node], &[Node], &[Node])
+    ensures { in_turn_of (tree_of node.now) ≡ rows (trees_of result.0.now) (trees_of result.1.now) (trees_of result.2.now) }
+{
+    let (first, second, third) = parts(node);
+    match &node.kind {
+        NodeKind::If(_, one, other) => {
+            if is_turned(node.span.from, one.span.from, other.span.from) {
+                (first, third, second)
+            } else {
+                (first, second, third)
+            }
+        }
+        NodeKind::Do(items) => match items.split_last() {
+            None => (first, second, third),
+            Some((last, before)) => (before, from_ref(last), third),
+        },
+        NodeKind::Dosync(_) => (second, first, third),
+        NodeKind::Const(_)
+        | NodeKind::Local(_)
+        | NodeKind::Let(_, _)
+        | NodeKind::Loop(_, _)
+        | NodeKind::Recur(_)
+        | NodeKind::Core(_, _)
+        | NodeKind::Call(_, _)
+        | NodeKind::Vector(_)
+        | NodeKind::Println(_)
+        | NodeKind::Look(_, _)
+        | NodeKind::Put(_, _, _)
+        | NodeKind::Update(_, _, _, _)
+        | NodeKind::Send(_, _, _) => (first, second, third),
+    }
+}
+
+/// Where the second and the third row of a node's parts are: in which zone, and what a recur meets there.
+fn place_behind(zone: Zone, target: Target, node: &Node) -> (Zone, Target)
+    ensures { result ≡ place_behind zone target (tree_of node.now) }
+{
+    match &node.kind {
+        NodeKind::Const(_)
+        | NodeKind::Local(_)
+        | NodeKind::If(_, _, _)
+        | NodeKind::Do(_)
+        | NodeKind::Let(_, _)
+        | NodeKind::Recur(_)
+        | NodeKind::Core(_, _)
+        | NodeKind::Call(_, _)
+        | NodeKind::Vector(_)
+        | NodeKind::Println(_)
+        | NodeKind::Look(_, _) => (zone, target),
+        NodeKind::Loop(values, _) => (zone, Target::Nearest(values.len(), true)),
+        NodeKind::Dosync(_) => (Zone::InDosync, target.across()),
+        NodeKind::Put(_, _, _) | NodeKind::Update(_, _, _, _) | NodeKind::Send(_, _, _) => {
+            (zone, target.inner())
+        }
+    }
+}
+
 /// Whether the node may be here, and then its parts, as they are written: the first refusal is the answer.
 #[cycle(walk)]
 pub fn check_node(
@@ -204,51 +265,11 @@ pub fn check_node(
     ensures { result ≡ checked (known_as signatures.now) zone target (tree_of node.now) }
 {
     check_here(signatures, zone, target, node)?;
-    let inner = target.inner();
-    match &node.kind {
-        NodeKind::Const(_) | NodeKind::Local(_) => Ok(()),
-        NodeKind::If(test, first, second) => {
-            check_node(signatures, zone, inner, test)?;
-            if is_turned(node.span.from, first.span.from, second.span.from) {
-                check_node(signatures, zone, target, second)?;
-                check_node(signatures, zone, target, first)
-            } else {
-                check_node(signatures, zone, target, first)?;
-                check_node(signatures, zone, target, second)
-            }
-        }
-        NodeKind::Do(items) => match items.split_last() {
-            None => Ok(()),
-            Some((last, before)) => {
-                check_all(signatures, zone, inner, before)?;
-                check_node(signatures, zone, target, last)
-            }
-        },
-        NodeKind::Let(values, body) => {
-            check_all(signatures, zone, inner, values)?;
-            check_node(signatures, zone, target, body)
-        }
-        NodeKind::Loop(values, body) => {
-            check_all(signatures, zone, inner, values)?;
-            let own = Target::Nearest(values.len(), true);
-            check_node(signatures, zone, own, body)
-        }
-        NodeKind::Recur(items)
-        | NodeKind::Core(_, items)
-        | NodeKind::Call(_, items)
-        | NodeKind::Vector(items)
-        | NodeKind::Println(items) => check_all(signatures, zone, inner, items),
-        NodeKind::Dosync(body) => check_node(signatures, Zone::InDosync, target.across(), body),
-        NodeKind::Look(_, cell) => check_node(signatures, zone, inner, cell),
-        NodeKind::Put(_, cell, value) => {
-            check_node(signatures, zone, inner, cell)?;
-            check_node(signatures, zone, inner, value)
-        }
-        NodeKind::Update(_, cell, _, args) | NodeKind::Send(cell, _, args) => {
-            check_node(signatures, zone, inner, cell)?;
-            check_all(signatures, zone, inner, args)
-        }
-    }
+    let (first, second, third) = rows_in_turn(node);
+    check_all(signatures, zone, target.inner(), first)?;
+    let (zone, target) = place_behind(zone, target, node);
+    check_all(signatures, zone, target, second)?;
+    check_all(signatures, zone, target, third)
 }
 
 /// Each of the nodes in order.
