@@ -1,10 +1,10 @@
 //! The text of values.
-ghost use Rattle.std.specs.Prelude.{◌≡◌, ◌++◌, ◌∷◌, [], OnOk, OnErr};
+ghost use Rattle.std.specs.Prelude.{◌≡◌, ◌++◌, ◌∷◌, [], None, OnOk, OnErr};
 ghost use Rattle.txs_value_data.specs.PlainValue.{plain_row};
 ghost use Rattle.txs_value_data.specs.Printed.{printed, items_printed, printed_line, kind_printed, gap, Extends};
-ghost use Rattle.txs_value_data.specs.View.{plain_of, plains_of};
+ghost use Rattle.txs_value_data.specs.View.{plain_of, plains_of, vector_items};
 
-use crate::value::{CellKind, Items, Value};
+use crate::value::{CellKind, Value};
 use itoa::Buffer;
 use std::alloc::AllocError;
 
@@ -28,28 +28,27 @@ pub fn write_line(values: &[Value], out: &mut Vec<u8>) -> Result<(), AllocError>
     ensures err { OnErr result (out.new.items ≡ out.old.items) }
 {
     let start = out.len();
-    if print_row(values, out).is_err() {
-        out.truncate(start);
-        return Err(AllocError);
-    }
-    let ended = out.extend_from_slice(b"\n");
-    if ended.is_err() {
+    let done = print_line(values, out);
+    if done.is_err() {
         out.truncate(start);
     }
-    ended
+    done
 }
 
-/// The values with a space between each two.
-fn print_row(values: &[Value], out: &mut Vec<u8>) -> Result<(), AllocError>
-    ensures ok { OnOk result (out.new.items
-        ≡ out.old.items ++ items_printed (plain_row (plains_of values.now))) }
+/// The values with a space between each two, then a newline.
+fn print_line(values: &[Value], out: &mut Vec<u8>) -> Result<(), AllocError>
+    ensures ok { OnOk result (out.new.items ≡ out.old.items ++ printed_line values.now) }
     ensures kept { Extends out.old.items out.new.items }
 {
     for (i, value) in values.iter().enumerate() {
-        separate(i, out)?;
-        print(value, out)?;
+        let Ok(()) = separate(i, out) else {
+            return Err(AllocError);
+        };
+        let Ok(()) = print(value, out) else {
+            return Err(AllocError);
+        };
     }
-    Ok(())
+    out.extend_from_slice(b"\n")
 }
 
 fn kind_text(kind: CellKind) -> &'static [u8]
@@ -73,8 +72,30 @@ fn separate(i: usize, out: &mut Vec<u8>) -> Result<(), AllocError>
     Ok(())
 }
 
-#[cycle(print)]
+/// The value as `println` writes it.
 fn print(value: &Value, out: &mut Vec<u8>) -> Result<(), AllocError>
+    ensures ok { OnOk result (out.new.items ≡ out.old.items ++ printed (plain_of value.now)) }
+    ensures kept { Extends out.old.items out.new.items }
+{
+    let Value::Vector(items) = value else {
+        return print_leaf(value, out);
+    };
+    out.push(b'[')?;
+    for i in 0..items.len() {
+        let Ok(()) = separate(i, out) else {
+            return Err(AllocError);
+        };
+        let Ok(()) = print(items.get(i), out) else {
+            return Err(AllocError);
+        };
+    }
+    out.extend_from_slice(b"]")
+}
+
+/// A value that is no vector.
+#[inline(always)]
+fn print_leaf(value: &Value, out: &mut Vec<u8>) -> Result<(), AllocError>
+    requires { vector_items value.now ≡ None }
     ensures ok { OnOk result (out.new.items ≡ out.old.items ++ printed (plain_of value.now)) }
     ensures kept { Extends out.old.items out.new.items }
 {
@@ -83,33 +104,28 @@ fn print(value: &Value, out: &mut Vec<u8>) -> Result<(), AllocError>
         Value::Truth(true) => out.extend_from_slice(b"true"),
         Value::Truth(false) => out.extend_from_slice(b"false"),
         Value::Int(n) => out.extend_from_slice(Buffer::new().format(*n).as_bytes()),
-        Value::Key(name) => {
-            out.push(b':')?;
-            out.extend_from_slice(name.as_bytes())
-        }
+        Value::Key(name) => append_both(b":", name.as_bytes(), out),
         Value::Text(text) => out.extend_from_slice(text.as_str().as_bytes()),
-        Value::Vector(items) => {
-            out.push(b'[')?;
-            print_items(items, out)?;
-            out.extend_from_slice(b"]")
-        }
-        Value::Cell(cell) => {
-            out.extend_from_slice(kind_text(cell.kind))?;
-            out.extend_from_slice(Buffer::new().format(cell.number).as_bytes())?;
-            out.extend_from_slice(b"]")
+        Value::Vector(_) => unreachable!(),
+        Value::Cell(id) => {
+            let mut digits = Buffer::new();
+            let number = digits.format(id.number).as_bytes();
+            match append_both(kind_text(id.kind), number, out) {
+                Ok(()) => out.extend_from_slice(b"]"),
+                refused => refused,
+            }
         }
     }
 }
 
-/// The items with a space between each two.
-#[cycle(print)]
-fn print_items(items: &Items, out: &mut Vec<u8>) -> Result<(), AllocError>
-    ensures ok { OnOk result (out.new.items ≡ out.old.items ++ items_printed (plain_row items.now)) }
+/// Appends two texts, one behind the other.
+#[inline(always)]
+fn append_both(a: &[u8], b: &[u8], out: &mut Vec<u8>) -> Result<(), AllocError>
+    ensures ok { OnOk result (out.new.items ≡ out.old.items ++ (a.now ++ b.now)) }
     ensures kept { Extends out.old.items out.new.items }
 {
-    for i in 0..items.len() {
-        separate(i, out)?;
-        print(items.get(i), out)?;
+    match out.extend_from_slice(a) {
+        Ok(()) => out.extend_from_slice(b),
+        refused => refused,
     }
-    Ok(())
 }
