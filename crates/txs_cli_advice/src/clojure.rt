@@ -4,119 +4,122 @@ use crate::rows::{Row, in_rows};
 
 /// Of vectors and sequences.
 static ITEMS: [Row; 22] = [
-    ("first", "write `(nth v 0)`"),
-    ("second fnext", "write `(nth v 1)`"),
-    ("last", "write `(peek v)`"),
+    ("first", "write `(nth v 0)`."),
+    ("second fnext", "write `(nth v 1)`."),
+    ("last", "write `(peek v)`."),
     (
         "butlast drop-last",
-        "write `(pop v)` for all items but the last",
+        "write `(pop v)` for all items but the last.",
     ),
     (
         "rest next nnext nthrest nthnext ffirst nfirst",
-        "keep an index in a `loop`, and read the vector by `nth`",
+        "keep an index in a `loop`, and read the vector by `nth`.",
     ),
     (
         "get find",
-        "write `(nth v i)`, after a test of `i` where there may be no such item",
+        "write `(nth v i)`, after a test of `i` where there may be no such item.",
     ),
     (
         "get-in assoc-in update-in",
-        "take a part by `nth` and set it by `assoc`, level by level",
+        "take a part by `nth` and set it by `assoc`, level by level.",
     ),
-    ("update", "write `(assoc v i (f (nth v i)))`"),
-    ("empty?", "write `(zero? (count v))`"),
-    ("seq not-empty", "write `(pos? (count v))` as the test"),
-    ("empty", "write `[]`"),
-    ("vector vec list list* vector-of", "write `[a b c]`"),
-    ("cons", "write `(conj v x)`, which puts the item at the end"),
+    ("update", "write `(assoc v i (f (nth v i)))`."),
+    ("empty?", "write `(zero? (count v))`."),
+    ("seq not-empty", "write `(pos? (count v))` as the test."),
+    ("empty", "write `[]`."),
+    ("vector vec list list* vector-of", "write `[a b c]`."),
+    (
+        "cons",
+        "write `(conj v x)`, which puts the item at the end.",
+    ),
     (
         "contains?",
-        "test the index, as `(and (<= 0 i) (< i (count v)))`",
+        "test the index, as `(and (<= 0 i) (< i (count v)))`.",
     ),
     (
         "dotimes",
-        "write `(loop [i 0] (when (< i n) .. (recur (inc i))))`",
+        "write `(loop [i 0] (when (< i n) .. (recur (inc i))))`.",
     ),
-    ("while", "write `(loop [] (when test .. (recur)))`"),
+    ("while", "write `(loop [] (when test .. (recur)))`."),
     (
         "range repeat repeatedly replicate iterate iteration cycle lazy-seq lazy-cat",
-        "count in a `loop`, with `conj` for the result",
+        "count in a `loop`, with `conj` for the result.",
     ),
     (
         "map mapv mapcat map-indexed filter filterv remove keep keep-indexed reduce reduce-kv reductions doseq for run! doall dorun every? not-every? some not-any? take take-while take-last take-nth drop drop-while split-at split-with partition partition-all partition-by interleave interpose concat into distinct distinct? dedupe reverse rseq sort sort-by group-by frequencies flatten subvec subseq rsubseq replace max-key min-key tree-seq iterator-seq enumeration-seq seque sequence eduction transduce completing cat halt-when reduced reduced? ensure-reduced unreduced bounded-count",
-        "write a `loop` with an index, by `nth` and `count`, and `conj` for the result",
+        "write a `loop` with an index, by `nth` and `count`, and `conj` for the result.",
     ),
     (
         "hash-map array-map sorted-map sorted-map-by dissoc merge merge-with select-keys keys vals key val zipmap update-keys update-vals struct struct-map create-struct defstruct accessor",
-        "write a vector, and name its indices by `def`",
+        "write a vector, and name its indices by `def`.",
     ),
     (
         "set hash-set sorted-set sorted-set-by disj",
-        "write a vector, and look through it in a `loop`",
+        "write a vector, and look through it in a `loop`.",
     ),
     (
         "transient persistent! conj! assoc! dissoc! disj! pop!",
-        "write `conj`, `assoc` and `pop`, which change in place what nothing else holds",
+        "write `conj`, `assoc` and `pop`, which change in place what nothing else holds.",
     ),
     (
         "aget aset aset-boolean aset-byte aset-char aset-double aset-float aset-int aset-long aset-short alength aclone amap areduce make-array object-array boolean-array byte-array char-array double-array float-array int-array long-array short-array to-array to-array-2d into-array booleans bytes chars doubles floats ints longs shorts",
-        "write a vector, with `nth` and `assoc`",
+        "write a vector, with `nth` and `assoc`.",
     ),
 ];
 
 /// Of numbers, texts and tests.
 static VALUES: [Row; 19] = [
-    ("even?", "write `(zero? (mod n 2))`"),
-    ("odd?", "write `(= 1 (mod n 2))`"),
-    ("abs", "write `(if (neg? n) (- n) n)`"),
-    ("== identical?", "write `=`"),
-    ("compare comparator", "write `<`, `=` and `>`"),
+    ("even?", "write `(zero? (mod n 2))`."),
+    ("odd?", "write `(= 1 (mod n 2))`."),
+    ("abs", "write `(if (neg? n) (- n) n)`."),
+    ("== identical?", "write `=`."),
+    ("compare comparator", "write `<`, `=` and `>`."),
     (
         "+' -' *' inc' dec'",
-        "write it without the `'`: a result past 64 bits is a fault",
+        "write it without the `'`: a result past 64 bits is a fault.",
     ),
     (
         "unchecked-add unchecked-add-int unchecked-subtract unchecked-subtract-int unchecked-multiply unchecked-multiply-int unchecked-inc unchecked-inc-int unchecked-dec unchecked-dec-int unchecked-negate unchecked-negate-int unchecked-divide-int unchecked-remainder-int",
-        "write `+`, `-`, `*`, `inc`, `dec`, `quot` or `rem`: a result past 64 bits is a fault",
+        "write `+`, `-`, `*`, `inc`, `dec`, `quot` or `rem`: a result past 64 bits is a fault.",
     ),
     (
         "bit-and bit-or bit-xor bit-not bit-and-not bit-clear bit-flip bit-set bit-test bit-shift-left bit-shift-right unsigned-bit-shift-right",
-        "write `quot`, `mod` and `*` by powers of 2",
+        "write `quot`, `mod` and `*` by powers of 2.",
     ),
     (
         "rand rand-int rand-nth random-sample random-uuid shuffle",
-        "compute each number from the last one, by `*`, `+` and `mod`: nothing is random",
+        "compute each number from the last one, by `*`, `+` and `mod`: nothing is random.",
     ),
     (
         "int long short byte float double num bigint biginteger bigdec rationalize numerator denominator cast unchecked-byte unchecked-char unchecked-double unchecked-float unchecked-int unchecked-long unchecked-short with-precision",
-        "write the whole number itself: there are no others",
+        "write the whole number itself: there are no others.",
     ),
-    ("boolean", "write `(if x true false)`"),
-    ("true? false?", "write `(= true x)` or `(= false x)`"),
-    ("some?", "write `(not (nil? x))`"),
+    ("boolean", "write `(if x true false)`."),
+    ("true? false?", "write `(= true x)` or `(= false x)`."),
+    ("some?", "write `(not (nil? x))`."),
     (
         "number? int? integer? nat-int? pos-int? neg-int? rational? ratio? decimal? float? double? infinite? NaN? boolean? char? string? keyword? symbol? ident? simple-ident? simple-keyword? simple-symbol? qualified-ident? qualified-keyword? qualified-symbol? vector? list? map? set? seq? coll? sequential? associative? counted? indexed? reversible? sorted? seqable? map-entry? record? fn? ifn? var? class? bytes? inst? uri? uuid? special-symbol? any? type class instance? isa? satisfies? extends?",
-        "keep a keyword beside the value that says of which kind it is",
+        "keep a keyword beside the value that says of which kind it is.",
     ),
     (
         "pr prn print printf newline flush",
-        "write `println`, which puts a space between its arguments and a newline after them",
+        "write `println`, which puts a space between its arguments and a newline after them.",
     ),
     (
         "str format subs name namespace char pr-str prn-str print-str println-str with-out-str char-escape-string char-name-string re-find re-matches re-seq re-pattern re-groups re-matcher",
-        "give the parts to `println`: texts are printed and compared whole",
+        "give the parts to `println`: texts are printed and compared whole.",
     ),
     (
         "keyword symbol find-keyword gensym",
-        "write the keyword itself, as `:a`",
+        "write the keyword itself, as `:a`.",
     ),
     (
         "parse-long parse-double parse-boolean parse-uuid read read-string read-line read+string slurp spit with-open with-in-str line-seq file-seq xml-seq resultset-seq",
-        "put the value into the script by a `def`: there is no input",
+        "put the value into the script by a `def`: there is no input.",
     ),
     (
         "meta with-meta vary-meta alter-meta! reset-meta!",
-        "take it out: there is no metadata",
+        "take it out: there is no metadata.",
     ),
 ];
 
@@ -124,113 +127,113 @@ static VALUES: [Row; 19] = [
 static FORMS: [Row; 20] = [
     (
         "case condp",
-        "write `(cond (= x 1) .. (= x 2) .. :else ..)`",
+        "write `(cond (= x 1) .. (= x 2) .. :else ..)`.",
     ),
     (
         "if-let when-let if-some when-some when-first",
-        "write `(let [x ..] (if x .. ..))`",
+        "write `(let [x ..] (if x .. ..))`.",
     ),
     (
         "-> ->> as-> some-> some->> cond-> cond->> doto",
-        "write the calls in one another, or name each step in a `let`",
+        "write the calls in one another, or name each step in a `let`.",
     ),
     (
         "fn fn* letfn letfn* bound-fn bound-fn*",
-        "write a `defn`, and name that",
+        "write a `defn`, and name that.",
     ),
     (
         "partial comp complement constantly juxt memoize fnil every-pred some-fn trampoline",
-        "write a `defn` that makes the call: functions are no values",
+        "write a `defn` that makes the call: functions are no values.",
     ),
     (
         "apply",
-        "go through the vector in a `loop`, by `nth` and `count`",
+        "go through the vector in a `loop`, by `nth` and `count`.",
     ),
-    ("identity", "write the value itself"),
-    ("let* loop*", "write it without the `*`"),
-    ("defn-", "write `defn`"),
-    ("defonce", "write `def`"),
-    ("declare", "put the definition before its first use"),
+    ("identity", "write the value itself."),
+    ("let* loop*", "write it without the `*`."),
+    ("defn-", "write `defn`."),
+    ("defonce", "write `def`."),
+    ("declare", "put the definition before its first use."),
     (
         "defmacro macroexpand macroexpand-1 definline unquote unquote-splicing",
-        "write a `defn`: there are no macros",
+        "write a `defn`: there are no macros.",
     ),
     (
         "defmulti defmethod methods get-method remove-method remove-all-methods prefer-method prefers make-hierarchy derive underive ancestors descendants parents defprotocol defrecord deftype deftype* extend extend-protocol extend-type extenders reify reify* definterface",
-        "write a `defn` with a `cond` over a keyword that says the kind",
+        "write a `defn` with a `cond` over a keyword that says the kind.",
     ),
     (
         "try catch finally throw ex-info ex-data ex-message ex-cause assert Throwable->map StackTraceElement->vec",
-        "test before what may fail, by `if` or `when`: a fault ends its thread",
+        "test before what may fail, by `if` or `when`: a fault ends its thread.",
     ),
     (
         "quote",
-        "write a vector or a keyword: lists and symbols are no values",
+        "write a vector or a keyword: lists and symbols are no values.",
     ),
-    ("comment", "put a `;` before each line"),
+    ("comment", "put a `;` before each line."),
     (
         "require requiring-resolve use import import* refer refer-clojure in-ns create-ns remove-ns alias load load-file load-reader load-string loaded-libs compile with-loading-context",
-        "put all that is needed into this one script",
+        "put all that is needed into this one script.",
     ),
     (
         "new memfn bean proxy proxy-super proxy-mappings init-proxy update-proxy construct-proxy gen-class gen-interface bases supers",
-        "take it out: there are no classes of Java",
+        "take it out: there are no classes of Java.",
     ),
     (
         "binding with-bindings with-bindings* with-redefs with-redefs-fn with-local-vars var var-get var-set set! alter-var-root bound? thread-bound? intern find-var get-thread-bindings push-thread-bindings pop-thread-bindings",
-        "pass the value as an argument, or keep it in a ref or an atom",
+        "pass the value as an argument, or keep it in a ref or an atom.",
     ),
-    ("time", "take it out: there is no clock"),
+    ("time", "take it out: there is no clock."),
 ];
 
 /// Of threads and cells.
 static THREADS: [Row; 14] = [
-    ("send-off send-via", "write `send`"),
+    ("send-off send-via", "write `send`."),
     (
         "await await-for await1 shutdown-agents release-pending-sends",
-        "take it out: a run ends when no agent has anything to do",
+        "take it out: a run ends when no agent has anything to do.",
     ),
     (
         "restart-agent agent-error agent-errors clear-agent-errors set-error-mode! set-error-handler! error-mode error-handler",
-        "write `(def g (agent 0 :error-mode :continue))` for an agent that continues after a fault",
+        "write `(def g (agent 0 :error-mode :continue))` for an agent that continues after a fault.",
     ),
     (
         "set-agent-send-executor! set-agent-send-off-executor!",
-        "take it out, and give `--workers`",
+        "take it out, and give `--workers`.",
     ),
-    ("*agent*", "name the agent, where the action is sent"),
+    ("*agent*", "name the agent, where the action is sent."),
     (
         "swap-vals! reset-vals! compare-and-set!",
-        "write `swap!` or `reset!`, which give the new value",
+        "write `swap!` or `reset!`, which give the new value.",
     ),
     (
         "volatile! volatile? vreset! vswap!",
-        "write an atom, or a `loop` whose local changes",
+        "write an atom, or a `loop` whose local changes.",
     ),
     (
         "set-validator! get-validator",
-        "write `(def a (atom 0 :validator f))`, and so for a ref or an agent: a cell's validator stays as it is",
+        "write `(def a (atom 0 :validator f))`, and so for a ref or an agent: a cell's validator stays as it is.",
     ),
     (
         "add-watch remove-watch ref-history-count ref-min-history ref-max-history io!",
-        "take it out: a cell has its value alone",
+        "take it out: a cell has its value alone.",
     ),
     (
         "locking monitor-enter monitor-exit sync",
-        "write a `dosync` around what belongs together",
+        "write a `dosync` around what belongs together.",
     ),
     (
         "promise deliver",
-        "write a ref that one `future` sets and another reads",
+        "write a ref that one `future` sets and another reads.",
     ),
-    ("delay delay? force realized?", "write a `let` or a `defn`"),
+    ("delay delay? force realized?", "write a `let` or a `defn`."),
     (
         "future-call pmap pcalls pvalues",
-        "write a `future` for each part",
+        "write a `future` for each part.",
     ),
     (
         "future? future-cancel future-cancelled? future-done?",
-        "take it out: a future ends by itself, and gives no value",
+        "take it out: a future ends by itself, and gives no value.",
     ),
 ];
 
@@ -238,26 +241,20 @@ static THREADS: [Row; 14] = [
 static OTHERS: [Row; 2] = [
     (
         "*out* *err* *in* *ns* *file* *assert* *command-line-args* *clojure-version* *compile-files* *compile-path* *compiler-options* *data-readers* *default-data-reader-fn* *flush-on-newline* *math-context* *print-dup* *print-length* *print-level* *print-meta* *print-namespace-maps* *print-readably* *read-eval* *unchecked-math* *verbose-defrecords* *warn-on-reflection* *1 *2 *3 *e",
-        "take it out: there are no dynamic variables",
+        "take it out: there are no dynamic variables.",
     ),
     (
         "add-classpath add-tap remove-tap tap> all-ns find-ns the-ns ns-aliases ns-imports ns-interns ns-map ns-name ns-publics ns-refers ns-resolve ns-unalias ns-unmap resolve eval test clojure-version hash hash-combine hash-ordered-coll hash-unordered-coll mix-collection-hash munge namespace-munge destructure default-data-readers tagged-literal tagged-literal? reader-conditional reader-conditional? inst-ms inst-ms* chunk chunk-append chunk-buffer chunk-cons chunk-first chunk-next chunk-rest chunked-seq? find-protocol-impl find-protocol-method get-proxy-class proxy-name proxy-call-with-super print-ctor print-dup print-method print-simple primitives-classnames seq-to-map-for-destructuring method-sig case*",
-        "use the operations `+ - * inc dec quot rem mod = not= < > <= >= max min not nil? zero? pos? neg? count nth conj assoc peek pop`",
+        "use the operations `+ - * inc dec quot rem mod = not= < > <= >= max min not nil? zero? pos? neg? count nth conj assoc peek pop`.",
     ),
 ];
 
-/// What to do about a name of clojure.core that this profile leaves out; nothing is known of any other name.
-pub(crate) fn instead_of(name: &str) -> Option<&'static str> {
-    for rows in [
-        &ITEMS[..],
-        &VALUES[..],
-        &FORMS[..],
-        &THREADS[..],
-        &OTHERS[..],
-    ] {
-        if let Some(instead) = in_rows(rows, name) {
-            return Some(instead);
-        }
-    }
-    None
+/// What to do about a name of clojure.core that this profile leaves out; an empty text about any other name.
+pub(crate) fn instead_of(name: &str) -> &'static str {
+    let rest = in_rows(&THREADS, name, in_rows(&OTHERS, name, ""));
+    in_rows(
+        &ITEMS,
+        name,
+        in_rows(&VALUES, name, in_rows(&FORMS, name, rest)),
+    )
 }

@@ -8,6 +8,7 @@ pub mod kinds;
 pub mod refused;
 mod rows;
 mod script;
+mod sentence;
 mod shapes;
 mod signs;
 pub mod states;

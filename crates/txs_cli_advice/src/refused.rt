@@ -1,12 +1,11 @@
 //! What to do about a refusal, by what is at its span in the script.
 
 use crate::clojure::instead_of;
-use crate::script::{
-    Call, byte_after, bytes_at, call_of, forms_of, is_at_top, is_defined, list_of, parameters_of,
-    text_of, value_head,
-};
-use crate::shapes::{Takes, shape_at_top, shape_inside, taken_by};
-use crate::signs::{of_code, of_left_out, of_token};
+use crate::rows::in_rows;
+use crate::script::{bytes_at, facts_of, forms_of, name_at, parts_at};
+use crate::sentence::{Sentence, about, join, plain, written};
+use crate::shapes::{AT_TOP, INSIDE, NOT_AT_TOP, OPERATIONS};
+use crate::signs::{CODE, MARKS, byte_at, of_called, of_front, of_left_out};
 use itoa::Buffer;
 use std::alloc::{AllocError, Global};
 use std::str;
@@ -15,234 +14,148 @@ use txs_reader::{Bracket, Form, ReadError, ReadErrorKind};
 use txs_resolve_expand::{ResolveError, ResolveErrorKind};
 use txs_value_base::{Op, Span};
 
-/// A sentence where one is known, or no memory for it.
-type Advice = Result<Option<String>, AllocError>;
-
-/// What to do about a form at the top of a script that belongs below it.
-const AT_TOP: &str =
-    "Only `ns`, `def`, `defn` and `future` belong at the top of a script: put it into a `(future ..)`.";
-
 /// What to do about a list without parts.
 const EMPTY: &str = "Write `[]` for an empty vector, or `nil`: there are no lists as values.";
 
-/// What to do about a list where a function's name is wanted.
-const LIST_CALLED: &str =
-    "Put the name of a function here: write a `defn` above for what it does, and name that.";
-
-/// What to do about a keyword there.
-const KEYWORD_CALLED: &str =
-    "A keyword is no function, since there are no maps: take an item of a vector by `nth`.";
-
-/// What to do about a vector there.
-const VECTOR_CALLED: &str = "A vector is no function: write `(nth v i)`.";
-
-/// The parts, one after the other.
-fn join(alloc: Global, parts: &[&str]) -> Advice {
-    let mut text = String::new(alloc);
-    for part in parts {
-        text.push_str(part)?;
-    }
-    Ok(Some(text))
-}
-
-/// A sentence that begins with a name.
-fn about(alloc: Global, name: &str, rest: &str) -> Advice {
-    join(alloc, &["`", name, "`", rest])
-}
-
-/// A sentence, if there is one.
-fn only(alloc: Global, sentence: Option<&str>) -> Advice {
-    match sentence {
-        Some(sentence) => join(alloc, &[sentence]),
-        None => Ok(None),
-    }
-}
-
-/// What to do about a name of clojure.core that the profile leaves out.
-fn left_out(alloc: Global, name: &str, instead: &str) -> Advice {
-    join(
-        alloc,
-        &[
-            "`",
-            name,
-            "` of clojure.core is not in this profile; ",
-            instead,
-            ".",
-        ],
-    )
-}
-
-/// Whether the script defines the name at its top.
-fn is_of_script(alloc: Global, text: &[u8], name: &str) -> Result<bool, AllocError> {
-    let forms = forms_of(alloc, text)?;
-    Ok(is_defined(&forms, name))
-}
+/// What to do about a function that has to be pure.
+const NOT_PURE: &str =
+    "` is not pure, as is wanted here: it or what it calls has a `println`, a `dosync` or a form on cells.";
 
 /// What to do about a script that isn't read, as far as that is seen at the span.
 pub fn on_read(text: &[u8], error: ReadError) -> Option<&'static str> {
     let word = bytes_at(text, error.at);
     match error.kind {
-        ReadErrorKind::NotUtf8 => of_code(text),
-        ReadErrorKind::BadToken => of_code(text).or(of_token(word)),
-        ReadErrorKind::LeftOut => of_left_out(word, byte_after(text, error.at)),
+        ReadErrorKind::NotUtf8 => of_front(&CODE, text, 4),
+        ReadErrorKind::BadToken => of_front(&CODE, text, 4).or(of_front(&MARKS, word, 3)),
+        ReadErrorKind::LeftOut => { of_left_out(word, byte_at(text, error.at.to as usize, 0)) }
         _ => None,
     }
 }
 
-/// What to do about a name that is unknown.
-fn on_unknown(alloc: Global, text: &[u8], name: &str) -> Advice {
-    if is_of_script(alloc, text, name)? {
-        return about(
-            alloc,
-            name,
-            " is defined below: put that definition before this use.",
-        );
+/// What to do about a name that clojure.core has and the profile leaves out; this about any other.
+fn of_clojure<'a>(name: &'a str, otherwise: &'static str) -> Sentence<'a> {
+    let instead = instead_of(name);
+    if instead.is_empty() {
+        return plain(otherwise);
     }
-    match instead_of(name) {
-        Some(instead) => left_out(alloc, name, instead),
-        None => Ok(None),
+    Sentence {
+        front: "`",
+        name,
+        text: "` of clojure.core is not in this profile; ",
+        end: instead,
     }
+}
+
+/// What to do about a list at the top, or about the value of a `def` there.
+fn of_top(list: &[Form]) -> Sentence<'_> {
+    let head = name_at(list, 0);
+    let mut name = head;
+    if head == "def" {
+        let value = name_at(parts_at(list, 2), 0);
+        if !value.is_empty() {
+            name = value;
+        }
+    }
+    let otherwise = in_rows(&AT_TOP, head, NOT_AT_TOP);
+    of_clojure(name, in_rows(&AT_TOP, name, otherwise))
 }
 
 /// What to do about a symbol that is no form here.
-fn on_symbol(alloc: Global, name: &str) -> Advice {
+fn of_symbol(name: &str) -> &'static str {
     if name.contains('.') {
-        return about(
-            alloc,
-            name,
-            " has a dot, as classes of Java and other namespaces have: they are left out.",
-        );
+        "` has a dot, as classes of Java and other namespaces have: they are left out."
+    } else if !in_rows(&INSIDE, name, "").is_empty() {
+        "` is the name of a form: it is no value, and no local, parameter or definition has its name."
+    } else {
+        "` is a function, and no value: name it where it is called, after the cell of an `alter`, `commute`, `swap!` or `send`, or after `:validator`."
     }
-    if shape_inside(name).is_some() {
-        return about(
-            alloc,
-            name,
-            " is the name of a form: it is no value, and no local, parameter or definition has its name.",
-        );
-    }
-    about(
-        alloc,
-        name,
-        " is a function, and no value: name it where it is called, after the cell of an `alter`, `commute`, `swap!` or `send`, or after `:validator`.",
-    )
-}
-
-/// What to do about a list at the top of a script, or the value of a `def` there, that begins with this name; or this, where it has no row.
-fn on_head(alloc: Global, name: &str, otherwise: &str) -> Advice {
-    if let Some(instead) = instead_of(name) {
-        return left_out(alloc, name, instead);
-    }
-    only(alloc, Some(shape_at_top(name).unwrap_or(otherwise)))
-}
-
-/// What to do about a list at the top of a script that begins with this name, with these parts after it.
-fn on_top_list(alloc: Global, name: &str, parts: &[Form]) -> Advice {
-    if name == "def" {
-        let value = value_head(parts).unwrap_or(name);
-        return on_head(alloc, value, shape_at_top(name).unwrap_or(AT_TOP));
-    }
-    on_head(alloc, name, AT_TOP)
-}
-
-/// What to do about a list that begins with this name, with these parts after it.
-fn on_list(alloc: Global, name: &str, parts: &[Form], is_top: bool) -> Advice {
-    if is_top {
-        return on_top_list(alloc, name, parts);
-    }
-    only(alloc, shape_inside(name))
 }
 
 /// What to do about a form of another shape or in a wrong place.
-fn on_form(alloc: Global, form: &Form, is_top: bool) -> Advice {
-    match form {
-        Form::Group(Bracket::Round, forms, _) if forms.is_empty() => only(alloc, Some(EMPTY)),
-        Form::Symbol(name, _) if !is_top => on_symbol(alloc, text_of(name)),
-        _ => match list_of(form) {
-            Some((name, parts)) => on_list(alloc, name, parts, is_top),
-            None => only(alloc, Some(AT_TOP)),
-        },
-    }
-}
-
-/// The same of the form at this span.
-fn on_form_at(alloc: Global, text: &[u8], at: Span, is_top: bool) -> Advice {
-    let forms = forms_of(alloc, bytes_at(text, at))?;
+fn of_form(forms: &[Form], is_top: bool) -> Sentence<'_> {
     match forms.first() {
-        Some(form) => on_form(alloc, form, is_top),
-        None => Ok(None),
+        Some(Form::Group(Bracket::Round, list, _)) => {
+            if list.is_empty() {
+                plain(EMPTY)
+            } else if is_top {
+                of_top(list)
+            } else {
+                plain(in_rows(&INSIDE, name_at(list, 0), ""))
+            }
+        }
+        Some(Form::Symbol(_, _)) if !is_top => {
+            let name = name_at(forms, 0);
+            about(name, of_symbol(name))
+        }
+        Some(_) => plain(NOT_AT_TOP),
+        None => plain(""),
     }
 }
 
-/// The same, where it isn't known yet whether the form is at the top of the script.
-fn on_bad_form(alloc: Global, text: &[u8], at: Span) -> Advice {
-    let forms = forms_of(alloc, text)?;
-    let is_top = is_at_top(&forms, at);
-    drop(forms);
-    on_form_at(alloc, text, at, is_top)
+/// The same for the form that the bytes are.
+fn on_form(alloc: Global, word: &[u8], is_top: bool) -> Result<Option<String>, AllocError> {
+    match forms_of(alloc, word) {
+        Ok(forms) => written(alloc, of_form(&forms, is_top)),
+        Err(error) => Err(error),
+    }
 }
 
-/// What to do about a symbol that is called and is no function.
-fn on_called(alloc: Global, name: &str) -> Advice {
-    if shape_inside(name).is_some() {
-        return about(
-            alloc,
-            name,
-            " is the name of a form, and no function: write a `defn` above around it, and name that.",
-        );
-    }
-    join(
-        alloc,
-        &[
-            "`",
-            name,
-            "` is no function: write `(nth ",
-            name,
-            " i)` for an item of a vector, or `@",
-            name,
-            "` for a cell's value.",
-        ],
-    )
-}
+/// What to do about the name of a form where a function is wanted, before and after the name.
+static FORM_CALLED: [&str; 2] = [
+    "`",
+    "` is the name of a form, and no function: write a `defn` above around it, and name that.",
+];
+
+/// What to do about the name of a value there, before, between and after the names.
+static VALUE_CALLED: [&str; 4] = [
+    "`",
+    "` is no function: write `(nth ",
+    " i)` for an item of a vector, or `@",
+    "` for a cell's value.",
+];
 
 /// What to do about what is called and is no function.
-fn on_not_callable(alloc: Global, word: &[u8]) -> Advice {
-    match word {
-        [b'(' | b'@', ..] => only(alloc, Some(LIST_CALLED)),
-        [b'[', ..] => only(alloc, Some(VECTOR_CALLED)),
-        [b':', ..] => only(alloc, Some(KEYWORD_CALLED)),
-        [b'"' | b'+' | b'-' | b'0'..=b'9', ..] => Ok(None),
-        b"nil" | b"true" | b"false" => Ok(None),
-        _ => on_called(alloc, str::from_utf8(word).unwrap_or("")),
+fn on_called(alloc: Global, name: &str) -> Result<Option<String>, AllocError> {
+    if let Some(text) = of_called(name) {
+        return written(alloc, plain(text));
+    }
+    let parts = if !in_rows(&INSIDE, name, "").is_empty() {
+        &FORM_CALLED[..]
+    } else {
+        &VALUE_CALLED[..]
+    };
+    match parts.join(alloc, name) {
+        Ok(text) => Ok(Some(text)),
+        Err(error) => Err(error),
     }
 }
 
-/// Whether a core operation has the name.
-fn is_operation(name: &str) -> bool {
-    Op::from_name(name.as_bytes()).is_some()
+/// What to do about a name that the script or the language has.
+fn of_name(kind: ResolveErrorKind, is_operation: bool, is_defined: bool) -> &'static str {
+    match kind {
+        ResolveErrorKind::UnknownName => {
+            "` is defined below: put that definition before this use."
+        }
+        ResolveErrorKind::LocalCalled if is_operation || is_defined => {
+            "` is a local here, and hides the function of its name: give the local another name."
+        }
+        ResolveErrorKind::LocalCalled => {
+            "` is a local, and no local is called: functions are no values, so name one here."
+        }
+        ResolveErrorKind::Redefined if is_operation => {
+            "` is a core operation: choose another name."
+        }
+        _ => "",
+    }
 }
 
-/// What to do about a local that is called.
-fn on_local(alloc: Global, text: &[u8], name: &str) -> Advice {
-    if is_operation(name) || is_of_script(alloc, text, name)? {
-        return about(
-            alloc,
-            name,
-            " is a local here, and hides the function of its name: give the local another name.",
-        );
+/// The part of the script that is read again: none where it isn't needed.
+fn script_for(text: &[u8], kind: ResolveErrorKind, is_operation: bool) -> &[u8] {
+    match kind {
+        ResolveErrorKind::BadForm | ResolveErrorKind::UnknownName => text,
+        ResolveErrorKind::LocalCalled if !is_operation => text,
+        _ => &[],
     }
-    about(
-        alloc,
-        name,
-        " is a local, and no local is called: functions are no values, so name one here.",
-    )
-}
-
-/// What to do about a name that is defined again.
-fn on_redefined(alloc: Global, name: &str) -> Advice {
-    if is_operation(name) {
-        return about(alloc, name, " is a core operation: choose another name.");
-    }
-    Ok(None)
 }
 
 /// What to do about forms that are no program, as far as that is seen at the span.
@@ -256,97 +169,92 @@ pub fn on_resolve(
 ) -> Result<Option<String>, AllocError> {
     let word = bytes_at(text, error.at);
     let name = str::from_utf8(word).unwrap_or("");
+    let is_operation = Op::from_name(word).is_some();
+    let script = script_for(text, error.kind, is_operation);
+    let facts = match facts_of(alloc, script, name, error.at) {
+        Ok(facts) => facts,
+        Err(error) => return Err(error),
+    };
     match error.kind {
-        ResolveErrorKind::UnknownName => on_unknown(alloc, text, name),
-        ResolveErrorKind::BadForm => on_bad_form(alloc, text, error.at),
-        ResolveErrorKind::NotCallable => on_not_callable(alloc, word),
-        ResolveErrorKind::LocalCalled => on_local(alloc, text, name),
-        ResolveErrorKind::Redefined => on_redefined(alloc, name),
-        _ => Ok(None),
+        ResolveErrorKind::BadForm => on_form(alloc, word, facts.is_top),
+        ResolveErrorKind::NotCallable => on_called(alloc, name),
+        ResolveErrorKind::UnknownName if !facts.is_defined => written(alloc, of_clojure(name, "")),
+        kind => written(
+            alloc,
+            about(name, of_name(kind, is_operation, facts.is_defined)),
+        ),
     }
 }
 
-/// What follows the counts of a call: that the first argument is a cell's value, or what to write in place of more.
-fn after_count(call: Call<'_>, takes: Takes<'_>) -> &'static str {
+/// What a list calls: a function by its name, how many arguments it is called on, and whether a cell's value is the first of them.
+#[derive(Clone, Copy)]
+struct Call<'a> {
+    name: &'a str,
+    count: usize,
+    on_cell: bool,
+}
+
+/// Where a list that begins with one of these has the name of the function that it calls.
+static CALLERS: [(&'static str, usize); 1] = [("alter commute swap! send", 2)];
+
+/// What a list calls; the empty name where that isn't seen.
+fn call_of(list: &[Form]) -> Call<'_> {
+    let at = in_rows(&CALLERS, name_at(list, 0), 0);
+    Call {
+        name: name_at(list, at),
+        count: list.len().saturating_sub(at.max(1)),
+        on_cell: at > 0,
+    }
+}
+
+/// How many arguments a function takes, how many there are, and what follows: that the first is a cell's value, or what to write in
+/// place of more.
+fn on_count<'a>(
+    alloc: Global,
+    call: Call<'a>,
+    least: usize,
+    shown: &'a str,
+    instead: &'a str,
+) -> Result<Option<String>, AllocError> {
+    let mut after = "";
+    if call.count > least {
+        after = instead;
+    }
     if call.on_cell {
-        return " with the cell's value as the first";
+        after = " with the cell's value as the first";
     }
-    if call.count > takes.least {
-        return takes.instead;
-    }
-    ""
-}
-
-/// How many arguments a function takes, how many there are, and what follows.
-fn counted(alloc: Global, name: &str, takes: &str, count: &str, after: &str) -> Advice {
-    join(
-        alloc,
-        &["`", name, "` takes ", takes, ", got ", count, after, "."],
-    )
-}
-
-/// What to do about a call of an operation or a function that takes so many arguments.
-fn on_count(alloc: Global, call: Call<'_>, takes: Takes<'_>) -> Advice {
     let mut buffer = Buffer::new();
     let count = buffer.format(call.count);
-    let after = after_count(call, takes);
-    counted(alloc, call.name, takes.shown, count, after)
-}
-
-/// What to do about a call of a function of the script.
-fn on_function(alloc: Global, text: &[u8], call: Call<'_>) -> Advice {
-    let forms = forms_of(alloc, text)?;
-    let Some(least) = parameters_of(&forms, call.name) else {
-        return Ok(None);
-    };
-    let mut buffer = Buffer::new();
-    let shown = buffer.format(least);
-    let instead = "";
-    on_count(
-        alloc,
-        call,
-        Takes {
-            least,
-            shown,
-            instead,
-        },
-    )
-}
-
-/// What to do about a call with a wrong count of arguments.
-fn on_arity(alloc: Global, text: &[u8], call: Call<'_>) -> Advice {
-    match taken_by(call.name) {
-        Some(takes) => on_count(alloc, call, takes),
-        None => on_function(alloc, text, call),
-    }
-}
-
-/// What to do about a `recur` on another count of values than it needs.
-fn on_recur(alloc: Global, count: usize) -> Advice {
-    let mut buffer = Buffer::new();
-    let count = buffer.format(count);
     join(
         alloc,
         &[
-            "`recur` got ",
-            count,
-            ": give it as many values as its `loop` or function binds.",
+            "`", call.name, "` takes ", shown, ", got ", count, after, ".",
         ],
     )
 }
 
-/// What to do about a call that isn't sound.
-fn on_call(alloc: Global, text: &[u8], kind: CheckErrorKind, call: Call<'_>) -> Advice {
-    match kind {
-        CheckErrorKind::RecurCount => on_recur(alloc, call.count),
-        CheckErrorKind::Arity => on_arity(alloc, text, call),
-        CheckErrorKind::NotPure => about(
-            alloc,
-            call.name,
-            " is not pure, as is wanted here: it or what it calls has a `println`, a `dosync` or a form on cells.",
-        ),
-        _ => Ok(None),
+/// What to do about a call with a wrong count of arguments.
+fn on_arity(alloc: Global, text: &[u8], call: Call<'_>) -> Result<Option<String>, AllocError> {
+    let (least, shown, instead) = in_rows(&OPERATIONS, call.name, (0, "", ""));
+    if !shown.is_empty() {
+        return on_count(alloc, call, least, shown, instead);
     }
+    let facts = match facts_of(alloc, text, call.name, Span { from: 0, to: 0 }) {
+        Ok(facts) => facts,
+        Err(error) => return Err(error),
+    };
+    match facts.parameters {
+        Some(least) => on_count(alloc, call, least, Buffer::new().format(least), ""),
+        None => Ok(None),
+    }
+}
+
+/// What to do about a `recur` on another count of values than it needs.
+fn on_recur(alloc: Global, count: usize) -> Result<Option<String>, AllocError> {
+    let mut buffer = Buffer::new();
+    let count = buffer.format(count);
+    let end = ": give it as many values as its `loop` or function binds.";
+    join(alloc, &["`recur` got ", count, end])
 }
 
 /// What to do about a program that isn't sound, as far as that is seen at the span.
@@ -358,12 +266,16 @@ pub fn on_check(
     text: &[u8],
     error: CheckError,
 ) -> Result<Option<String>, AllocError> {
-    let forms = forms_of(alloc, bytes_at(text, error.at))?;
-    match forms.first() {
-        Some(form) => match call_of(form) {
-            Some(call) => on_call(alloc, text, error.kind, call),
-            None => Ok(None),
-        },
-        None => Ok(None),
+    let forms = match forms_of(alloc, bytes_at(text, error.at)) {
+        Ok(forms) => forms,
+        Err(error) => return Err(error),
+    };
+    let call = call_of(parts_at(&forms, 0));
+    match error.kind {
+        _ if call.name.is_empty() => Ok(None),
+        CheckErrorKind::RecurCount => on_recur(alloc, call.count),
+        CheckErrorKind::NotPure => written(alloc, about(call.name, NOT_PURE)),
+        CheckErrorKind::Arity => on_arity(alloc, text, call),
+        _ => Ok(None),
     }
 }

@@ -1,9 +1,9 @@
 //! The shapes of the forms, and how many arguments the core operations take.
 
-use crate::rows::{Row, in_rows, is_among};
+use crate::rows::Row;
 
 /// The forms of the top of a script, and of a `def` there.
-static AT_TOP: [Row; 6] = [
+pub(crate) static AT_TOP: [Row; 6] = [
     (
         "def",
         "Write `(def NAME LITERAL)` or `(def NAME (ref LITERAL))`, or so with `atom` or `agent`: nothing is computed at the top of a script.",
@@ -30,8 +30,13 @@ static AT_TOP: [Row; 6] = [
     ),
 ];
 
-/// All forms, below the top.
-static INSIDE: [Row; 28] = [
+/// What to do about a form at the top of a script that belongs below it.
+pub(crate) const NOT_AT_TOP: &str =
+    "Only `ns`, `def`, `defn` and `future` belong at the top of a script: put it into a `(future ..)`.";
+
+/// All forms, below the top; and a list that begins with no name.
+pub(crate) static INSIDE: [Row; 29] = [
+    ("", NOT_AT_TOP),
     (
         "ns",
         "Put the `ns` at the top of the script, as its first form.",
@@ -113,64 +118,33 @@ static INSIDE: [Row; 28] = [
     ),
 ];
 
-/// The shape of a form of the top of a script, or of a `def` there.
-pub(crate) fn shape_at_top(name: &str) -> Option<&'static str> {
-    in_rows(&AT_TOP, name)
-}
+/// How many arguments an operation takes: at least, as it is shown, and what follows where there are more.
+type Takes = (usize, &'static str, &'static str);
 
-/// The shape of a form below the top, or that it belongs at the top. There is one for each name of a form, and for no other name.
-pub(crate) fn shape_inside(name: &str) -> Option<&'static str> {
-    in_rows(&INSIDE, name)
-}
-
-/// Core operations that take alike: their names with a space between each two, how many arguments one takes at least, how that is
-/// shown, and what follows where there are more.
-type Counts = (&'static str, usize, &'static str, &'static str);
-
-/// The core operations.
-static OPERATIONS: [Counts; 17] = [
-    ("+ *", 2, "2 or more", ""),
-    ("-", 1, "1 or more", ""),
-    ("inc", 1, "1", "; write `(+ n m)`"),
-    ("dec", 1, "1", "; write `(- n m)`"),
-    ("quot rem mod", 2, "2", ""),
-    ("=", 2, "2", "; write `(and (= a b) (= b c))`"),
-    ("<", 2, "2", "; write `(and (< a b) (< b c))`"),
-    (">", 2, "2", "; write `(and (> a b) (> b c))`"),
-    ("<=", 2, "2", "; write `(and (<= a b) (<= b c))`"),
-    (">=", 2, "2", "; write `(and (>= a b) (>= b c))`"),
-    ("not=", 2, "2", "; write `(not (and (= a b) (= b c)))`"),
-    ("max", 2, "2", "; write `(max (max a b) c)`"),
-    ("min", 2, "2", "; write `(min (min a b) c)`"),
-    ("not nil? zero? pos? neg? count peek pop", 1, "1", ""),
+/// What core operations take, by their names.
+pub(crate) static OPERATIONS: [(&'static str, Takes); 17] = [
+    ("+ *", (2, "2 or more", "")),
+    ("-", (1, "1 or more", "")),
+    ("inc", (1, "1", "; write `(+ n m)`")),
+    ("dec", (1, "1", "; write `(- n m)`")),
+    ("quot rem mod", (2, "2", "")),
+    ("=", (2, "2", "; write `(and (= a b) (= b c))`")),
+    ("<", (2, "2", "; write `(and (< a b) (< b c))`")),
+    (">", (2, "2", "; write `(and (> a b) (> b c))`")),
+    ("<=", (2, "2", "; write `(and (<= a b) (<= b c))`")),
+    (">=", (2, "2", "; write `(and (>= a b) (>= b c))`")),
+    ("not=", (2, "2", "; write `(not (and (= a b) (= b c)))`")),
+    ("max", (2, "2", "; write `(max (max a b) c)`")),
+    ("min", (2, "2", "; write `(min (min a b) c)`")),
+    ("not nil? zero? pos? neg? count peek pop", (1, "1", "")),
     (
         "nth",
-        2,
-        "2",
-        "; test the index first, as `(if (< i (count v)) (nth v i) x)`",
+        (
+            2,
+            "2",
+            "; test the index first, as `(if (< i (count v)) (nth v i) x)`",
+        ),
     ),
-    ("conj", 2, "2", "; write `(conj (conj v a) b)`"),
-    ("assoc", 3, "3", "; write `(assoc (assoc v i a) j b)`"),
+    ("conj", (2, "2", "; write `(conj (conj v a) b)`")),
+    ("assoc", (3, "3", "; write `(assoc (assoc v i a) j b)`")),
 ];
-
-/// How many arguments an operation or a function takes: at least, as it is shown, and what follows where there are more.
-#[derive(Clone, Copy)]
-pub(crate) struct Takes<'a> {
-    pub(crate) least: usize,
-    pub(crate) shown: &'a str,
-    pub(crate) instead: &'static str,
-}
-
-/// How many arguments the core operation of this name takes, if there is one.
-pub(crate) fn taken_by(name: &str) -> Option<Takes<'static>> {
-    for row in &OPERATIONS {
-        if is_among(row.0, name) {
-            return Some(Takes {
-                least: row.1,
-                shown: row.2,
-                instead: row.3,
-            });
-        }
-    }
-    None
-}

@@ -1,73 +1,77 @@
 //! What a word that isn't read is, by its first bytes, and what to write in its place.
 
-/// A byte, and what to do about a word of which it is one.
-type Row = (u8, &'static str);
+use crate::rows::{Row, in_rows, of_bytes};
+use std::str;
 
-/// How code in its byte form begins whose cells have no validators.
-const MAGIC: &[u8] = b"TXS1";
+/// Words or beginnings of them with a space between each two, and what to do about them.
+pub(crate) type Known = (&'static str, Option<&'static str>);
 
-/// How code in its byte form begins a cell of which has one.
-const MAGIC_OF_VALIDATED: &[u8] = b"TXS2";
+/// What begins as code in its byte form, where a script is wanted.
+pub(crate) static CODE: [Known; 1] = [(
+    "TXS1 TXS2",
+    Some("This is code in its byte form: `run`, `schedule` and `dis` take it with `--code`."),
+)];
 
-/// What to do about such code where a script is wanted.
-const IS_CODE: &str =
-    "This is code in its byte form: `run`, `schedule` and `dis` take it with `--code`.";
-
-/// What to do about a byte order mark.
-const IS_BYTE_ORDER_MARK: &str =
-    "Save the script without a byte order mark: its three bytes are here.";
-
-/// What to do about a quotation mark past ASCII.
-const IS_QUOTATION_MARK: &str = "Write a text between two straight quotes, as \"text\".";
+/// Words that read as nothing, by their first character.
+pub(crate) static MARKS: [Known; 2] = [
+    (
+        "\u{FEFF}",
+        Some("Save the script without a byte order mark: its three bytes are here."),
+    ),
+    (
+        "\u{2018} \u{2019} \u{201A} \u{201B} \u{201C} \u{201D} \u{201E} \u{201F}",
+        Some("Write a text between two straight quotes, as \"text\"."),
+    ),
+];
 
 /// Words that are left out, by their first byte.
 static FIRST: [Row; 12] = [
     (
-        b'{',
+        "{",
         "A map is left out: write a vector, and name its indices by `def`.",
     ),
     (
-        b'}',
+        "}",
         "Maps and sets are left out, and so are their brackets: write a vector.",
     ),
     (
-        b'\\',
+        "\\",
         "A character is left out: write a text of one character, as \"a\".",
     ),
     (
-        b'\'',
+        "'",
         "A quote is left out, since lists and symbols are no values: write a vector or a keyword.",
     ),
     (
-        b'`',
+        "`",
         "A syntax quote is left out, since there are no macros: write a `defn`.",
     ),
     (
-        b'~',
+        "~",
         "An unquote is left out, since there are no macros: write a `defn`.",
     ),
     (
-        b'^',
+        "^",
         "Metadata is left out: take out the `^` and the hint after it.",
     ),
     (
-        b'&',
+        "&",
         "`&` is left out: pass one vector for the rest of the arguments.",
     ),
     (
-        b'%',
+        "%",
         "`%` is left out with `#( )`: write a `defn` above, whose parameters have names.",
     ),
     (
-        b':',
+        ":",
         "A keyword of a namespace is left out: write a colon and a name alone, as `:a`.",
     ),
     (
-        b'.',
+        ".",
         "A call of Java is left out: a name doesn't begin with a dot.",
     ),
     (
-        b'/',
+        "/",
         "`/` is left out, since there are no ratios: write `quot`, and `rem` or `mod` for what is left.",
     ),
 ];
@@ -75,48 +79,48 @@ static FIRST: [Row; 12] = [
 /// Words that begin with `#`, by the next byte.
 static DISPATCH: [Row; 12] = [
     (
-        b'{',
+        "{",
         "A set is left out: write a vector, and look through it in a `loop`.",
     ),
     (
-        b'(',
+        "(",
         "`#( )` is left out: write a `defn` above, and name it here.",
     ),
     (
-        b'"',
+        "\"",
         "A regular expression is left out: texts are printed and compared whole.",
     ),
     (
-        b'\'',
+        "'",
         "`#'` is left out: write the name alone, without a quote.",
     ),
     (
-        b'_',
+        "_",
         "`#_` is left out: put a `;` before each line that isn't to be read.",
     ),
     (
-        b'?',
+        "?",
         "A reader conditional is left out: write only what follows its `:clj`.",
     ),
     (
-        b'#',
+        "#",
         "Infinities and `##NaN` are left out with floats: write a whole number.",
     ),
     (
-        b':',
+        ":",
         "A map is left out: write a vector, and name its indices by `def`.",
     ),
     (
-        b'^',
+        "^",
         "Metadata is left out: take out the `#^` and the hint after it.",
     ),
     (
-        b'!',
+        "!",
         "A comment begins with `;` alone, also in the first line.",
     ),
-    (b'=', "`#=` is left out: write the value itself."),
+    ("=", "`#=` is left out: write the value itself."),
     (
-        b'<',
+        "<",
         "What is printed as `#<..>` can't be read: write the value itself.",
     ),
 ];
@@ -125,103 +129,81 @@ static DISPATCH: [Row; 12] = [
 const TAGGED: &str = "A tagged literal is left out: write a number, a text, a keyword or a vector.";
 
 /// Numbers that are left out, by a byte of theirs, of which the first in this order counts.
-static NUMBERS: [Row; 10] = [
+static NUMBERS: [Row; 4] = [
     (
-        b'/',
+        "/",
         "A ratio is left out: write `(quot a b)`, or count in smaller units.",
     ),
-    (b'x', BASE),
-    (b'X', BASE),
-    (b'r', BASE),
-    (b'R', BASE),
-    (b'.', FLOAT),
-    (b'e', FLOAT),
-    (b'E', FLOAT),
-    (b'M', FLOAT),
     (
-        b'N',
+        "xXrR",
+        "A number in another base is left out: write it in base ten.",
+    ),
+    (
+        ".eEM",
+        "Floats and decimals are left out: count in smaller units, as cents, by whole numbers.",
+    ),
+    (
+        "N",
         "Big numbers are left out: write the number without its `N`, where it has 64 bits.",
     ),
 ];
-
-/// What to do about a number in another base.
-const BASE: &str = "A number in another base is left out: write it in base ten.";
-
-/// What to do about a float.
-const FLOAT: &str =
-    "Floats and decimals are left out: count in smaller units, as cents, by whole numbers.";
 
 /// What to do about any other number.
 const DIGITS: &str =
     "Write a whole number by its digits alone, in base ten, with no zero in front.";
 
-/// What to do about a name with a `/` in it.
-const QUALIFIED: &str =
-    "A name of another namespace or of a class is left out: write a `defn` of its own, with no `/` in its name.";
-
-/// What the row of this byte says.
-fn row_of(rows: &'static [Row], byte: u8) -> Option<&'static str> {
-    for row in rows {
-        if row.0 == byte {
-            return Some(row.1);
-        }
-    }
-    None
-}
-
-/// The byte at an index, 0 past the end.
-fn byte_at(bytes: &[u8], i: usize) -> u8 {
-    bytes.get(i).copied().unwrap_or(0)
-}
-
-/// What to do about a number that is left out.
-fn of_number(word: &[u8]) -> &'static str {
-    for row in &NUMBERS {
-        if word.contains(&row.0) {
-            return row.1;
-        }
-    }
-    DIGITS
-}
-
-/// Whether a word is a number, by its first two bytes.
-fn is_numeric(first: u8, second: u8) -> bool {
-    first.is_ascii_digit() || (matches!(first, b'+' | b'-') && second.is_ascii_digit())
-}
+/// Names that are left out, by a byte of theirs.
+static QUALIFIED: [Row; 1] = [(
+    "/",
+    "A name of another namespace or of a class is left out: write a `defn` of its own, with no `/` in its name.",
+)];
 
 /// What to do about a word that is left out, with this byte after it; nothing is known of some.
 pub(crate) fn of_left_out(word: &[u8], next: u8) -> Option<&'static str> {
-    let first = byte_at(word, 0);
-    let second = word.get(1).copied().unwrap_or(next);
-    if first == b'#' {
-        return Some(row_of(&DISPATCH, second).unwrap_or(TAGGED));
-    }
-    if is_numeric(first, second) {
-        return Some(of_number(word));
-    }
-    if let Some(advice) = row_of(&FIRST, first) {
-        return Some(advice);
-    }
-    if word.contains(&b'/') {
-        return Some(QUALIFIED);
-    }
-    None
-}
-
-/// What to do about a word that reads as nothing; nothing is known of most.
-pub(crate) fn of_token(word: &[u8]) -> Option<&'static str> {
-    match word {
-        [0xEF, 0xBB, 0xBF, ..] => Some(IS_BYTE_ORDER_MARK),
-        [0xE2, 0x80, 0x98..=0x9F, ..] => Some(IS_QUOTATION_MARK),
-        _ => None,
+    let first = byte_at(word, 0, 0);
+    let second = byte_at(word, 1, next);
+    match first {
+        b'#' => of_bytes(&DISPATCH, &[second]).or(Some(TAGGED)),
+        b'0'..=b'9' => of_number(word),
+        b'+' | b'-' if second.is_ascii_digit() => of_number(word),
+        _ => of_bytes(&FIRST, &[first]).or(of_bytes(&QUALIFIED, word)),
     }
 }
 
-/// What to do about bytes that are no script, where they begin as code does.
-pub(crate) fn of_code(text: &[u8]) -> Option<&'static str> {
-    if text.starts_with(MAGIC) || text.starts_with(MAGIC_OF_VALIDATED) {
-        Some(IS_CODE)
-    } else {
-        None
-    }
+/// The byte at an index, or this past the end.
+pub(crate) fn byte_at(bytes: &[u8], i: usize, otherwise: u8) -> u8 {
+    bytes.get(i).copied().unwrap_or(otherwise)
+}
+
+/// What to do about a number that is left out.
+fn of_number(word: &[u8]) -> Option<&'static str> {
+    of_bytes(&NUMBERS, word).or(Some(DIGITS))
+}
+
+/// What the row says that has the first bytes, so many.
+pub(crate) fn of_front(rows: &'static [Known], bytes: &[u8], count: usize) -> Option<&'static str> {
+    let front = bytes.get(..count).unwrap_or(&[]);
+    in_rows(rows, str::from_utf8(front).unwrap_or(""), None)
+}
+
+/// What to do about what is called and is no function, by its first byte; nothing about a number or a text.
+static CALLED: [Row; 4] = [
+    (
+        "(@",
+        "Put the name of a function here: write a `defn` above for what it does, and name that.",
+    ),
+    ("[", "A vector is no function: write `(nth v i)`."),
+    (
+        ":",
+        "A keyword is no function, since there are no maps: take an item of a vector by `nth`.",
+    ),
+    ("\"+-0123456789", ""),
+];
+
+/// Values whose names read as symbols, of which nothing is known either.
+static VALUES: [Known; 1] = [("nil true false", Some(""))];
+
+/// What to do about what is called and is no function, but for a symbol; an empty text where nothing is known.
+pub(crate) fn of_called(word: &str) -> Option<&'static str> {
+    of_bytes(&CALLED, word.as_bytes().get(..1).unwrap_or(&[])).or(in_rows(&VALUES, word, None))
 }

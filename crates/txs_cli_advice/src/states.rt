@@ -1,6 +1,8 @@
 //! What to do about a value that a validator refused: which cells may be meant, and what their validators are.
 
-use crate::script::{bytes_at, forms_of, list_of, text_of};
+use crate::rows::in_rows;
+use crate::script::{bytes_at, forms_of, name_at, parts_at};
+use crate::sentence::join;
 use std::alloc::{AllocError, Global};
 use txs_reader::{Bracket, Form};
 use txs_value_base::{Fault, FaultKind};
@@ -8,72 +10,30 @@ use txs_value_base::{Fault, FaultKind};
 /// The most bytes of a script that is read again for a fault: a run may have as many faults as it has threads and agents.
 const MOST_READ: usize = 65_536;
 
-/// A cell with a validator, both by their names.
+/// The kind of the cells that a form changes, by the name with which it begins, and where it names the cell: past the end, if it
+/// names none.
+static CHANGED: [(&'static str, (&'static str, usize)); 3] = [
+    ("dosync", ("ref", usize::MAX)),
+    ("swap! reset!", ("atom", 1)),
+    ("send", ("agent", 1)),
+];
+
+/// A cell with a validator, both by their names, which are empty where there is none.
 #[derive(Clone, Copy)]
 struct Validated<'a> {
     cell: &'a str,
     validator: &'a str,
 }
 
-/// The name that a form is.
-fn name_of(form: &Form) -> Option<&str> {
-    match form {
-        Form::Symbol(name, _) => Some(text_of(name)),
-        _ => None,
-    }
-}
-
-/// The name behind `:validator` among the options of a cell.
-fn validator_in(options: &[Form]) -> Option<&str> {
-    let mut is_next = false;
-    for form in options {
-        if is_next {
-            return name_of(form);
-        }
-        is_next = match form {
-            Form::Keyword(name, _) => text_of(name) == "validator",
-            _ => false,
-        };
-    }
-    None
-}
-
-/// The cell that a form at the top of a script defines, if it is of this kind and has a validator.
-fn validated_cell<'a>(form: &'a Form, kind: &str) -> Option<Validated<'a>> {
-    let ("def", parts) = list_of(form)? else {
-        return None;
-    };
-    let (name, rest) = parts.split_first()?;
-    let (head, opening) = list_of(rest.first()?)?;
-    let (_, options) = opening.split_first()?;
-    if head != kind {
-        return None;
-    }
-    Some(Validated {
-        cell: name_of(name)?,
-        validator: validator_in(options)?,
-    })
-}
-
-/// The kind of the cells that a form changes which begins with this name.
-fn kind_changed(head: &str) -> Option<&'static str> {
-    match head {
-        "dosync" => Some("ref"),
-        "swap!" | "reset!" => Some("atom"),
-        "send" => Some("agent"),
-        _ => None,
-    }
-}
-
 /// Whether one of these forms, or of their parts, is a vector with this name as an item: then a local may have it.
-fn is_bound(forms: &[Form], name: &str, levels: u32) -> bool {
-    for form in forms {
+fn is_bound(forms: &[Form], is_vector: bool, name: &str, levels: u32) -> bool {
+    for (i, form) in forms.iter().enumerate() {
+        if is_vector && name_at(forms, i) == name {
+            return true;
+        }
         if let Form::Group(bracket, parts, _) = form {
-            let is_vector = matches!(bracket, Bracket::Square);
-            if is_vector && parts.iter().any(|part| name_of(part) == Some(name)) {
-                return true;
-            }
-            if levels > 0 && is_bound(parts, name, levels - 1) {
+            let is_square = matches!(bracket, Bracket::Square);
+            if levels > 0 && is_bound(parts, is_square, name, levels - 1) {
                 return true;
             }
         }
@@ -81,28 +41,27 @@ fn is_bound(forms: &[Form], name: &str, levels: u32) -> bool {
     false
 }
 
-/// The cell that a form with these parts names, if it does and no local may have that name.
-fn cell_named<'a>(forms: &[Form], parts: &'a [Form]) -> Option<&'a str> {
-    let name = name_of(parts.first()?)?;
-    if is_bound(forms, name, 100) {
-        return None;
+/// The cell that the form at this index of a script defines, if it is of this kind and has a validator, and this name, if the name
+/// isn't empty. Among the options behind its first value the validator alone is a symbol, and there are two at most.
+fn cell_at<'a>(forms: &'a [Form], i: usize, kind: &str, named: &str) -> Validated<'a> {
+    let parts = parts_at(forms, i);
+    let cell = name_at(parts, 1);
+    let opening = parts_at(parts, 2);
+    let mut validator = name_at(opening, 3);
+    if validator.is_empty() {
+        validator = name_at(opening, 5);
     }
-    Some(name)
-}
-
-/// Appends these texts.
-fn add(text: &mut String, parts: &[&str]) -> Result<(), AllocError> {
-    for part in parts {
-        text.push_str(part)?;
+    let is_named = named.is_empty() | (named == cell);
+    if !is_named | (name_at(opening, 0) != kind) {
+        validator = "";
     }
-    Ok(())
+    Validated { cell, validator }
 }
 
 /// The sentence about the only cell that may be meant.
-fn of_one(alloc: Global, one: Validated<'_>) -> Result<String, AllocError> {
-    let mut text = String::new(alloc);
-    add(
-        &mut text,
+fn of_one(alloc: Global, one: Validated<'_>) -> Result<Option<String>, AllocError> {
+    join(
+        alloc,
         &[
             "`",
             one.validator,
@@ -112,66 +71,38 @@ fn of_one(alloc: Global, one: Validated<'_>) -> Result<String, AllocError> {
             one.cell,
             "` a value that it accepts.",
         ],
-    )?;
-    Ok(text)
+    )
 }
 
-/// Appends a cell of several that may be meant.
-fn add_one(text: &mut String, one: Validated<'_>, is_first: bool) -> Result<(), AllocError> {
-    let before = if is_first {
-        "A validator gave `false` or `nil`: `"
-    } else {
-        ", or `"
-    };
-    add(text, &[before, one.validator, "` of `", one.cell, "`"])
-}
-
-/// The cells of this kind that have validators, and of these the named one alone, if there is a name.
-fn sentence(
+/// The cells of this kind that have validators, and of these the named one alone, if the name isn't empty.
+fn of_cells(
     alloc: Global,
     forms: &[Form],
     kind: &str,
-    named: Option<&str>,
+    named: &str,
 ) -> Result<Option<String>, AllocError> {
-    let mut text = String::new(alloc);
-    let mut only = None;
-    let mut count = 0_usize;
-    for form in forms {
-        if let Some(one) = validated_cell(form, kind) {
-            if named.is_none_or(|name| name == one.cell) {
-                add_one(&mut text, one, count == 0)?;
-                count = count.saturating_add(1);
-                only = Some(one);
-            }
+    let mut parts = Vec::new(alloc);
+    let mut last = 0_usize;
+    for i in 0..forms.len() {
+        let one = cell_at(forms, i, kind, named);
+        if !one.validator.is_empty() {
+            let before = if parts.is_empty() {
+                "A validator gave `false` or `nil`: `"
+            } else {
+                "`, or `"
+            };
+            parts.extend_from_slice(&[before, one.validator, "` of `", one.cell])?;
+            last = i;
         }
     }
-    if count == 1 {
-        if let Some(one) = only {
-            return Ok(Some(of_one(alloc, one)?));
+    match parts.len() {
+        0 => Ok(None),
+        4 => of_one(alloc, cell_at(forms, last, kind, named)),
+        _ => {
+            parts.push("`.")?;
+            join(alloc, &parts)
         }
     }
-    if count == 0 {
-        return Ok(None);
-    }
-    text.push_str(".")?;
-    Ok(Some(text))
-}
-
-/// The same for a value that was refused at a form.
-fn on_refused(alloc: Global, text: &[u8], form: &Form) -> Result<Option<String>, AllocError> {
-    let Some((head, parts)) = list_of(form) else {
-        return Ok(None);
-    };
-    let Some(kind) = kind_changed(head) else {
-        return Ok(None);
-    };
-    let forms = forms_of(alloc, text)?;
-    let named = if kind == "ref" {
-        None
-    } else {
-        cell_named(&forms, parts)
-    };
-    sentence(alloc, &forms, kind, named)
 }
 
 /// What to do about a fault, as far as that is seen at its span: of a value that was refused, the cells that may be meant, with
@@ -180,15 +111,28 @@ fn on_refused(alloc: Global, text: &[u8], form: &Form) -> Result<Option<String>,
 /// # Errors
 /// Where there was no memory for the sentence, or for the forms of the script.
 pub fn on_fault(alloc: Global, text: &[u8], fault: Fault) -> Result<Option<String>, AllocError> {
-    let FaultKind::InvalidState = fault.kind else {
-        return Ok(None);
+    let is_refused = matches!(fault.kind, FaultKind::InvalidState);
+    let word = if is_refused & (text.len() <= MOST_READ) {
+        bytes_at(text, fault.span)
+    } else {
+        &[]
     };
-    if text.len() > MOST_READ {
+    let here = match forms_of(alloc, word) {
+        Ok(here) => here,
+        Err(error) => return Err(error),
+    };
+    let list = parts_at(&here, 0);
+    let (kind, at) = in_rows(&CHANGED, name_at(list, 0), ("", 0));
+    if kind.is_empty() {
         return Ok(None);
     }
-    let forms = forms_of(alloc, bytes_at(text, fault.span))?;
-    match forms.first() {
-        Some(form) => on_refused(alloc, text, form),
-        None => Ok(None),
+    let forms = match forms_of(alloc, text) {
+        Ok(forms) => forms,
+        Err(error) => return Err(error),
+    };
+    let mut named = name_at(list, at);
+    if !named.is_empty() && is_bound(&forms, false, named, 100) {
+        named = "";
     }
+    of_cells(alloc, &forms, kind, named)
 }
