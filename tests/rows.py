@@ -3,7 +3,8 @@
 Runs the examples (examples/) and the rows (tests/rows/*.rows) by the built program, and compares what it writes, and its status, with what
 stands beside or below each script. Of each script it is also looked whether `build` refuses it as `check` does, or gives its byte form, which
 is read as code with the same listing. Both builds of the gate are tried, that of LLVM and that of Rattle's own compiler. --only tries the rows
-whose file or title has this word. TXS names one other program in their place. Its last line is 'N passed, M failed'."""
+whose file or title has this word. TXS names one other program in their place. --quick is for a slow program, as ./txs --test has: it leaves out the
+rows that are long, and the look at `build`. Its last line is 'N passed, M failed'."""
 import argparse
 import glob
 import os
@@ -15,15 +16,18 @@ import trial
 
 TOP = os.path.join(trial.HERE, "..")
 BUILDS = [trial.PROGRAM] if "TXS" in os.environ else [trial.PROGRAM, trial.PROGRAM + ".by-rattle"]
+# words of the titles of rows that a program of `rt try` runs for 10 seconds and more
+LONG = ("65,535 items and one more", "a journal that reads have filled", "goes on in a full journal", "10,000 tries", "9,999 tries",
+        "an action that runs again too often", "each of 2,200 vectors")
 # what a line of a row is, by its mark
 MARKS = {"$": "arguments", ">": "output", "!": "errors", "%": "bytecode", "=": "status"}
 
 
 class Program:
-    """A built program, in a folder where the scripts of the examples are."""
+    """A built program, in a folder where the scripts of the examples are, and whether it is tried quickly."""
 
-    def __init__(self, path, folder):
-        self.path, self.folder = path, folder
+    def __init__(self, path, folder, is_quick=False):
+        self.path, self.folder, self.is_quick = path, folder, is_quick
 
     def put(self, name, script):
         """Writes a script to a file of this name."""
@@ -49,6 +53,8 @@ class Program:
 
     def builds(self, script):
         """Whether the byte form of a script is built where the script is sound, and says the same; what is wrong, or nothing."""
+        if self.is_quick:
+            return ""
         status, form, errors = self.build(script)
         checked = self.run(["check"], script)
         if (status, errors, form == b"") != (checked[0], checked[2], checked[1] == b""):
@@ -131,13 +137,16 @@ def tests(program, word):
 def main():
     words = argparse.ArgumentParser(description=__doc__, formatter_class=argparse.RawDescriptionHelpFormatter)
     words.add_argument("--only", default="")
+    words.add_argument("--quick", action="store_true")
     asked = words.parse_args()
     count = trial.Count()
     for path in BUILDS:
         if not os.access(path, os.X_OK):
             sys.exit("no program at %s\n0 passed, 1 failed" % path)
         with tempfile.TemporaryDirectory() as folder:
-            found = [it for it in tests(Program(path, folder), asked.only) if asked.only in it[0]]
+            found = [it for it in tests(Program(path, folder, asked.quick), asked.only) if asked.only in it[0]]
+            if asked.quick:
+                found = [it for it in found if not any(word in it[0] for word in LONG)]
             for (name, _), wrong in zip(found, trial.each(lambda it: it[1](), found)):
                 count.take("%s (%s)" % (name, os.path.basename(path)), not wrong, wrong)
     count.end()
