@@ -17,7 +17,7 @@ use Rattle.txs_world_protocol.specs.declared.report.Report.{Report}
 use Rattle.txs_theorem_audit.specs.Audited.{book_or_none, books_of, report_as}
 use Rattle.txs_theorem_audit.specs.Verdict.{atoms_from, fits_sizes, is_value}
 use Rattle.txs_theorem_audit.proofs.Listing.{within}
-use Rattle.txs_theorem_audit.proofs.Ordered.{agents_many}
+use Rattle.txs_theorem_serial.proofs.Together.{agents_many}
 use Rattle.txs_audit_book.specs.Replayed.{IsLegalBook, IsOffAt, PlainReplay, WentThrough, plain_replay}
 use Rattle.txs_audit_book.specs.Swapped.{SwapsAre, WentAtom, atom_test}
 use Rattle.txs_audit_book.specs.Tests.{store_test}

@@ -63,7 +63,7 @@ pure_folded n fs callee vs =
     (apply_like (Unit {0}) (exact (Unit {0})) Each (pure_calls n fs d false) (pure_calls n (folded_functions fs) d false)
     (λ f. calls_folded (Unit {0}) (exact (Unit {0})) (λ j. Any) (λ j. no_effects) (λ j. no_effects) n fs (λ j. pure_forms ⊥ Each) (λ j e env. tt) d false f) nowhere callee vs (any_callee callee) tt tt refl)
 
-tx_like : (n : ℕ) (fs : List PlainFunction) (d : ℕ) (e : Tree) (env : List Value) (R : World) → Like (fine_states Each ⊥) (tx_meaning n fs d e env R) (tx_meaning n (folded_functions fs) d (folded e) env R)
+pub tx_like : (n : ℕ) (fs : List PlainFunction) (d : ℕ) (e : Tree) (env : List Value) (R : World) → Like (fine_states Each ⊥) (tx_meaning n fs d e env R) (tx_meaning n (folded_functions fs) d (folded e) env R)
 tx_like n fs d e env R =
     closed_like TxState (fine_states Each ⊥) (eval (in_transaction R) (call_at (λ j. in_transaction R) n fs d) n true e env tx_start) (eval (in_transaction R) (call_at (λ j. in_transaction R) n (folded_functions fs) d) n true (folded e) env tx_start)
     (bodies_folded TxState (fine_states Each ⊥) (λ j. Any) (λ j. in_transaction R) (λ j. in_transaction R) n fs (λ j. tx_forms ⊥ Each Each (λ f h. h) R) (λ j e1 env1. tt) d true e env tx_start tx_start (refl, tt))

@@ -25,7 +25,7 @@ use Rattle.txs_opt.proofs.OneWorld.{Any, AllFine, AllValid, fine_states, pure_fo
 use Rattle.txs_opt.proofs.Shifting.{Wider}
 
 -- a call of a function that isn't there
-call_missing : {S : Type 0} (fx : ℕ → Effects S) (n : ℕ) (fs : List PlainFunction) (d : ℕ) (inside : Bool) (f : ℕ) (vs : List Value) (s : S) → nth fs f ≡ None → call_at fx n fs d inside f vs s ≡ Invalid
+pub call_missing : {S : Type 0} (fx : ℕ → Effects S) (n : ℕ) (fs : List PlainFunction) (d : ℕ) (inside : Bool) (f : ℕ) (vs : List Value) (s : S) → nth fs f ≡ None → call_at fx n fs d inside f vs s ≡ Invalid
 call_missing fx n fs zero inside f vs s is = refl
 call_missing fx n fs (suc d) inside f vs s is = ap (λ o. bind (give o s) (λ fun s1. turns (suc n) fun.parameters (λ ws s2. eval (fx d) (call_at fx n fs d) n inside fun.body ws s2) vs s1)) is
 
@@ -73,7 +73,7 @@ module _ (weight : ℕ → ℕ) (p : ℕ) (m : ℕ) (fs : List PlainFunction) (b
   abbrev G : List PlainFunction
   G = (functions_inlined [] budget fs).functions
 
-  same_length : length G ≡ length fs
+  pub same_length : length G ≡ length fs
   same_length = omega (arith, length_inlined fs [] budget)
 
   own_under : Under weight p 0 G
@@ -98,26 +98,26 @@ module _ (weight : ℕ → ℕ) (p : ℕ) (m : ℕ) (fs : List PlainFunction) (b
     abbrev F : ℕ → Effects TxState
     F j = in_transaction R
 
-    tx_bodies : (d : ℕ) (front : List PlainFunction) → Within front G → (e : Tree) (env : List Value) (c left : ℕ) → Below (Low weight p d) e → length env ≡ c → Like (K weight p d) (tx_meaning m fs d e env R) (tx_meaning m G d (inlined front c left e).tree env R)
+    pub tx_bodies : (d : ℕ) (front : List PlainFunction) → Within front G → (e : Tree) (env : List Value) (c left : ℕ) → Below (Low weight p d) e → length env ≡ c → Like (K weight p d) (tx_meaning m fs d e env R) (tx_meaning m G d (inlined front c left e).tree env R)
     tx_bodies d front within e env c left low is =
         closed_like TxState (K weight p d) (eval (in_transaction R) (call_at F m fs d) m true e env tx_start) (eval (in_transaction R) (call_at F m G d) m true (inlined front c left e).tree env tx_start)
         (bodies_inlined TxState (K weight p d) (Both weight p d) (both_none weight p d) (both_more weight p d) (same_fine weight p d) (trans_fine weight p d) (λ j. Any) (λ j. Any) (λ j. Any) F F m fs budget (both_bodies weight p d fs under) (both_bodies weight p d G own_under)
         (λ j. tx_forms ⊥ (Low weight p d) (Both weight p d j) (λ f h. h.1) R) (λ j front1 within1 c1 left1 e1 env1 low1 is1. tt) (λ j. tx_forms ⊥ (Low weight p d) (Both weight p d j) (λ f h. h.1) R) (λ j e1 env1 low1. tt) (λ j c1 i e1 env1 env2 low1 w. tt)
         (λ j. tx_forms ⊥ (Low weight p d) (Both weight p d j) (λ f h. h.1) R) (λ j e1 env1 low1. tt) (λ j. tx_ends R) d front within true e env c left (both_of weight p d e low) is tx_start tx_start (refl, tt))
 
-    tx_own : (d : ℕ) (e : Tree) (env : List Value) → Below (Low weight p d) e → Like (K weight p d) (tx_meaning m G d e env R) (tx_meaning m G d e env R)
+    pub tx_own : (d : ℕ) (e : Tree) (env : List Value) → Below (Low weight p d) e → Like (K weight p d) (tx_meaning m G d e env R) (tx_meaning m G d e env R)
     tx_own d e env low =
         closed_like TxState (K weight p d) (eval (in_transaction R) (call_at F m G d) m true e env tx_start) (eval (in_transaction R) (call_at F m G d) m true e env tx_start)
         (own_body TxState (K weight p d) (Both weight p d) (both_none weight p d) (both_more weight p d) (λ i. Any) (λ i. Any) F m G (both_bodies weight p d G own_under) (λ i. tx_forms ⊥ (Low weight p d) (Both weight p d i) (λ f h. h.1) R) (λ i e1 env1 low1. tt)
         (λ i. tx_forms ⊥ (Low weight p d) (Both weight p d i) (λ f h. h.1) R) (λ i e1 env1 low1. tt) (λ i. tx_ends R) d true e env (both_of weight p d e low) tx_start tx_start (refl, tt))
 
-    tx_moved : (d c j : ℕ) (e : Tree) (env env1 : List Value) → Below (Low weight p d) e → Wider c j env env1 → Like (K weight p d) (tx_meaning m G d e env R) (tx_meaning m G d (shifted c j e) env1 R)
+    pub tx_moved : (d c j : ℕ) (e : Tree) (env env1 : List Value) → Below (Low weight p d) e → Wider c j env env1 → Like (K weight p d) (tx_meaning m G d e env R) (tx_meaning m G d (shifted c j e) env1 R)
     tx_moved d c j e env env1 low w =
         closed_like TxState (K weight p d) (eval (in_transaction R) (call_at F m G d) m true e env tx_start) (eval (in_transaction R) (call_at F m G d) m true (shifted c j e) env1 tx_start)
         (moved_body TxState (K weight p d) (Both weight p d) (both_none weight p d) (both_more weight p d) (λ i. Any) (λ i. Any) F m G (both_bodies weight p d G own_under) (λ i. tx_forms ⊥ (Low weight p d) (Both weight p d i) (λ f h. h.1) R) (λ i e1 env2 low1. tt)
         (λ i. tx_forms ⊥ (Low weight p d) (Both weight p d i) (λ f h. h.1) R) (λ i e1 env2 low1. tt) (λ i. tx_ends R) (λ d1 c1 i e1 env2 env3 low1 w1. tt) d true c j e env env1 (both_of weight p d e low) w tx_start tx_start (refl, tt))
 
-    tx_deep : (d : ℕ) (e : Tree) (env : List Value) → Below (Low weight p d) e → Like (K weight p d) (tx_meaning m G d e env R) (tx_meaning m G (suc d) e env R)
+    pub tx_deep : (d : ℕ) (e : Tree) (env : List Value) → Below (Low weight p d) e → Like (K weight p d) (tx_meaning m G d e env R) (tx_meaning m G (suc d) e env R)
     tx_deep d e env low =
         closed_like TxState (K weight p d) (eval (in_transaction R) (call_at F m G d) m true e env tx_start) (eval (in_transaction R) (call_at F m G (suc d)) m true e env tx_start)
         (deep_body TxState (K weight p d) (Both weight p d) (both_none weight p d) (both_more weight p d) (λ i. Any) (λ i. Any) F m G (both_bodies weight p d G own_under) (λ i. tx_forms ⊥ (Low weight p d) (Both weight p d i) (λ f h. h.1) R) (λ i e1 env2 low1. tt)

@@ -1,3 +1,4 @@
+pub mod Actions
 pub mod Below
 pub mod Calls
 pub mod Constants

@@ -67,6 +67,10 @@ module _ (fs : List PlainFunction) where
       go true e = omega (arith, pure_light f lt e, both_kinds (known fs) (length fs))
       go false e = omega (arith, other_weighs f e, counts f (length fs) lt lt e, both_kinds (known fs) (length fs))
 
+  -- there are no more pure ones than functions
+  pub few_pure : pure_ones fs ≤ length fs
+  few_pure = omega (arith, both_kinds (known fs) (length fs))
+
   -- one that isn't pure weighs more than those before it
   lighter : (g f : ℕ) → g < f → f < length fs → is_pure (nth (known fs) f) ≡ false → weight fs g < weight fs f
   lighter g f lt le e = go (is_pure (nth (known fs) g)) refl
@@ -102,7 +106,7 @@ module _ (fs : List PlainFunction) where
     -- a thread calls functions that are there
     pub main_below : (e : Tree) → SoundTree (known fs) in_thread 0 None e → Below (Lower (weight fs) (pure_ones fs) (length fs)) e
     main_below e h =
-        wider_below (Defined (known fs)) (Lower (weight fs) (pure_ones fs) (length fs)) (λ f lt. light f (omega (arith, lt, length-known fs))) (λ u. omega (arith, both_kinds (known fs) (length fs))) e (sound_defined fs e sound h)
+        wider_below (Defined (known fs)) (Lower (weight fs) (pure_ones fs) (length fs)) (λ f lt. light f (omega (arith, lt, length-known fs))) (λ u. few_pure) e (sound_defined fs e sound h)
 
   -- the validators of sound cells weigh less than all pure functions
   pub validators_light : (ds : List CellDefinition) → SoundCells (known fs) ds → (d : ℕ) → pure_ones fs ≤ d → AllValid (Lower (weight fs) (pure_ones fs) d) (validators_of ds)

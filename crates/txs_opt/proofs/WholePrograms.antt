@@ -10,10 +10,11 @@ use Rattle.txs_opt.specs.Fold.{folded_thread, folded_threads, folded_program}
 use Rattle.txs_opt.specs.Inline.{inlined, functions_inlined, threads_inlined, budget_of, inlined_program}
 use Rattle.txs_opt.specs.Keeps.{MeansSame, source_in}
 use Rattle.txs_opt.specs.Observed.{observed_end}
+use Rattle.txs_opt.proofs.Actions.{action_folded, action_inlined}
 use Rattle.txs_opt.proofs.FoldedProgram.{pure_folded, thread_folded}
 use Rattle.txs_opt.proofs.InlinedMeanings.{pure_inlined, thread_inlined}
 use Rattle.txs_opt.proofs.ScopedOf.{number, sound_under}
-use Rattle.txs_opt.proofs.Weights.{weight, pure_ones, weighs_under, main_below, validators_light}
+use Rattle.txs_opt.proofs.Weights.{weight, pure_ones, few_pure, light, weighs_under, main_below, validators_light}
 
 abbrev pub thread_some : Option PlainThread → Option PlainThread
 thread_some None = None
@@ -36,6 +37,7 @@ folded_means p = record {
   threads = λ i t u at there n es.
       let same : folded_thread t ≡ u = same_some (folded_thread t) u (sym (nth_folded p.threads i ∙ ap thread_some at) ∙ there) in
       subst (λ (x : PlainThread). observed_end (thread_meaning (source_in (folded_program p) x) n es) ≡ observed_end (thread_meaning (source_in p t) n es)) same (thread_folded (source_in p t) n es);
+  actions = λ a v n es. action_folded p.cells p.functions n a v es;
 }
 
 -- a thread with its calls inlined is where the thread was
@@ -74,4 +76,6 @@ inlined_means limit p sound =
           let same : record t { body = (inlined x.functions 0 r.left t.body).tree } ≡ u = same_some (record t { body = (inlined x.functions 0 r.left t.body).tree }) u (sym r.found ∙ there) in
           subst (λ (y : PlainThread). observed_end (thread_meaning (source_in (inlined_program limit p) y) n es) ≡ observed_end (thread_meaning (source_in p t) n es)) same
           (thread_inlined (weight fs) (pure_ones fs) (source_in p t) budget r.left n es (weighs_under fs sound.functions) (validators_light fs p.cells sound.cells) (main_below fs sound.functions t.body (thread_sound (known fs) p.threads i t sound.threads at).0));
+      actions = λ a v n es.
+          action_inlined (weight fs) (pure_ones fs) p.cells fs budget n (weighs_under fs sound.functions) (validators_light fs p.cells sound.cells) (few_pure fs) (λ f fun is. light fs f (nth-length fs f fun is)) a v es;
     }

@@ -2,6 +2,7 @@
 use Rattle.std.specs.Prelude.{◌≡◌, ◌≤◌, ◌+◌, ℕ, List, [], length, take, Some}
 use Rattle.txs_world_protocol.specs.SeenEvent.{SeenEvent}
 use Rattle.txs_value_cell.specs.Cells.{World}
+use Rattle.txs_value_cell.specs.declared.action.Action.{Action}
 use Rattle.txs_value_base.specs.Places.{nth}
 use Rattle.txs_value_base.specs.declared.op.Callee.{Callee}
 use Rattle.txs_value_data.specs.declared.value.Value.{Value}
@@ -9,7 +10,7 @@ use Rattle.txs_tree_meaning.specs.Known.{known}
 use Rattle.txs_tree_meaning.specs.Pure.{pure_meaning}
 use Rattle.txs_tree_meaning.specs.Scoped.{ScopedTree}
 use Rattle.txs_tree_meaning.specs.Sound.{Sound, SoundFunctions, SoundSource, nodes_of_functions, nodes_of_all}
-use Rattle.txs_tree_meaning.specs.Thread.{thread_meaning}
+use Rattle.txs_tree_meaning.specs.Thread.{thread_meaning, action_meaning}
 use Rattle.txs_tree_meaning.specs.Transaction.{tx_meaning}
 use Rattle.txs_tree_meaning.specs.Tree.{Tree, PlainFunction, PlainThread, PlainProgram, ThreadSource}
 use Rattle.txs_opt.specs.Fold.{folded, folded_functions, folded_program}
@@ -79,13 +80,14 @@ InlineKeepsBudget = (limit : ℕ) (p : PlainProgram) → nodes_of_functions (inl
 abbrev pub source_in : PlainProgram → PlainThread → ThreadSource
 source_in p t = record { functions = p.functions; cells = p.cells; main = t.body }
 
--- A program means what another means: pure callees have the same values and faults for every bound on loops, and the threads, one
--- by one, end the same on any events.
+-- A program means what another means: pure callees have the same values and faults for every bound on loops; the threads, one
+-- by one, end the same on any events; and so does each action, on any state of its agent, with the same sends held.
 pub record MeansSame (p q : PlainProgram) : Type 0 where
   pub cells : q.cells ≡ p.cells
   pub as_many : length q.threads ≡ length p.threads
   pub pure : (n : ℕ) (callee : Callee) (vs : List Value) → pure_meaning n q.functions callee vs ≡ pure_meaning n p.functions callee vs
   pub threads : (i : ℕ) (t u : PlainThread) → nth p.threads i ≡ Some t → nth q.threads i ≡ Some u → (n : ℕ) (es : List SeenEvent) → observed_end (thread_meaning (source_in q u) n es) ≡ observed_end (thread_meaning (source_in p t) n es)
+  pub actions : (a : Action) (v : Value) (n : ℕ) (es : List SeenEvent) → observed_end (action_meaning q.cells q.functions n a v es) ≡ observed_end (action_meaning p.cells p.functions n a v es)
 
 -- folded it means the same
 abbrev pub FoldKeepsProgram : Type 0

@@ -27,7 +27,7 @@ pub fn fold_keeps_threads()
     ensures { FoldKeepsThread }
 {}
 
-/// A program means the same when it is folded: its pure callees, and its threads one by one.
+/// A program means the same when it is folded: its pure callees, its threads one by one, and its actions.
 pub fn fold_keeps_programs()
     ensures { FoldKeepsProgram }
 {}
@@ -52,7 +52,7 @@ pub fn inline_keeps_threads()
     ensures { InlineKeepsThread }
 {}
 
-/// A sound program means the same with calls inlined: its pure callees, and its threads one by one.
+/// A sound program means the same with calls inlined: its pure callees, its threads one by one, and its actions.
 pub fn inline_keeps_programs()
     ensures { InlineKeepsProgram }
 {}

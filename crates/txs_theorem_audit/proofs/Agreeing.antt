@@ -439,7 +439,7 @@ module _ (functions : List PlainFunction) (held : Option (List Action)) (n : ℕ
   found_here i p ps d xs = if is_end d then with_run xs (λ x ys. and_then (check (is_calm (cells_of cells) (take p.at (books p.book)) d x) a i) (found_on (suc i) ps ys)) else found_on (suc i) ps xs
 
   calm_step : (i : ℕ) (p : Place) (ps : List Place) (d : EventKind) (R Q C : ℕ → Value) → ((ys : List TxRun) → Runs ps ys → found_on (suc i) ps ys ≡ Fine → Calm ps ys) → (xs : List TxRun)
-      → RunOf functions (validators_of cells) held n d R Q C (λ ys. Runs ps ys) xs → found_here i p ps d xs ≡ Fine → SaidAt (undisturbed cells books) p d (λ ys. Calm ps ys) xs
+      → RunOf functions (validators_of cells) held n p.book d R Q C (λ ys. Runs ps ys) xs → found_here i p ps d xs ≡ Fine → SaidAt (undisturbed cells books) p d (λ ys. Calm ps ys) xs
   calm_step i p ps (Read c) R Q C next xs r u = next xs r u
   calm_step i p ps (Commit at view ws sends) R Q C next [] r u = absurd r
   calm_step i p ps (Commit at view ws sends) R Q C next (x ∷ xs) r u =

@@ -3,6 +3,7 @@ pub mod Beginning
 pub mod Differing
 pub mod Findings
 pub mod Listing
+pub mod NotSerial
 pub mod Onward
 pub mod Ordered
 pub mod Owning

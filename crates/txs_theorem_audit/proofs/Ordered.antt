@@ -1,5 +1,5 @@
 -- Where an audit agrees and all commits are covered, these are as if the transactions had run one after the other.
-use Rattle.std.proofs.Common.{◌≡◌, ◌<◌, ℕ, zero, suc, ◌+◌, ◌&&◌, ◌||◌, Bool, true, false, List, [], ◌∷◌, ◌++◌, length, Option, Some, None, refl, sym, ap, ◌∙◌, subst, arith, if◌then◌else◌, ◌≤◌, take, append_assoc}
+use Rattle.std.proofs.Common.{◌≡◌, ◌<◌, ℕ, zero, suc, ◌+◌, ◌&&◌, ◌||◌, Bool, true, false, List, [], ◌∷◌, ◌++◌, length, length-append, Option, Some, None, refl, sym, ap, ◌∙◌, subst, arith, if◌then◌else◌, ◌≤◌, take, append_assoc}
 use Rattle.std.specs.Prelude.{not, nat_lt, ◌-◌}
 use Rattle.txs_value_base.specs.Places.{nth}
 use Rattle.txs_value_cell.specs.Cells.{validators_of}
@@ -8,7 +8,7 @@ use Rattle.txs_value_data.specs.declared.value.Value.{Value}
 use Rattle.txs_world_protocol.specs.declared.event.Event.{Event}
 use Rattle.txs_world_protocol.specs.declared.event.EventKind.{EventKind}
 use Rattle.txs_world_protocol.specs.declared.event.EventKind.TheVariants.{Read, Commit, Retry, Fail, Refused, Send, SendRefused, Act, Swap, Broke}
-use Rattle.txs_world_book.specs.Book.{opening, actors, agents_below}
+use Rattle.txs_world_book.specs.Book.{opening, actors}
 use Rattle.txs_world_book.specs.Served.{cells_of}
 use Rattle.txs_tree_meaning.proofs.Callable.{both}
 use Rattle.txs_tree_meaning.specs.Marked.{MarkedProgram}
@@ -19,28 +19,26 @@ use Rattle.txs_theorem_threads.specs.Noted.{txs_of}
 use Rattle.txs_theorem_runs.specs.Shared.{seen_in}
 use Rattle.txs_theorem_runs.specs.Told.{Place, TraceHolds, seen_before, seen_of}
 use Rattle.txs_theorem_runs.specs.Transactions.{SaidAt, SaidIf, SaidOf}
-use Rattle.txs_theorem_serial.proofs.Together.{runs_are_serial, said_both}
+use Rattle.txs_theorem_serial.proofs.Together.{agents_many, runs_are_serial, said_both, with_acts}
 use Rattle.txs_theorem_serial.specs.Serial.{is_covered, RunOf, RunsOf}
 use Rattle.txs_theorem_serial.specs.Whole.{all_covered, ThreadDid, OneByOne, all_txs, is_act, is_act_kind, without_acts, AgentDid}
 use Rattle.std.proofs.lemmas.Bool.{lt-ltb, le-ltb}
-use Rattle.txs_value_cell.specs.Agents.{agents_from, with_agent}
-use Rattle.txs_value_cell.specs.Forms.{same_kind}
+use Rattle.std.proofs.lemmas.Bool.Decides.{nat_tests}
+use Rattle.txs_value_cell.specs.Agents.{agents_from}
 use Rattle.txs_value_cell.specs.declared.action.Action.{Action}
 use Rattle.txs_value_data.specs.declared.value.CellId.{CellId}
-use Rattle.txs_value_data.specs.declared.value.CellKind.{CellKind}
-use Rattle.txs_value_data.specs.declared.value.CellKind.TheVariants.{Ref, Atom, Agent}
 use Rattle.txs_world.specs.Store.{next_action}
 use Rattle.txs_theorem_threads.specs.FollowsAgent.{SoundAction}
 use Rattle.txs_theorem_threads.specs.RepliesFit.{HasEatenAll}
 use Rattle.txs_theorem_runs.specs.Agents.{ActionDid, EventMeans, OfEvent, ActsInTurn, meaning_after}
 use Rattle.txs_theorem_serial.proofs.Turned.{runs_did, handed_eaten, acts_turned}
 use Rattle.txs_theorem_audit.specs.Audited.{PlainActorReport, PlainReport, books_of, Agrees, Finding, Fine, and_then, check}
-use Rattle.txs_theorem_audit.specs.Explained.{meaning_of}
-use Rattle.txs_theorem_audit.specs.Laws.{SerialIsOneByOne}
+use Rattle.txs_theorem_audit.specs.Explained.{meaning_of, ThreadExplained, AgentExplained}
+use Rattle.txs_theorem_audit.specs.Laws.{OwnRuns, AllCovered, SerialIsOneByOne}
 use Rattle.txs_theorem_audit.specs.Verdict.{atoms_from, fits_sizes, traces_found, store_found, atoms_found, threads_found, agents_found, is_end, is_commit, covered_if, covered_all, are_serial, found, verdict, action_after, agents_serial, action_covered, kind_covered, event_covered, acts_covered}
 use Rattle.txs_theorem_audit.proofs.Agreeing.{traces_hold, store_legal, thread_parts, each_fine, sized_of, trace_named, EachTurns, acts_mean, agents_fine}
 use Rattle.txs_theorem_audit.proofs.Findings.{answer_fine, and_fine, check_fine, not_there}
-use Rattle.txs_theorem_audit.proofs.Listing.{there_is, in_front, behind}
+use Rattle.txs_theorem_audit.proofs.Listing.{there_is, within, in_front, behind}
 
 -- ---- one thread, or one action
 
@@ -59,7 +57,7 @@ module _ (functions : List PlainFunction) (held : Option (List Action)) (n : ℕ
   covered_one e rest x xs k h = both (not (is_commit e.kind) || is_covered x.state) (rest xs) (sym (ap (λ b. if b then (not (is_commit e.kind) || is_covered x.state) && rest xs else rest (x ∷ xs)) k) ∙ h)
 
   covered_step : (p : Place) (ps : List Place) (e : Event) (d : EventKind) → e.kind ≡ d → (R Q C : ℕ → Value) → ((ys : List TxRun) → Runs ps ys → covered_all books ps ys ≡ true → Covered ps ys) → (xs : List TxRun)
-      → RunOf functions (validators_of cells) held n d R Q C (λ ys. Runs ps ys) xs → covered_if (Some e) (λ ys. covered_all books ps ys) xs ≡ true → SaidAt all_covered p d (λ ys. Covered ps ys) xs
+      → RunOf functions (validators_of cells) held n p.book d R Q C (λ ys. Runs ps ys) xs → covered_if (Some e) (λ ys. covered_all books ps ys) xs ≡ true → SaidAt all_covered p d (λ ys. Covered ps ys) xs
   covered_step p ps e (Read c) k R Q C next xs r u = next xs r (covered_none e (λ ys. covered_all books ps ys) xs (ap is_end k) u)
   covered_step p ps e (Commit at view ws sends) k R Q C next [] r u = absurd r
   covered_step p ps e (Commit at view ws sends) k R Q C next (x ∷ xs) r u =
@@ -98,16 +96,6 @@ covered_each p r n (u ∷ ts) (x ∷ xs) s (suc i) t ran there here =
     covered_each p r n ts xs (both (covered_all (books_of r) x.trace (txs_of (meaning_of p r u x n))) (are_serial p r n ts xs) s).1 i t ran there here
 
 -- ---- the actions of an agent
-
--- there are as many agents as the actors behind the threads
-pub agents_many : (n : ℕ) (ds : List CellDefinition) → length (agents_from n ds) ≡ agents_below (cells_of ds) (length (cells_of ds))
-agents_many n [] = refl
-agents_many n (d ∷ ds) = go d.kind (agents_many (suc n) ds)
-  where
-    go : (k : CellKind) → length (agents_from (suc n) ds) ≡ agents_below (cells_of ds) (length (cells_of ds)) → length (with_agent k n (agents_from (suc n) ds)) ≡ (if same_kind k Agent then suc (agents_below (cells_of ds) (length (cells_of ds))) else agents_below (cells_of ds) (length (cells_of ds)))
-    go Ref h = h
-    go Atom h = h
-    go Agent h = ap suc h
 
 -- each commit of the actions of these agents is covered
 covered_agents : (p : PlainProgram) (r : PlainReport) (n : ℕ) (gs : List CellId) (rans : List PlainActorReport) → agents_serial p r n gs rans ≡ true → (i : ℕ) (g : CellId) (ran : PlainActorReport) → nth gs i ≡ Some g → nth rans i ≡ Some ran → acts_covered p r n g [] ran.trace ≡ true
@@ -231,7 +219,7 @@ module _ (p : PlainProgram) (r : PlainReport) (n : ℕ) (sound : Sound p) (marks
 
   -- what an agent did for its actions
   agent_did : (i : ℕ) (g : CellId) (ran : PlainActorReport) → nth gs i ≡ Some g → nth r.agents i ≡ Some ran
-      → (ds : List ActionDid) × AgentDid p.functions p.cells (books_of r) (length p.threads + i) ran.trace ds × SaidOf all_covered (books_of r) (without_acts (books_of r) ran.trace) (all_txs ds)
+      → (x : AgentExplained p r g ran) × AgentDid p.functions p.cells (books_of r) (length p.threads + i) ran.trace x.did × SaidOf all_covered (books_of r) (without_acts (books_of r) ran.trace) (all_txs x.did)
   agent_did i g ran there here =
       let many = (sized_of p r (check_fine (fits_sizes p r) 0 0 both_sized.0)).threads in
       let z : 0 + (length r.threads + i) ≡ length p.threads + i = omega (arith, many) in
@@ -239,14 +227,17 @@ module _ (p : PlainProgram) (r : PlainReport) (n : ℕ) (sound : Sound p) (marks
       let traced : TraceHolds (books_of r) (length p.threads + i) ran.trace = subst (λ b. TraceHolds (books_of r) b ran.trace) z (traces_hold r 0 (r.threads ++ r.agents) both_traced.0 (length r.threads + i) ran entry) in
       let f = agents_fine p r n (length p.threads) gs r.agents both_last.1 i g ran there here in
       let y = acts_mean p r n f.0 sound marks g 0 ran.trace [] [] ran (trace_named (books_of r) (length p.threads + i) ran.trace traced) tt f.1 in
-      let turned = acts_turned p.cells p.functions (books_of r) g sound.functions sound.cells marks.functions ran.trace [] y.1 y.3 y.4 in
-      (y.3, record { traced = traced; parted = turned.0; did = turned.1 }, acts_said p r n sound marks g ran.trace [] y.1 y.3 y.4 y.5 (covered_agents p r n gs r.agents all_serial.1 i g ran there here))
+      let turned = acts_turned p.cells p.functions (books_of r) g sound.functions sound.cells marks.functions ran.trace [] y.1 y.3 y.4 in (
+        record { unended = y.0; did = y.3; acts = subst (λ l. ActsInTurn p.cells p.functions (books_of r) g ran.trace [] l y.3) (sym y.2) y.4 },
+        record { traced = traced; parted = turned.0; did = turned.1 },
+        acts_said p r n sound marks g ran.trace [] y.1 y.3 y.4 y.5 (covered_agents p r n gs r.agents all_serial.1 i g ran there here),
+      )
 
   -- the same by number, where there is such an agent
   agent_txs : (i : ℕ) (o : Option CellId) (e : Option PlainActorReport) → nth gs i ≡ o → nth r.agents i ≡ e → List TxRun
   agent_txs i None e there here = []
   agent_txs i (Some g) None there here = []
-  agent_txs i (Some g) (Some ran) there here = all_txs (agent_did i g ran there here).0
+  agent_txs i (Some g) (Some ran) there here = all_txs (agent_did i g ran there here).0.did
 
   abbrev trace : ℕ → List Place
   trace a = trace_at (nth (r.threads ++ r.agents) a)
@@ -301,7 +292,7 @@ module _ (p : PlainProgram) (r : PlainReport) (n : ℕ) (sound : Sound p) (marks
   unfolding trace_at agent_txs
   by_number i None e there here lt few = let g = there_is gs i lt in not_there (sym there ∙ g.1)
   by_number i (Some g) None there here lt few = let x = there_is r.agents i few in not_there (sym here ∙ x.1)
-  by_number i (Some g) (Some ran) there here lt few = let d = agent_did i g ran there here in (d.0, d.1, refl, d.2)
+  by_number i (Some g) (Some ran) there here lt few = let d = agent_did i g ran there here in (d.0.did, d.1, refl, d.2)
 
   acted : (a : ℕ) → length p.threads ≤ a → a < actors (length p.threads) (cells_of p.cells) → ActsDid a (trace a) (runs a)
   acted a le lt =
@@ -318,8 +309,72 @@ module _ (p : PlainProgram) (r : PlainReport) (n : ℕ) (sound : Sound p) (marks
       (subst (λ o. ActsDid (length p.threads + i) (trace_at o) (runs (length p.threads + i))) (sym entry)
       (subst (λ xs. ActsDid (length p.threads + i) (trace_at (nth r.agents i)) xs) (sym (behind_so i)) (by_number i (nth gs i) (nth r.agents i) refl refl few (omega (arith, few, entries)))))
 
+  -- there are no other transactions
+  none_behind : (i : ℕ) (o : Option CellId) (e : Option PlainActorReport) (there : nth gs i ≡ o) (here : nth r.agents i ≡ e) → length gs ≤ i → agent_txs i o e there here ≡ []
+  unfolding agent_txs
+  none_behind i None e there here le = refl
+  none_behind i (Some g) None there here le = refl
+  none_behind i (Some g) (Some ran) there here le = let lt = within gs i g there in absurd (omega (arith, le, lt))
+
+  others : (a : ℕ) → actors (length p.threads) (cells_of p.cells) ≤ a → runs a ≡ []
+  others a le =
+      let i = a - length p.threads in
+      let many = agents_many 0 p.cells in
+      let z : length p.threads + i ≡ a = omega (arith, le) in
+      subst (λ b. runs b ≡ []) z (behind_so i ∙ none_behind i (nth gs i) (nth r.agents i) refl refl (omega (arith, le, many)))
+
+  -- these are the program's own
+  own_thread : (a : ℕ) (t : PlainThread) (ran : PlainActorReport) → nth p.threads a ≡ Some t → nth r.threads a ≡ Some ran → (x : ThreadExplained p r t ran) × (runs a ≡ txs_of (meaning_of p r t ran x.turns))
+  unfolding runs_at
+  own_thread a t ran there here =
+      let f = each_fine p r n 0 p.threads r.threads both_last.0 a t ran there here in
+      let parts = thread_parts p r sound marks n f.0 a t ran there f.1 in (
+        record { turns = n; ends = parts.ends; least = parts.least; calm = parts.calm },
+        below_so a (within p.threads a t there) ∙ ap (λ o. runs_at p r n o (nth r.threads a)) there ∙ ap (λ o. runs_at p r n (Some t) o) here,
+      )
+
+  own_acts : (i : ℕ) (o : Option CellId) (e : Option PlainActorReport) (there : nth gs i ≡ o) (here : nth r.agents i ≡ e) (g : CellId) (ran : PlainActorReport) → o ≡ Some g → e ≡ Some ran → (x : AgentExplained p r g ran) × (agent_txs i o e there here ≡ all_txs x.did)
+  unfolding agent_txs
+  own_acts i None e there here g ran is was = not_there is
+  own_acts i (Some f) None there here g ran is was = not_there was
+  own_acts i (Some f) (Some u) there here g ran is was =
+      let one : f ≡ g = cc in
+      let two : u ≡ ran = cc in
+      let txs = all_txs (agent_did i f u there here).0.did in
+      subst (λ (w : PlainActorReport). (x : AgentExplained p r g w) × (txs ≡ all_txs x.did)) two
+      (subst (λ (v : CellId). (x : AgentExplained p r v u) × (txs ≡ all_txs x.did)) one ((agent_did i f u there here).0, refl))
+
+  own : OwnRuns p r runs
+  own = record {
+    threads = own_thread;
+    agents = λ i g ran there here.
+        (let x = own_acts i (nth gs i) (nth r.agents i) refl refl g ran there here in
+        (x.0, behind_so i ∙ x.1));
+  }
+
+  -- and each commit is covered
+  covered_trace : (a : ℕ) → a < actors (length p.threads) (cells_of p.cells) → SaidOf all_covered (books_of r) (trace a) (runs a)
+  covered_trace a lt = test (nat_lt a (length p.threads)) refl
+    where
+      test : (b : Bool) → nat_lt a (length p.threads) ≡ b → SaidOf all_covered (books_of r) (trace a) (runs a)
+      test true it = (did a (grind (arith, nat_tests, it))).1
+      test false it =
+          let h = acted a (grind (arith, nat_tests, it)) lt in
+          with_acts all_covered (books_of r) (trace a) (runs a) h.3
+
+  covered : AllCovered r runs
+  unfolding trace_at
+  covered a ran there =
+      let sizes = sized_of p r (check_fine (fits_sizes p r) 0 0 both_sized.0) in
+      let threads_many = sizes.threads in
+      let agents_entries = sizes.agents in
+      let many = agents_many 0 p.cells in
+      let lt = within (r.threads ++ r.agents) a ran there in
+      let sum = length-append r.threads r.agents in
+      subst (λ o. SaidOf all_covered (books_of r) (trace_at o) (runs a)) there (covered_trace a (omega (arith, lt, sum, threads_many, agents_entries, many)))
+
   in_order : OneByOne p.functions (validators_of p.cells) (length p.threads) runs (opening (cells_of p.cells)) r.book
-  in_order = runs_are_serial p.functions p.cells (length p.threads) (books_of r) (λ a. n) trace runs sound.functions marks.functions (store_legal p r both_stored.0) did acted
+  in_order = runs_are_serial p.functions p.cells (length p.threads) (books_of r) (λ a. n) trace runs sound.functions marks.functions (store_legal p r both_stored.0) did acted others
 
 pub serial_is_one_by_one : SerialIsOneByOne
-serial_is_one_by_one p r n sound marks agrees = (runs p r n sound marks agrees, in_order p r n sound marks agrees)
+serial_is_one_by_one p r n sound marks agrees = (runs p r n sound marks agrees, own p r n sound marks agrees, covered p r n sound marks agrees, in_order p r n sound marks agrees)

@@ -29,7 +29,7 @@ use Rattle.txs_theorem_audit.specs.Audited.{PlainActorReport, PlainReport, Agree
 use Rattle.txs_theorem_audit.specs.Verdict.{verdict}
 
 -- marks of no span
-abbrev here : Mark
+abbrev pub here : Mark
 here = record { span = record { from = 0; to = 0 }; wanted = true }
 
 -- `(future (loop [i 0] (if (< i 3) (recur (inc i)) nil)))`
@@ -79,7 +79,7 @@ abbrev wrote : ℕ → ℕ → ℕ → Event
 wrote a at v = record { actor = a; kind = Commit at at ((a_ref, Int (pos v)) ∷ []) [] }
 
 -- a thread that is done, with these entries of its trace
-abbrev ended : List Place → PlainActorReport
+abbrev pub ended : List Place → PlainActorReport
 ended ps = record { outcome = Some Done; printed = []; trace = ps }
 
 -- the report of both, with these events and this last value
@@ -105,7 +105,7 @@ TwoAreAnswered =
 -- ---- two refs of which each thread reads both and writes one
 
 -- the ref with this number
-abbrev ref_of : ℕ → CellId
+abbrev pub ref_of : ℕ → CellId
 ref_of n = record { kind = Ref; number = n }
 
 -- a ref that opens with this number
@@ -113,7 +113,7 @@ abbrev opens_with : ℕ → CellDefinition
 opens_with v = record { kind = Ref; name = []; opening = Int (pos v); error_mode = Fail; validator = None }
 
 -- `(future (dosync (when (= 2 (+ @a @b)) (alter r dec))))`, or with `ensure` in the place of `deref`, for r the ref with this number
-abbrev takes_one : LookForm → ℕ → PlainThread
+abbrev pub takes_one : LookForm → ℕ → PlainThread
 takes_one form n = record {
   body = Dosync
       (If (Core Equal (more (Const (Int (pos 2)) here) (more (Core Add (more (Look form (Const (Cell (ref_of 0)) here) here) (more (Look form (Const (Cell (ref_of 1)) here) here) none)) here) none)) here)
@@ -126,11 +126,11 @@ abbrev pub skewed : LookForm → PlainProgram
 skewed form = record { functions = []; cells = opens_with 1 ∷ opens_with 1 ∷ []; validator_spans = here.span ∷ here.span ∷ []; threads = takes_one form 0 ∷ takes_one form 1 ∷ [] }
 
 -- an actor's commit with this read point and these writes
-abbrev commits : ℕ → ℕ → Writes → Event
+abbrev pub commits : ℕ → ℕ → Writes → Event
 commits a at ws = record { actor = a; kind = Commit at at ws [] }
 
 -- an index of the store's book
-abbrev home_at : ℕ → Place
+abbrev pub home_at : ℕ → Place
 home_at k = record { book = 0; at = k }
 
 -- both threads are done, with these traces, and the refs hold these numbers
@@ -145,7 +145,7 @@ report_of_skew es ps qs v w = record {
 }
 
 -- both took one from the sum that they saw
-abbrev both_took : PlainReport
+abbrev pub both_took : PlainReport
 both_took = report_of_skew (commits 0 0 ((ref_of 0, Int (pos 0)) ∷ []) ∷ commits 1 0 ((ref_of 1, Int (pos 0)) ∷ []) ∷ []) (home_at 0 ∷ []) (home_at 1 ∷ []) 0 0
 
 -- the second had to run again, and then took none

@@ -1,5 +1,5 @@
 -- What an audit's answer says of a report.
-use Rattle.std.specs.Prelude.{◌≡◌, ℕ, Bool, true, List, ◌++◌, length, Some}
+use Rattle.std.specs.Prelude.{◌≡◌, ◌+◌, ℕ, Bool, true, List, ◌++◌, length, Some}
 use Rattle.txs_value_cell.specs.Agents.{agents_from}
 use Rattle.txs_value_cell.specs.Cells.{validators_of}
 use Rattle.txs_value_cell.specs.declared.action.Action.{Action}
@@ -17,17 +17,17 @@ use Rattle.txs_theorem_threads.specs.FollowsAgent.{SoundAction}
 use Rattle.txs_theorem_threads.specs.Noted.{txs_of}
 use Rattle.txs_theorem_runs.specs.Agents.{ActionDid}
 use Rattle.txs_theorem_runs.specs.Transactions.{SaidOf}
-use Rattle.txs_theorem_serial.specs.Whole.{serial_if_covered, OneByOne}
+use Rattle.txs_theorem_serial.specs.Whole.{all_covered, all_txs, serial_if_covered, OneByOne}
 use Rattle.txs_value_base.specs.Places.{nth}
 use Rattle.txs_theorem_audit.specs.Audited.{PlainActorReport, PlainReport, books_of, Agrees, Differs}
-use Rattle.txs_theorem_audit.specs.Explained.{meaning_of, IsExplained}
+use Rattle.txs_theorem_audit.specs.Explained.{meaning_of, ThreadExplained, AgentExplained, IsExplained}
 use Rattle.txs_theorem_audit.specs.Verdict.{verdict}
 
 -- A sound program explains a report on which an audit agrees. That its marks tell which results are wanted is so of every program.
 abbrev pub AgreesIsExplained : Type 0
 AgreesIsExplained = (p : PlainProgram) (r : PlainReport) (n : ℕ) (serial : Bool) → Sound p → MarkedProgram p → verdict p r n ≡ Agrees serial → IsExplained p r
 
--- Each covered commit of a report that a sound program explains is serial: run alone at its index of the store's book, with its commutes
+-- Each covered commit of a report that a sound program explains is in the store's book, and is serial: run alone at its index of the store's book, with its commutes
 -- there, its transaction gives the same writes, the same sends and, where it is wanted, the same result.
 abbrev pub ExplainedIsSerial : Type 0
 ExplainedIsSerial =
@@ -42,12 +42,24 @@ ExplainedActionsAreSerial =
     → (i : ℕ) (g : CellId) (ran : PlainActorReport) (there : nth (agents_from 0 p.cells) i ≡ Some g) (here : nth r.agents i ≡ Some ran) (j : ℕ) (d : ActionDid)
     → nth (x.agents i g ran there here).did j ≡ Some d → SaidOf (serial_if_covered p.functions d.turns p.cells (books_of r)) (books_of r) d.trace d.txs
 
--- Where an audit agrees, and says that all commits are covered, the commits of the store's book are as if the transactions of threads and agents had
--- run one after the other, in its order.
+-- These are a program's own transactions, by actors: of each thread those of a meaning that explains its entry, and of each agent those of all that it did for
+-- its actions, which explains its entry.
+pub record OwnRuns (p : PlainProgram) (r : PlainReport) (runs : ℕ → List TxRun) : Type 0 where
+  pub threads : (a : ℕ) (t : PlainThread) (ran : PlainActorReport) → nth p.threads a ≡ Some t → nth r.threads a ≡ Some ran
+      → (x : ThreadExplained p r t ran) × (runs a ≡ txs_of (meaning_of p r t ran x.turns))
+  pub agents : (i : ℕ) (g : CellId) (ran : PlainActorReport) → nth (agents_from 0 p.cells) i ≡ Some g → nth r.agents i ≡ Some ran
+      → (x : AgentExplained p r g ran) × (runs (length p.threads + i) ≡ all_txs x.did)
+
+-- of each commit that an entry's trace names, of threads and of agents, the transaction is covered
+abbrev pub AllCovered : PlainReport → (ℕ → List TxRun) → Type 0
+AllCovered r runs = (a : ℕ) (ran : PlainActorReport) → nth (r.threads ++ r.agents) a ≡ Some ran → SaidOf all_covered (books_of r) ran.trace (runs a)
+
+-- Where an audit agrees, and says that all commits are covered, they are. And the program's own transactions, run one after the other in the order of the
+-- store's book, give the writes, the sends and the wanted results of its commits: each is that of one commit or one refusal, and none is left.
 abbrev pub SerialIsOneByOne : Type 0
 SerialIsOneByOne =
     (p : PlainProgram) (r : PlainReport) (n : ℕ) → Sound p → MarkedProgram p → verdict p r n ≡ Agrees true
-    → (runs : ℕ → List TxRun) × OneByOne p.functions (validators_of p.cells) (length p.threads) runs (opening (cells_of p.cells)) r.book
+    → (runs : ℕ → List TxRun) × OwnRuns p r runs × AllCovered r runs × OneByOne p.functions (validators_of p.cells) (length p.threads) runs (opening (cells_of p.cells)) r.book
 
 -- A sound program explains no report on which an audit differs, whatever the bound on its loops.
 abbrev pub DiffersIsNotExplained : Type 0

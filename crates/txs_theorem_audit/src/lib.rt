@@ -11,6 +11,7 @@ ghost use Rattle.txs_theorem_audit.specs.Examples.{
   TwoAreAnswered,
 };
 ghost use Rattle.txs_theorem_audit.specs.Laws.{AgreesIsExplained, DiffersIsNotExplained, ExplainedActionsAreSerial, ExplainedIsSerial, SerialIsOneByOne, WrongStays, WrongStaysInActions};
+ghost use Rattle.txs_theorem_audit.specs.NotSerial.{SkewIsNotOneByOne};
 ghost use Rattle.txs_theorem_audit.specs.Pieces.{HalvesAreWhole, PiecesAreAll};
 
 /// A program explains a report on which an audit agrees.
@@ -33,7 +34,8 @@ pub fn explained_actions_are_serial()
     ensures { ExplainedActionsAreSerial }
 {}
 
-/// Where an audit agrees and says that all commits are covered, they are as if the transactions had run one after the other.
+/// Where an audit agrees and says that all commits are covered, they are. The program's own transactions, run one after the other in
+/// the order of the store's book, then give the writes, the sends and the wanted results of the commits.
 pub fn serial_is_one_by_one()
     ensures { SerialIsOneByOne }
 {}
@@ -51,6 +53,11 @@ pub fn two_are_answered()
 /// Write skew is explained and not serial; where both refs are ensured it differs.
 pub fn skew_is_answered()
     ensures { SkewIsAnswered }
+{}
+
+/// The commits of write skew aren't what the program's own transactions do, one after the other.
+pub fn skew_is_not_one_by_one()
+    ensures { SkewIsNotOneByOne }
 {}
 
 /// A report in which a written number was changed differs at its event.

@@ -63,6 +63,7 @@ means_trans p q r h j = record {
   threads = λ i t u at there n es.
       let v = item_at q.threads i (omega (arith, nth-length p.threads i t at, h.as_many)) in
       j.threads i v.thread u v.found there n es ∙ h.threads i t v.thread at v.found n es;
+  actions = λ a v n es. j.actions a v n es ∙ h.actions a v n es;
 }
 
 pub optimised_means : (limit : ℕ) (p : PlainProgram) → Sound p → MeansSame p (optimised limit p)

@@ -11,7 +11,7 @@ pub fn optimised_is_sound()
     ensures { OptimisedSound }
 {}
 
-/// An optimised program means what the program from before means: its pure callees, and its threads one by one.
+/// An optimised program means what the program from before means: its pure callees, its threads one by one, and the actions of its agents.
 pub fn optimised_means_same()
     ensures { OptimisedMeansSame }
 {}

@@ -81,24 +81,24 @@ module _ (cells : List CellDefinition) (functions : List PlainFunction) (from : 
 
   -- ---- transactions of more events
 
-  run_on : (k : EventKind) (R Q C : World) (rest next : List TxRun → Type 0) (xs ys : List TxRun) → ((zs : List TxRun) → rest zs → next (zs ++ ys)) → RunOf functions validators from n k R Q C rest xs → RunOf functions validators from n k R Q C next (xs ++ ys)
-  run_on (event.Read c) R Q C rest next xs ys h r = h xs r
-  run_on (event.Commit at view ws sends) R Q C rest next [] ys h r = absurd r
-  run_on (event.Commit at view ws sends) R Q C rest next (x ∷ xs) ys h r = (r.0, h xs r.1)
-  run_on (event.Retry since c commute) R Q C rest next xs ys h r = h xs r
-  run_on (event.Fail at view) R Q C rest next xs ys h r = h xs r
-  run_on (event.Refused at view g) R Q C rest next [] ys h r = absurd r
-  run_on (event.Refused at view g) R Q C rest next (x ∷ xs) ys h r = (r.0, h xs r.1)
-  run_on (event.Send x) R Q C rest next xs ys h r = h xs r
-  run_on (event.SendRefused g) R Q C rest next xs ys h r = h xs r
-  run_on (event.Act g k new sends) R Q C rest next xs ys h r = h xs r
-  run_on (event.Swap new) R Q C rest next xs ys h r = h xs r
-  run_on (event.Broke at) R Q C rest next xs ys h r = h xs r
+  run_on : (o : ℕ) (k : EventKind) (R Q C : World) (rest next : List TxRun → Type 0) (xs ys : List TxRun) → ((zs : List TxRun) → rest zs → next (zs ++ ys)) → RunOf functions validators from n o k R Q C rest xs → RunOf functions validators from n o k R Q C next (xs ++ ys)
+  run_on o (event.Read c) R Q C rest next xs ys h r = h xs r
+  run_on o (event.Commit at view ws sends) R Q C rest next [] ys h r = absurd r
+  run_on o (event.Commit at view ws sends) R Q C rest next (x ∷ xs) ys h r = (r.0, h xs r.1)
+  run_on o (event.Retry since c commute) R Q C rest next xs ys h r = h xs r
+  run_on o (event.Fail at view) R Q C rest next xs ys h r = h xs r
+  run_on o (event.Refused at view g) R Q C rest next [] ys h r = absurd r
+  run_on o (event.Refused at view g) R Q C rest next (x ∷ xs) ys h r = (r.0, h xs r.1)
+  run_on o (event.Send x) R Q C rest next xs ys h r = h xs r
+  run_on o (event.SendRefused g) R Q C rest next xs ys h r = h xs r
+  run_on o (event.Act g k new sends) R Q C rest next xs ys h r = h xs r
+  run_on o (event.Swap new) R Q C rest next xs ys h r = h xs r
+  run_on o (event.Broke at) R Q C rest next xs ys h r = h xs r
 
   runs_both : (es fs : List SeenEvent) (xs ys : List TxRun) → RunsOf functions validators from n es xs → RunsOf functions validators from n fs ys → RunsOf functions validators from n (es ++ fs) (xs ++ ys)
   runs_both [] fs [] ys h k = k
   runs_both [] fs (x ∷ xs) ys h k = absurd h
-  runs_both (e ∷ es) fs xs ys h k = run_on e.kind e.R e.Q e.C (λ zs. RunsOf functions validators from n es zs) (λ zs. RunsOf functions validators from n (es ++ fs) zs) xs ys (λ zs r. runs_both es fs zs ys r k) h
+  runs_both (e ∷ es) fs xs ys h k = run_on e.book e.kind e.R e.Q e.C (λ zs. RunsOf functions validators from n es zs) (λ zs. RunsOf functions validators from n (es ++ fs) zs) xs ys (λ zs r. runs_both es fs zs ys r k) h
 
   module _ (es0 : List SeenEvent) where
     abbrev NotedIn : List SeenEvent → List TxRun → Type 0
@@ -112,10 +112,10 @@ module _ (cells : List CellDefinition) (functions : List PlainFunction) (from : 
     NotedWith es t = NotedAt (record t { todo = es })
 
     -- one more event is eaten, with its transaction, if it is such a one
-    abbrev Next : EventKind → World → World → World → ThreadState → Type 0
-    Next k R Q C t = (begin_of t.held ≡ from) × ((xs : List TxRun) → RunOf functions validators from n k R Q C IsNone xs → NotedIn t.todo (t.txs ++ xs))
+    abbrev Next : ℕ → EventKind → World → World → World → ThreadState → Type 0
+    Next o k R Q C t = (begin_of t.held ≡ from) × ((xs : List TxRun) → RunOf functions validators from n o k R Q C IsNone xs → NotedIn t.todo (t.txs ++ xs))
 
-    next_event : (e : SeenEvent) (es : List SeenEvent) (t : ThreadState) → NotedWith (e ∷ es) t → Next e.kind e.R e.Q e.C (record t { todo = es })
+    next_event : (e : SeenEvent) (es : List SeenEvent) (t : ThreadState) → NotedWith (e ∷ es) t → Next e.book e.kind e.R e.Q e.C (record t { todo = es })
     next_event e es t h = (
       h.0,
       λ xs r. record {
@@ -126,8 +126,8 @@ module _ (cells : List CellDefinition) (functions : List PlainFunction) (from : 
     )
 
     -- an event without a transaction
-    without : (k : EventKind) (R Q C : World) (t : ThreadState) → Next k R Q C t → RunOf functions validators from n k R Q C IsNone [] → NotedAt t
-    without k R Q C t next r = (next.0, subst (λ xs. NotedIn t.todo xs) (append-nil t.txs) (next.1 [] r))
+    without : (o : ℕ) (k : EventKind) (R Q C : World) (t : ThreadState) → Next o k R Q C t → RunOf functions validators from n o k R Q C IsNone [] → NotedAt t
+    without o k R Q C t next r = (next.0, subst (λ xs. NotedIn t.todo xs) (append-nil t.txs) (next.1 [] r))
 
     -- wherever it is, the events that were eaten have their transactions; where it waits, all were eaten
     abbrev Reaches : {A : Type 0} → (A → Type 0) → Completion ThreadState A → Type 0
@@ -215,7 +215,7 @@ module _ (cells : List CellDefinition) (functions : List PlainFunction) (from : 
 
     -- ---- forms outside transactions
 
-    eats_reaches : (book : ℕ) (go : SeenEvent → ThreadState → Completion ThreadState Value) → ((e : SeenEvent) (t : ThreadState) → Next e.kind e.R e.Q e.C t → Within t.txs (go e t)) → (es : List SeenEvent) (t : ThreadState) → t.todo ≡ es → NotedWith es t → NotedAt t → Reaches Any (eats book go es t)
+    eats_reaches : (book : ℕ) (go : SeenEvent → ThreadState → Completion ThreadState Value) → ((e : SeenEvent) (t : ThreadState) → Next e.book e.kind e.R e.Q e.C t → Within t.txs (go e t)) → (es : List SeenEvent) (t : ThreadState) → t.todo ≡ es → NotedWith es t → NotedAt t → Reaches Any (eats book go es t)
     eats_reaches book go h [] t to g here = (here, to)
     eats_reaches book go h (e ∷ es) t to g here = of_book (e.book == book)
       where
@@ -223,13 +223,13 @@ module _ (cells : List CellDefinition) (functions : List PlainFunction) (from : 
         of_book true = within_reaches (e ∷ es) t.txs (go e (record t { todo = es })) g.1 (h e (record t { todo = es }) (next_event e es t g))
         of_book false = tt
 
-    read_reaches : (c : CellId) (k : EventKind) (R Q C : World) (t : ThreadState) → Next k R Q C t → Within t.txs (reads c k C t)
-    read_reaches c (event.Read d) R Q C t next = meant_within (same_cell c d) (C c.number) t.txs t (without (event.Read d) R Q C t next tt)
-    read_reaches c _ R Q C t next = tt
+    read_reaches : (c : CellId) (o : ℕ) (k : EventKind) (R Q C : World) (t : ThreadState) → Next o k R Q C t → Within t.txs (reads c k C t)
+    read_reaches c o (event.Read d) R Q C t next = meant_within (same_cell c d) (C c.number) t.txs t (without o (event.Read d) R Q C t next tt)
+    read_reaches c o _ R Q C t next = tt
 
-    reset_reaches : (v : Value) (k : EventKind) (R Q C : World) (t : ThreadState) → Next k R Q C t → Within t.txs (resets v k t)
-    reset_reaches v (event.Swap new) R Q C t next = meant_within (same_value v new) v t.txs t (without (event.Swap new) R Q C t next tt)
-    reset_reaches v _ R Q C t next = tt
+    reset_reaches : (v : Value) (o : ℕ) (k : EventKind) (R Q C : World) (t : ThreadState) → Next o k R Q C t → Within t.txs (resets v k t)
+    reset_reaches v o (event.Swap new) R Q C t next = meant_within (same_value v new) v t.txs t (without o (event.Swap new) R Q C t next tt)
+    reset_reaches v o _ R Q C t next = tt
 
     -- a swap, whose callee is pure
     module _ (c : CellId) (f : Value → ThreadState → Completion ThreadState Value) (q : Value → Completion (Unit {0}) Value) (pure : (v : Value) (t : ThreadState) → (f v t ≡ carried t (q v)) × IsQuiet (q v)) where
@@ -251,23 +251,23 @@ module _ (cells : List CellDefinition) (functions : List PlainFunction) (from : 
       swap_breaks t g (OutOfTurns u) w = (g.0, refl)
       swap_breaks t g Invalid w = tt
 
-      swap_reaches : (k : EventKind) (R Q C : World) (t : ThreadState) → Next k R Q C t → Within t.txs (swaps c f k R C t)
-      swap_reaches (event.Swap new) R Q C t next =
+      swap_reaches : (o : ℕ) (k : EventKind) (R Q C : World) (t : ThreadState) → Next o k R Q C t → Within t.txs (swaps c f k R C t)
+      swap_reaches o (event.Swap new) R Q C t next =
           let p = pure (C c.number) t in
-          subst (λ z. Within t.txs (faultless z (λ v t1. meant (same_value v new) v t1))) (sym p.0) (swap_to new t (without (event.Swap new) R Q C t next tt) (q (C c.number)) p.1)
-      swap_reaches (event.Broke at) R Q C t next =
+          subst (λ z. Within t.txs (faultless z (λ v t1. meant (same_value v new) v t1))) (sym p.0) (swap_to new t (without o (event.Swap new) R Q C t next tt) (q (C c.number)) p.1)
+      swap_reaches o (event.Broke at) R Q C t next =
           let p = pure (R c.number) t in
-          subst (λ z. Within t.txs (faulted z (λ y t1. Faults y t1))) (sym p.0) (swap_breaks t (without (event.Broke at) R Q C t next tt) (q (R c.number)) p.1)
-      swap_reaches _ R Q C t next = tt
+          subst (λ z. Within t.txs (faulted z (λ y t1. Faults y t1))) (sym p.0) (swap_breaks t (without o (event.Broke at) R Q C t next tt) (q (R c.number)) p.1)
+      swap_reaches o _ R Q C t next = tt
 
-    send_reaches : (a : Action) (span : Span) (k : EventKind) (R Q C : World) (t : ThreadState) → Next k R Q C t → Within t.txs (sends a span k t)
-    send_reaches a span (event.Send b) R Q C t next = meant_within (same_action a b) (Cell a.agent) t.txs t (without (event.Send b) R Q C t next tt)
-    send_reaches a span (event.SendRefused g) R Q C t next = test (same_cell a.agent g)
+    send_reaches : (a : Action) (span : Span) (o : ℕ) (k : EventKind) (R Q C : World) (t : ThreadState) → Next o k R Q C t → Within t.txs (sends a span k t)
+    send_reaches a span o (event.Send b) R Q C t next = meant_within (same_action a b) (Cell a.agent) t.txs t (without o (event.Send b) R Q C t next tt)
+    send_reaches a span o (event.SendRefused g) R Q C t next = test (same_cell a.agent g)
       where
         test : (b : Bool) → Within {A = Value} t.txs (if b then Faults (fault_at AgentFailed span) t else Invalid)
-        test true = without (event.SendRefused g) R Q C t next tt
+        test true = without o (event.SendRefused g) R Q C t next tt
         test false = tt
-    send_reaches a span _ R Q C t next = tt
+    send_reaches a span o _ R Q C t next = tt
 
     module _ (sound : SoundFunctions [] functions) (marks : MarkedFunctions functions) (sound_cells : SoundCells (known functions) cells) where
       all_valid : AllValidators (IsPure (known functions)) validators
@@ -361,7 +361,7 @@ module _ (cells : List CellDefinition) (functions : List PlainFunction) (from : 
         suits R v s h = met_suits functions n (run_of d v s) R sound marks (met R v s h)
 
         -- a commit
-        module _ (at view : ℕ) (writes : Writes) (sent : List Action) (R Q C : World) (t : ThreadState) (next : Next (event.Commit at view writes sent) R Q C t) where
+        module _ (at view : ℕ) (writes : Writes) (sent : List Action) (R Q C : World) (t : ThreadState) (next : Next 0 (event.Commit at view writes sent) R Q C t) where
           -- what the event says is that of the run
           abbrev told : Writes → TxState → ThreadState → Bool
           told ws s t1 = same_writes ws writes && same_actions (sends_of_commit t1.held s.done.sends) sent
@@ -375,7 +375,7 @@ module _ (cells : List CellDefinition) (functions : List PlainFunction) (from : 
               subst (λ y. Within {A = Value} t.txs (faultless y (λ ws t1. meant (told ws s t1) v (landed v s t1)))) (sym (finals s.done (suits R v s h) C t)) (after (final_writes q validators m.span s.done C tt) refl)
             where
               tested : (ws : Writes) → final_writes q validators m.span s.done C tt ≡ Completes ws tt → (c : Bool) → told ws s t ≡ c → Within {A = Value} t.txs (meant c v (landed v s t))
-              tested ws k true e = (begin_with s.done.sends t.held ∙ next.0, next.1 (run_of d v s ∷ []) (commit_meant writes sent R C ws v s t.held next.0 h k e, tt))
+              tested ws k true e = (begin_with s.done.sends t.held ∙ next.0, next.1 (run_of d v s ∷ []) ((refl, commit_meant writes sent R C ws v s t.held next.0 h k e), tt))
               tested ws k false e = tt
 
               after : (y : Completion (Unit {0}) Writes) → final_writes q validators m.span s.done C tt ≡ y → Within {A = Value} t.txs (faultless (carried t y) (λ ws t1. meant (told ws s t1) v (landed v s t1)))
@@ -394,9 +394,9 @@ module _ (cells : List CellDefinition) (functions : List PlainFunction) (from : 
           commit_ends Invalid h = tt
 
         -- a failure
-        module _ (at view : ℕ) (R Q C : World) (t : ThreadState) (next : Next (event.Fail at view) R Q C t) where
+        module _ (at view : ℕ) (R Q C : World) (t : ThreadState) (next : Next 0 (event.Fail at view) R Q C t) where
           here : NotedAt t
-          here = without (event.Fail at view) R Q C t next tt
+          here = without 0 (event.Fail at view) R Q C t next tt
 
           fail_ends : (z : Completion TxState Value) → d.on R ≡ z → Within {A = Value} t.txs (over t z (λ v s. faulted (final_writes f validators m.span s.done Q t) (λ g t1. Faults g t1)) (λ g. Faults g t))
           fail_ends (Completes v s) h = subst (λ y. Within {A = Value} t.txs (faulted y (λ g t1. Faults g t1))) (sym (finals s.done (suits R v s h) Q t)) (after (final_writes q validators m.span s.done Q tt) refl)
@@ -417,13 +417,13 @@ module _ (cells : List CellDefinition) (functions : List PlainFunction) (from : 
           fail_ends Invalid h = tt
 
         -- a refusal
-        module _ (at view : ℕ) (agent : CellId) (R Q C : World) (t : ThreadState) (next : Next (event.Refused at view agent) R Q C t) where
+        module _ (at view : ℕ) (agent : CellId) (R Q C : World) (t : ThreadState) (next : Next 0 (event.Refused at view agent) R Q C t) where
           refused_ends : (z : Completion TxState Value) → d.on R ≡ z → Within {A = Value} t.txs (over t z (λ v s. faultless (final_writes f validators m.span s.done Q t) (λ ws t1. Faults (fault_at AgentFailed d.mark.span) (with_tx (run_of d v s) t1))) (λ g. Invalid))
           refused_ends (Completes v s) h =
               subst (λ y. Within {A = Value} t.txs (faultless y (λ ws t1. Faults (fault_at AgentFailed d.mark.span) (with_tx (run_of d v s) t1)))) (sym (finals s.done (suits R v s h) Q t)) (after (final_writes q validators m.span s.done Q tt) refl)
             where
               after : (y : Completion (Unit {0}) Writes) → final_writes q validators m.span s.done Q tt ≡ y → Within {A = Value} t.txs (faultless (carried t y) (λ ws t1. Faults (fault_at AgentFailed d.mark.span) (with_tx (run_of d v s) t1)))
-              after (Completes ws tt) k = (next.0, next.1 (run_of d v s ∷ []) (record { met = met R v s h; writes = ws; writes_there = finals_deeper s.done Q ws k }, tt))
+              after (Completes ws tt) k = (next.0, next.1 (run_of d v s ∷ []) ((refl, record { met = met R v s h; writes = ws; writes_there = finals_deeper s.done Q ws k }), tt))
               after (Recurs vs u) k = tt
               after (Faults g u) k = tt
               after (Retries u) k = tt
@@ -437,27 +437,31 @@ module _ (cells : List CellDefinition) (functions : List PlainFunction) (from : 
           refused_ends (OutOfTurns s) h = (next.0, refl)
           refused_ends Invalid h = tt
 
-        ends_reaches : (k : EventKind) (R Q C : World) (t : ThreadState) → Next k R Q C t → Within {A = Value} t.txs (ends_tx d f k R Q C t)
+        ends_reaches : (k : EventKind) (R Q C : World) (t : ThreadState) → Next 0 k R Q C t → Within {A = Value} t.txs (ends_tx d f k R Q C t)
         ends_reaches (event.Commit at view writes sent) R Q C t next = commit_ends at view writes sent R Q C t next (d.on R) refl
         ends_reaches (event.Fail at view) R Q C t next = fail_ends at view R Q C t next (d.on R) refl
         ends_reaches (event.Refused at view agent) R Q C t next = refused_ends at view agent R Q C t next (d.on R) refl
         ends_reaches _ R Q C t next = tt
 
         -- a retry has no transaction
-        retry_none : (k : EventKind) (R Q C : World) → is_retry k ≡ true → RunOf functions validators from n k R Q C IsNone []
+        retry_none : (k : EventKind) (R Q C : World) → is_retry k ≡ true → RunOf functions validators from n 0 k R Q C IsNone []
         retry_none (event.Retry since c commute) R Q C h = tt
         retry_none _ R Q C h = absurd (false≢true h)
 
         eats_tx_reaches : (k : ℕ) (es : List SeenEvent) (t : ThreadState) → NotedWith es t → Reaches Any (eats_tx k d f es t)
         eats_tx_reaches zero es t g = g
         eats_tx_reaches (suc k) [] t g = (g, refl)
-        eats_tx_reaches (suc k) (e1 ∷ es) t g = of_book (e1.book == 0) (is_retry e1.kind) refl (λ g1. eats_tx_reaches k es t g1)
+        eats_tx_reaches (suc k) (e1 ∷ es) t g = of_book (e1.book == 0) refl (is_retry e1.kind) refl (λ g1. eats_tx_reaches k es t g1)
           where
-            of_book : (own again : Bool) → is_retry e1.kind ≡ again → (NotedWith es t → Reaches Any (eats_tx k d f es t)) → Reaches Any (if own then (if again then eats_tx k d f es t else uneaten (e1 ∷ es) (ends_tx d f e1.kind e1.R e1.Q e1.C (record t { todo = es }))) else Invalid)
-            of_book true true h rest = rest (without e1.kind e1.R e1.Q e1.C (record t { todo = es }) (next_event e1 es t g) (retry_none e1.kind e1.R e1.Q e1.C h))
-            of_book true false h rest =
-                within_reaches (e1 ∷ es) t.txs (ends_tx d f e1.kind e1.R e1.Q e1.C (record t { todo = es })) g.1 (ends_reaches e1.kind e1.R e1.Q e1.C (record t { todo = es }) (next_event e1 es t g))
-            of_book false again h rest = tt
+            -- the event is one of the store's book
+            next_own : (e1.book == 0) ≡ true → Next 0 e1.kind e1.R e1.Q e1.C (record t { todo = es })
+            next_own own = subst (λ o. Next o e1.kind e1.R e1.Q e1.C (record t { todo = es })) (eqb-true e1.book 0 own) (next_event e1 es t g)
+
+            of_book : (own : Bool) → (e1.book == 0) ≡ own → (again : Bool) → is_retry e1.kind ≡ again → (NotedWith es t → Reaches Any (eats_tx k d f es t)) → Reaches Any (if own then (if again then eats_tx k d f es t else uneaten (e1 ∷ es) (ends_tx d f e1.kind e1.R e1.Q e1.C (record t { todo = es }))) else Invalid)
+            of_book true own true h rest = rest (without 0 e1.kind e1.R e1.Q e1.C (record t { todo = es }) (next_own own) (retry_none e1.kind e1.R e1.Q e1.C h))
+            of_book true own false h rest =
+                within_reaches (e1 ∷ es) t.txs (ends_tx d f e1.kind e1.R e1.Q e1.C (record t { todo = es })) g.1 (ends_reaches e1.kind e1.R e1.Q e1.C (record t { todo = es }) (next_own own))
+            of_book false own again h rest = tt
 
       -- ---- forms
 
@@ -471,7 +475,7 @@ module _ (cells : List CellDefinition) (functions : List PlainFunction) (from : 
             allowed_reaches (may_stand (rule (form_of.Look form)).stands false) _ (on_reaches (cell_of (rule (form_of.Look form)) false v) m.span (thread_look x form) t g (λ c. look_at form c))
           where
             look_at : (form1 : LookForm) (c : CellId) → Reaches Any (thread_look x form1 c t)
-            look_at Deref c = eats_reaches (home cells c) (λ e t1. reads c e.kind e.C t1) (λ e t1 next. read_reaches c e.kind e.R e.Q e.C t1 next) t.todo t refl g g
+            look_at Deref c = eats_reaches (home cells c) (λ e t1. reads c e.kind e.C t1) (λ e t1 next. read_reaches c e.book e.kind e.R e.Q e.C t1 next) t.todo t refl g g
             look_at Ensure c = tt
 
         -- what a pure meaning leads to
@@ -499,7 +503,7 @@ module _ (cells : List CellDefinition) (functions : List PlainFunction) (from : 
                 let go : Value → ThreadState → Completion ThreadState Value = λ u t1. eats (home cells c) (λ e t2. resets u e.kind t2) t1.todo t1 in
                 subst (λ z. Reaches Any (bind z go)) (sym one.0)
                 (carried_reaches (validated (quietly n functions b m.span) o m.span w tt) go t one.1 g
-                (λ u. eats_reaches (home cells c) (λ e t1. resets u e.kind t1) (λ e t1 next. reset_reaches u e.kind e.R e.Q e.C t1 next) t.todo t refl g g))
+                (λ u. eats_reaches (home cells c) (λ e t1. resets u e.kind t1) (λ e t1 next. reset_reaches u e.book e.kind e.R e.Q e.C t1 next) t.todo t refl g g))
 
         updates : (form : UpdateForm) (inside : Bool) (m : Mark) (v : Value) (callee : Callee) → IsPure (known functions) callee → (vs : List Value) (t : ThreadState) → NotedAt t → Reaches Any ((on_events x b).update form inside m v callee vs (apply (call b inside) m.span) t)
         updates form inside m v callee pure vs t g =
@@ -515,7 +519,7 @@ module _ (cells : List CellDefinition) (functions : List PlainFunction) (from : 
                 eats_reaches (home cells c) (λ e t1. swaps c go e.kind e.R e.C t1)
                 (λ e t1 next. swap_reaches c go (λ u. bind (q callee (u ∷ vs) tt) (λ w s1. validated q o m.span w s1))
                 (λ u t2. made_carried (IsPure (known functions)) t2 (apply (call b inside) m.span) q (λ c1 us p. callee_carried (on_events x) n inside functions sound b m.span c1 us t2 p) o
-                (validator_such (IsPure (known functions)) validators c.number all_valid) m.span callee (u ∷ vs) pure) e.kind e.R e.Q e.C t1 next) t.todo t refl g g
+                (validator_such (IsPure (known functions)) validators c.number all_valid) m.span callee (u ∷ vs) pure) e.book e.kind e.R e.Q e.C t1 next) t.todo t refl g g
 
         sent : (inside : Bool) (m : Mark) (v : Value) (callee : Callee) (vs : List Value) (t : ThreadState) → NotedAt t → Reaches Any ((on_events x b).send inside m v callee vs t)
         sent inside m v callee vs t g =
@@ -523,7 +527,7 @@ module _ (cells : List CellDefinition) (functions : List PlainFunction) (from : 
           where
             send_at : (c : CellId) (o : Option (List Action)) → Reaches Any (sends_or_holds o (record { agent = c; callee = callee; args = vs; span = m.span }) m.span t)
             send_at c None =
-                eats_reaches 0 (λ e t2. sends (record { agent = c; callee = callee; args = vs; span = m.span }) m.span e.kind t2) (λ e t1 next. send_reaches (record { agent = c; callee = callee; args = vs; span = m.span }) m.span e.kind e.R e.Q e.C t1 next) t.todo t refl g g
+                eats_reaches 0 (λ e t2. sends (record { agent = c; callee = callee; args = vs; span = m.span }) m.span e.kind t2) (λ e t1 next. send_reaches (record { agent = c; callee = callee; args = vs; span = m.span }) m.span e.book e.kind e.R e.Q e.C t1 next) t.todo t refl g g
             send_at c (Some held) = (tt, (begin_with (record { agent = c; callee = callee; args = vs; span = m.span } ∷ []) t.held ∙ g.0, g.1))
 
         -- ---- trees

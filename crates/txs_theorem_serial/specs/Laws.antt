@@ -1,5 +1,5 @@
 -- What holds of committed transactions.
-use Rattle.std.specs.Prelude.{◌≡◌, ◌<◌, ◌≤◌, ℕ, true, false, List, [], Option, Some, None}
+use Rattle.std.specs.Prelude.{◌≡◌, ◌<◌, ◌≤◌, ℕ, true, false, List, [], length, Option, Some, None}
 use Rattle.txs_world_protocol.specs.Ask.{Writes}
 use Rattle.txs_value_cell.specs.Cells.{World, Validators, validators_of}
 use Rattle.txs_value_cell.specs.declared.action.Action.{Action}
@@ -18,7 +18,7 @@ use Rattle.txs_world_book.specs.Served.{cells_of}
 use Rattle.txs_value_cell.specs.declared.cell.CellDefinition.{CellDefinition}
 use Rattle.txs_theorem_runs.specs.Told.{Place}
 use Rattle.txs_theorem_runs.specs.Transactions.{SaidOf}
-use Rattle.txs_theorem_serial.specs.Whole.{all_covered, serial_if_covered, all_txs, without_acts, ThreadDid, AgentDid, OneByOne}
+use Rattle.txs_theorem_serial.specs.Whole.{all_covered, serial_if_covered, all_txs, without_acts, ThreadDid, AgentDid, OneByOne, ends_by}
 use Rattle.txs_tree_meaning.specs.Marked.{Marked, MarkedFunctions}
 use Rattle.txs_theorem_serial.specs.Serial.{is_covered, IsSerial, Committed, AgreeOn, EndsNoted}
 
@@ -48,11 +48,18 @@ CommitsSerial =
     → SoundFunctions [] functions → MarkedFunctions functions → Legal (cells_of cells) threads (books 0) → ThreadDid functions turns cells books a trace xs
     → SaidOf (serial_if_covered functions turns cells books) books trace xs
 
--- where all transactions that were committed are covered, the commits are as if these had run one after the other
+-- where all transactions that were committed are covered, and no others are there, the commits are as if these had run one after the other
 abbrev pub RunsAreSerial : Type 0
 RunsAreSerial =
     (functions : List PlainFunction) (cells : List CellDefinition) (threads : ℕ) (books : ℕ → List Event) (turns : ℕ → ℕ) (traces : ℕ → List Place) (runs : ℕ → List TxRun)
     → SoundFunctions [] functions → MarkedFunctions functions → Legal (cells_of cells) threads (books 0)
     → ((a : ℕ) → a < threads → ThreadDid functions (turns a) cells books a (traces a) (runs a) × SaidOf all_covered books (traces a) (runs a))
     → ((a : ℕ) → threads ≤ a → a < actors threads (cells_of cells) → (ds : List ActionDid) × AgentDid functions cells books a (traces a) ds × (runs a ≡ all_txs ds) × SaidOf all_covered books (without_acts books (traces a)) (runs a))
+    → ((a : ℕ) → actors threads (cells_of cells) ≤ a → runs a ≡ [])
     → OneByOne functions (validators_of cells) threads runs (opening (cells_of cells)) (books 0)
+
+-- one after the other, an actor has as many transactions as commits and refusals: none stands for two, and none is left out
+abbrev pub OneForEach : Type 0
+OneForEach =
+    (functions : List PlainFunction) (validators : Validators) (threads : ℕ) (runs : ℕ → List TxRun) (W : World) (es : List Event)
+    → OneByOne functions validators threads runs W es → (a : ℕ) → length (runs a) ≡ ends_by a es

@@ -71,23 +71,23 @@ AgreeOn w R C = (k : ℕ) → is_held w k ≡ true → R k ≡ C k
 
 -- ---- the transactions of a thread, or of an action
 
--- the transaction of an event that is a commit or a refusal, and those of the events after it
-abbrev pub RunOf : List PlainFunction → Validators → Option (List Action) → ℕ → EventKind → World → World → World → (List TxRun → Type 0) → List TxRun → Type 0
-RunOf functions validators held n (Read c) R Q C rest xs = rest xs
-RunOf functions validators held n (Commit at view ws sends) R Q C rest xs = Front (λ x. Committed functions validators held n x R C ws sends) rest xs
-RunOf functions validators held n (Retry since c commute) R Q C rest xs = rest xs
-RunOf functions validators held n (Fail at view) R Q C rest xs = rest xs
-RunOf functions validators held n (Refused at view g) R Q C rest xs = Front (λ x. Declined functions validators n x R Q) rest xs
-RunOf functions validators held n (Send x) R Q C rest xs = rest xs
-RunOf functions validators held n (SendRefused g) R Q C rest xs = rest xs
-RunOf functions validators held n (Act g k new sends) R Q C rest xs = rest xs
-RunOf functions validators held n (Swap new) R Q C rest xs = rest xs
-RunOf functions validators held n (Broke at) R Q C rest xs = rest xs
+-- the transaction of an event of this book that is a commit or a refusal, which the store's alone is, and those of the events after it
+abbrev pub RunOf : List PlainFunction → Validators → Option (List Action) → ℕ → ℕ → EventKind → World → World → World → (List TxRun → Type 0) → List TxRun → Type 0
+RunOf functions validators held n book (Read c) R Q C rest xs = rest xs
+RunOf functions validators held n book (Commit at view ws sends) R Q C rest xs = Front (λ x. (book ≡ 0) × Committed functions validators held n x R C ws sends) rest xs
+RunOf functions validators held n book (Retry since c commute) R Q C rest xs = rest xs
+RunOf functions validators held n book (Fail at view) R Q C rest xs = rest xs
+RunOf functions validators held n book (Refused at view g) R Q C rest xs = Front (λ x. (book ≡ 0) × Declined functions validators n x R Q) rest xs
+RunOf functions validators held n book (Send x) R Q C rest xs = rest xs
+RunOf functions validators held n book (SendRefused g) R Q C rest xs = rest xs
+RunOf functions validators held n book (Act g k new sends) R Q C rest xs = rest xs
+RunOf functions validators held n book (Swap new) R Q C rest xs = rest xs
+RunOf functions validators held n book (Broke at) R Q C rest xs = rest xs
 
 -- these are the transactions of these events, one for each commit and each refusal, in order; an action holds its sends, and a thread none
 abbrev pub RunsOf : List PlainFunction → Validators → Option (List Action) → ℕ → List SeenEvent → List TxRun → Type 0
 RunsOf functions validators held n [] xs = IsNone xs
-RunsOf functions validators held n (e ∷ es) xs = RunOf functions validators held n e.kind e.R e.Q e.C (λ ys. RunsOf functions validators held n es ys) xs
+RunsOf functions validators held n (e ∷ es) xs = RunOf functions validators held n e.book e.kind e.R e.Q e.C (λ ys. RunsOf functions validators held n es ys) xs
 
 -- A thread or an action has eaten these events, before those to come, and these are their transactions.
 pub record Noted (functions : List PlainFunction) (validators : Validators) (held : Option (List Action)) (n : ℕ) (es todo : List SeenEvent) (txs : List TxRun) : Type 0 where

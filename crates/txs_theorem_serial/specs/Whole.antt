@@ -1,8 +1,9 @@
 -- What it is that the commits of a run are as if its transactions had run one after the other.
-use Rattle.std.specs.Prelude.{◌≡◌, ℕ, Bool, true, false, nat_lt, List, [], ◌∷◌, ◌++◌, Option, None, Some, if◌then◌else◌}
+use Rattle.std.specs.Prelude.{◌≡◌, ℕ, suc, Bool, true, false, ◌==◌, ◌&&◌, nat_lt, List, [], ◌∷◌, ◌++◌, Option, None, Some, if◌then◌else◌}
+use Rattle.txs_world_protocol.specs.Ask.{Writes}
 use Rattle.txs_world_protocol.specs.declared.event.Event.{Event}
 use Rattle.txs_world_protocol.specs.declared.event.EventKind.{EventKind}
-use Rattle.txs_world_protocol.specs.declared.event.EventKind.TheVariants.{Commit, Act}
+use Rattle.txs_world_protocol.specs.declared.event.EventKind.TheVariants.{Commit, Refused, Act}
 use Rattle.txs_world_book.specs.Book.{changed}
 use Rattle.txs_value_cell.specs.Cells.{World, Validators, validators_of}
 use Rattle.txs_value_cell.specs.declared.cell.CellDefinition.{CellDefinition}
@@ -21,11 +22,11 @@ use Rattle.txs_theorem_serial.specs.Serial.{is_covered, IsSerial, RunsOf}
 abbrev pub all_covered : Says
 all_covered = record { commit = λ n k at ws sends x. is_covered x.state ≡ true; refusal = λ n k at g x. Unit {0} }
 
--- each covered one is serial at its place of the store's book
+-- each one came to its end in the store's book, and each covered one that was committed is serial at its place there
 abbrev pub serial_if_covered : List PlainFunction → ℕ → List CellDefinition → (ℕ → List Event) → Says
 serial_if_covered functions turns cells books = record {
-  commit = λ n k at ws sends x. n ≡ 0 → is_covered x.state ≡ true → IsSerial functions (validators_of cells) turns x (world_of cells 0 (books 0) k) ws x.state.done.sends;
-  refusal = λ n k at g x. Unit {0};
+  commit = λ n k at ws sends x. (n ≡ 0) × (is_covered x.state ≡ true → IsSerial functions (validators_of cells) turns x (world_of cells 0 (books 0) k) ws x.state.done.sends);
+  refusal = λ n k at g x. n ≡ 0;
 }
 
 -- What a thread did: its trace names its events, and of each commit and refusal there is a transaction, which was undisturbed.
@@ -76,15 +77,41 @@ pub record AgentDid (functions : List PlainFunction) (cells : List CellDefinitio
 abbrev pub holds_sends : ℕ → ℕ → Option (List Action)
 holds_sends threads a = if nat_lt a threads then None else Some []
 
--- a commit is that of a transaction which its actor noted, and which alone on this world gives its writes and its own sends; in an action these join the
--- sends that it holds, and the commit has none
-abbrev pub CommitAlone : List PlainFunction → Validators → ℕ → (ℕ → List TxRun) → ℕ → World → EventKind → Type 0
-CommitAlone functions validators threads runs a W (Commit at view ws sends) =
-    (turns i : ℕ) × (x : TxRun) × (nth (runs a) i ≡ Some x) × IsSerial functions validators turns x W ws x.state.done.sends × (sends ≡ sends_of_commit (holds_sends threads a) x.state.done.sends)
-CommitAlone functions validators threads runs a W _ = Unit {0}
+-- A commit is what a transaction does alone on this world: the transaction gives the commit's writes, its own sends and, where it is wanted, its result. In
+-- an action its sends join those that the action holds, and the commit has none.
+abbrev pub CommitAlone : List PlainFunction → Validators → ℕ → ℕ → World → Writes → List Action → TxRun → Type 0
+CommitAlone functions validators threads a W ws sends x =
+    (turns : ℕ) × IsSerial functions validators turns x W ws x.state.done.sends × (sends ≡ sends_of_commit (holds_sends threads a) x.state.done.sends)
 
--- The commits of a book are as if their transactions had run one after the other in its order, each on the world that those before
--- it left.
+-- the transactions to come of each actor, where those of this actor are these
+abbrev pub with_runs : ℕ → List TxRun → (ℕ → List TxRun) → ℕ → List TxRun
+with_runs a xs runs b = if a == b then xs else runs b
+
+-- the first transaction to come of this actor is such a one, and this is said of those to come behind it
+abbrev pub TakesFirst : (TxRun → Type 0) → ℕ → (ℕ → List TxRun) → ((ℕ → List TxRun) → Type 0) → Type 0
+TakesFirst Such a runs rest = (x : TxRun) × (xs : List TxRun) × (runs a ≡ x ∷ xs) × Such x × rest (with_runs a xs runs)
+
+-- An event of this actor on this world: a commit is that of its first transaction to come, alone there; a refusal ends its first one, and changes nothing; any
+-- other event leaves them all to come.
+abbrev pub EventAlone : List PlainFunction → Validators → ℕ → ℕ → World → EventKind → (ℕ → List TxRun) → ((ℕ → List TxRun) → Type 0) → Type 0
+EventAlone functions validators threads a W (Commit at view ws sends) runs rest = TakesFirst (CommitAlone functions validators threads a W ws sends) a runs rest
+EventAlone functions validators threads a W (Refused at view g) runs rest = TakesFirst (λ x. Unit {0}) a runs rest
+EventAlone functions validators threads a W _ runs rest = rest runs
+
+-- The transactions of these actors, run one after the other in the order of a book, each on the world that those before it left, do what its commits say:
+-- each is that of one commit or one refusal of its actor, in order, and none is left.
 abbrev pub OneByOne : List PlainFunction → Validators → ℕ → (ℕ → List TxRun) → World → List Event → Type 0
-OneByOne functions validators threads runs W [] = Unit {0}
-OneByOne functions validators threads runs W (e ∷ es) = CommitAlone functions validators threads runs e.actor W e.kind × OneByOne functions validators threads runs (changed e.kind W) es
+OneByOne functions validators threads runs W [] = (a : ℕ) → runs a ≡ []
+OneByOne functions validators threads runs W (e ∷ es) =
+    EventAlone functions validators threads e.actor W e.kind runs (λ rest. OneByOne functions validators threads rest (changed e.kind W) es)
+
+-- whether an event ends a transaction: a commit or a refusal does
+abbrev pub ends_one : EventKind → Bool
+ends_one (Commit at view ws sends) = true
+ends_one (Refused at view g) = true
+ends_one _ = false
+
+-- how many of these events end a transaction of this actor
+abbrev pub ends_by : ℕ → List Event → ℕ
+ends_by a [] = 0
+ends_by a (e ∷ es) = if e.actor == a && ends_one e.kind then suc (ends_by a es) else ends_by a es

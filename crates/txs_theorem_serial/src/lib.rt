@@ -1,7 +1,7 @@
 //! When committed transactions are as if they had run one after the other.
 #![tactic(auto)]
 
-ghost use Rattle.txs_theorem_serial.specs.Laws.{ActionsNote, CommitsSerial, CoveredIsSerial, RunsAreSerial, ThreadsNote};
+ghost use Rattle.txs_theorem_serial.specs.Laws.{ActionsNote, CommitsSerial, CoveredIsSerial, OneForEach, RunsAreSerial, ThreadsNote};
 
 /// A covered transaction is serial.
 pub fn covered_is_serial()
@@ -23,8 +23,13 @@ pub fn commits_serial()
     ensures { CommitsSerial }
 {}
 
-/// Where all transactions that were committed are covered, the refs at the end and what was sent are as if they had run one after
-/// the other, in the order of their commits.
+/// Where all transactions that were committed are covered, and there are no others, these do what the commits say, run one after the
+/// other in the order of the commits: the writes, the sends and the wanted results. Each is that of one commit or refusal.
 pub fn runs_are_serial()
     ensures { RunsAreSerial }
+{}
+
+/// One after the other, an actor has as many transactions as commits and refusals: none stands for two.
+pub fn one_for_each()
+    ensures { OneForEach }
 {}
