@@ -100,7 +100,7 @@ event_sync = recorded_sync (event_is.the_field).row _ _ (event_is.the_type).to_o
 -- ---- a report
 
 ran_sync : IsSync ran_is.the_row
-ran_sync = recorded_sync (ran_is.the_field).row _ _ (ran_is.the_type).to_one (struct_sync (S.shape ran_is.the_type) ((search (outcome_sent.the_sync, option.the_field_sync, crosses, sendable) depth 60 fits 20000), ((search (plain_sync, vec.the_sync, crosses, sendable) depth 60 fits 20000), ((search (place_sent.the_sync, vec.the_sync, crosses, sendable) depth 60 fits 20000), (plain_sync _ _ _ _ _, tt)))))
+ran_sync = recorded_sync (ran_is.the_field).row _ _ (ran_is.the_type).to_one (struct_sync (S.shape ran_is.the_type) ((search (outcome_sent.the_sync, option.the_field_sync, crosses, sendable) depth 60 fits 20000), ((search (plain_sync, vec.the_sync, crosses, sendable) depth 60 fits 20000), ((search (place_sent.the_sync, vec.the_sync, crosses, sendable) depth 60 fits 20000), (plain_sync _ _ _ _ _, ((search (span_sent.the_sync, option.the_field_sync, crosses, sendable) depth 60 fits 20000), tt))))))
 
 pub report_sync : IsSync report_is.the_row
 report_sync = recorded_sync (report_is.the_field).row _ _ (report_is.the_type).to_one (struct_sync (S.shape report_is.the_type) ((search (ran_sync, vec.the_sync, crosses, sendable) depth 60 fits 20000), ((search (ran_sync, vec.the_sync, crosses, sendable) depth 60 fits 20000), ((search (event_sync, vec.the_sync, crosses, sendable) depth 60 fits 20000), ((search (event_sync, vec.the_sync, listed.the_sync, crosses, sendable) depth 60 fits 20000), ((search (value_sync, vec.the_sync, crosses, sendable) depth 60 fits 20000), ((search (fault_sent.the_sync, option.the_sync, vec.the_sync, crosses, sendable) depth 60 fits 20000), tt)))))))

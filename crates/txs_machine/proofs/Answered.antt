@@ -1,5 +1,5 @@
 -- What an answer leaves of an actor, and what it ends.
-use Rattle.std.proofs.Common.{◌≡◌, ℕ, zero, suc, List, Option, Some, None, refl, sym, subst, ◌∙◌}
+use Rattle.std.proofs.Common.{◌≡◌, ◌-◌, ℕ, zero, suc, Bool, true, false, List, Option, Some, None, Ok, Err, refl, sym, ap, subst, ◌∙◌}
 use Rattle.txs_world_protocol.specs.declared.ask.Ask.{Ask}
 use Rattle.txs_world_protocol.specs.declared.ask.Reply.{Reply}
 use Rattle.txs_world_protocol.specs.declared.ask.Reply.TheVariants as reply
@@ -7,9 +7,10 @@ use Rattle.txs_world_protocol.specs.declared.event.Outcome.{Outcome}
 use Rattle.txs_world_protocol.specs.declared.event.Outcome.TheVariants as outcome
 use Rattle.txs_frame.specs.Phase.{PlainPhase}
 use Rattle.txs_value_base.specs.declared.fault.Fault.{Fault}
+use Rattle.txs_value_data.specs.declared.value.CellId.{CellId}
 use Rattle.txs_value_data.specs.declared.value.Value.{Value}
 use Rattle.txs_machine_actor.specs.PlainActor.{PlainActor, MayAnswer, Stops, answered, answered_for, answered_if, asked_for, state_of, fails_as, run_again, end_again, refuse, views, attends_anew, unanswered}
-use Rattle.txs_machine_transaction.specs.Asks.{applied_in}
+use Rattle.txs_machine_transaction.specs.Asks.{applied_in, ask_for, ask_of_read}
 use Rattle.txs_machine_transaction.specs.Transaction.{is_running}
 use Rattle.txs_machine_transaction.specs.declared.state.Pending.{Pending}
 use Rattle.txs_machine_transaction.specs.declared.state.Pending.TheVariants.{Begin, Read, Ensure, Open, View, Reset, Send, Swap, Close, Commit, Hold, Fail, Broke, Take, Finish}
@@ -381,3 +382,42 @@ idle_outcome a = go a.pending
     go : (o : Option Pending) → (answered_if a o reply.Idle).outcome ≡ a.outcome
     go None = refl
     go (Some p) = idle_unended a p
+
+-- the ask that an agent without an action is told of is that for an action
+read_never : (b : Bool) (c : CellId) (at : ℕ) → MayAnswer (ask_of_read c b at) reply.Idle → ⊥
+read_never true c at m = m
+read_never false c at m = m
+
+pub idle_takes : (a : PlainActor) (p : Pending) → MayAnswer (ask_for p (is_running a.tx) a.at a.view (applied_in a.tx) a.done) reply.Idle → (j : CellId) × (p ≡ Take j)
+idle_takes a (Begin left from) m = absurd m
+idle_takes a (Read c) m = absurd (read_never (is_running a.tx) c a.at m)
+idle_takes a (Ensure c es) m = absurd m
+idle_takes a (Open c n kept) m = absurd m
+idle_takes a (View phase) m = absurd m
+idle_takes a (Reset c v) m = absurd m
+idle_takes a (Send x n) m = absurd m
+idle_takes a (Swap c n from) m = absurd m
+idle_takes a (Close c p v) m = absurd m
+idle_takes a Commit m = absurd m
+idle_takes a (Hold xs) m = absurd m
+idle_takes a (Fail f) m = absurd m
+idle_takes a (Broke c p f) m = absurd m
+idle_takes a (Take j) m = (j, refl)
+idle_takes a (Finish g (Ok x)) m = absurd m
+idle_takes a (Finish g (Err f)) m = absurd m
+
+abbrev is_some : {A : Type 0} → Option A → Type 0
+is_some None = ⊥
+is_some (Some x) = Unit {0}
+
+abbrev ask_or : Ask → Option Ask → Ask
+ask_or q None = q
+ask_or q (Some p) = p
+
+-- it has counted the step, and counts it no more
+pub idle_steps : (a : PlainActor) (q : Ask) → unanswered a ≡ Some q → MayAnswer q reply.Idle → (answered a reply.Idle).steps ≡ a.steps - 1
+idle_steps a q e m = go a.pending e
+  where
+    go : (o : Option Pending) → asked_for o (is_running a.tx) a.at a.view (applied_in a.tx) a.done ≡ Some q → (answered_if a o reply.Idle).steps ≡ a.steps - 1
+    go None f = absurd (subst is_some (sym f) tt)
+    go (Some p) f = let w = idle_takes a p (subst (λ y. MayAnswer y reply.Idle) (sym (ap (ask_or q) f)) m) in ap (λ y. (answered_if a (Some y) reply.Idle).steps) w.1

@@ -12,7 +12,8 @@ use Rattle.txs_value_base.specs.declared.fault.Span.{Span}
 use Rattle.txs_value_cell.specs.declared.action.Action.{Action}
 use Rattle.txs_value_data.specs.declared.value.CellId.{CellId}
 use Rattle.txs_value_data.specs.declared.value.Value.{Value}
-use Rattle.txs_code_meaning.specs.Machine.{PlainInstr, TakeOf, FinishOf, ThreadCode, agent_code, instr_at}
+use Rattle.txs_code_meaning.specs.ActorState.{ActorState}
+use Rattle.txs_code_meaning.specs.Machine.{PlainInstr, TakeOf, FinishOf, ThreadCode, Configuration, Asking, Unfinished, agent_code, instr_at, turn}
 use Rattle.txs_code_meaning.specs.OwnCells.{NamesOwnCells}
 use Rattle.txs_code_meaning.specs.PlainCode.{CodeBody, PlainCode, library_of, parameters_of, plain_instr, plain_instrs, plain_bodies}
 use Rattle.txs_code_meaning.specs.declared.instr.Instr.{Instr}
@@ -38,10 +39,11 @@ use Rattle.txs_theorem_runs.proofs.Growing.{Grown}
 use Rattle.txs_world_shared.specs.SharedState as shared
 use Rattle.txs_world_shared.specs.SharedState.{PlainShared, shared_of, is_lawful, answer_to, IsAfter}
 use Rattle.txs_machine.specs.RunOver.{IsStateOf, IsLimited, books_of}
-use Rattle.txs_machine.specs.Running.{after_turns, run_of, HasWork, IsAgentAt, IsAnswered, IsInRun, IsPlacedAs}
+use Rattle.txs_machine.specs.Running.{HasWork, IsAgentAt, IsAnswered, IsInRun, IsPlacedAs}
+use Rattle.txs_machine.specs.Scheduled.{after_turns, run_of, steps_by}
 use Rattle.txs_machine.specs.Serving.{IsServed}
 use Rattle.txs_world_protocol.specs.declared.event.Place.{Place}
-use Rattle.txs_machine.proofs.Answered.{Leaves, answer_leaves}
+use Rattle.txs_machine.proofs.Answered.{Leaves, answer_leaves, idle_takes}
 use Rattle.txs_machine.proofs.Going.{turns_append, turns_lead}
 use Rattle.txs_machine.proofs.Limits.{answered_limited}
 use Rattle.txs_machine.proofs.OwnCells.{openings_known, code_known}
@@ -145,13 +147,19 @@ module _ (law : RunAsksLawful) (code : PlainCode) (g : CellId) (k : ℕ) (at : I
   asked_lawful s a b tr n q of r going turns =
       let st = run_of code r.turns in
       let place = subst (λ o. IsPlacedAs a o (st.actors k).at (st.actors k).stopped) going r.player.placed in
-      let l = turns_lead code k n a b (turned.Asks q) st r.player.number going place.0 place.1 turns in
+      let counted : a.steps ≡ (st.actors k).turns = r.player.counted ∙ ap (λ w. steps_by w (st.actors k).turns) place.1 in
+      let l = turns_lead code k a.limit n a b (turned.Asks q) st r.player.number going refl counted place.0 place.1 turns in
       let on : run_of code (r.turns ++ l.turns) ≡ after_turns code l.turns st = turns_append code r.turns l.turns (run.opens code.cells (code_of code)) in
       let may = law code.cells threads (code_of code) (r.turns ++ l.turns) (openings_known code mine) (λ i. code_known code i mine) own_names k l.stands.0 _ q an_actor stands_so
       (ap (λ (u : State). (u.actors k).at) on ∙ l.stands.1) l.stands.3.asks refl in
       let same : shared_of s ≡ (run_of code (r.turns ++ l.turns)).shared = r.shared ∙ sym l.shared ∙ sym (ap (λ (u : State). u.shared) on) in
       subst (λ (x : PlainShared). is_lawful x k q ≡ true) (sym (as_state code s of))
       (subst (λ (sh : Shared). may_ask code.cells threads sh.taken k q (sh.books (book_for code.cells q)) ≡ true) (sym same) may)
+
+  -- what a run's next instruction asks, it may ask
+  pub asks_so : (before : List run.Play) (c : Configuration) (w : ActorState) (q : Ask) → ((run_of code before).actors k).at ≡ Unfinished c → turn (code_of code k) c ≡ Asking w → w.wants ≡ Some q
+      → may_ask code.cells threads (run_of code before).shared.taken k q ((run_of code before).shared.books (book_for code.cells q)) ≡ true
+  asks_so before c w q here e wants = law code.cells threads (code_of code) before (openings_known code mine) (λ i. code_known code i mine) own_names k c w q an_actor stands_so here e wants
 
 -- ---- it is handed what it may run
 
@@ -244,29 +252,6 @@ idle_or reply.Idle = inl refl
 idle_or (reply.Opened p v) = inr (λ e. cc)
 idle_or reply.Full = inr (λ e. cc)
 idle_or reply.Memory = inr (λ e. cc)
-
--- the ask that an agent without an action is told of is that for an action
-read_never : (b : Bool) (c : CellId) (at : ℕ) → MayAnswer (ask_of_read c b at) reply.Idle → ⊥
-read_never true c at m = m
-read_never false c at m = m
-
-idle_takes : (a : PlainActor) (p : Pending) → MayAnswer (ask_for p (is_running a.tx) a.at a.view (applied_in a.tx) a.done) reply.Idle → (j : CellId) × (p ≡ pending.Take j)
-idle_takes a (pending.Begin left from) m = absurd m
-idle_takes a (pending.Read c) m = absurd (read_never (is_running a.tx) c a.at m)
-idle_takes a (pending.Ensure c es) m = absurd m
-idle_takes a (pending.Open c n kept) m = absurd m
-idle_takes a (pending.View phase) m = absurd m
-idle_takes a (pending.Reset c v) m = absurd m
-idle_takes a (pending.Send x n) m = absurd m
-idle_takes a (pending.Swap c n from) m = absurd m
-idle_takes a (pending.Close c p v) m = absurd m
-idle_takes a pending.Commit m = absurd m
-idle_takes a (pending.Hold xs) m = absurd m
-idle_takes a (pending.Fail f) m = absurd m
-idle_takes a (pending.Broke c p f) m = absurd m
-idle_takes a (pending.Take j) m = (j, refl)
-idle_takes a (pending.Finish g (Ok x)) m = absurd m
-idle_takes a (pending.Finish g (Err f)) m = absurd m
 
 -- one that waits for an action is the actor of the agent
 takes_own : (code : PlainCode) (a : PlainActor) (j : CellId) → Lives code a → a.outcome ≡ None → a.pending ≡ Some (pending.Take j) → IsActorOf code a.number j

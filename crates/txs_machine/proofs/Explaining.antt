@@ -57,20 +57,20 @@ report_or d None = d
 report_or d (Some r) = r
 
 -- the actor of an entry
-pub reported_at : (xs : List Player) (rs : List ActorReport) (k : ℕ) (r : ActorReport) → AreReported xs rs → nth rs k ≡ Some r → (x : Player) × (nth xs k ≡ Some x) × IsReported x r
-reported_at [] [] k r h e = absurd (subst is_some (sym e) tt)
-reported_at [] (s ∷ rs) k r h e = absurd h
-reported_at (x ∷ xs) [] k r h e = absurd h
-reported_at (x ∷ xs) (s ∷ rs) zero r h e = (x, refl, subst (IsReported x) (ap (report_or s) e) h.0)
-reported_at (x ∷ xs) (s ∷ rs) (suc k) r h e = reported_at xs rs k r h.1 e
+pub reported_at : (code : PlainCode) (xs : List Player) (rs : List ActorReport) (k : ℕ) (r : ActorReport) → AreReported code xs rs → nth rs k ≡ Some r → (x : Player) × (nth xs k ≡ Some x) × IsReported code x r
+reported_at code [] [] k r h e = absurd (subst is_some (sym e) tt)
+reported_at code [] (s ∷ rs) k r h e = absurd h
+reported_at code (x ∷ xs) [] k r h e = absurd h
+reported_at code (x ∷ xs) (s ∷ rs) zero r h e = (x, refl, subst (IsReported code x) (ap (report_or s) e) h.0)
+reported_at code (x ∷ xs) (s ∷ rs) (suc k) r h e = reported_at code xs rs k r h.1 e
 
-pub as_many : (xs : List Player) (rs : List ActorReport) → AreReported xs rs → length rs ≡ length xs
-as_many [] [] h = refl
-as_many [] (s ∷ rs) h = absurd h
-as_many (x ∷ xs) [] h = absurd h
-as_many (x ∷ xs) (s ∷ rs) h = ap suc (as_many xs rs h.1)
+pub as_many : (code : PlainCode) (xs : List Player) (rs : List ActorReport) → AreReported code xs rs → length rs ≡ length xs
+as_many code [] [] h = refl
+as_many code [] (s ∷ rs) h = absurd h
+as_many code (x ∷ xs) [] h = absurd h
+as_many code (x ∷ xs) (s ∷ rs) h = ap suc (as_many code xs rs h.1)
 
-done_so : DoneIsUndisturbed → RefusedIsUndisturbed → (code : PlainCode) (k limit : ℕ) (books : ℕ → List Event) (x : Player) (r : ActorReport) → IsBetween code k limit books x → IsReported x r → HasDone code k limit books r
+done_so : DoneIsUndisturbed → RefusedIsUndisturbed → (code : PlainCode) (k limit : ℕ) (books : ℕ → List Event) (x : Player) (r : ActorReport) → IsBetween code k limit books x → IsReported code x r → HasDone code k limit books r
 done_so done refused code k limit books x r h p = record {
   actor = x.actor;
   over = h.over.over;
@@ -79,16 +79,17 @@ done_so done refused code k limit books x r h p = record {
   ended = p.ended;
   printed = p.printed;
   counted = p.counted;
+  placed = p.placed;
   traced = ap places_of (sym p.traced) ∙ h.over.traced;
   undisturbed = all_undisturbed done code.cells (length code.threads) books k h.over.over.entries h.over.over.told.hold;
   refused = all_refused refused code.cells (length code.threads) books k h.over.over.entries h.over.over.told.hold;
 }
 
 -- what all actors did is what the report says
-pub all_done : DoneIsUndisturbed → RefusedIsUndisturbed → (code : PlainCode) (limit : ℕ) (books : ℕ → List Event) (xs : List Player) (rs : List ActorReport) → length xs ≡ length code.threads → AreBetween code limit books 0 xs → AreReported xs rs → AreDone code limit books rs
+pub all_done : DoneIsUndisturbed → RefusedIsUndisturbed → (code : PlainCode) (limit : ℕ) (books : ℕ → List Event) (xs : List Player) (rs : List ActorReport) → length xs ≡ length code.threads → AreBetween code limit books 0 xs → AreReported code xs rs → AreDone code limit books rs
 all_done done refused code limit books xs rs many h p = record {
-  one_each = as_many xs rs p ∙ many;
-  each = λ k r e. (let x = reported_at xs rs k r p e in done_so done refused code k limit books x.0 r (between_of code limit books k xs x.0 x.1 h) x.2);
+  one_each = as_many code xs rs p ∙ many;
+  each = λ k r e. (let x = reported_at code xs rs k r p e in done_so done refused code k limit books x.0 r (between_of code limit books k xs x.0 x.1 h) x.2);
 }
 
 steps_at : (ys : List Play) (j i : ℕ) (xs : List Player) (x : Player) → nth xs i ≡ Some x → HaveSteps ys j xs → x.actor.outcome ≡ None → plays_of (j + i) ys ≤ x.actor.steps
@@ -101,9 +102,9 @@ steps_at ys j zero (y ∷ xs) x e h n =
     or_first (Some z) = z
 steps_at ys j (suc i) (y ∷ xs) x e h n = subst (λ m. plays_of m ys ≤ x.actor.steps) (omega arith) (steps_at ys (suc j) i xs x e h.1 n)
 
-pub all_played : (ys : List Play) (xs : List Player) (rs : List ActorReport) → HaveSteps ys 0 xs → AreReported xs rs → ArePlayed ys rs
-all_played ys xs rs h p k r e n =
-    let x = reported_at xs rs k r p e in
+pub all_played : (code : PlainCode) (ys : List Play) (xs : List Player) (rs : List ActorReport) → HaveSteps ys 0 xs → AreReported code xs rs → ArePlayed ys rs
+all_played code ys xs rs h p k r e n =
+    let x = reported_at code xs rs k r p e in
     let same : 0 + k ≡ k = omega arith in
     subst (λ m. plays_of k ys ≤ m) x.2.counted (subst (λ m. plays_of m ys ≤ x.0.actor.steps) same (steps_at ys 0 k xs x.0 x.1 h (x.2.ended ∙ n)))
 
@@ -116,8 +117,8 @@ ended_at (y ∷ xs) zero x e h n = h.0 (ap (λ (z : Player). z.actor.outcome) (a
     or_first (Some z) = z
 ended_at (y ∷ xs) (suc k) x e h n = ended_at xs k x e h.1 n
 
-pub all_ended : (xs : List Player) (rs : List ActorReport) → AllEnded xs → AreReported xs rs → HaveEnded rs
-all_ended xs rs h p k r e n = let x = reported_at xs rs k r p e in ended_at xs k x.0 x.1 h (x.2.ended ∙ n)
+pub all_ended : (code : PlainCode) (xs : List Player) (rs : List ActorReport) → AllEnded xs → AreReported code xs rs → HaveEnded rs
+all_ended code xs rs h p k r e n = let x = reported_at code xs rs k r p e in ended_at xs k x.0 x.1 h (x.2.ended ∙ n)
 
 -- ---- what sources say
 
@@ -226,7 +227,7 @@ pub entry_explained : (p : PlainProgram) (k : ℕ) (t : PlainThread) (books : �
     → ExplainsThread p k t books r
 entry_explained p k t books r traced means least = record { traced = traced; turns = means.0; means = means.1; calm = means.2; least = least }
 
-thread_explained : Known → RefusedIsUndisturbed → (code : PlainCode) (k limit : ℕ) (books : ℕ → List Event) (x : Player) (r : ActorReport) → IsBetween code k limit books x → IsReported x r
+thread_explained : Known → RefusedIsUndisturbed → (code : PlainCode) (k limit : ℕ) (books : ℕ → List Event) (x : Player) (r : ActorReport) → IsBetween code k limit books x → IsReported code x r
     → (p : PlainProgram) (t : PlainThread) → p.cells ≡ code.cells → FollowsAll (map (thread_code code) code.threads) p → nth p.threads k ≡ Some t → ExplainsThread p k t books r
 thread_explained by refused code k limit books x r h rep p t same follows e =
     let a = x.actor in
@@ -249,11 +250,11 @@ books_stand cells threads sh h = record { legal = h.store.legal; undisturbed = h
 
 -- each program that the code follows explains the run
 pub all_explained : Known → RefusedIsUndisturbed → (code : PlainCode) (limit : ℕ) (sh : Shared) (xs : List Player) (rs : List ActorReport) → length xs ≡ length code.threads → SharedStands code.cells (length code.threads) sh
-    → AreBetween code limit sh.books 0 xs → AreReported xs rs → IsExplainedBy code sh rs
+    → AreBetween code limit sh.books 0 xs → AreReported code xs rs → IsExplainedBy code sh rs
 all_explained by refused code limit sh xs rs many stands h rep p same follows = record {
-  one_each = as_many xs rs rep ∙ many ∙ threads;
+  one_each = as_many code xs rs rep ∙ many ∙ threads;
   books = subst (λ cs. BooksStand cs (length p.threads) sh) (sym same) (subst (λ n. BooksStand code.cells n sh) threads (books_stand code.cells (length code.threads) sh stands));
-  each = λ k t r e f. (let x = reported_at xs rs k r rep f in thread_explained by refused code k limit sh.books x.0 r (between_of code limit sh.books k xs x.0 x.1 h) x.2 p t same follows e);
+  each = λ k t r e f. (let x = reported_at code xs rs k r rep f in thread_explained by refused code k limit sh.books x.0 r (between_of code limit sh.books k xs x.0 x.1 h) x.2 p t same follows e);
 }
   where
     threads : length code.threads ≡ length p.threads

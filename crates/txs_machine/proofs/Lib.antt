@@ -15,6 +15,9 @@ pub mod Working
 pub mod Mail
 pub mod Opened
 pub mod Turning
+pub mod Resting
+pub mod Scheduled
+pub mod Exact
 pub mod PlayedAt
 pub mod Laws
 pub mod Reporting

@@ -23,6 +23,7 @@ use Rattle.txs_world.specs.Laws.{ServeKeeps}
 use Rattle.txs_world_book.specs.Book.{actors}
 use Rattle.txs_world_book.specs.Served.{cells_of}
 use Rattle.txs_world.specs.Store.{next_action}
+use Rattle.txs_theorem_runs.specs.Run.{Play}
 use Rattle.txs_theorem_runs.specs.Shared.{Shared}
 use Rattle.txs_theorem_runs.specs.Staged.{StagedActor}
 use Rattle.txs_theorem_runs.proofs.Asker.{agent_of}
@@ -34,7 +35,7 @@ use Rattle.txs_theorem_runs.proofs.Told.{fresh_stands}
 use Rattle.txs_theorem_runs.proofs.Typed.{agent_sends, thread_sends, typed_agents_stand, typed_stands}
 use Rattle.txs_world_shared.specs.SharedState.{PlainShared}
 use Rattle.txs_machine.specs.RunOver.{books_of}
-use Rattle.txs_machine.specs.Running.{IsRunOf}
+use Rattle.txs_machine.specs.Running.{IsRunBy}
 use Rattle.txs_machine.specs.declared.player.AgentPlayer.{AgentPlayer}
 use Rattle.txs_machine.specs.declared.player.Player.{Player}
 use Rattle.txs_machine.proofs.OwnCells.{code_known}
@@ -221,15 +222,15 @@ actors_staged code function_rooms thread_rooms w k lt =
     (λ g. standing_staged true (agent_code (library_of code) g) (typed_agents_stand code function_rooms thread_rooms g w))
 
 -- what an agent runs next it may run
-pub next_may : ServeKeeps → (code : PlainCode) (function_rooms thread_rooms : List ℕ) → WellTyped code function_rooms thread_rooms → (s : PlainShared) (xs : List Player) (gs : List AgentPlayer) → IsRunOf code s xs gs
+pub next_may : ServeKeeps → (code : PlainCode) (function_rooms thread_rooms : List ℕ) → WellTyped code function_rooms thread_rooms → (s : PlainShared) (xs : List Player) (gs : List AgentPlayer) (turns : List Play) → IsRunBy code s xs gs turns
     → (g : CellId) (x : Action) → next_action (cells_of code.cells) (books_of s 0) g ≡ Some x → MayRun code x
-next_may keeps code function_rooms thread_rooms w s xs gs r g x e =
+next_may keeps code function_rooms thread_rooms w s xs gs turns r g x e =
     next_such (MayRun code) (cells_of code.cells) (books_of s 0) g x
     (subst (λ (sh : Shared). AllSuch (MayRun code) (sh.books 0)) (sym r.shared)
-    (run_sends (MayRun code) code.cells (length code.threads) (code_of code) (sends_may code) keeps fresh_stands (actors_staged code function_rooms thread_rooms w) r.turns)) e
+    (run_sends (MayRun code) code.cells (length code.threads) (code_of code) (sends_may code) keeps fresh_stands (actors_staged code function_rooms thread_rooms w) turns)) e
 
 -- all values of the books name defined cells alone
-pub values_known : ServeKeeps → (code : PlainCode) → NamesOwnCells code → (s : PlainShared) (xs : List Player) (gs : List AgentPlayer) → IsRunOf code s xs gs → ValuesKnown code (books_of s)
-values_known keeps code mine s xs gs r opened n =
+pub values_known : ServeKeeps → (code : PlainCode) → NamesOwnCells code → (s : PlainShared) (xs : List Player) (gs : List AgentPlayer) (turns : List Play) → IsRunBy code s xs gs turns → ValuesKnown code (books_of s)
+values_known keeps code mine s xs gs turns r opened n =
     subst (λ (sh : Shared). BookKnown code.cells opened (sh.books n)) (sym r.shared)
-    (run_known keeps fresh_stands code.cells (length code.threads) (code_of code) r.turns opened (λ a. code_known code a mine) n)
+    (run_known keeps fresh_stands code.cells (length code.threads) (code_of code) turns opened (λ a. code_known code a mine) n)

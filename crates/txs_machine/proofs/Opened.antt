@@ -14,7 +14,7 @@ use Rattle.txs_world_shared.specs.SharedState.{PlainShared, shared_of}
 use Rattle.txs_machine.specs.Agents.{agents_of}
 use Rattle.txs_machine.specs.Playing.{AreBetween, AreNew}
 use Rattle.txs_machine.specs.RunOver.{places_of}
-use Rattle.txs_machine.specs.Running.{AreAttending, ArePlaying, IsPlacedAs, IsPlayerOf, IsRunOf, attendants}
+use Rattle.txs_machine.specs.Running.{AreAttending, ArePlayingBy, IsPlacedAs, IsPlayerOf, IsRunBy, attendants}
 use Rattle.txs_machine.specs.declared.player.AgentPlayer.{AgentPlayer}
 use Rattle.txs_machine.specs.declared.player.Player.{Player}
 use Rattle.txs_machine.specs.declared.player.Players.{Players}
@@ -50,13 +50,13 @@ new_player laws code k limit books x n e = record {
   waits = n.unasking;
   placed = subst (λ o. IsPlacedAs x.actor o (Unfinished (opening (code_of code k) [])) None) (sym n.unended) (ap (λ c. Unfinished c) (sym n.opens), refl);
   ran = laws.begins code k limit x.actor n;
+  counted = n.unused;
   traced = ap places_of e;
   full = λ o. absurd (subst is_some (sym o ∙ n.unended) tt);
 }
 
-opened_run : ActorsRun → (code : PlainCode) (limit : ℕ) (s : PlainShared) (xs : List Player) (gs : List AgentPlayer) → shared_of s ≡ untouched code.cells → AreNew code limit 0 xs → AreNew code limit (length code.threads) (attendants gs) → IsRunOf code s xs gs
+opened_run : ActorsRun → (code : PlainCode) (limit : ℕ) (s : PlainShared) (xs : List Player) (gs : List AgentPlayer) → shared_of s ≡ untouched code.cells → AreNew code limit 0 xs → AreNew code limit (length code.threads) (attendants gs) → IsRunBy code s xs gs []
 opened_run laws code limit s xs gs same threads agents = record {
-  turns = [];
   shared = same;
   threads = λ k x e. (let n = new_at code limit 0 k xs x threads e in new_player laws code k limit (shared_of s).books x (subst (λ m. IsNew code m limit x.actor) (omega arith) n.0) n.1);
   agents = λ i x e. (let n = new_at code limit (length code.threads) i (attendants gs) x.player agents (attendant_there gs i x e) in new_player laws code (length code.threads + i) limit (shared_of s).books x.player n.0 n.1);
@@ -64,7 +64,7 @@ opened_run laws code limit s xs gs same threads agents = record {
 
 -- what holds of all actors before the first play
 pub opened_playing : ActorsRun → (code : PlainCode) (limit k : ℕ) (s : PlainShared) (all : Players) → shared_of s ≡ untouched code.cells → k ≡ length code.threads → length all.threads.items ≡ k → AreBetween code limit (λ n. []) 0 all.threads.items → AreNew code limit 0 all.threads.items
-    → AreAttending code limit k (agents_of code) all.agents.items → AreNew code limit k (attendants all.agents.items) → ArePlaying code limit s all
+    → AreAttending code limit k (agents_of code) all.agents.items → AreNew code limit k (attendants all.agents.items) → ArePlayingBy code limit s all []
 opened_playing laws code limit k s all same count many between new attending agents = record {
   many = many ∙ count;
   threads = subst (λ (sh : Shared). AreBetween code limit sh.books 0 all.threads.items) (sym same) between;

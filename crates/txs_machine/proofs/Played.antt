@@ -1,5 +1,5 @@
 -- What a play of a thread's or of an agent's actor makes of all actors.
-use Rattle.std.proofs.Common.{◌≡◌, ◌≤◌, ◌<◌, ◌+◌, ℕ, zero, suc, List, [], ◌∷◌, length, set, Option, Some, None, refl, sym, ap, subst, ◌∙◌, ◌⊎◌, inl, inr, arith}
+use Rattle.std.proofs.Common.{◌≡◌, ◌≤◌, ◌<◌, ◌+◌, ℕ, zero, suc, List, [], ◌∷◌, ◌++◌, length, set, Option, Some, None, refl, sym, ap, subst, ◌∙◌, ◌⊎◌, inl, inr, arith}
 use Rattle.txs_world_protocol.specs.declared.event.Event.{Event}
 use Rattle.txs_world_protocol.specs.declared.event.Outcome.{Outcome}
 use Rattle.txs_value_base.specs.Places.{nth}
@@ -12,13 +12,15 @@ use Rattle.txs_world_shared.specs.SharedState.{PlainShared}
 use Rattle.txs_machine.specs.Agents.{agents_of}
 use Rattle.txs_machine.specs.Playing.{IsBetween, AreBetween, ArePlayedAt}
 use Rattle.txs_machine.specs.RunOver.{IsLimited, books_of}
-use Rattle.txs_machine.specs.Running.{GoesAs, HasWork, IsAttending, AreAttending, IsLive, IsPlayerOf, IsRunOf, run_of, ArePlaying, attendants, left_for, left_of, left_all}
+use Rattle.txs_machine.specs.Running.{GoesAs, HasWork, IsAttending, AreAttending, IsLive, IsPlayerOf, IsRunBy, ArePlayingBy, attendants, left_for, left_of, left_all}
+use Rattle.txs_theorem_runs.specs.Run.{Play}
+use Rattle.txs_machine.specs.Scheduled.{run_of, AreTurnsOf}
 use Rattle.txs_machine.specs.declared.player.AgentPlayer.{AgentPlayer}
 use Rattle.txs_machine.specs.declared.player.Player.{Player}
 use Rattle.txs_machine.specs.declared.player.Players.{Players}
 use Rattle.txs_machine.proofs.Limits.{rounds_left}
 use Rattle.txs_machine.proofs.Playing as playing
-use Rattle.txs_machine.proofs.Playing.{left_in, left_less, played_later, placed_between, unended_at}
+use Rattle.txs_machine.proofs.Playing.{between_of, left_in, left_less, played_later, placed_between, unended_at}
 use Rattle.txs_machine.proofs.RunOver.{ValuesKnown, over_others}
 use Rattle.txs_machine.proofs.Together.{run_goes, attending_at}
 
@@ -83,9 +85,9 @@ left_set_less (x ∷ xs) (suc i) a b e h = let r = left_set_less xs i a b e h in
 
 -- ---- a thread's play
 
-module _ (law : RunTraced) (code : PlainCode) (limit : ℕ) (s t : PlainShared) (xs : List Player) (gs : List AgentPlayer) (all next : Players) (old : all.threads.items ≡ xs) (olds : all.agents.items ≡ gs) (h : ArePlaying code limit s all) (k : ℕ) (x y : Player)
+module _ (law : RunTraced) (code : PlainCode) (limit : ℕ) (s t : PlainShared) (xs : List Player) (gs : List AgentPlayer) (all next : Players) (old : all.threads.items ≡ xs) (olds : all.agents.items ≡ gs) (turns : List Play) (h : ArePlayingBy code limit s all turns) (k n : ℕ) (x y : Player)
     (there : nth xs k ≡ Some x) (below : k < length xs) (between : IsBetween code k limit (books_of t) y) (grown : Grown k (books_of s) (books_of t))
-    (goes : GoesAs code k s x.actor x.trace.items t y.actor y.trace.items) (new : next.threads.items ≡ set xs k y) (news : next.agents.items ≡ gs) where
+    (goes : GoesAs code k n s x.actor x.trace.items t y.actor y.trace.items) (new : next.threads.items ≡ set xs k y) (news : next.agents.items ≡ gs) where
   threads_h : AreBetween code limit (books_of s) 0 xs
   threads_h = subst (AreBetween code limit (books_of s) 0) old h.threads
 
@@ -100,25 +102,33 @@ module _ (law : RunTraced) (code : PlainCode) (limit : ℕ) (s t : PlainShared) 
   set_length (w ∷ l) zero z = refl
   set_length (w ∷ l) (suc i) z = ap suc (set_length l i z)
 
-  run_h : IsRunOf code s xs gs
-  run_h = subst (λ l. IsRunOf code s l gs) old (subst (λ l. IsRunOf code s all.threads.items l) olds h.run)
+  run_h : IsRunBy code s xs gs turns
+  run_h = subst (λ l. IsRunBy code s l gs turns) old (subst (λ l. IsRunBy code s all.threads.items l turns) olds h.run)
 
-  run_later : IsRunOf code t (set xs k y) gs
+  run_later : (us : List Play) × AreTurnsOf code x.actor.limit k n (run_of code turns) us × IsRunBy code t (set xs k y) gs (turns ++ us)
   run_later =
-      run_goes law code k s t xs (set xs k y) gs gs x.actor y.actor x.trace.items y.trace.items run_h (run_h.threads k x there) grown goes
+      run_goes law code k n s t xs (set xs k y) gs gs x.actor y.actor x.trace.items y.trace.items turns run_h (run_h.threads k x there) grown goes
       (λ j z e. of_thread j z (set_at xs k y j z e)) (λ i z e. inr (λ d. absurd (omega (arith, d, below, many_h)), e))
     where
       of_thread : (j : ℕ) (z : Player) → ((j ≡ k) × (z ≡ y)) ⊎ ((k ≡ j → ⊥) × (nth xs j ≡ Some z)) → ((j ≡ k) × (z.actor ≡ y.actor) × (z.trace.items ≡ y.trace.items)) ⊎ ((k ≡ j → ⊥) × (nth xs j ≡ Some z))
       of_thread j z (inl d) = inl (d.0, ap (λ (w : Player). w.actor) d.1, ap (λ (w : Player). w.trace.items) d.1)
       of_thread j z (inr d) = inr d
 
-  pub thread_playing : ArePlaying code limit t next
-  thread_playing = record {
-    many = ap length new ∙ set_length xs k y ∙ many_h;
-    threads = subst (AreBetween code limit (books_of t) 0) (sym new) threads_later;
-    agents = subst (AreAttending code limit (length code.threads) (agents_of code)) (sym news) (subst (AreAttending code limit (length code.threads) (agents_of code)) olds h.agents);
-    run = subst (λ l. IsRunOf code t l next.agents.items) (sym new) (subst (IsRunOf code t (set xs k y)) (sym news) run_later);
-  }
+  -- the actor's limit is the run's
+  thread_limit : x.actor.limit ≡ limit
+  thread_limit = (between_of code limit (books_of s) k xs x there threads_h).limited.limited
+
+  pub thread_playing : (us : List Play) × AreTurnsOf code limit k n (run_of code turns) us × ArePlayingBy code limit t next (turns ++ us)
+  thread_playing = (
+    run_later.0,
+    subst (λ m. AreTurnsOf code m k n (run_of code turns) run_later.0) thread_limit run_later.1,
+    record {
+      many = ap length new ∙ set_length xs k y ∙ many_h;
+      threads = subst (AreBetween code limit (books_of t) 0) (sym new) threads_later;
+      agents = subst (AreAttending code limit (length code.threads) (agents_of code)) (sym news) (subst (AreAttending code limit (length code.threads) (agents_of code)) olds h.agents);
+      run = subst (λ l. IsRunBy code t l next.agents.items (turns ++ run_later.0)) (sym new) (subst (λ l. IsRunBy code t (set xs k y) l (turns ++ run_later.0)) (sym news) run_later.2);
+    },
+  )
 
   module _ (played : ArePlayedAt k xs (set xs k y)) where
     pub thread_left : left_all next ≤ left_all all
@@ -157,22 +167,22 @@ others_attend code limit g k j i (d ∷ ids) [] y e a n h = absurd h
 others_attend code limit g k j zero (d ∷ ids) (x ∷ gs) y e a n h = (subst (λ c. IsAttending code c j limit y) (sym (ap (or_else d) n)) (subst (λ m. IsAttending code g m limit y) (omega (arith, e)) a), h.1)
 others_attend code limit g k j (suc i) (d ∷ ids) (x ∷ gs) y e a n h = (h.0, others_attend code limit g k (suc j) i ids gs y (omega (arith, e)) a n h.1)
 
-module _ (law : RunTraced) (code : PlainCode) (limit : ℕ) (s t : PlainShared) (xs : List Player) (gs : List AgentPlayer) (all next : Players) (old : all.threads.items ≡ xs) (olds : all.agents.items ≡ gs) (h : ArePlaying code limit s all) (k i : ℕ) (x y : AgentPlayer)
+module _ (law : RunTraced) (code : PlainCode) (limit : ℕ) (s t : PlainShared) (xs : List Player) (gs : List AgentPlayer) (all next : Players) (old : all.threads.items ≡ xs) (olds : all.agents.items ≡ gs) (turns : List Play) (h : ArePlayingBy code limit s all turns) (k i n : ℕ) (x y : AgentPlayer)
     (place : k ≡ length xs + i) (there : nth gs i ≡ Some x) (attends : IsAttending code x.agent k limit y) (grown : Grown k (books_of s) (books_of t))
-    (goes : GoesAs code k s x.player.actor x.player.trace.items t y.player.actor y.player.trace.items) (new : next.threads.items ≡ xs) (news : next.agents.items ≡ set gs i y) where
+    (goes : GoesAs code k n s x.player.actor x.player.trace.items t y.player.actor y.player.trace.items) (new : next.threads.items ≡ xs) (news : next.agents.items ≡ set gs i y) where
   many_a : length xs ≡ length code.threads
   many_a = ap length (sym old) ∙ h.many
 
-  run_a : IsRunOf code s xs gs
-  run_a = subst (λ l. IsRunOf code s l gs) old (subst (λ l. IsRunOf code s all.threads.items l) olds h.run)
+  run_a : IsRunBy code s xs gs turns
+  run_a = subst (λ l. IsRunBy code s l gs turns) old (subst (λ l. IsRunBy code s all.threads.items l turns) olds h.run)
 
   here : k ≡ length code.threads + i
   here = omega (arith, place, many_a)
 
-  pub run_after : IsRunOf code t xs (set gs i y)
+  pub run_after : (us : List Play) × AreTurnsOf code x.player.actor.limit k n (run_of code turns) us × IsRunBy code t xs (set gs i y) (turns ++ us)
   run_after =
-      run_goes law code k s t xs xs gs (set gs i y) x.player.actor y.player.actor x.player.trace.items y.player.trace.items run_a
-      (subst (λ n. IsPlayerOf code n (books_of s) x.player.actor x.player.trace.items ((run_of code run_a.turns).actors n)) (sym here) (run_a.agents i x there)) grown goes
+      run_goes law code k n s t xs xs gs (set gs i y) x.player.actor y.player.actor x.player.trace.items y.player.trace.items turns run_a
+      (subst (λ m. IsPlayerOf code m (books_of s) x.player.actor x.player.trace.items ((run_of code turns).actors m)) (sym here) (run_a.agents i x there)) grown goes
       (λ j z e. inr (λ d. absurd (within xs j z e (omega (arith, d, place))), e)) (λ j z e. of_agent j z (set_at gs i y j z e))
     where
       within : (l : List Player) (j : ℕ) (z : Player) → nth l j ≡ Some z → length l ≤ j → ⊥
@@ -184,18 +194,21 @@ module _ (law : RunTraced) (code : PlainCode) (limit : ℕ) (s t : PlainShared) 
       of_agent j z (inl d) = inl (omega (arith, d.0, here), ap (λ (w : AgentPlayer). w.player.actor) d.1, ap (λ (w : AgentPlayer). w.player.trace.items) d.1)
       of_agent j z (inr d) = inr (λ q. d.0 (omega (arith, q, here)), d.1)
 
-  pub agent_playing : ValuesKnown code (books_of t) → ArePlaying code limit t next
+  pub agent_playing : ValuesKnown code (books_of t) → (us : List Play) × AreTurnsOf code limit k n (run_of code turns) us × ArePlayingBy code limit t next (turns ++ us)
   agent_playing known =
-      let a = attending_at code limit (length code.threads) i (agents_of code) gs x (subst (AreAttending code limit (length code.threads) (agents_of code)) olds h.agents) there in
-      record {
-        many = ap length new ∙ many_a;
-        threads = subst (AreBetween code limit (books_of t) 0) (sym new)
-            (others_between code k limit (books_of s) (books_of t) 0 xs (omega (arith, place)) grown known (subst (AreBetween code limit (books_of s) 0) old h.threads));
-        agents = subst (AreAttending code limit (length code.threads) (agents_of code)) (sym news)
-            (others_attend code limit x.agent k (length code.threads) i (agents_of code) gs y here attends (a.1 ∙ ap (λ c. Some c) (sym a.2.agent))
-            (subst (AreAttending code limit (length code.threads) (agents_of code)) olds h.agents));
-        run = subst (λ l. IsRunOf code t l next.agents.items) (sym new) (subst (IsRunOf code t xs) (sym news) run_after);
-      }
+      let a = attending_at code limit (length code.threads) i (agents_of code) gs x (subst (AreAttending code limit (length code.threads) (agents_of code)) olds h.agents) there in (
+        run_after.0,
+        subst (λ m. AreTurnsOf code m k n (run_of code turns) run_after.0) a.2.limited.limited run_after.1,
+        record {
+          many = ap length new ∙ many_a;
+          threads = subst (AreBetween code limit (books_of t) 0) (sym new)
+              (others_between code k limit (books_of s) (books_of t) 0 xs (omega (arith, place)) grown known (subst (AreBetween code limit (books_of s) 0) old h.threads));
+          agents = subst (AreAttending code limit (length code.threads) (agents_of code)) (sym news)
+              (others_attend code limit x.agent k (length code.threads) i (agents_of code) gs y here attends (a.1 ∙ ap (λ c. Some c) (sym a.2.agent))
+              (subst (AreAttending code limit (length code.threads) (agents_of code)) olds h.agents));
+          run = subst (λ l. IsRunBy code t l next.agents.items (turns ++ run_after.0)) (sym new) (subst (λ l. IsRunBy code t xs l (turns ++ run_after.0)) (sym news) run_after.2);
+        },
+      )
 
   module _ (limited : IsLimited limit x.player.actor) (later : y.player.actor.outcome ≡ None → (x.player.actor.outcome ≡ None) × (x.player.actor.steps ≤ y.player.actor.steps)) where
     pub agent_left : left_all next ≤ left_all all
@@ -205,6 +218,17 @@ module _ (law : RunTraced) (code : PlainCode) (limit : ℕ) (s t : PlainShared) 
         let a = ap left_of (new ∙ sym old) in
         let b = ap (λ u. left_of (attendants u)) news ∙ ap left_of (attendants_set gs i y) in
         let c = ap (λ u. left_of (attendants u)) olds in
+        omega (arith, l, a, b, c)
+
+    -- an actor that has made a step, or has ended
+    pub agent_less : x.player.actor.outcome ≡ None → (y.player.actor.outcome ≡ None → x.player.actor.steps < y.player.actor.steps) → left_all next < left_all all
+    agent_less none more =
+        let f : left_for y.player.actor.outcome y.player.actor < left_for x.player.actor.outcome x.player.actor = subst (λ o. left_for y.player.actor.outcome y.player.actor < left_for o x.player.actor) (sym none)
+        (less limit x.player.actor y.player.actor y.player.actor.outcome none refl limited attends.limited more) in
+        let l = left_set_less (attendants gs) i x.player y.player (attendant_there gs i x there) f in
+        let a = ap left_of (new ∙ sym old) in
+        let b = ap (λ w. left_of (attendants w)) news ∙ ap left_of (attendants_set gs i y) in
+        let c = ap (λ w. left_of (attendants w)) olds in
         omega (arith, l, a, b, c)
 
     pub agent_live : (y.player.actor.outcome ≡ None → HasWork code s x.agent → x.player.actor.steps < y.player.actor.steps) → IsLive code s all k → left_all next < left_all all
@@ -219,10 +243,4 @@ module _ (law : RunTraced) (code : PlainCode) (limit : ℕ) (s t : PlainShared) 
         let is : u.2 ≡ x = ap (or_else x) (sym (subst (λ l. nth l u.0 ≡ Some u.2) olds u.3) ∙ ap (nth gs) same ∙ there) in
         let none : x.player.actor.outcome ≡ None = subst (λ (z : AgentPlayer). z.player.actor.outcome ≡ None) is u.4 in
         let work : HasWork code s x.agent = subst (λ (z : AgentPlayer). HasWork code s z.agent) is u.5 in
-        let f : left_for y.player.actor.outcome y.player.actor < left_for x.player.actor.outcome x.player.actor = subst (λ o. left_for y.player.actor.outcome y.player.actor < left_for o x.player.actor) (sym none)
-        (less limit x.player.actor y.player.actor y.player.actor.outcome none refl limited attends.limited (λ o. progress o work)) in
-        let l = left_set_less (attendants gs) i x.player y.player (attendant_there gs i x there) f in
-        let a = ap left_of (new ∙ sym old) in
-        let b = ap (λ w. left_of (attendants w)) news ∙ ap left_of (attendants_set gs i y) in
-        let c = ap (λ w. left_of (attendants w)) olds in
-        omega (arith, l, a, b, c)
+        agent_less none (λ o. progress o work)

@@ -208,11 +208,11 @@ unended_at (x ∷ xs) (suc k) a e n = unended_at xs k a e n
 
 -- ---- reports
 
-pub reported_more : (xs : List Player) (rs : List ActorReport) (x : Player) (r : ActorReport) → AreReported xs rs → IsReported x r → AreReported (xs ++ x ∷ []) (rs ++ r ∷ [])
-reported_more [] [] x r h p = (p, tt)
-reported_more [] (s ∷ rs) x r h p = absurd h
-reported_more (y ∷ xs) [] x r h p = absurd h
-reported_more (y ∷ xs) (s ∷ rs) x r h p = (h.0, reported_more xs rs x r h.1 p)
+pub reported_more : (code : PlainCode) (xs : List Player) (rs : List ActorReport) (x : Player) (r : ActorReport) → AreReported code xs rs → IsReported code x r → AreReported code (xs ++ x ∷ []) (rs ++ r ∷ [])
+reported_more code [] [] x r h p = (p, tt)
+reported_more code [] (s ∷ rs) x r h p = absurd h
+reported_more code (y ∷ xs) [] x r h p = absurd h
+reported_more code (y ∷ xs) (s ∷ rs) x r h p = (h.0, reported_more code xs rs x r h.1 p)
 
 -- an item that was read is there
 pub nth_read : {A : Type 0} (xs : List A) (i : ℕ) (x : A) → i < length xs → x ≡ get_or xs i x → nth xs i ≡ Some x

@@ -32,7 +32,7 @@ use Rattle.txs_theorem_runs.specs.Transactions.{Says, SaidOf, undisturbed}
 use Rattle.txs_theorem_serial.specs.Serial.{RunsOf, Noted, EndsNoted}
 use Rattle.txs_theorem_serial.specs.Whole.{all_covered, serial_if_covered, all_traces, all_txs, without_acts, ActionsDid, AgentDid, ThreadDid}
 use Rattle.txs_theorem_serial.proofs.Noting.{threads_note}
-use Rattle.txs_theorem_serial.proofs.Together.{action_serial, commits_serial, runs_are_serial, said_both}
+use Rattle.txs_theorem_serial.proofs.Together.{action_serial, agents_many, commits_serial, runs_are_serial, said_both}
 use Rattle.txs_theorem_serial.proofs.Turned.{acts_turned}
 use Rattle.txs_machine.specs.RunOver.{places_of}
 use Rattle.txs_machine.specs.RunTheorem.{meant_by, ExplainsSo, ExplainsThread, ExplainsAgent, Explains, ExplainsAll}
@@ -169,11 +169,12 @@ module _ (p : PlainProgram) (sh : Shared) (rans agents : List ActorReport) (soun
     turns : ℕ
     trace : List told_by.Place
     runs : List TxRun
-    noted : (t : PlainThread) (ran : ActorReport) → nth p.threads k ≡ Some t → nth rans k ≡ Some ran → (n : ℕ) × ExplainsSo ran.outcome ran.printed.items (meant_by p t sh.books ran.trace.items n) × (runs ≡ transactions p t sh ran n)
+    noted : (t : PlainThread) (ran : ActorReport) → nth p.threads k ≡ Some t → nth rans k ≡ Some ran → (x : ExplainsThread p k t sh.books ran) × (runs ≡ transactions p t sh ran x.turns)
     by_actions : (j : ℕ) (g : CellId) (ran : ActorReport) → k ≡ length p.threads + j → nth (agents_from 0 p.cells) j ≡ Some g → nth agents j ≡ Some ran → (x : ExplainsAgent p (length p.threads + j) g sh.books ran) × (runs ≡ all_txs x.did)
     did : k < length p.threads → ThreadDid p.functions turns p.cells sh.books k trace runs × SaidOf all_covered sh.books trace runs
     acted : length p.threads ≤ k → k < actors (length p.threads) (cells_of p.cells)
         → (ds : List ActionDid) × AgentDid p.functions p.cells sh.books k trace ds × (runs ≡ all_txs ds) × SaidOf all_covered sh.books (without_acts sh.books trace) runs
+    beyond : actors (length p.threads) (cells_of p.cells) ≤ k → runs ≡ []
 
   module _ (covered : SaidOfAll (λ n. all_covered) p sh rans e.by_threads) (covered_acts : SaidOfActions (λ n. all_covered) p sh rans agents e) where
     -- an agent's
@@ -214,6 +215,7 @@ module _ (p : PlainProgram) (sh : Shared) (rans agents : List ActorReport) (soun
           by_actions = λ j g ran same there here. absurd (subst IsThere (sym there ∙ ap (nth (agents_from 0 p.cells)) (sym (index_same j same)) ∙ f) tt);
           did = λ lt. absurd (omega (arith, lt));
           acted = λ le lt. (let x = some_agent le lt in absurd (subst IsThere (sym x.1 ∙ f) tt));
+          beyond = λ le. refl;
         }
         go (Some g) f None h = record {
           turns = 0;
@@ -227,6 +229,7 @@ module _ (p : PlainProgram) (sh : Shared) (rans agents : List ActorReport) (soun
               let w = there_within (agents_from 0 p.cells) i g f in
               let x = there_is agents i (omega (arith, many, w)) in
               absurd (subst IsThere (sym x.1 ∙ h) tt));
+          beyond = λ le. refl;
         }
         go (Some g) f (Some ran) h =
             let x = e.each i g ran f h in
@@ -250,6 +253,7 @@ module _ (p : PlainProgram) (sh : Shared) (rans agents : List ActorReport) (soun
                 refl,
                 subst (λ ps. SaidOf all_covered sh.books ps (all_txs x.did)) (sym w.parted) (all_said all_covered sh.books x.did (λ j d found. covered_acts i g ran f h j d found)),
               );
+              beyond = λ le. (let lt = there_within (agents_from 0 p.cells) i g f in let many = agents_many 0 p.cells in absurd (omega (arith, le, lt, many)));
             }
 
     picked : (k : ℕ) → Picked k
@@ -274,6 +278,7 @@ module _ (p : PlainProgram) (sh : Shared) (rans agents : List ActorReport) (soun
           by_actions = λ j d ran same there here. absurd (no_agent t f j same);
           did = λ lt. (let many = e.by_threads.one_each in let x = there_is rans k (omega (arith, lt, many)) in absurd (subst IsThere (sym x.1 ∙ g) tt));
           acted = λ le lt. absurd (not_behind t f le);
+          beyond = λ le. refl;
         }
         go (Some t) f (Some ran) g =
             let x = e.by_threads.each k t ran f g in
@@ -284,11 +289,12 @@ module _ (p : PlainProgram) (sh : Shared) (rans agents : List ActorReport) (soun
               noted = λ u r there here. (
                   let one : t ≡ u = ap (or_else t) (sym f ∙ there) in
                   let two : ran ≡ r = ap (or_else ran) (sym g ∙ here) in
-                  subst (λ (v : PlainThread). (n : ℕ) × ExplainsSo r.outcome r.printed.items (meant_by p v sh.books r.trace.items n) × (transactions p t sh ran x.turns ≡ transactions p v sh r n)) one
-                  (subst (λ (w : ActorReport). (n : ℕ) × ExplainsSo w.outcome w.printed.items (meant_by p t sh.books w.trace.items n) × (transactions p t sh ran x.turns ≡ transactions p t sh w n)) two (x.turns, x.means, refl)));
+                  subst (λ (v : PlainThread). (y : ExplainsThread p k v sh.books r) × (transactions p t sh ran x.turns ≡ transactions p v sh r y.turns)) one
+                  (subst (λ (w : ActorReport). (y : ExplainsThread p k t sh.books w) × (transactions p t sh ran x.turns ≡ transactions p t sh w y.turns)) two (x, refl)));
               by_actions = λ j d r same there here. absurd (no_agent t f j same);
               did = λ lt. (did_one p sh rans sound marks e.by_threads k t ran f x, covered k t ran f g);
               acted = λ le lt. absurd (not_behind t f le);
+              beyond = λ le. absurd (not_behind t f (omega (arith, le)));
             }
 
     in_order : InOrder p sh rans agents
@@ -296,7 +302,7 @@ module _ (p : PlainProgram) (sh : Shared) (rans agents : List ActorReport) (soun
       runs = λ k. (picked k).runs;
       noted = λ k t ran there here. (picked k).noted t ran there here;
       noted_by_actions = λ i g ran there here. (picked (length p.threads + i)).by_actions i g ran refl there here;
-      one_by_one = runs_are_serial p.functions p.cells (length p.threads) sh.books (λ k. (picked k).turns) (λ k. (picked k).trace) (λ k. (picked k).runs) sound.functions marks.functions e.by_threads.books.legal (λ k lt. (picked k).did lt) (λ k le lt. (picked k).acted le lt);
+      one_by_one = runs_are_serial p.functions p.cells (length p.threads) sh.books (λ k. (picked k).turns) (λ k. (picked k).trace) (λ k. (picked k).runs) sound.functions marks.functions e.by_threads.books.legal (λ k lt. (picked k).did lt) (λ k le lt. (picked k).acted le lt) (λ k le. (picked k).beyond le);
     }
 
 pub covered_are_serial : CoveredAreSerial

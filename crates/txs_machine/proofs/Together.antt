@@ -34,7 +34,8 @@ use Rattle.txs_machine.specs.Agents.{agents_of, AgentHasDone, AgentsAreDone, Are
 use Rattle.txs_machine.specs.Playing.{IsReported, AreReported}
 use Rattle.txs_machine.specs.RunOver.{books_of, places_of}
 use Rattle.txs_machine.specs.RunTheorem.{NeverEnds, ExplainsAgent}
-use Rattle.txs_machine.specs.Running.{run_of, after_turns, IsPlacedAs, IsPlayerOf, IsRunOf, ComesTo, GoesAs, IsAgentAt, IsAttending, AreAttending, AreIdle, HasWork, ArePlaying, attendants}
+use Rattle.txs_machine.specs.Running.{IsPlacedAs, IsPlayerOf, IsRunBy, ComesTo, GoesAs, IsAgentAt, IsAttending, AreAttending, AreIdle, HasWork, ArePlayingBy, attendants}
+use Rattle.txs_machine.specs.Scheduled.{run_of, after_turns, AreTurnsOf}
 use Rattle.txs_machine.specs.Schedule.{IsExplainedBy}
 use Rattle.txs_machine.specs.declared.player.AgentPlayer.{AgentPlayer}
 use Rattle.txs_world_protocol.specs.declared.event.Place.{Place}
@@ -42,7 +43,7 @@ use Rattle.txs_machine.specs.declared.player.Player.{Player}
 use Rattle.txs_machine.specs.declared.player.Players.{Players}
 use Rattle.txs_world_protocol.specs.declared.report.ActorReport.{ActorReport}
 use Rattle.txs_machine.proofs.Explaining.{reported_at, as_many, length_map}
-use Rattle.txs_machine.proofs.Going.{turns_append, others_left}
+use Rattle.txs_machine.proofs.Going.{turns_append, others_left, turns_of}
 use Rattle.txs_machine.proofs.RunOver.{longer}
 use Rattle.txs_value_cell.specs.Cells.{validators_of}
 
@@ -203,49 +204,53 @@ other_stays code k j books later a tr y g hold h = record {
   waits = h.waits;
   placed = h.placed;
   ran = h.ran;
+  counted = h.counted;
   traced = h.traced ∙ sym (trace_stays code.cells (length code.threads) k j books later g y.entries hold);
   full = λ e. (let m = h.full e in let l = longer k books later g (book_for code.cells m.ask) in record { ask = m.ask; asked = m.asked; full = omega (arith, m.full, l) });
 }
 
 -- the players of a run, after a play of one of them
-pub run_goes : RunTraced → (code : PlainCode) (k : ℕ) (s t : PlainShared) (xs ys : List Player) (gs hs : List AgentPlayer) (a b : PlainActor) (tr new : List Place) → (r : IsRunOf code s xs gs) → IsPlayerOf code k (books_of s) a tr ((run_of code r.turns).actors k)
-    → Grown k (books_of s) (books_of t) → GoesAs code k s a tr t b new
+pub run_goes : RunTraced → (code : PlainCode) (k n : ℕ) (s t : PlainShared) (xs ys : List Player) (gs hs : List AgentPlayer) (a b : PlainActor) (tr new : List Place) (turns : List Play) → IsRunBy code s xs gs turns → IsPlayerOf code k (books_of s) a tr ((run_of code turns).actors k)
+    → Grown k (books_of s) (books_of t) → GoesAs code k n s a tr t b new
     → ((j : ℕ) (x : Player) → nth ys j ≡ Some x → ((j ≡ k) × (x.actor ≡ b) × (x.trace.items ≡ new)) ⊎ ((k ≡ j → ⊥) × (nth xs j ≡ Some x)))
     → ((i : ℕ) (x : AgentPlayer) → nth hs i ≡ Some x → ((length code.threads + i ≡ k) × (x.player.actor ≡ b) × (x.player.trace.items ≡ new)) ⊎ ((k ≡ length code.threads + i → ⊥) × (nth gs i ≡ Some x)))
-    → IsRunOf code t ys hs
-run_goes law code k s t xs ys gs hs a b tr new r p grown goes of_threads of_agents = record {
-  turns = r.turns ++ c.turns;
-  shared = c.shared ∙ sym (ap (λ (u : State). u.shared) on);
-  threads = λ j x e. by_thread j x (of_threads j x e);
-  agents = λ i x e. by_agent i x (of_agents i x e);
-}
+    → (us : List Play) × AreTurnsOf code a.limit k n (run_of code turns) us × IsRunBy code t ys hs (turns ++ us)
+run_goes law code k n s t xs ys gs hs a b tr new turns r p grown goes of_threads of_agents = (
+  c.turns,
+  c.made,
+  record {
+    shared = c.shared ∙ sym (ap (λ (u : State). u.shared) on);
+    threads = λ j x e. by_thread j x (of_threads j x e);
+    agents = λ i x e. by_agent i x (of_agents i x e);
+  },
+)
   where
     before : State
-    before = run_of code r.turns
+    before = run_of code turns
 
-    c : ComesTo code k (run_of code r.turns) t b new
-    c = goes (run_of code r.turns) r.shared (told_holds law code s r.turns k r.shared).hold p
+    c : ComesTo code k a.limit n (run_of code turns) t b new
+    c = goes turns r.shared (told_holds law code s turns k r.shared).hold p
 
-    on : run_of code (r.turns ++ c.turns) ≡ after_turns code c.turns (run_of code r.turns)
-    on = turns_append code r.turns c.turns (run.opens code.cells (code_of code))
+    on : run_of code (turns ++ c.turns) ≡ after_turns code c.turns (run_of code turns)
+    on = turns_append code turns c.turns (run.opens code.cells (code_of code))
 
-    own : (j : ℕ) (x : PlainActor) (ps : List Place) → j ≡ k → x ≡ b → ps ≡ new → IsPlayerOf code j (books_of t) x ps ((run_of code (r.turns ++ c.turns)).actors j)
+    own : (j : ℕ) (x : PlainActor) (ps : List Place) → j ≡ k → x ≡ b → ps ≡ new → IsPlayerOf code j (books_of t) x ps ((run_of code (turns ++ c.turns)).actors j)
     own j x ps e f g =
-        subst (λ n. IsPlayerOf code n (books_of t) x ps ((run_of code (r.turns ++ c.turns)).actors n)) (sym e)
-        (subst (λ y. IsPlayerOf code k (books_of t) y ps ((run_of code (r.turns ++ c.turns)).actors k)) (sym f)
-        (subst (λ l. IsPlayerOf code k (books_of t) b l ((run_of code (r.turns ++ c.turns)).actors k)) (sym g)
+        subst (λ n. IsPlayerOf code n (books_of t) x ps ((run_of code (turns ++ c.turns)).actors n)) (sym e)
+        (subst (λ y. IsPlayerOf code k (books_of t) y ps ((run_of code (turns ++ c.turns)).actors k)) (sym f)
+        (subst (λ l. IsPlayerOf code k (books_of t) b l ((run_of code (turns ++ c.turns)).actors k)) (sym g)
         (subst (λ (u : State). IsPlayerOf code k (books_of t) b new (u.actors k)) (sym on) c.player)))
 
-    other : (j : ℕ) (x : PlainActor) (ps : List Place) → (k ≡ j → ⊥) → IsPlayerOf code j (books_of s) x ps ((run_of code r.turns).actors j) → IsPlayerOf code j (books_of t) x ps ((run_of code (r.turns ++ c.turns)).actors j)
-    other j x ps n h =
-        subst (λ (y : Actor). IsPlayerOf code j (books_of t) x ps y) (sym (ap (λ (u : State). u.actors j) on ∙ others_left code k j c.turns (run_of code r.turns) (differ k j n) c.own))
-        (other_stays code k j (books_of s) (books_of t) x ps ((run_of code r.turns).actors j) grown (told_holds law code s r.turns j r.shared).hold h)
+    other : (j : ℕ) (x : PlainActor) (ps : List Place) → (k ≡ j → ⊥) → IsPlayerOf code j (books_of s) x ps ((run_of code turns).actors j) → IsPlayerOf code j (books_of t) x ps ((run_of code (turns ++ c.turns)).actors j)
+    other j x ps d h =
+        subst (λ (y : Actor). IsPlayerOf code j (books_of t) x ps y) (sym (ap (λ (u : State). u.actors j) on ∙ others_left code k j c.turns (run_of code turns) (differ k j d) (turns_of code a.limit k n (run_of code turns) c.turns c.made)))
+        (other_stays code k j (books_of s) (books_of t) x ps ((run_of code turns).actors j) grown (told_holds law code s turns j r.shared).hold h)
 
-    by_thread : (j : ℕ) (x : Player) → ((j ≡ k) × (x.actor ≡ b) × (x.trace.items ≡ new)) ⊎ ((k ≡ j → ⊥) × (nth xs j ≡ Some x)) → IsPlayerOf code j (books_of t) x.actor x.trace.items ((run_of code (r.turns ++ c.turns)).actors j)
+    by_thread : (j : ℕ) (x : Player) → ((j ≡ k) × (x.actor ≡ b) × (x.trace.items ≡ new)) ⊎ ((k ≡ j → ⊥) × (nth xs j ≡ Some x)) → IsPlayerOf code j (books_of t) x.actor x.trace.items ((run_of code (turns ++ c.turns)).actors j)
     by_thread j x (inl h) = own j x.actor x.trace.items h.0 h.1 h.2
     by_thread j x (inr h) = other j x.actor x.trace.items h.0 (r.threads j x h.1)
 
-    by_agent : (i : ℕ) (x : AgentPlayer) → ((length code.threads + i ≡ k) × (x.player.actor ≡ b) × (x.player.trace.items ≡ new)) ⊎ ((k ≡ length code.threads + i → ⊥) × (nth gs i ≡ Some x)) → IsPlayerOf code (length code.threads + i) (books_of t) x.player.actor x.player.trace.items ((run_of code (r.turns ++ c.turns)).actors (length code.threads + i))
+    by_agent : (i : ℕ) (x : AgentPlayer) → ((length code.threads + i ≡ k) × (x.player.actor ≡ b) × (x.player.trace.items ≡ new)) ⊎ ((k ≡ length code.threads + i → ⊥) × (nth gs i ≡ Some x)) → IsPlayerOf code (length code.threads + i) (books_of t) x.player.actor x.player.trace.items ((run_of code (turns ++ c.turns)).actors (length code.threads + i))
     by_agent i x (inl h) = own (length code.threads + i) x.player.actor x.player.trace.items h.0 h.1 h.2
     by_agent i x (inr h) = other (length code.threads + i) x.player.actor x.player.trace.items h.0 (r.agents i x h.1)
 
@@ -276,26 +281,26 @@ pub attendants_many : (xs : List AgentPlayer) → length (attendants xs) ≡ len
 attendants_many [] = refl
 attendants_many (x ∷ xs) = ap suc (attendants_many xs)
 
-module _ (traced : RunTraced) (done : DoneIsUndisturbed) (code : PlainCode) (limit : ℕ) (s : PlainShared) (all : Players) (rs : List ActorReport) (h : ArePlaying code limit s all) (rep : AreReported (attendants all.agents.items) rs) where
+module _ (traced : RunTraced) (done : DoneIsUndisturbed) (code : PlainCode) (limit : ℕ) (s : PlainShared) (all : Players) (rs : List ActorReport) (turns : List Play) (h : ArePlayingBy code limit s all turns) (rep : AreReported code (attendants all.agents.items) rs) where
   -- an entry and its actor
   record IsEntry (i : ℕ) (r : ActorReport) : Type 0 where
     player : AgentPlayer
     there : nth all.agents.items i ≡ Some player
-    reported : IsReported player.player r
+    reported : IsReported code player.player r
     agent : CellId
     named : nth (agents_of code) i ≡ Some agent
     attends : IsAttending code agent (length code.threads + i) limit player
-    of : IsPlayerOf code (length code.threads + i) (books_of s) player.player.actor player.player.trace.items ((run_of code h.run.turns).actors (length code.threads + i))
+    of : IsPlayerOf code (length code.threads + i) (books_of s) player.player.actor player.player.trace.items ((run_of code turns).actors (length code.threads + i))
 
   entry_at : (i : ℕ) (r : ActorReport) → nth rs i ≡ Some r → IsEntry i r
   entry_at i r e =
-      let x = reported_at (attendants all.agents.items) rs i r rep e in
+      let x = reported_at code (attendants all.agents.items) rs i r rep e in
       let y = attendant_at all.agents.items i x.0 x.1 in
       let a = attending_at code limit (length code.threads) i (agents_of code) all.agents.items y.0 h.agents y.1 in
       record {
         player = y.0;
         there = y.1;
-        reported = subst (λ z. IsReported z r) (sym y.2) x.2;
+        reported = subst (λ z. IsReported code z r) (sym y.2) x.2;
         agent = a.0;
         named = a.1;
         attends = a.2;
@@ -304,8 +309,8 @@ module _ (traced : RunTraced) (done : DoneIsUndisturbed) (code : PlainCode) (lim
 
   agent_done : (i : ℕ) (r : ActorReport) → IsEntry i r → AgentHasDone code (length code.threads + i) limit (books_of s) r
   agent_done i r x =
-      let t = told_holds traced code s h.run.turns (length code.threads + i) h.run.shared in
-      let y = (run_of code h.run.turns).actors (length code.threads + i) in
+      let t = told_holds traced code s turns (length code.threads + i) h.run.shared in
+      let y = (run_of code turns).actors (length code.threads + i) in
       let trace : places_of r.trace.items ≡ trace_of code.cells (books_of s) (length code.threads + i) y.entries = ap places_of (sym x.reported.traced) ∙ x.of.traced in
       record {
         actor = x.player.player.actor;
@@ -318,6 +323,7 @@ module _ (traced : RunTraced) (done : DoneIsUndisturbed) (code : PlainCode) (lim
         ended = x.reported.ended;
         printed = x.reported.printed;
         counted = x.reported.counted;
+        placed = x.reported.placed;
         traced = trace;
         names = subst (TraceHolds (books_of s) (length code.threads + i)) (sym trace) t.traced;
         undisturbed = all_undisturbed done code.cells (length code.threads) (books_of s) (length code.threads + i) y.entries t.hold;
@@ -326,7 +332,7 @@ module _ (traced : RunTraced) (done : DoneIsUndisturbed) (code : PlainCode) (lim
 
   pub agents_done : AgentsAreDone code limit (books_of s) rs
   agents_done = record {
-    one_each = as_many (attendants all.agents.items) rs rep ∙ attendants_many all.agents.items ∙ as_attending code limit (length code.threads) (agents_of code) all.agents.items h.agents;
+    one_each = as_many code (attendants all.agents.items) rs rep ∙ attendants_many all.agents.items ∙ as_attending code limit (length code.threads) (agents_of code) all.agents.items h.agents;
     each = λ i r e. agent_done i r (entry_at i r e);
   }
 
@@ -372,7 +378,7 @@ module _ (traced : RunTraced) (done : DoneIsUndisturbed) (code : PlainCode) (lim
       threads : length code.threads ≡ length p.threads
       threads = sym (length_map (thread_code code) code.threads) ∙ follows.as_many
 
-      book : books_of s 0 ≡ (run_of code h.run.turns).shared.books 0
+      book : books_of s 0 ≡ (run_of code turns).shared.books 0
       book = ap (λ (sh : Shared). sh.books 0) h.run.shared
 
       mapped : (bs : List CodeBody) (i n : ℕ) (c : ThreadCode) → nth (map (thread_code code) bs) i ≡ Some c → record { functions = function_codes code; validators = validators_of code.cells; main = own_body code n (nth bs i) } ≡ c
@@ -389,13 +395,13 @@ module _ (traced : RunTraced) (done : DoneIsUndisturbed) (code : PlainCode) (lim
         validators = ap validators_of (sym same);
       }
 
-      whole : ReportExplained p (library_of code) (run_of code h.run.turns)
+      whole : ReportExplained p (library_of code) (run_of code turns)
       whole =
-          subst (ReportExplained p (library_of code)) (ap (λ cs. plays cs (length p.threads) (code_of code) h.run.turns) same ∙ ap (λ n. plays code.cells n (code_of code) h.run.turns) (sym threads))
-          (law p (map (thread_code code) code.threads) (library_of code) (code_of code) h.run.turns follows agents staged.0 staged.1 sends agents_send runs)
+          subst (ReportExplained p (library_of code)) (ap (λ cs. plays cs (length p.threads) (code_of code) turns) same ∙ ap (λ n. plays code.cells n (code_of code) turns) (sym threads))
+          (law p (map (thread_code code) code.threads) (library_of code) (code_of code) turns follows agents staged.0 staged.1 sends agents_send runs)
 
       -- the books of the run
-      bs : books_of s ≡ (run_of code h.run.turns).shared.books
+      bs : books_of s ≡ (run_of code turns).shared.books
       bs = ap (λ (sh : Shared). sh.books) h.run.shared
 
       agent_explained : (i : ℕ) (g : CellId) (r : ActorReport) → IsEntry i r → nth (agents_from 0 p.cells) i ≡ Some g → ExplainsAgent p (length p.threads + i) g (books_of s) r
@@ -403,20 +409,20 @@ module _ (traced : RunTraced) (done : DoneIsUndisturbed) (code : PlainCode) (lim
           let at = agent_at code i x.agent x.named in
           let is : x.agent ≡ g = ap (or_else g) (sym x.named ∙ ap (λ cs. nth (agents_from 0 cs) i) (sym same) ∙ named) in
           let k : ℕ = world.actor_of (length p.threads) (cells_of p.cells) x.agent in
-          let y = (run_of code h.run.turns).actors (length code.threads + i) in
+          let y = (run_of code turns).actors (length code.threads + i) in
           let place : length code.threads + i ≡ k = at.place ∙ ap (λ n. world.actor_of n (cells_of code.cells) x.agent) threads ∙ ap (λ cs. world.actor_of (length p.threads) (cells_of cs) x.agent) (sym same) in
           let all = whole.agents.agents x.agent (subst (λ cs. has_agent (cells_of cs) x.agent ≡ true) (sym same) at.has) in
-          let so = printed_so x.player.player.actor x.player.player.actor.outcome _ _ all.printed x.of.placed (subst (λ n. HasPrintedJust all.printed ((run_of code h.run.turns).actors n).at) (sym place) all.goes_on) in
-          let trace : places_of r.trace.items ≡ trace_of p.cells (run_of code h.run.turns).shared.books k ((run_of code h.run.turns).actors k).entries
+          let so = printed_so x.player.player.actor x.player.player.actor.outcome _ _ all.printed x.of.placed (subst (λ n. HasPrintedJust all.printed ((run_of code turns).actors n).at) (sym place) all.goes_on) in
+          let trace : places_of r.trace.items ≡ trace_of p.cells (run_of code turns).shared.books k ((run_of code turns).actors k).entries
           = (agent_done i r x).traced ∙ ap (λ cs. trace_of cs (books_of s) (length code.threads + i) y.entries) (sym same)
           ∙ ap (λ b. trace_of p.cells b (length code.threads + i) y.entries) bs
-          ∙ ap (λ n. trace_of p.cells (run_of code h.run.turns).shared.books n ((run_of code h.run.turns).actors n).entries) place in
+          ∙ ap (λ n. trace_of p.cells (run_of code turns).shared.books n ((run_of code turns).actors n).entries) place in
           record {
             traced = subst (λ n. TraceHolds (books_of s) (n + i) (places_of r.trace.items)) threads (agent_done i r x).names;
             unended = subst NeverEnds x.reported.ended so.0;
             did = all.did;
             acts = subst (λ b. ActsInTurn p.cells p.functions b g (places_of r.trace.items) [] r.printed.items all.did) (sym bs)
-                (subst (λ l. ActsInTurn p.cells p.functions (run_of code h.run.turns).shared.books g (places_of r.trace.items) [] l all.did) (sym so.1 ∙ x.reported.printed)
-                (subst (λ ps. ActsInTurn p.cells p.functions (run_of code h.run.turns).shared.books g ps [] all.printed all.did) (sym trace)
-                (subst (λ j. ActsInTurn p.cells p.functions (run_of code h.run.turns).shared.books j (trace_of p.cells (run_of code h.run.turns).shared.books k ((run_of code h.run.turns).actors k).entries) [] all.printed all.did) is all.acts)));
+                (subst (λ l. ActsInTurn p.cells p.functions (run_of code turns).shared.books g (places_of r.trace.items) [] l all.did) (sym so.1 ∙ x.reported.printed)
+                (subst (λ ps. ActsInTurn p.cells p.functions (run_of code turns).shared.books g ps [] all.printed all.did) (sym trace)
+                (subst (λ j. ActsInTurn p.cells p.functions (run_of code turns).shared.books j (trace_of p.cells (run_of code turns).shared.books k ((run_of code turns).actors k).entries) [] all.printed all.did) is all.acts)));
           }

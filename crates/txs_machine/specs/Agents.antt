@@ -9,7 +9,7 @@ use Rattle.txs_code_meaning.specs.PlainCode.{PlainCode, thread_code, library_of}
 use Rattle.txs_theorem_threads.specs.FollowsAgent.{FollowsAgents}
 use Rattle.txs_theorem_threads.specs.FollowsAll.{FollowsAll}
 use Rattle.txs_theorem_threads.specs.Sends.{CodesSendSound, AgentsSendSound}
-use Rattle.txs_machine_actor.specs.PlainActor.{PlainActor, HasRun, code_of, unanswered}
+use Rattle.txs_machine_actor.specs.PlainActor.{PlainActor, HasRun, code_of, stopped_at, unanswered}
 use Rattle.txs_value_cell.specs.Agents.{agents_from}
 use Rattle.txs_world_book.specs.Served.{cells_of}
 use Rattle.txs_world.specs.Store.{next_action}
@@ -47,6 +47,7 @@ pub record AgentHasDone (code : PlainCode) (k limit : ℕ) (books : ℕ → List
   pub ended : actor.outcome ≡ ran.outcome
   pub printed : actor.printed ≡ ran.printed.items
   pub counted : actor.steps ≡ ran.steps
+  pub placed : stopped_at code actor ≡ ran.place
   pub traced : places_of ran.trace.items ≡ trace_of code.cells books k entries
   pub names : TraceHolds books k (places_of ran.trace.items)
   pub undisturbed : CommitsUndisturbed books entries

@@ -8,6 +8,7 @@ pub mod RunTheorem
 pub mod ErrorName
 pub mod Running
 pub mod Schedule
+pub mod Scheduled
 pub mod Serial
 pub mod Serving
 pub mod Turning

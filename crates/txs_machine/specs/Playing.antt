@@ -2,7 +2,7 @@
 use Rattle.std.specs.Prelude.{◌≡◌, ◌≤◌, ◌<◌, ℕ, zero, suc, List, [], ◌∷◌, None}
 use Rattle.txs_world_protocol.specs.declared.event.Event.{Event}
 use Rattle.txs_code_meaning.specs.PlainCode.{PlainCode}
-use Rattle.txs_machine_actor.specs.PlainActor.{PlainActor, Lives, unanswered}
+use Rattle.txs_machine_actor.specs.PlainActor.{PlainActor, Lives, stopped_at, unanswered}
 use Rattle.txs_machine_actor.specs.Turns.{IsNew}
 use Rattle.txs_machine.specs.Lawfully.{RunLawfully}
 use Rattle.txs_machine.specs.RunOver.{IsLimited}
@@ -51,6 +51,12 @@ abbrev pub AllEnded : List Player → Type 0
 AllEnded [] = Unit {0}
 AllEnded (x ∷ xs) = (x.actor.outcome ≡ None → ⊥) × AllEnded xs
 
+-- those before this place have
+abbrev pub HaveEndedBefore : ℕ → List Player → Type 0
+HaveEndedBefore zero xs = Unit {0}
+HaveEndedBefore (suc k) [] = Unit {0}
+HaveEndedBefore (suc k) (x ∷ xs) = (x.actor.outcome ≡ None → ⊥) × HaveEndedBefore k xs
+
 -- the one at this place hasn't
 abbrev pub IsUnended : ℕ → List Player → Type 0
 IsUnended k [] = ⊥
@@ -58,18 +64,19 @@ IsUnended zero (x ∷ xs) = x.actor.outcome ≡ None
 IsUnended (suc k) (x ∷ xs) = IsUnended k xs
 
 -- an entry of a report says what the actor came to, and where its events are
-pub record IsReported (x : Player) (ran : ActorReport) : Type 0 where
+pub record IsReported (code : PlainCode) (x : Player) (ran : ActorReport) : Type 0 where
   pub ended : x.actor.outcome ≡ ran.outcome
   pub printed : x.actor.printed ≡ ran.printed.items
   pub counted : x.actor.steps ≡ ran.steps
   pub traced : x.trace.items ≡ ran.trace.items
+  pub placed : stopped_at code x.actor ≡ ran.place
 
 -- the entries of a report, one for each actor
-abbrev pub AreReported : List Player → List ActorReport → Type 0
-AreReported [] [] = Unit {0}
-AreReported [] (r ∷ rs) = ⊥
-AreReported (x ∷ xs) [] = ⊥
-AreReported (x ∷ xs) (r ∷ rs) = IsReported x r × AreReported xs rs
+abbrev pub AreReported : PlainCode → List Player → List ActorReport → Type 0
+AreReported code [] [] = Unit {0}
+AreReported code [] (r ∷ rs) = ⊥
+AreReported code (x ∷ xs) [] = ⊥
+AreReported code (x ∷ xs) (r ∷ rs) = IsReported code x r × AreReported code xs rs
 
 -- these actors are before their first turns, and may make so many steps; the first of them is the k-th actor
 abbrev pub AreNew : PlainCode → ℕ → ℕ → List Player → Type 0

@@ -17,7 +17,7 @@ use Rattle.txs_code_meaning.specs.PlainCode.{PlainCode}
 use Rattle.txs_theorem_threads.specs.FollowsAll.{source_of}
 use Rattle.txs_theorem_threads.specs.Noted.{txs_of}
 use Rattle.txs_theorem_threads.specs.RepliesFit.{Explained, halted, HasWaited}
-use Rattle.txs_machine_actor.specs.PlainActor.{PlainActor, unanswered, stating, standing}
+use Rattle.txs_machine_actor.specs.PlainActor.{PlainActor, unanswered, stating, standing, stopped_at}
 use Rattle.txs_value_cell.specs.Agents.{agents_from}
 use Rattle.txs_theorem_runs.specs.Agents.{ActionDid, ActsInTurn, AllSound}
 use Rattle.txs_theorem_runs.specs.Explains.{BooksStand, CommitsUndisturbed}
@@ -46,6 +46,8 @@ pub record HasDone (code : PlainCode) (k limit : ℕ) (books : ℕ → List Even
   pub printed : actor.printed ≡ ran.printed.items
   -- the entry has the number of its steps
   pub counted : actor.steps ≡ ran.steps
+  -- the entry has the place in the script where it was stopped, if it was
+  pub placed : stopped_at code actor ≡ ran.place
   -- the trace has the places of its events in the order in which it added them, whatever book each is in
   pub traced : places_of ran.trace.items ≡ trace_of code.cells books k over.entries
   -- what a commit's transaction set or ensured wasn't written between read point and commit

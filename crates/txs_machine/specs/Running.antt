@@ -1,7 +1,7 @@
 -- Runs of all threads and agents of a code are those that the laws of runs speak of: which turns they are, and what holds of agents' actors between two
 -- plays.
 use Rattle.std.proofs.Common.{◌⊎◌}
-use Rattle.std.specs.Prelude.{◌≡◌, ◌+◌, ◌-◌, ℕ, suc, true, List, [], ◌∷◌, length, map, Option, Some, None}
+use Rattle.std.specs.Prelude.{◌≡◌, ◌<◌, ◌+◌, ◌-◌, ℕ, suc, true, List, [], ◌∷◌, ◌++◌, length, map, Option, Some, None}
 use Rattle.txs_world_protocol.specs.declared.ask.Ask.{Ask}
 use Rattle.txs_world_protocol.specs.declared.ask.Reply.{Reply}
 use Rattle.txs_world_protocol.specs.declared.event.Event.{Event}
@@ -22,6 +22,7 @@ use Rattle.txs_theorem_runs.specs.Told.{exchange_of, AllHold, trace_of}
 use Rattle.txs_world_shared.specs.SharedState.{PlainShared, shared_of, is_lawful}
 use Rattle.txs_machine.specs.Agents.{agents_of}
 use Rattle.txs_machine.specs.Playing.{AreBetween}
+use Rattle.txs_machine.specs.Scheduled.{after_turns, run_of, steps_by, AreTurnsOf}
 use Rattle.txs_machine.specs.RunOver.{IsLimited, AtFullBook, books_of, places_of}
 use Rattle.txs_machine.specs.Serving.{IsServed}
 use Rattle.txs_world_protocol.specs.declared.event.Place.{Place}
@@ -30,14 +31,6 @@ use Rattle.txs_machine.specs.declared.player.Player.{Player}
 use Rattle.txs_machine.specs.declared.player.Players.{Players}
 
 -- ---- the turns that a run is
-
--- the state of a run after these turns
-abbrev pub after_turns : PlainCode → List run.Play → run.State → run.State
-after_turns code = run.plays_from code.cells (length code.threads) (code_of code)
-
--- the state of a run of the code after these turns
-abbrev pub run_of : PlainCode → List run.Play → run.State
-run_of code ys = after_turns code ys (run.opens code.cells (code_of code))
 
 -- An actor that continues is where a run's actor is; one that is done or has failed has ended so there; one that was stopped is there stopped, and
 -- has printed and written what that one has: its state is that one's, but for a validator's answer.
@@ -49,13 +42,14 @@ IsPlacedAs a (Some outcome.StepsSpent) at why = (at ≡ Unfinished (configuratio
 IsPlacedAs a (Some outcome.JournalFull) at why = (c : Configuration) × (at ≡ Unfinished c) × SameBut c.state (state_of a) × (why ≡ Some JournalFull)
 IsPlacedAs a (Some outcome.Memory) at why = (c : Configuration) × (at ≡ Unfinished c) × SameBut c.state (state_of a) × (why ≡ Some Memory)
 
--- The k-th actor, with this trace, is a run's k-th actor: it asks nothing, is where that one is, has done what the machine does on that one's entries, and its trace has
--- the places of the events that they added; where it was stopped for a full book, the book for its ask is full.
+-- The k-th actor, with this trace, is a run's k-th actor: it asks nothing, is where that one is, has done what the machine does on that one's entries, has counted that one's
+-- turns, and its trace has the places of the events that the entries added; where it was stopped for a full book, the book for its ask is full.
 pub record IsPlayerOf (code : PlainCode) (k : ℕ) (books : ℕ → List Event) (a : PlainActor) (trace : List Place) (y : run.Actor) : Type 0 where
   pub number : a.number ≡ k
   pub waits : unanswered a ≡ None
   pub placed : IsPlacedAs a a.outcome y.at y.stopped
   pub ran : HasRun code (map exchange_of y.entries) a
+  pub counted : a.steps ≡ steps_by y.stopped y.turns
   pub traced : places_of trace ≡ trace_of code.cells books k y.entries
   pub full : a.outcome ≡ Some outcome.JournalFull → AtFullBook code.cells (code_of code k) books (map exchange_of y.entries) a
 
@@ -65,30 +59,25 @@ pub record IsInRun (code : PlainCode) (k : ℕ) (s : PlainShared) (a : PlainActo
   pub shared : shared_of s ≡ (run_of code turns).shared
   pub player : IsPlayerOf code k (books_of s) a trace ((run_of code turns).actors k)
 
--- What is shared and the players, of the threads and behind them of the agents, are those of a list of turns, each with its ask served and answered in
+-- What is shared and the players, of the threads and behind them of the agents, are those of these turns, each with its ask served and answered in
 -- the same step. By this the laws of runs hold of them, whatever the order of the turns.
-pub record IsRunOf (code : PlainCode) (s : PlainShared) (xs : List Player) (gs : List AgentPlayer) : Type 0 where
-  pub turns : List run.Play
+pub record IsRunBy (code : PlainCode) (s : PlainShared) (xs : List Player) (gs : List AgentPlayer) (turns : List run.Play) : Type 0 where
   pub shared : shared_of s ≡ (run_of code turns).shared
   pub threads : (k : ℕ) (x : Player) → nth xs k ≡ Some x → IsPlayerOf code k (books_of s) x.actor x.trace.items ((run_of code turns).actors k)
   pub agents : (i : ℕ) (x : AgentPlayer) → nth gs i ≡ Some x → IsPlayerOf code (length code.threads + i) (books_of s) x.player.actor x.player.trace.items ((run_of code turns).actors (length code.threads + i))
 
--- these turns are one actor's
-abbrev pub AreOf : ℕ → List run.Play → Type 0
-AreOf k [] = Unit {0}
-AreOf k (y ∷ ys) = (run.actor_of y ≡ k) × AreOf k ys
-
--- from this state of a run, turns of the k-th actor come to where this actor is, and to what is shared
-pub record ComesTo (code : PlainCode) (k : ℕ) (st : run.State) (t : PlainShared) (b : PlainActor) (trace : List Place) : Type 0 where
+-- from this state of a run, up to so many turns of the k-th actor come to where this actor is, and to what is shared
+pub record ComesTo (code : PlainCode) (k limit n : ℕ) (st : run.State) (t : PlainShared) (b : PlainActor) (trace : List Place) : Type 0 where
   pub turns : List run.Play
-  pub own : AreOf k turns
+  pub made : AreTurnsOf code limit k n st turns
   pub shared : shared_of t ≡ (after_turns code turns st).shared
   pub player : IsPlayerOf code k (books_of t) b trace ((after_turns code turns st).actors k)
 
--- a play of the k-th actor: wherever it was in a run, it is there after turns of its own
-abbrev pub GoesAs : PlainCode → ℕ → PlainShared → PlainActor → List Place → PlainShared → PlainActor → List Place → Type 0
-GoesAs code k s a trace t b later =
-    (st : run.State) → shared_of s ≡ st.shared → AllHold code.cells (length code.threads) (books_of s) k (st.actors k).entries → IsPlayerOf code k (books_of s) a trace (st.actors k) → ComesTo code k st t b later
+-- a play of the k-th actor, which may make so many turns: wherever it was in a run, it is there after just these turns of its own
+abbrev pub GoesAs : PlainCode → ℕ → ℕ → PlainShared → PlainActor → List Place → PlainShared → PlainActor → List Place → Type 0
+GoesAs code k n s a trace t b later =
+    (before : List run.Play) → shared_of s ≡ (run_of code before).shared → AllHold code.cells (length code.threads) (books_of s) k ((run_of code before).actors k).entries
+    → IsPlayerOf code k (books_of s) a trace ((run_of code before).actors k) → ComesTo code k a.limit n (run_of code before) t b later
 
 -- an actor's ask, which it might make, was answered, and the place of the event that it added was noted
 pub record IsAnswered (k : ℕ) (s : PlainShared) (a : PlainActor) (trace : List Place) (q : Ask) (t : PlainShared) (b : PlainActor) (later : List Place) : Type 0 where
@@ -161,9 +150,23 @@ abbrev pub AreIdle : PlainCode → PlainShared → List AgentPlayer → Type 0
 AreIdle code s [] = Unit {0}
 AreIdle code s (x ∷ xs) = (x.player.actor.outcome ≡ None → HasWork code s x.agent → ⊥) × AreIdle code s xs
 
--- what holds of all actors between two plays
-pub record ArePlaying (code : PlainCode) (limit : ℕ) (s : PlainShared) (all : Players) : Type 0 where
+-- what holds of all actors between two plays, of a run by these turns
+pub record ArePlayingBy (code : PlainCode) (limit : ℕ) (s : PlainShared) (all : Players) (turns : List run.Play) : Type 0 where
   pub many : length all.threads.items ≡ length code.threads
   pub threads : AreBetween code limit (books_of s) 0 all.threads.items
   pub agents : AreAttending code limit (length code.threads) (agents_of code) all.agents.items
-  pub run : IsRunOf code s all.threads.items all.agents.items
+  pub run : IsRunBy code s all.threads.items all.agents.items turns
+
+-- what holds of all actors between two plays
+abbrev pub ArePlaying : PlainCode → ℕ → PlainShared → Players → Type 0
+ArePlaying code limit s all = (turns : List run.Play) × ArePlayingBy code limit s all turns
+
+-- all actors went on by turns of which this holds, whatever was before
+abbrev pub GoOnBy : PlainCode → ℕ → (run.State → List run.Play → Type 0) → PlainShared → Players → PlainShared → Players → Type 0
+GoOnBy code limit P s all t next = (turns : List run.Play) → ArePlayingBy code limit s all turns → (us : List run.Play) × P (run_of code turns) us × ArePlayingBy code limit t next (turns ++ us)
+
+-- an agent's actor that hasn't ended, has a turn left and has nothing to do is where it was after a play: it asks for an action, and there is none
+abbrev pub IsAtRest : PlainCode → ℕ → ℕ → PlainShared → AgentPlayer → Type 0
+IsAtRest code k n s x =
+    x.player.actor.outcome ≡ None → x.player.actor.steps < x.player.actor.limit → next_action (cells_of code.cells) (books_of s 0) x.agent ≡ None
+    → GoesAs code k n s x.player.actor x.player.trace.items s x.player.actor x.player.trace.items

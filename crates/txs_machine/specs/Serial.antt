@@ -16,7 +16,7 @@ use Rattle.txs_theorem_runs.specs.Shared.{Shared}
 use Rattle.txs_theorem_runs.specs.Transactions.{Says, SaidOf}
 use Rattle.txs_theorem_serial.specs.Whole.{all_covered, serial_if_covered, all_txs, OneByOne}
 use Rattle.txs_machine.specs.RunOver.{places_of}
-use Rattle.txs_machine.specs.RunTheorem.{meant_by, ExplainsSo, ExplainsAgent, Explains, ExplainsAll}
+use Rattle.txs_machine.specs.RunTheorem.{meant_by, ExplainsThread, ExplainsAgent, Explains, ExplainsAll}
 use Rattle.txs_world_protocol.specs.declared.report.ActorReport.{ActorReport}
 
 -- the transactions of a thread's entry, where each loop makes at most n turns
@@ -35,7 +35,7 @@ SaidOfActions s p sh threads agents e =
     (i : ℕ) (g : CellId) (ran : ActorReport) (there : nth (agents_from 0 p.cells) i ≡ Some g) (here : nth agents i ≡ Some ran) (j : ℕ) (d : ActionDid)
     → nth (e.each i g ran there here).did j ≡ Some d → SaidOf (s d.turns) sh.books d.trace d.txs
 
--- Each covered commit of a report that a program explains, of a thread or of an agent, is serial: run alone at its index of the store's book, with its
+-- Each covered commit of a report that a program explains, of a thread or of an agent, is in the store's book, and is serial: run alone at its index of the store's book, with its
 -- commutes there, its transaction gives the same writes, the same sends and, where it is wanted, the same result.
 abbrev pub CoveredAreSerial : Type 0
 CoveredAreSerial =
@@ -43,13 +43,14 @@ CoveredAreSerial =
     → Sound p → MarkedProgram p → (e : ExplainsAll p sh threads agents)
     → SaidOfAll (λ n. serial_if_covered p.functions n p.cells sh.books) p sh threads e.by_threads × SaidOfActions (λ n. serial_if_covered p.functions n p.cells sh.books) p sh threads agents e
 
--- The commits of the store's book are as if the transactions of these threads and agents had run one after the other, in its order.
+-- The transactions of these threads and agents, run one after the other in the order of the store's book, do what its commits say: each is that of one commit
+-- or one refusal, and none is left.
 pub record InOrder (p : PlainProgram) (sh : Shared) (rans agents : List ActorReport) : Type 0 where
   -- by the actors' numbers
   pub runs : ℕ → List TxRun
   -- they are those of meanings that explain the threads
   pub noted : (k : ℕ) (t : PlainThread) (ran : ActorReport) → nth p.threads k ≡ Some t → nth rans k ≡ Some ran
-      → (n : ℕ) × ExplainsSo ran.outcome ran.printed.items (meant_by p t sh.books ran.trace.items n) × (runs k ≡ transactions p t sh ran n)
+      → (x : ExplainsThread p k t sh.books ran) × (runs k ≡ transactions p t sh ran x.turns)
   -- and of what explains the agents
   pub noted_by_actions : (i : ℕ) (g : CellId) (ran : ActorReport) → nth (agents_from 0 p.cells) i ≡ Some g → nth agents i ≡ Some ran
       → (x : ExplainsAgent p (length p.threads + i) g sh.books ran) × (runs (length p.threads + i) ≡ all_txs x.did)

@@ -1,6 +1,6 @@
 //! The agents of a run: their actors are behind those of the threads, and there are further rounds as long as one has something to do.
 
-ghost use Rattle.std.specs.Prelude.{◌≡◌, ◌≤◌, ◌<◌, ◌+◌, ℕ, length, take, IfOk, IfSome, IsTrue, Some, None, true, false};
+ghost use Rattle.std.specs.Prelude.{◌≡◌, ◌≤◌, ◌<◌, ◌+◌, ℕ, length, take, IfOk, IsTrue, Some, None, true, false};
 ghost use Rattle.txs_value_cell.specs.Agents.{agents_from};
 ghost use Rattle.txs_world_shared.specs.SharedState.{numbered_book};
 ghost use Rattle.txs_value_cell.specs.declared.action.Action.{Action as AnAction};
@@ -85,6 +85,7 @@ pub(crate) fn is_due(agent: &AgentPlayer, shared: &SharedState, max_steps: u64) 
     ensures unended { IsTrue result → agent.now.player.actor.outcome ≡ None }
     ensures no { result ≡ false → agent.now.player.actor.outcome ≡ None → next_action (cells_of shared.now.cells) (numbered_book shared.now 0) agent.now.agent ≡ None }
     ensures left { result ≡ false → agent.now.player.actor.outcome ≡ None → agent.now.player.actor.steps < max_steps }
+    ensures yes { IsTrue result → agent.now.player.actor.steps < max_steps → (x : AnAction) × (next_action (cells_of shared.now.cells) (numbered_book shared.now 0) agent.now.agent ≡ Some x) }
 {
     let actor = &agent.player.actor;
     if actor.outcome().is_some() {
@@ -96,22 +97,17 @@ pub(crate) fn is_due(agent: &AgentPlayer, shared: &SharedState, max_steps: u64) 
     is_working(agent, shared)
 }
 
-/// The first agent, by its place among the agents, whose actor hasn't ended and which has something to do.
-pub(crate) fn first_working(
-    agents: &[AgentPlayer],
-    code: &Verified,
-    shared: &SharedState,
-) -> Option<usize>
+/// Whether there is an agent whose actor hasn't ended and which has something to do.
+pub(crate) fn is_any_working(agents: &[AgentPlayer], code: &Verified, shared: &SharedState) -> bool
     requires of { IsStateOf code.now shared.now }
     requires attending { (limit : ℕ) × (k : ℕ) × AreAttending code.now limit k (agents_of code.now) agents.now }
-    ensures there { IfSome result (λ i. i < length agents.now) }
-    ensures working { IfSome result (λ i. IsWorking code.now shared.now i agents.now) }
-    ensures idle { result ≡ None → AreIdle code.now shared.now agents.now }
+    ensures working { IsTrue result → (i : ℕ) × IsWorking code.now shared.now i agents.now }
+    ensures idle { result ≡ false → AreIdle code.now shared.now agents.now }
 {
     for i in 0..agents.len() {
         if is_working(&agents[i], shared) {
-            return Some(i);
+            return true;
         }
     }
-    None
+    false
 }

@@ -10,7 +10,7 @@ pub mod run;
 pub mod run_error;
 pub mod schedule;
 
-pub use law::{actors_explained, actors_follow, explained_reports_are_serial};
+pub use law::{actors_explained, actors_follow, explained_reports_are_serial, schedules_are_exact};
 pub use run_error::RunError;
 pub use schedule::{Entries, Play, Repeated, ScheduleError, run_repeated, run_schedule};
 pub use txs_machine_actor::{Actor, Turn, actors_run, may_answer};

@@ -1,20 +1,21 @@
 //! Runs of all threads and agents over what they share, by turns that a schedule names.
 
-ghost use Rattle.std.specs.Prelude.{◌≡◌, ◌<◌, ◌≤◌, ◌+◌, ◌++◌, ℕ, List, [], length, replicate, true, false, IfOk, IfErr, IfSome, IsTrue, OnOk, Some, None};
+ghost use Rattle.std.specs.Prelude.{◌≡◌, ◌<◌, ◌≤◌, ◌+◌, ◌-◌, ◌++◌, ℕ, List, [], length, replicate, true, false, IfOk, IfErr, IfSome, IsTrue, OnOk, Some, None};
 ghost use Rattle.txs_machine.specs.declared.schedule.Play.{Play as AnyPlay};
 ghost use Rattle.txs_machine.specs.declared.schedule.ScheduleError.TheVariants.{Memory};
 ghost use Rattle.txs_machine.specs.ErrorName.{schedule_error_number};
 ghost use Rattle.txs_machine.specs.RunOver.{IsStateOf, books_of};
 ghost use Rattle.txs_machine.specs.Agents.{actors_of, AgentsAreDone, AreExplainedBy, AreDrained};
-ghost use Rattle.txs_machine.specs.Running.{ArePlaying, AreIdle, IsAttending, IsLive, attendants, left_all};
-ghost use Rattle.txs_machine.specs.Playing.{IsBetween, AreLater, HaveSteps, AllEnded, IsUnended, IsReported, AreReported};
+ghost use Rattle.txs_machine.specs.Running.{ArePlaying, AreIdle, GoOnBy, IsAtRest, IsAttending, IsLive, attendants, left_all};
+ghost use Rattle.txs_machine.specs.Scheduled.{most_turns, asks_from, ArePlays, LeadRounds, AreRoundsIf, IsScheduledRun};
+ghost use Rattle.txs_machine.specs.Playing.{IsBetween, AreLater, HaveEndedBefore, HaveSteps, AllEnded, IsUnended, IsReported, AreReported};
 ghost use Rattle.txs_machine.specs.Plays.{IsThreadsPlay, IsAgentsPlay, IsPlayAt, AreReady, SaysOf};
 ghost use Rattle.txs_machine.specs.Turning.{MayGoOn};
 ghost use Rattle.txs_machine.specs.Schedule.{player, all_named, spread, AreDone, ArePlayed, HaveEnded, IsExplainedBy, HasNoReport};
 ghost use Rattle.txs_theorem_runs.specs.Shared.{untouched};
 ghost use Rattle.txs_world_shared.specs.SharedState.{shared_of};
 
-use crate::agents::{first_working, is_due, open_next};
+use crate::agents::{is_any_working, is_due, open_next};
 use crate::player::{AgentPlayer, Player, Players};
 use crate::run::go_on;
 use std::alloc::{AllocError, Global};
@@ -118,7 +119,7 @@ impl Play {
 
     /// How many turns it is at most.
     fn most_turns(self) -> u64
-        ensures { 0 < result }
+        ensures { result ≡ most_turns self }
     {
         match self {
             Play::Turn(_) => 1,
@@ -226,7 +227,7 @@ fn play_actor<Caller>(
     requires some { 0 < budget }
     requires of { IsStateOf code.now shared.old }
     requires between { IsBetween code.now k max_steps (books_of shared.old) player.old }
-    ensures { IsThreadsPlay code.now k max_steps shared.old player.old shared.new player.new }
+    ensures { IsThreadsPlay code.now k max_steps budget shared.old player.old shared.new player.new }
 {
     let ended = player.actor.outcome().is_some();
     if ended {
@@ -251,7 +252,8 @@ fn play_agent(
     requires of { IsStateOf code.now shared.old }
     requires attending { IsAttending code.now agent.old.agent k max_steps agent.old }
     requires may { agent.old.player.actor.outcome ≡ None → MayGoOn code.now shared.old budget agent.old.player.actor }
-    ensures { IsAgentsPlay code.now k max_steps shared.old agent.old shared.new agent.new }
+    requires rests { IsAtRest code.now k budget shared.old agent.old }
+    ensures { IsAgentsPlay code.now k max_steps budget shared.old agent.old shared.new agent.new }
 {
     if !is_due(agent, shared, max_steps) {
         return;
@@ -272,7 +274,7 @@ fn play_at(
     requires some { 0 < budget }
     requires of { IsStateOf code.now shared.old }
     requires playing { ArePlaying code.now max_steps shared.old players.old }
-    ensures { IsPlayAt code.now max_steps k shared.old players.old shared.new players.new }
+    ensures { IsPlayAt code.now max_steps k budget shared.old players.old shared.new players.new }
 {
     // A step of the proof, which does nothing when it runs.
     let _own_cells = code.code();
@@ -314,7 +316,7 @@ fn play_times(
     requires of { IsStateOf code.now shared.old }
     requires playing { ArePlaying code.now max_steps shared.old players.old }
     ensures of { IsStateOf code.now shared.new }
-    ensures playing { ArePlaying code.now max_steps shared.new players.new }
+    ensures plays { GoOnBy code.now max_steps (ArePlays code.now max_steps (replicate run.times run.play)) shared.old players.old shared.new players.new }
     ensures many { length players.new.threads.items ≡ length players.old.threads.items }
     ensures agents { length players.new.agents.items ≡ length players.old.agents.items }
     ensures steps { (before : List AnyPlay) → HaveSteps before 0 players.old.threads.items → HaveSteps (before ++ replicate run.times run.play) 0 players.new.threads.items }
@@ -338,7 +340,7 @@ fn play_all(
     requires of { IsStateOf code.now shared.old }
     requires playing { ArePlaying code.now max_steps shared.old players.old }
     ensures of { IsStateOf code.now shared.new }
-    ensures playing { ArePlaying code.now max_steps shared.new players.new }
+    ensures plays { GoOnBy code.now max_steps (ArePlays code.now max_steps (spread plays.now)) shared.old players.old shared.new players.new }
     ensures many { length players.new.threads.items ≡ length players.old.threads.items }
     ensures agents { length players.new.agents.items ≡ length players.old.agents.items }
     ensures steps { HaveSteps (spread plays.now) 0 players.new.threads.items }
@@ -348,7 +350,7 @@ fn play_all(
     }
 }
 
-/// An ask of each of the actors from one on that hasn't ended.
+/// An ask of each of the actors from one on.
 fn play_rest(
     players: &mut Players,
     code: &Verified,
@@ -358,22 +360,23 @@ fn play_rest(
     max_steps: u64,
 )
     requires many { actors ≡ length players.old.threads.items + length players.old.agents.items }
+    requires within { from ≤ actors }
     requires of { IsStateOf code.now shared.old }
     requires playing { ArePlaying code.now max_steps shared.old players.old }
     ensures of { IsStateOf code.now shared.new }
-    ensures playing { ArePlaying code.now max_steps shared.new players.new }
+    ensures plays { GoOnBy code.now max_steps (ArePlays code.now max_steps (asks_from from (actors - from))) shared.old players.old shared.new players.new }
     ensures many { length players.new.threads.items ≡ length players.old.threads.items }
     ensures agents { length players.new.agents.items ≡ length players.old.agents.items }
     ensures later { AreLater players.old.threads.items players.new.threads.items }
-    ensures left { left_all players.new ≤ left_all players.old }
+    ensures less { (k : ℕ) → from ≤ k → IsLive code.now shared.old players.old k → left_all players.new < left_all players.old }
 {
     for k in from..actors {
         play_at(players, code, shared, k, u64::MAX, max_steps);
     }
 }
 
-/// Where no other actor is behind a thread's, further asks of that one, up to its end: a round has no other, since those
-/// before it have ended.
+/// Where no other actor is behind a thread's, and those before it have ended, the rounds up to its end: each is one ask of
+/// this actor.
 fn play_out(
     players: &mut Players,
     code: &Verified,
@@ -382,10 +385,12 @@ fn play_out(
     actors: u16,
     max_steps: u64,
 )
+    requires many { actors ≡ length players.old.threads.items + length players.old.agents.items }
     requires of { IsStateOf code.now shared.old }
     requires playing { ArePlaying code.now max_steps shared.old players.old }
+    requires before { HaveEndedBefore k players.old.threads.items }
     ensures of { IsStateOf code.now shared.new }
-    ensures playing { ArePlaying code.now max_steps shared.new players.new }
+    ensures plays { GoOnBy code.now max_steps (LeadRounds code.now max_steps) shared.old players.old shared.new players.new }
     ensures many { length players.new.threads.items ≡ length players.old.threads.items }
     ensures agents { length players.new.agents.items ≡ length players.old.agents.items }
     ensures later { AreLater players.old.threads.items players.new.threads.items }
@@ -418,6 +423,7 @@ fn play_out(
 fn first_unended(players: &[Player]) -> Option<usize>
     ensures there { IfSome result (λ k. k < length players.now) }
     ensures unended { IfSome result (λ k. IsUnended k players.now) }
+    ensures before { IfSome result (λ k. HaveEndedBefore k players.now) }
     ensures ended { result ≡ None → AllEnded players.now }
 {
     for k in 0..players.len() {
@@ -428,27 +434,29 @@ fn first_unended(players: &[Player]) -> Option<usize>
     None
 }
 
-/// The first actor with which a round continues: that of a thread that hasn't ended, else that of an agent that hasn't and has something to do.
+/// The first actor of a round, before which all have ended: that of the first thread that hasn't ended, else that of the first agent, where there is one that has
+/// something to do. There is none where no further round is made.
 fn first_live(players: &Players, code: &Verified, shared: &SharedState) -> Option<u16>
     requires of { IsStateOf code.now shared.now }
     requires few { length players.now.threads.items + length players.now.agents.items ≤ 65535 }
     requires playing { (limit : ℕ) × ArePlaying code.now limit shared.now players.now }
-    ensures there { IfSome result (λ k. k < length players.now.threads.items + length players.now.agents.items) }
-    ensures live { IfSome result (λ k. IsLive code.now shared.now players.now k) }
+    ensures there { IfSome result (λ k. k ≤ length players.now.threads.items) }
+    ensures live { IfSome result (λ k. (j : ℕ) × (k ≤ j) × IsLive code.now shared.now players.now j) }
+    ensures before { IfSome result (λ k. HaveEndedBefore k players.now.threads.items) }
     ensures ended { result ≡ None → AllEnded players.now.threads.items }
     ensures idle { result ≡ None → AreIdle code.now shared.now players.now.agents.items }
 {
     if let Some(k) = first_unended(players.threads.as_slice()) {
         return Some(k as u16);
     }
-    match first_working(players.agents.as_slice(), code, shared) {
-        Some(i) => Some((players.threads.len() + i) as u16),
-        None => None,
+    if is_any_working(players.agents.as_slice(), code, shared) {
+        return Some(players.threads.len() as u16);
     }
+    None
 }
 
-/// Where they are wanted, rounds of one ask of each actor that hasn't ended, in ascending order, until all threads have ended and no agent that hasn't has
-/// something to do. Each makes a step at least of the first of them, and none may make more than its limit.
+/// Where they are wanted, rounds of one ask of each actor, in ascending order, until all threads have ended and no agent whose actor hasn't has
+/// something to do. Each round ends an actor or makes a step at least, and none may make more than its limit.
 fn play_rounds(
     players: &mut Players,
     code: &Verified,
@@ -461,7 +469,7 @@ fn play_rounds(
     requires of { IsStateOf code.now shared.old }
     requires playing { ArePlaying code.now max_steps shared.old players.old }
     ensures of { IsStateOf code.now shared.new }
-    ensures playing { ArePlaying code.now max_steps shared.new players.new }
+    ensures plays { GoOnBy code.now max_steps (AreRoundsIf code.now max_steps wanted) shared.old players.old shared.new players.new }
     ensures later { AreLater players.old.threads.items players.new.threads.items }
     ensures ended { wanted ≡ true → AllEnded players.new.threads.items }
     ensures idle { wanted ≡ true → AreIdle code.now shared.new players.new.agents.items }
@@ -470,56 +478,65 @@ fn play_rounds(
         return;
     }
     while let Some(k) = first_live(players, code, shared) {
-        play_at(players, code, shared, k, u64::MAX, max_steps);
+        play_rest(players, code, shared, k, actors, max_steps);
         play_out(players, code, shared, k, actors, max_steps);
-        play_rest(players, code, shared, k + 1, actors, max_steps);
     }
 }
 
 /// What an actor did, as a report says: its bytes and places are moved there.
-pub(crate) fn report_of(player: Player) -> ActorReport
-    ensures { IsReported player result }
+pub(crate) fn report_of(code: &Verified, player: Player) -> ActorReport
+    ensures { IsReported code.now player result }
 {
     let Player { actor, trace } = player;
     let outcome = actor.outcome();
     let steps = actor.steps();
+    let place = actor.stopped_at(code);
     ActorReport {
         outcome,
         printed: actor.into_printed(),
         trace,
         steps,
+        place,
     }
 }
 
 /// What the actors of threads did.
-fn report_threads(alloc: Global, players: Vec<Player>) -> Result<Vec<ActorReport>, AllocError>
-    ensures { IfOk result (λ rans. AreReported players.items rans.items) }
+fn report_threads(
+    alloc: Global,
+    code: &Verified,
+    players: Vec<Player>,
+) -> Result<Vec<ActorReport>, AllocError>
+    ensures { IfOk result (λ rans. AreReported code.now players.items rans.items) }
 {
     let mut rans = Vec::with_capacity(alloc, players.len())?;
     for player in players {
-        rans.push(report_of(player))?;
+        rans.push(report_of(code, player))?;
     }
     Ok(rans)
 }
 
 /// What the actors of agents did.
-fn report_agents(alloc: Global, agents: Vec<AgentPlayer>) -> Result<Vec<ActorReport>, AllocError>
-    ensures { IfOk result (λ rans. AreReported (attendants agents.items) rans.items) }
+fn report_agents(
+    alloc: Global,
+    code: &Verified,
+    agents: Vec<AgentPlayer>,
+) -> Result<Vec<ActorReport>, AllocError>
+    ensures { IfOk result (λ rans. AreReported code.now (attendants agents.items) rans.items) }
 {
     let mut rans = Vec::with_capacity(alloc, agents.len())?;
     for agent in agents {
-        rans.push(report_of(agent.player))?;
+        rans.push(report_of(code, agent.player))?;
     }
     Ok(rans)
 }
 
 /// What all actors did.
-fn report_all(alloc: Global, players: Players) -> Result<Entries, AllocError>
-    ensures threads { IfOk result (λ report. AreReported players.threads.items report.threads.items) }
-    ensures agents { IfOk result (λ report. AreReported (attendants players.agents.items) report.agents.items) }
+fn report_all(alloc: Global, code: &Verified, players: Players) -> Result<Entries, AllocError>
+    ensures threads { IfOk result (λ report. AreReported code.now players.threads.items report.threads.items) }
+    ensures agents { IfOk result (λ report. AreReported code.now (attendants players.agents.items) report.agents.items) }
 {
-    let threads = report_threads(alloc, players.threads)?;
-    let agents = report_agents(alloc, players.agents)?;
+    let threads = report_threads(alloc, code, players.threads)?;
+    let agents = report_agents(alloc, code, players.agents)?;
     Ok(Entries { threads, agents })
 }
 
@@ -563,12 +580,12 @@ fn run_all(
     play_rounds(&mut players, code, shared, actors, max_steps, rounds);
     // A step of the proof, which does nothing when it runs.
     let _stands = shared.events();
-    report_all(alloc, players)
+    report_all(alloc, code, players)
 }
 
 /// Runs all threads and agents of the code over a state in which nothing was done yet: the plays of a schedule in their order, each as many times as it says, and with `rounds` behind them one ask of
-/// each actor that hasn't ended, again and again, until all threads have and each agent whose actor hasn't has failed or has nothing to do. A play of an actor
-/// that has ended does nothing. None makes more than `max_steps` steps. Threads have the first numbers, and agents those behind, in the order of their cells.
+/// each actor, in ascending order, again and again, until all threads have ended and each agent whose actor hasn't has failed or has nothing to do. A play of an actor
+/// that has ended does nothing. None makes more than `max_steps` steps: one that hasn't ended and is played then ends. Threads have the first numbers, and agents those behind, in the order of their cells.
 ///
 /// # Errors
 /// `NoActor` where a play names no actor, and nothing was run; `Memory` where there was no memory for the actors or for the report: what
@@ -588,6 +605,7 @@ pub fn run_repeated(
     ensures named { IfOk result (λ report. all_named (actors_of code.now) (spread plays.now) ≡ true) }
     ensures done { IfOk result (λ report. AreDone code.now max_steps (books_of shared.new) report.threads.items) }
     ensures played { IfOk result (λ report. ArePlayed (spread plays.now) report.threads.items) }
+    ensures scheduled { IfOk result (λ report. IsScheduledRun code.now max_steps (spread plays.now) rounds shared.new report.threads.items report.agents.items) }
     ensures ended { IfOk result (λ report. rounds ≡ true → HaveEnded report.threads.items) }
     ensures explained { IfOk result (λ report. IsExplainedBy code.now (shared_of shared.new) report.threads.items) }
     ensures refused { IfErr result (λ e. HasNoReport code.now (spread plays.now) shared.old shared.new e) }
@@ -622,6 +640,7 @@ pub fn run_schedule(
     ensures named { IfOk result (λ report. all_named (actors_of code.now) plays.now ≡ true) }
     ensures done { IfOk result (λ report. AreDone code.now max_steps (books_of shared.new) report.threads.items) }
     ensures played { IfOk result (λ report. ArePlayed plays.now report.threads.items) }
+    ensures scheduled { IfOk result (λ report. IsScheduledRun code.now max_steps plays.now rounds shared.new report.threads.items report.agents.items) }
     ensures ended { IfOk result (λ report. rounds ≡ true → HaveEnded report.threads.items) }
     ensures explained { IfOk result (λ report. IsExplainedBy code.now (shared_of shared.new) report.threads.items) }
     ensures refused { IfErr result (λ e. HasNoReport code.now plays.now shared.old shared.new e) }

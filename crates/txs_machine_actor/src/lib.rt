@@ -11,6 +11,7 @@ mod judge;
 pub mod law;
 pub mod outcome;
 mod pace;
+mod place;
 pub mod role;
 
 pub use actor::Actor;

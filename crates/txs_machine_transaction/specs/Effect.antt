@@ -14,6 +14,7 @@ use Rattle.txs_value_base.specs.Places.{fault_at}
 use Rattle.txs_value_cell.specs.declared.action.Action.{Action}
 use Rattle.txs_value_base.specs.declared.fault.Fault.{Fault}
 use Rattle.txs_value_base.specs.declared.fault.FaultKind.{FaultKind}
+use Rattle.txs_value_base.specs.declared.fault.FaultKind.TheVariants.{SetAfterCommute}
 use Rattle.txs_value_base.specs.declared.fault.Span.{Span}
 use Rattle.txs_value_cell.specs.declared.form.CellForm.{CellForm}
 use Rattle.txs_value_cell.specs.declared.form.CellForm.TheVariants as form
@@ -272,6 +273,16 @@ effect fs from vs tx w kept (Open (open_form.Swap callee) n) = swaps n from vs t
 effect fs from vs tx w kept (Close update.Swap) = swapped vs w kept tx
 effect fs from vs tx w kept _ = moves vs tx w kept
 
+-- Memory may run out before this comes: not before a fault of a cell of another kind, which is found before anything is made. That a ref was
+-- commuted is found behind the copy of its new value, and what an operation makes of its arguments behind theirs.
+abbrev pub MayRunOut : Effect → Type 0
+MayRunOut (moves vs tx w kept) = Unit {0}
+MayRunOut (stays vs tx w kept) = Unit {0}
+MayRunOut (waits p vs tx w kept) = Unit {0}
+MayRunOut (dispatches x n vs tx w kept) = Unit {0}
+MayRunOut (breaks k tx w kept) = k ≡ SetAfterCommute
+MayRunOut (falls f tx w kept) = Unit {0}
+
 -- what the machine's word says of such an instruction; running out of memory leaves what the transaction has done, and the commute that
 -- is open, as they were
 abbrev pub Comes : Moved → List Value → Transaction → PlainTxFrame → Option Commute → PlainTxFrame → Option Commute → Effect → Type 0
@@ -281,7 +292,7 @@ Comes (moved.Asks p) vs tx w kept was had e = e ≡ waits p vs tx w kept
 Comes (moved.Sends x n) vs tx w kept was had e = e ≡ dispatches x n vs tx w kept
 Comes (moved.Faults k) vs tx w kept was had e = e ≡ breaks k tx w kept
 Comes (moved.Falls f) vs tx w kept was had e = e ≡ falls f tx w kept
-Comes moved.Memory vs tx w kept was had e = (w ≡ was) × (kept ≡ had)
+Comes moved.Memory vs tx w kept was had e = (w ≡ was) × (kept ≡ had) × MayRunOut e
 
 -- The same, in few words; a transaction that begins does so from here, with these values. Running out of memory and what comes before it
 -- leave what the transaction has done, and the commute that is open, as they were.
@@ -292,7 +303,7 @@ ComesQuickly (quick.Opens c n) from vs tx w kept was had e = e ≡ waits (pendin
 ComesQuickly (quick.Begins left) from vs tx w kept was had e = (e ≡ waits (pending.Begin left from) vs tx w kept) × (vs ≡ from.stack.values) × (w ≡ was) × (kept ≡ had)
 ComesQuickly quick.Commits from vs tx w kept was had e = e ≡ waits pending.Commit vs tx w kept
 ComesQuickly (quick.Faults k) from vs tx w kept was had e = e ≡ breaks k tx w kept
-ComesQuickly quick.Memory from vs tx w kept was had e = (w ≡ was) × (kept ≡ had)
+ComesQuickly quick.Memory from vs tx w kept was had e = (w ≡ was) × (kept ≡ had) × MayRunOut e
 
 -- what isn't said so: all but reads, sets, the opens and closes of `alter`, and the beginning and the end of a transaction with no
 -- commutes

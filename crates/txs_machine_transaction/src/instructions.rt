@@ -13,6 +13,7 @@ ghost use Rattle.txs_value_data.specs.declared.value.CellId.{CellId as ACell};
 ghost use Rattle.txs_value_data.specs.declared.value.Value.{Value as AValue};
 ghost use Rattle.txs_value_cell.specs.declared.form.CellForm.TheVariants as form;
 ghost use Rattle.txs_value_cell.specs.declared.form.UpdateForm.TheVariants as update;
+ghost use Rattle.txs_machine_transaction.specs.declared.moved.Moved.TheVariants as moved;
 ghost use Rattle.txs_machine_transaction.specs.Effect.{Comes, ComesQuickly, IsRare, CanMove, effect, reads, ensures, update_of, opens, sets, resets, sends, swaps, swapped, closes, begins, settles, applying, goes_through, ends, Operates, LeftApply, IsForRefs};
 ghost use Rattle.txs_machine_transaction.specs.declared.state.Savepoint.{Savepoint as ASavepoint};
 ghost use Rattle.txs_machine_transaction.specs.declared.state.Transaction.{Transaction as ATransaction};
@@ -447,7 +448,8 @@ fn operate(alloc: Global, op: Op, phase: &Phase, frame: &TxFrame) -> Result<Valu
 #[tactic(auto, using(crate::proofs::Tasks::next_left, crate::proofs::Tasks::next_takes, crate::proofs::Tasks::next_operates, crate::proofs::Tasks::none_left, crate::proofs::Tasks::task_applied, crate::proofs::Tasks::task_faults))]
 fn go_through(alloc: Global, span: Span, phase: &mut Phase, frame: &TxFrame) -> Moved
     requires { Operates phase.old.work }
-    ensures { (left : ℕ) (stack : PlainStack) (vs : List AValue) (k : Option ACommute) → Comes result vs (applying left (record { span = span; stack = stack }) phase.new.work phase.new.values) frame.now k frame.now k (goes_through left (record { span = span; stack = stack }) vs frame.now k phase.old.work phase.old.values) }
+    ensures left { result ≡ moved.Memory → 0 < length phase.old.work }
+    ensures comes { (left : ℕ) (stack : PlainStack) (vs : List AValue) (k : Option ACommute) → Comes result vs (applying left (record { span = span; stack = stack }) phase.new.work phase.new.values) frame.now k frame.now k (goes_through left (record { span = span; stack = stack }) vs frame.now k phase.old.work phase.old.values) }
 {
     match phase.callee() {
         None => Moved::Asks(Pending::Commit),

@@ -13,7 +13,7 @@ use Rattle.txs_value_cell.specs.declared.cell.CellDefinition.{CellDefinition}
 use Rattle.txs_code_meaning.specs.Machine.{ThreadCode, Configuration, Turned, Asking, Unfinished, run}
 use Rattle.txs_code_meaning.specs.Opening.{opening}
 use Rattle.txs_code_meaning.specs.PlainCode.{CodeBody, PlainCode, thread_code, function_codes, library_of}
-use Rattle.txs_machine_actor.specs.PlainActor.{PlainActor, HasRun, own_body, code_of}
+use Rattle.txs_machine_actor.specs.PlainActor.{PlainActor, HasRun, own_body, code_of, stopped_at}
 use Rattle.txs_value_cell.specs.Agents.{agents_from}
 use Rattle.txs_world_book.proofs.Outcomes.{both}
 use Rattle.txs_world_book.specs.Book.{has_agent}
@@ -327,6 +327,7 @@ module _ (code : PlainCode) (limit : ℕ) (s : PlainShared) (same : s.cells ≡ 
     ended = rep.ended;
     printed = rep.printed;
     counted = rep.counted;
+    placed = subst (λ c. stopped_at c p.actor ≡ r.place) d.player.code_is rep.placed;
     traced = trace_so k p r d rep;
     undisturbed = all_undisturbed law code.cells (length code.threads) (books_of s) k (placed code.cells (books_of s) p.kept) d.hold;
     refused = all_refused refused code.cells (length code.threads) (books_of s) k (placed code.cells (books_of s) p.kept) d.hold;
@@ -344,6 +345,7 @@ module _ (code : PlainCode) (limit : ℕ) (s : PlainShared) (same : s.cells ≡ 
     ended = rep.ended;
     printed = rep.printed;
     counted = rep.counted;
+    placed = subst (λ c. stopped_at c p.actor ≡ r.place) d.player.code_is rep.placed;
     traced = trace_so k p r d rep;
     names = subst (TraceHolds (books_of s) k) (sym (trace_so k p r d rep)) d.traced;
     undisturbed = all_undisturbed law code.cells (length code.threads) (books_of s) k (placed code.cells (books_of s) p.kept) d.hold;

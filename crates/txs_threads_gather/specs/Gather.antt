@@ -7,7 +7,7 @@ use Rattle.txs_world_protocol.specs.declared.event.Outcome.TheVariants.{JournalF
 use Rattle.txs_value_data.specs.Limits.{most_events}
 use Rattle.txs_value_base.specs.Places.{nth}
 use Rattle.txs_code_meaning.specs.PlainCode.{PlainCode}
-use Rattle.txs_machine_actor.specs.PlainActor.{unanswered}
+use Rattle.txs_machine_actor.specs.PlainActor.{stopped_at, unanswered}
 use Rattle.txs_theorem_runs.specs.Shared.{book_for}
 use Rattle.txs_world_shared.specs.SharedState.{PlainShared, numbered_book}
 use Rattle.txs_threads_replay.specs.Entries.{entry_of}
@@ -66,6 +66,7 @@ pub record IsReportOf (s : PlainShared) (p : PlainPlayed) (ran : ActorReport) : 
   pub ended : p.actor.outcome ≡ ran.outcome
   pub printed : p.actor.printed ≡ ran.printed.items
   pub counted : p.actor.steps ≡ ran.steps
+  pub placed : stopped_at p.code p.actor ≡ ran.place
   pub traced : places_of ran.trace.items ≡ kept_trace s.cells p.kept
 
 -- one for each actor

@@ -153,14 +153,17 @@ fn report_of(
     ensures { IfOk result (λ ran. IsReportOf shared.now played.entry ran) }
 {
     let trace = trace_of(alloc, shared, played.kept())?;
+    let code = played.code();
     let actor = played.into_actor();
     let outcome = actor.outcome();
     let steps = actor.steps();
+    let place = actor.stopped_at(code);
     Ok(ActorReport {
         outcome,
         printed: actor.into_printed(),
         trace,
         steps,
+        place,
     })
 }
 

@@ -1,7 +1,7 @@
 //! What is reported of a run.
 
 use crate::event::{Event, Outcome, Place};
-use txs_value_base::Fault;
+use txs_value_base::{Fault, Span};
 use txs_value_data::{Listed, Value};
 
 /// What an actor did.
@@ -15,6 +15,9 @@ pub struct ActorReport {
     pub trace: Vec<Place>,
     /// How many steps it made.
     pub steps: u64,
+    /// Where in its script it was stopped, if it was: the span of the instruction that is next. There is none where it ended by itself, and none
+    /// of an agent's actor between two actions.
+    pub place: Option<Span>,
 }
 
 /// A report of a run, which needs nothing else: what each actor did, all events, and what the cells hold behind the run.

@@ -8,7 +8,7 @@ use Rattle.txs_machine.proofs.schedule.play_actor.Goals as goal
 
 -- one that has ended stays as it is
 pub returns-then-ended : goal.returns-then-ended
-returns-then-ended g c = thread_rests c.args.code.now c.args.k c.args.max_steps c.args.shared.now c.args.player.now c.requires.of c.requires.between (λ e. search (rules, e))
+returns-then-ended g c = thread_rests c.args.code.now c.args.k c.args.max_steps c.args.budget c.args.shared.now c.args.player.now c.requires.of c.requires.between (λ e. search (rules, e))
 
 pub go_on-requires-clause-may : goal.go_on-requires-clause-may
 go_on-requires-clause-may g c =
@@ -22,6 +22,6 @@ returns g c =
     let y = c.go_on.new.player in
     let h = c.requires.between in
     let going : x.actor.outcome ≡ None = search rules in
-    thread_plays c.args.code.now c.args.k c.args.max_steps c.args.shared.now x h going c.go_on.result c.go_on.new.shared y
+    thread_plays c.args.code.now c.args.k c.args.max_steps c.args.budget c.args.shared.now x h going c.go_on.result c.go_on.new.shared y
     (thread_round actors_run c.args.code.now c.args.k c.args.budget c.args.shared.now x.actor x.trace.items c.code-own_cells.ensures.own_cells h.free c.requires.of h.over
     c.requires.some (self_limited c.args.max_steps x.actor h.limited) served_is_told c.go_on.result c.go_on.new.shared y.actor y.trace.items c.go_on.ensures)

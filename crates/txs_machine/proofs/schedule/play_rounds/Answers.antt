@@ -1,40 +1,82 @@
-use Rattle.std.proofs.Common.{refl, ◌∙◌, arith}
+use Rattle.std.proofs.Common.{◌≡◌, ◌+◌, ◌-◌, length, refl, rules, ◌∙◌, arith}
+use Rattle.txs_machine.specs.Running.{ArePlaying}
+use Rattle.txs_machine.specs.Scheduled.{asks_from, ArePlays, AreRoundsIf, LeadRounds}
 use Rattle.txs_machine.proofs.Playing.{later_itself, later_than}
+use Rattle.txs_machine.proofs.Scheduled.{actors_all, before_later, first_round, none_on, rounds_lead, rounds_made, stays, still, then_on, unwanted}
 use Rattle.txs_machine.proofs.schedule.play_rounds.Goals as goal
 
 pub loop-k-init : goal.loop-k-init
-loop-k-init c = record { of = c.requires.of; playing = c.requires.playing; many = refl; agents = refl; later = later_itself c.args.players.now.threads.items }
+loop-k-init c = record { of = c.requires.of; plays = stays c.args.code.now c.args.max_steps c.args.shared.now c.args.players.now; many = refl; agents = refl; later = later_itself c.args.players.now.threads.items }
 
 pub first_live-requires-clause-playing : goal.first_live-requires-clause-playing
-first_live-requires-clause-playing c = (c.args.max_steps, c.loop-k.invariant.playing)
+first_live-requires-clause-playing c =
+    let l = c.loop-k in
+    (c.args.max_steps, still c.args.code.now c.args.max_steps (LeadRounds c.args.code.now c.args.max_steps) c.args.shared.now l.shared c.args.players.now l.players l.invariant.plays c.requires.playing)
+
+pub play_rest-requires-clause-playing : goal.play_rest-requires-clause-playing
+play_rest-requires-clause-playing c =
+    let l = c.loop-k in
+    still c.args.code.now c.args.max_steps (LeadRounds c.args.code.now c.args.max_steps) c.args.shared.now l.shared c.args.players.now l.players l.invariant.plays c.requires.playing
+
+pub play_rest-requires-clause-within : goal.play_rest-requires-clause-within
+play_rest-requires-clause-within c =
+    let i = c.loop-k.invariant in
+    let there = c.in-Some.ensures.there in
+    omega (arith, there, c.requires.many, i.many, i.agents)
+
+pub play_out-requires-clause-playing : goal.play_out-requires-clause-playing
+play_out-requires-clause-playing c =
+    let l = c.loop-k in
+    let h = still c.args.code.now c.args.max_steps (LeadRounds c.args.code.now c.args.max_steps) c.args.shared.now l.shared c.args.players.now l.players l.invariant.plays c.requires.playing in
+    still c.args.code.now c.args.max_steps (ArePlays c.args.code.now c.args.max_steps (asks_from c.in-Some.k (c.args.actors - c.in-Some.k))) l.shared c.play_rest.new.shared l.players c.play_rest.new.players c.play_rest.ensures.plays h
+
+pub play_out-requires-clause-before : goal.play_out-requires-clause-before
+play_out-requires-clause-before c = before_later c.in-Some.k c.loop-k.players.threads.items c.play_rest.new.players.threads.items c.play_rest.ensures.later c.in-Some.ensures.before
 
 pub loop-k-smaller : goal.loop-k-smaller
 loop-k-smaller c =
-    let p = c.play_at.ensures in
     let o = c.play_out.ensures in
     let r = c.play_rest.ensures in
-    let live = p.live c.in-Some.ensures.live in
-    omega (arith, live, o.left, r.left)
+    let live = c.in-Some.ensures.live in
+    let less = r.less live.0 live.1 live.2 in
+    omega (arith, less, o.left)
 
 pub loop-k-preserved : goal.loop-k-preserved
 loop-k-preserved c =
-    let p = c.play_at.ensures in
     let o = c.play_out.ensures in
     let r = c.play_rest.ensures in
-    let i = c.loop-k.invariant in
-    let first = c.args.players.now.threads.items in
-    let before = c.loop-k.players.threads.items in
-    let at = c.play_at.new.players.threads.items in
-    let out = c.play_out.new.players.threads.items in
-    let rest = c.play_rest.new.players.threads.items in
+    let l = c.loop-k in
+    let i = l.invariant in
+    let k = c.in-Some.k in
+    let found = c.in-Some.ensures in
+    let code = c.args.code.now in
+    let limit = c.args.max_steps in
+    let rest = c.play_rest.new.players in
+    let out = c.play_out.new.players in
     record {
-      of = r.of;
-      playing = r.playing;
-      many = r.many ∙ o.many ∙ p.many ∙ i.many;
-      agents = r.agents ∙ o.agents ∙ p.agents ∙ i.agents;
-      later = later_than first before rest i.later (later_than before at rest p.later (later_than at out rest o.later r.later));
+      of = o.of;
+      plays = then_on code limit (LeadRounds code limit) (LeadRounds code limit) (LeadRounds code limit) c.args.shared.now c.play_rest.new.shared c.play_out.new.shared c.args.players.now rest out (λ st us vs f g. rounds_lead code limit st us vs f g)
+          (then_on code limit (LeadRounds code limit) (LeadRounds code limit) (LeadRounds code limit) c.args.shared.now l.shared c.play_rest.new.shared c.args.players.now l.players rest (λ st us vs f g. rounds_lead code limit st us vs f g) i.plays
+          (λ turns h. (let a = r.plays turns h in (
+            a.0,
+            first_round code limit k found.live.0 c.args.actors l.shared l.players turns a.0 h (actors_all code limit l.shared l.players turns h c.args.actors (omega (arith, c.requires.many, i.many, i.agents)))
+                (let t = found.there in omega (arith, t, c.requires.many, i.many, i.agents)) found.there found.before found.live.2 a.1,
+            a.2,
+          )))) o.plays;
+      many = o.many ∙ r.many ∙ i.many;
+      agents = o.agents ∙ r.agents ∙ i.agents;
+      later = later_than c.args.players.now.threads.items l.players.threads.items out.threads.items i.later (later_than l.players.threads.items rest.threads.items out.threads.items r.later o.later);
     }
 
 -- where no rounds are wanted all is as it is
 pub returns-then-not-wanted-clause-later : goal.returns-then-not-wanted-clause-later
 returns-then-not-wanted-clause-later c = later_itself c.args.players.now.threads.items
+
+pub returns-then-not-wanted-clause-plays : goal.returns-then-not-wanted-clause-plays
+returns-then-not-wanted-clause-plays c =
+    none_on c.args.code.now c.args.max_steps (AreRoundsIf c.args.code.now c.args.max_steps c.args.wanted) c.args.shared.now c.args.players.now (λ st. unwanted c.args.code.now c.args.max_steps c.args.wanted st (search rules))
+
+pub returns-clause-plays : goal.returns-clause-plays
+returns-clause-plays c =
+    let l = c.loop-k in
+    rounds_made c.args.code.now c.args.max_steps c.args.wanted c.args.shared.now l.shared c.args.players.now l.players l.invariant.plays (search rules) (search rules) (search rules)

@@ -8,5 +8,5 @@ pub loop-agent-preserved : goal.loop-agent-preserved
 loop-agent-preserved c =
     let h = c.loop-agent in
     let x = c.in-Some.agent in
-    let more = reported_more (attendants h.yielded) h.rans.items x.player c.report_of.result h.invariant c.report_of.ensures in
-    subst (λ l. AreReported l c.push.new.self.items) (sym (attendants_append h.yielded x)) (subst (AreReported (attendants h.yielded ++ x.player ∷ [])) (sym c.in_ok-push.ensures.items) more)
+    let more = reported_more c.args.code.now (attendants h.yielded) h.rans.items x.player c.report_of.result h.invariant c.report_of.ensures in
+    subst (λ l. AreReported c.args.code.now l c.push.new.self.items) (sym (attendants_append h.yielded x)) (subst (AreReported c.args.code.now (attendants h.yielded ++ x.player ∷ [])) (sym c.in_ok-push.ensures.items) more)

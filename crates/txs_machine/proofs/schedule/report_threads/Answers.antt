@@ -7,4 +7,4 @@ pub loop-player-preserved : goal.loop-player-preserved
 loop-player-preserved c =
     let h = c.loop-player in
     let x = c.in-Some.player in
-    subst (AreReported (h.yielded ++ x ∷ [])) (sym c.in_ok-push.ensures.items) (reported_more h.yielded h.rans.items x c.report_of.result h.invariant c.report_of.ensures)
+    subst (AreReported c.args.code.now (h.yielded ++ x ∷ [])) (sym c.in_ok-push.ensures.items) (reported_more c.args.code.now h.yielded h.rans.items x c.report_of.result h.invariant c.report_of.ensures)

@@ -20,3 +20,6 @@ returns-clause-drained c = c.in_ok-report.ensures.says.drained
 
 pub returns-clause-all_explained : goal.returns-clause-all_explained
 returns-clause-all_explained c = c.in_ok-report.ensures.says.all_explained
+
+pub returns-clause-scheduled : goal.returns-clause-scheduled
+returns-clause-scheduled c = c.in_ok-report.ensures.says.scheduled

@@ -1,4 +1,4 @@
-use Rattle.std.proofs.Common.{◌≡◌, ◌∙◌, ◌∷◌, ◌++◌, [], List, Option, None, Ok, refl, sym, ap, true}
+use Rattle.std.proofs.Common.{◌≡◌, ◌∙◌, ◌∷◌, ◌++◌, [], List, Option, None, Some, Ok, refl, sym, subst, ap, true}
 use Rattle.txs_machine_loop.specs.Values.{below, last_of, under}
 use Rattle.txs_value_cell.specs.Forms.{rule, cell_of}
 use Rattle.txs_value_cell.specs.declared.form.CellForm.TheVariants as form
@@ -6,9 +6,15 @@ use Rattle.txs_value_cell.specs.declared.form.UpdateForm.TheVariants as update
 use Rattle.txs_frame.specs.Frame.{PlainTxFrame, commute_ref}
 use Rattle.txs_frame.specs.declared.frame.Commute.{Commute}
 use Rattle.txs_machine_stack.specs.PlainFrame.{PlainStack}
-use Rattle.txs_machine_transaction.specs.Effect.{moves, breaks, closes, keeps_cell}
+use Rattle.txs_machine_transaction.specs.Effect.{MayRunOut, moves, breaks, closes, keeps_cell}
+use Rattle.txs_value_data.specs.declared.value.CellId.{CellId}
 use Rattle.txs_value_data.specs.declared.value.Value.{Value}
+use Rattle.txs_machine_transaction.specs.declared.state.Transaction.{Transaction}
 use Rattle.txs_machine_transaction.proofs.instructions.keep.Goals as goal
+
+-- where the ref was found, memory may run out
+may : (vs : List Value) (tx : Transaction) (w : PlainTxFrame) (q : Option Commute) (o : Commute) (x : CellId) → q ≡ Some o → cell_of (rule (form.Update update.Alter)) true (under 1 vs) ≡ Ok x → MayRunOut (closes vs tx w q)
+may vs tx w q o x is e = subst (λ q. MayRunOut (closes vs tx w q)) (sym is) (subst (λ r. MayRunOut (keeps_cell o vs tx w r)) (sym e) tt)
 
 pub returns-in-Err-clause-comes : goal.returns-in-Err-clause-comes
 returns-in-Err-clause-comes c =
@@ -21,13 +27,22 @@ returns-in-Err-clause-comes c =
     ∙ ap (λ q. breaks c.in-Err.kind tx w q) (sym is)
 
 pub returns-in_default-copy_values-clause-comes : goal.returns-in_default-copy_values-clause-comes
-returns-in_default-copy_values-clause-comes c = (refl, sym c.in-Some.is)
+returns-in_default-copy_values-clause-comes c =
+    let vs = c.args.stack.now.values in
+    let e : cell_of (rule (form.Update update.Alter)) true (under 1 vs) ≡ Ok c.in-Ok.cell = sym (c.in-Ok.ensures ∙ ap (λ v. cell_of (rule (form.Update update.Alter)) true v) c.under.ensures) in
+    (refl, sym c.in-Some.is, may vs c.args.tx.now c.args.frame.now c.args.commuting.now c.in-Some.open c.in-Ok.cell c.in-Some.is e)
 
 pub returns-in_default-copy_value-clause-comes : goal.returns-in_default-copy_value-clause-comes
-returns-in_default-copy_value-clause-comes c = (refl, sym c.in-Some.is)
+returns-in_default-copy_value-clause-comes c =
+    let vs = c.args.stack.now.values in
+    let e : cell_of (rule (form.Update update.Alter)) true (under 1 vs) ≡ Ok c.in-Ok.cell = sym (c.in-Ok.ensures ∙ ap (λ v. cell_of (rule (form.Update update.Alter)) true v) c.under.ensures) in
+    (refl, sym c.in-Some.is, may vs c.args.tx.now c.args.frame.now c.args.commuting.now c.in-Some.open c.in-Ok.cell c.in-Some.is e)
 
 pub returns-in-Err-commute-clause-comes : goal.returns-in-Err-commute-clause-comes
-returns-in-Err-commute-clause-comes c = (c.in-Err-commute.ensures.same, sym c.in-Some.is)
+returns-in-Err-commute-clause-comes c =
+    let vs = c.args.stack.now.values in
+    let e : cell_of (rule (form.Update update.Alter)) true (under 1 vs) ≡ Ok c.in-Ok.cell = sym (c.in-Ok.ensures ∙ ap (λ v. cell_of (rule (form.Update update.Alter)) true v) c.under.ensures) in
+    (c.in-Err-commute.ensures.same, sym c.in-Some.is, may vs c.args.tx.now c.args.frame.now c.args.commuting.now c.in-Some.open c.in-Ok.cell c.in-Some.is e)
 
 pub returns-in-Ok-commute-clause-comes : goal.returns-in-Ok-commute-clause-comes
 returns-in-Ok-commute-clause-comes c =
