@@ -4,7 +4,8 @@
 # Its last line is 'N passed, M failed'.
 set -uo pipefail
 
-program="$(readlink -f "${1:-$(dirname "${BASH_SOURCE[0]}")/../crates/txs/out/txs}")"
+here="$(readlink -f "$(dirname "${BASH_SOURCE[0]}")/..")"
+program="$(readlink -f "${1:-$here/crates/txs/out/txs}")"
 top="$(mktemp -d)"
 trap 'rm -rf "$top"' EXIT
 cd "$top" || exit 1
@@ -71,6 +72,7 @@ is "a script that is refused writes nothing" "$(answer build bad.clj --out none.
 is "a script that isn't there" "$(answer run none.clj)" '|read failed|2'
 is "why, explained" "$(answer run none.clj --explain)" "$(printf '|read failed\nnone.clj: No such file or directory (os error 2)|2')"
 is "a script that is a folder" "$(answer run .)" '|read failed|2'
+is "why, explained" "$(answer run . --explain)" "$(printf '|read failed\n.: Is a directory (os error 21)|2')"
 is "output to a full device" "$("$program" run a.clj >/dev/full 2>errors; echo "$?|$(cat errors)")" '2|write failed'
 
 # ---- audits
@@ -99,6 +101,38 @@ is "more steps than an audit counts turns" "$(answer run --audit --steps 1000000
 is "a script that is refused is not audited" "$(printf '(future [1 2)' >unopened.clj; answer run --audit unopened.clj)" '|refused 3 Unopened at 12..13|1'
 is "a play of no actor is not audited" "$(answer schedule --audit --turns 7 a.clj)" '|run failed: NoActor|2'
 is "code is not audited" "$("$program" run --audit --code new.bin 2>&1 | head -n 1; echo "${PIPESTATUS[0]}")" "$(printf "error: the argument '--audit' cannot be used with '--code'\n2")"
+
+# ---- on a terminal, to which standard output and standard error go: there a line ends with a carriage return as well
+on_terminal() {
+  python3 -c 'import pty, sys; pty.spawn(sys.argv[1:])' "$program" "$@" </dev/null | tr -d '\r'
+}
+
+# The same, where standard output goes to a file.
+errors_on_terminal() {
+  # shellcheck disable=SC2016
+  python3 -c 'import pty, sys; pty.spawn(sys.argv[1:])' sh -c '"$@" >output' sh "$program" "$@" </dev/null | tr -d '\r'
+}
+
+# An explanation without its sentence.
+without_sentence() {
+  sed 's/^\([^ ]*:[0-9]*:[0-9]*:\) .*/\1/'
+}
+
+refused='refused 3 Unopened at 12..13'
+explained="$(printf '%s\nunopened.clj:1:13:\n(future [1 2)\n            ^' "$refused")"
+for words in "run unopened.clj" "unopened.clj" "check --explain=auto unopened.clj" "check --explain unopened.clj"; do
+  # shellcheck disable=SC2086
+  is "explained: $words" "$(on_terminal $words | without_sentence)" "$explained"
+done
+is "not with never" "$(on_terminal run --explain=never unopened.clj)" "$refused"
+is "explained where standard output is a file" "$(errors_on_terminal run unopened.clj | without_sentence)" "$explained"
+is "not where standard error is one" "$(python3 -c 'import pty, sys; pty.spawn(sys.argv[1:])' sh -c '"$@" 2>errors' sh "$program" run unopened.clj </dev/null; cat errors)" "$refused"
+is "a file that isn't there" "$(on_terminal none.clj)" "$(printf 'read failed\nnone.clj: No such file or directory (os error 2)')"
+is "code is not explained" "$(on_terminal schedule --code --turns x new.bin)" 'wrong list'
+is "a good end is not explained" "$(on_terminal a.clj)" '1'
+
+# ---- the kit by which the program is proved, as its page names it
+is "the kit" "$("$program" --version | grep -o 'rattle-kit-[0-9a-z]*')" "$(sed -n 's/^Kit: `\(rattle-kit-[0-9a-z]*\) .*/\1/p' "$here/README.md")"
 
 echo "$passed passed, $failed failed"
 [ "$failed" -eq 0 ]

@@ -1,4 +1,4 @@
-//! The program that runs scripts: `txs run [FILE]`, `txs schedule [FILE]`, `txs check [FILE]`, `txs dis [FILE]` and
+//! The program that runs scripts: `txs run [FILE]`, which is `txs FILE`, `txs schedule [FILE]`, `txs check [FILE]`, `txs dis [FILE]` and
 //! `txs build [FILE] --out F`.
 #![tactic(auto)]
 
@@ -7,7 +7,7 @@ ghost use Rattle.txs_cli_audit.specs.Audit.{IsRight};
 
 use std::alloc::Global;
 use std::fs::File;
-use std::io::{ErrorKind, Read, Write};
+use std::io::{ErrorKind, IsTerminal, Read, Write};
 use std::process::ExitCode;
 use std::sync::Wait;
 use std::thread::Threads;
@@ -21,13 +21,46 @@ use txs_program::play_by_workers;
 use txs_tree_meaning::Program;
 use txs_world_protocol::Report;
 
-/// The reader of a file that can't be opened.
+/// A file that is read, where it could be opened; and why it couldn't, or couldn't be read.
 #[derive(Drop)]
-struct Unreadable;
+struct Source {
+    file: Option<File>,
+    fault: Option<io::Error>,
+}
 
-impl Read for Unreadable {
-    fn read(&mut self, _buf: &mut [u8]) -> io::Result<usize> {
-        Err(io::Error::from(ErrorKind::NotFound))
+impl Source {
+    /// Opens the file of this name.
+    fn open(rt: &HostRuntime, name: &str) -> Source {
+        match File::open(rt, name) {
+            Ok(file) => Source {
+                file: Some(file),
+                fault: None,
+            },
+            Err(error) => Source {
+                file: None,
+                fault: Some(error),
+            },
+        }
+    }
+}
+
+impl Read for Source {
+    fn read(&mut self, buf: &mut [u8]) -> io::Result<usize> {
+        let Some(file) = &mut self.file else {
+            return Err(io::Error::from(ErrorKind::NotFound));
+        };
+        match file.read(buf) {
+            Ok(read) => {
+                // what was interrupted is read again
+                self.fault = None;
+                Ok(read)
+            }
+            Err(error) => {
+                let kind = error.kind();
+                self.fault = Some(error);
+                Err(io::Error::from(kind))
+            }
+        }
     }
 }
 
@@ -68,7 +101,7 @@ fn explains(request: &Request) -> bool {
     }
 }
 
-/// Says why a file couldn't be opened or written, where the request asks for explanations. The standard error may fail too: then the line
+/// Says why a file couldn't be opened, read or written, where the request asks for explanations. The standard error may fail too: then the line
 /// before it is all.
 fn explain_file(rt: &HostRuntime, request: &Request, name: &str, error: &io::Error) {
     if explains(request) {
@@ -107,30 +140,20 @@ fn play_on<
             &mut faults,
         );
     };
-    match File::open(rt, name) {
-        Ok(mut file) => play_by_workers(
-            threads,
-            alloc,
-            auditor,
-            request,
-            &mut file,
-            writer,
-            &mut faults,
-        ),
-        Err(error) => {
-            let status = play_by_workers(
-                threads,
-                alloc,
-                auditor,
-                request,
-                &mut Unreadable,
-                writer,
-                &mut faults,
-            );
-            explain_file(rt, request, name, &error);
-            status
-        }
+    let mut source = Source::open(rt, name);
+    let status = play_by_workers(
+        threads,
+        alloc,
+        auditor,
+        request,
+        &mut source,
+        writer,
+        &mut faults,
+    );
+    if let Some(error) = &source.fault {
+        explain_file(rt, request, name, error);
     }
+    status
 }
 
 /// Whether a file is there that isn't made of bytes on a disk, as a pipe or a device.
@@ -284,7 +307,8 @@ fn unread(rt: &HostRuntime, error: &io::Error) -> u8 {
 /// What the command line asks for.
 fn request_of(rt: &HostRuntime) -> io::Result<Request> {
     let args = args_of(rt)?;
-    Ok(parse_words(rt.alloc(), args.as_slice())?)
+    let is_terminal = rt.stderr().is_terminal();
+    Ok(parse_words(rt.alloc(), args.as_slice(), is_terminal)?)
 }
 
 fn main(rt: HostRuntime) -> ExitCode {

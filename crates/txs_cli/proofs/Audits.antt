@@ -1,6 +1,6 @@
 -- What is told of a run and its audit is told of the script whose code has run.
 use Rattle.std.proofs.Common.{◌++◌, ◌∙◌, ℕ, List, ap, append_assoc, sym}
-use Rattle.txs_cli.specs.Audited.{AuditedRunTells, AuditedTells, of_run}
+use Rattle.txs_cli.specs.Audited.{AuditedRunTells, AuditedTells, Way, of_run}
 use Rattle.txs_cli_audit.specs.Audit.{AuditTells, audit_line, of_answer, of_none}
 use Rattle.txs_audit_answer.specs.declared.verdict.AuditError.{AuditError}
 use Rattle.txs_cli_report.specs.Lines.{Script}
@@ -12,10 +12,10 @@ use Rattle.txs_tree_meaning.specs.View.{Parts, program_of}
 use Rattle.txs_world_protocol.specs.declared.report.Report.{Report}
 
 -- the script's program explains the run
-pub of_audited : (unrun : PlainCode → Told → Type 0) (unaudited : Parts → Report → AuditError → Type 0) (script : Script) (o : RunOptions) (t : Told) (parts : Parts) (code : PlainCode)
-    → IsCompiled script.text (program_of parts) code → AuditedRunTells (unaudited parts) parts code script o t → AuditedTells unrun unaudited script o t
-of_audited unrun unaudited script o t parts code compiled told =
-    of_run parts code compiled told (told.worked.explained (program_of parts) (sym compiled.same) compiled.follows compiled.agents compiled.sends compiled.agents_send)
+pub of_audited : (way : Way) (unaudited : Parts → Report → AuditError → Type 0) (script : Script) (o : RunOptions) (t : Told) (parts : Parts) (code : PlainCode)
+    → IsCompiled script.text (program_of parts) code → way.ran code → AuditedRunTells (unaudited parts) parts code script o t → AuditedTells way unaudited script o t
+of_audited way unaudited script o t parts code compiled may told =
+    of_run parts code compiled may told (told.worked.explained (program_of parts) (sym compiled.same) compiled.follows compiled.agents compiled.sends compiled.agents_send)
 
 -- what is told of an audit behind some lines is told of it behind what the threads printed and these lines
 pub audit_behind : (failed : AuditError → Type 0) (script : Script) (v : Verdict) (bytes : List ℕ) (before t : Told) → AuditTells failed script v before t → AuditTells failed script v (behind_bytes bytes before) (behind_bytes bytes t)

@@ -6,7 +6,7 @@ use Rattle.txs_machine.specs.declared.run_error.RunError.{RunError}
 use Rattle.txs_machine.specs.declared.schedule.Play.{Play}
 use Rattle.txs_world_shared.specs.SharedState.{numbered_book}
 use Rattle.txs_cli_report.specs.Lines.{Script, all_printed}
-use Rattle.txs_cli_report.specs.Told.{Told, EndsTold, IsCompiled, RunTells, TurnsTell, cells_told, events_told, of_none, of_turns}
+use Rattle.txs_cli_report.specs.Told.{Told, EndsTold, IsCompiled, NoActorTold, RunTells, TurnsTell, cells_told, events_told, of_none, of_turns}
 use Rattle.txs_cli.specs.CodeTold as turns_told
 use Rattle.txs_cli.specs.CodeTold.{CodeTells, Ran, no_script}
 use Rattle.txs_cli.specs.CodeWorkersTold as code_told
@@ -53,4 +53,5 @@ pub code_by_turns : (bytes : List ℕ) (code : PlainCode) (script : Script) (pla
     → IsFormOf bytes code → script ≡ no_script → TurnsTell code script plays steps cells events t → CodeTells bytes t (Ran plays steps cells events)
 code_by_turns bytes code script plays steps cells events t of none (of_turns s state named told) =
     turns_told.of_run plays steps cells events told.ran code s of state named (subst (λ (x : Script). RunTells code x steps s told.ran) none told.told) told.output told.errors told.status
-code_by_turns bytes code script plays steps cells events t of none (of_none unnamed output errors status) = turns_told.of_no_actor plays steps cells events code of unnamed output errors status
+code_by_turns bytes code script plays steps cells events t of none (of_none unnamed output errors status) =
+    turns_told.of_no_actor plays steps cells events code of unnamed output (subst (λ (x : Script). NoActorTold x.file t.errors) none errors) status

@@ -1,11 +1,11 @@
 -- What the program tells of a script whose run is audited.
-use Rattle.std.specs.Prelude.{◌≡◌, ◌^◌, ℕ, nat_lt, false, List, [], ◌∷◌, ◌++◌, codes, if◌then◌else◌}
+use Rattle.std.specs.Prelude.{◌≡◌, ◌^◌, ℕ, nat_lt, true, false, List, [], ◌∷◌, ◌++◌, codes, if◌then◌else◌, Option}
 use Rattle.std.specs.declared.result.Result.TheVariants.{Ok}
 use Rattle.txs_cli_audit.specs.Audit.{AuditTells}
 use Rattle.txs_audit_answer.specs.declared.verdict.AuditError.{AuditError}
 use Rattle.txs_cli_plays.specs.Plays.{plays_in}
 use Rattle.txs_cli_report.specs.Lines.{Script}
-use Rattle.txs_cli_report.specs.Told.{Told, Wanted, ScriptTells, IsCompiled, ReportTells, ListTells, list_name}
+use Rattle.txs_cli_report.specs.Told.{Told, Wanted, ScriptTells, IsCompiled, ReportTells, ListTells, NoActorTold, list_name}
 use Rattle.txs_cli_request.specs.declared.request.RunOptions.{RunOptions}
 use Rattle.txs_code_meaning.specs.PlainCode.{PlainCode}
 use Rattle.txs_machine.specs.Agents.{actors_of}
@@ -47,31 +47,44 @@ pub record AuditedRunTells (unaudited : Report → AuditError → Type 0) (parts
   pub of : IsRunReport shared entries report
   pub audited : AuditTells (unaudited report) script (verdict (program_of parts) (report_as report) (audit_turns o.steps)) ran t
 
+-- A way to run code: what is so of code that has run in it, and what is told of code in place of a run.
+pub record Way : Type 1 where
+  pub ran : PlainCode → Type 0
+  pub unrun : PlainCode → Told → Type 0
+
 -- What is told of a script that is to run and to be audited: of its run, which its program explains, and of the audit; that the script is refused; or
 -- what is told in place of a run.
-pub data AuditedTells (unrun : PlainCode → Told → Type 0) (unaudited : Parts → Report → AuditError → Type 0) (script : Script) (o : RunOptions) (t : Told) : Type 0 where
+pub data AuditedTells (way : Way) (unaudited : Parts → Report → AuditError → Type 0) (script : Script) (o : RunOptions) (t : Told) : Type 0 where
   of_run :
-      (parts : Parts) (code : PlainCode) (compiled : IsCompiled script.text (program_of parts) code) (told : AuditedRunTells (unaudited parts) parts code script o t)
-      (explained : ExplainsAll (program_of parts) (shared_of told.shared) told.entries.threads.items told.entries.agents.items) → AuditedTells unrun unaudited script o t
-  of_refused : (told : (wanted : Wanted) → ScriptTells script t wanted) → AuditedTells unrun unaudited script o t
-  of_unrun : (parts : Parts) (code : PlainCode) (compiled : IsCompiled script.text (program_of parts) code) (told : unrun code t) → AuditedTells unrun unaudited script o t
+      (parts : Parts) (code : PlainCode) (compiled : IsCompiled script.text (program_of parts) code) (may : way.ran code) (told : AuditedRunTells (unaudited parts) parts code script o t)
+      (explained : ExplainsAll (program_of parts) (shared_of told.shared) told.entries.threads.items told.entries.agents.items) → AuditedTells way unaudited script o t
+  of_refused : (told : (wanted : Wanted) → ScriptTells script t wanted) → AuditedTells way unaudited script o t
+  of_unrun : (parts : Parts) (code : PlainCode) (compiled : IsCompiled script.text (program_of parts) code) (told : way.unrun code t) → AuditedTells way unaudited script o t
 
 -- in place of a run by workers: why it has no report, where what runs code may have failed so
 abbrev pub IsUnworked : (PlainCode → RunError → Type 0) → PlainCode → Told → Type 0
 IsUnworked failed code t = (failure : RunError) × failed code failure × FailureTells failure t
 
 -- in place of a run by these plays: that one names no actor
-abbrev pub IsUnplayed : List Play → PlainCode → Told → Type 0
-IsUnplayed plays code t = (all_named (actors_of code) plays ≡ false) × (t.output ≡ []) × (t.errors ≡ codes "run failed: NoActor" ++ codes "\n") × (t.status ≡ 2)
+abbrev pub IsUnplayed : List Play → Option (List ℕ) → PlainCode → Told → Type 0
+IsUnplayed plays file code t = (all_named (actors_of code) plays ≡ false) × (t.output ≡ []) × NoActorTold file t.errors × (t.status ≡ 2)
+
+-- by workers any code runs
+abbrev pub by_workers : (PlainCode → RunError → Type 0) → Way
+by_workers failed = record { ran = λ code. Unit {0}; unrun = IsUnworked failed }
+
+-- by plays code runs whose actors they name
+abbrev pub by_plays : List Play → Option (List ℕ) → Way
+by_plays plays file = record { ran = λ code. all_named (actors_of code) plays ≡ true; unrun = IsUnplayed plays file }
 
 -- What is told of a stream whose front is the script: that it couldn't be read, that there was no memory, or what is told of the script.
-pub data StreamAuditedTells (unrun : PlainCode → Told → Type 0) (unaudited : Parts → Report → AuditError → Type 0) (script : Script) (o : RunOptions) (t : Told) : Type 0 where
-  of_script : (told : AuditedTells unrun unaudited script o t) → StreamAuditedTells unrun unaudited script o t
-  of_unread : (output : t.output ≡ []) (errors : t.errors ≡ codes "read failed" ++ codes "\n") (status : t.status ≡ 2) → StreamAuditedTells unrun unaudited script o t
-  of_memory : (output : t.output ≡ []) (errors : t.errors ≡ codes "out of memory\n") (status : t.status ≡ 4) → StreamAuditedTells unrun unaudited script o t
+pub data StreamAuditedTells (way : Way) (unaudited : Parts → Report → AuditError → Type 0) (script : Script) (o : RunOptions) (t : Told) : Type 0 where
+  of_script : (told : AuditedTells way unaudited script o t) → StreamAuditedTells way unaudited script o t
+  of_unread : (output : t.output ≡ []) (errors : t.errors ≡ codes "read failed" ++ codes "\n") (status : t.status ≡ 2) → StreamAuditedTells way unaudited script o t
+  of_memory : (output : t.output ≡ []) (errors : t.errors ≡ codes "out of memory\n") (status : t.status ≡ 4) → StreamAuditedTells way unaudited script o t
 
 -- What is told of a script that is to run by a list of plays and to be audited: what is told of its run by them, or of the list, and nothing is read.
 pub data ScheduleAuditedTells (turns : List ℕ) (unaudited : Parts → Report → AuditError → Type 0) (script : Script) (o : RunOptions) (t : Told) : Type 0 where
   of_plays :
-      (plays : List Play) (read : plays_in turns ≡ Ok plays) (told : StreamAuditedTells (IsUnplayed plays) unaudited script o t) → ScheduleAuditedTells turns unaudited script o t
+      (plays : List Play) (read : plays_in turns ≡ Ok plays) (told : StreamAuditedTells (by_plays plays script.file) unaudited script o t) → ScheduleAuditedTells turns unaudited script o t
   of_list : (told : ListTells turns (list_name script.file) t) → ScheduleAuditedTells turns unaudited script o t

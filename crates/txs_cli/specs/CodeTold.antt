@@ -15,7 +15,7 @@ use Rattle.txs_machine.specs.declared.schedule.Play.{Play}
 use Rattle.txs_cli_plays.specs.Plays.{plays_in}
 use Rattle.txs_world_shared.specs.SharedState.{PlainShared, numbered_book}
 use Rattle.txs_cli_report.specs.Lines.{Script}
-use Rattle.txs_cli_report.specs.Told.{Told, RunTells, ListTells, cells_told, events_told}
+use Rattle.txs_cli_report.specs.Told.{Told, RunTells, ListTells, NoActorTold, cells_told, events_told}
 use Rattle.txs_verify.specs.Errors.{verify_number, verify_name}
 use Rattle.txs_verify.specs.declared.error.BodyName.{BodyName}
 use Rattle.txs_verify.specs.declared.error.BodyName.TheVariants.{Function, Thread, Cell}
@@ -69,7 +69,7 @@ pub data CodeTells (bytes : List ℕ) (t : Told) : CodeWanted → Type 0 where
       → CodeTells bytes t (Ran plays steps with_cells with_events)
   of_no_actor :
       (plays : List Play) (steps : ℕ) (with_cells with_events : Bool) (code : PlainCode) (of : IsFormOf bytes code) (unnamed : all_named (actors_of code) plays ≡ false)
-      (output : t.output ≡ []) (errors : t.errors ≡ codes "run failed: NoActor" ++ codes "\n") (status : t.status ≡ 2) → CodeTells bytes t (Ran plays steps with_cells with_events)
+      (output : t.output ≡ []) (errors : NoActorTold None t.errors) (status : t.status ≡ 2) → CodeTells bytes t (Ran plays steps with_cells with_events)
 
 -- What is told of a stream of such bytes: that it couldn't be read, what is told of the bytes, or that there was no memory.
 pub data BytesTell (bytes : List ℕ) (wanted : CodeWanted) (t : Told) : Type 0 where

@@ -6,7 +6,7 @@ use Rattle.txs_machine.specs.declared.run_error.RunError.{RunError}
 use Rattle.txs_cli_report.specs.Lines.{Script}
 use Rattle.txs_cli_report.specs.Told.{Told, Tells, ScheduleTells, front}
 use Rattle.txs_cli_report.specs.Told as wanted
-use Rattle.txs_cli.specs.Audited.{IsUnworked, ScheduleAuditedTells, StreamAuditedTells, audit_turns}
+use Rattle.txs_cli.specs.Audited.{by_workers, ScheduleAuditedTells, StreamAuditedTells, audit_turns}
 use Rattle.txs_cli.specs.CodeWorkersTold.{StreamWorkedCodeTells}
 use Rattle.txs_cli.specs.WorkersTold.{StreamWorkedTells}
 use Rattle.txs_cli.specs.CodeTold.{Listed, BytesTell, BytesScheduleTell}
@@ -76,7 +76,7 @@ audit_workers = 4
 -- what is told of an input that workers are to run, and whose report is to be audited, where it is a script: code in its byte form can't be audited
 abbrev pub WorkAuditTells : (PlainCode → RunError → Type 0) → (Parts → Report → AuditError → Type 0) → Bool → List ℕ → Input → RunOptions → Told → Type 0
 WorkAuditTells failed unaudited true bytes input o t = t ≡ wrong_use
-WorkAuditTells failed unaudited false bytes input o t = StreamAuditedTells (IsUnworked failed) unaudited (script_in bytes input) o t
+WorkAuditTells failed unaudited false bytes input o t = StreamAuditedTells (by_workers failed) unaudited (script_in bytes input) o t
 
 -- the same of an input that is to run by this list of plays
 abbrev pub TurnsAuditTells : (Parts → Report → AuditError → Type 0) → Bool → List ℕ → Input → List ℕ → RunOptions → Told → Type 0

@@ -1,7 +1,7 @@
 //! Code whose one actor has nobody to run beside goes on in turn, and starts no worker.
 
-ghost use Rattle.std.specs.Prelude.{◌≡◌, ◌≤◌, length, false, IsTrue, IfOk, IfErr};
-ghost use Rattle.txs_machine.specs.Agents.{actors_of};
+ghost use Rattle.std.specs.Prelude.{◌≡◌, ◌≤◌, length, true, false, [], IsTrue, IfOk, IfErr};
+ghost use Rattle.txs_machine.specs.Agents.{actors_of, agents_of};
 ghost use Rattle.txs_machine.specs.Schedule.{all_named, spread};
 ghost use Rattle.txs_machine.specs.declared.run_error.RunError.TheVariants.{Memory};
 ghost use Rattle.txs_machine.specs.declared.schedule.ScheduleError.TheVariants.{NoActor};
@@ -12,23 +12,16 @@ use std::alloc::Global;
 use txs_cli_report::script::open_state;
 use txs_code_meaning::Verified;
 use txs_machine::{Entries, Repeated, RunError, ScheduleError, run_repeated};
-use txs_value_data::CellKind;
+use txs_value_cell::count_agents;
 use txs_world_shared::SharedState;
 
-/// Whether the code has one thread at most, and no agent.
+/// Whether the code has one actor at most, a thread: no agent.
 fn is_alone(code: &Verified) -> bool
-    ensures { IsTrue result → length code.now.threads ≤ 1 }
+    ensures threads { IsTrue result → length code.now.threads ≤ 1 }
+    ensures agents { IsTrue result → agents_of code.now ≡ [] }
 {
     let code = code.code();
-    if code.threads().len() > 1 {
-        return false;
-    }
-    for cell in code.cells() {
-        if let CellKind::Agent = cell.kind {
-            return false;
-        }
-    }
-    true
+    code.threads().len() <= 1 && count_agents(code.cells()) == 0
 }
 
 /// Runs all threads and agents of the code by these plays and then in rounds.
@@ -44,6 +37,7 @@ pub(crate) fn run_plays(
     requires runnable { IsRunnable code.now }
     requires few { length code.now.threads ≤ 64 }
     ensures lawful { IfOk result (λ ran. IsWorked code.now steps ran.0 ran.1) }
+    ensures named { IfOk result (λ ran. all_named (actors_of code.now) (spread plays.now) ≡ true) }
     ensures unnamed { IfErr result (λ e. e ≡ NoActor → all_named (actors_of code.now) (spread plays.now) ≡ false) }
 {
     let mut shared = open_state(alloc, code)?;

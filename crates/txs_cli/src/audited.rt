@@ -1,10 +1,10 @@
 //! What is told of a script whose run is audited, be it by workers or by turns.
 
 ghost use Rattle.std.specs.Prelude.{◌≡◌, IfOk};
-ghost use Rattle.txs_cli.specs.Audited.{AuditedRunTells, AuditedTells, IsUnplayed, IsUnworked, audit_turns};
+ghost use Rattle.txs_cli.specs.Audited.{AuditedRunTells, AuditedTells, by_plays, by_workers, audit_turns};
 ghost use Rattle.txs_cli.specs.Runner.{HasFailed, IsRunnable, IsWorked, RunsLawfully};
 ghost use Rattle.txs_cli_audit.specs.Audit.{HasNoAnswer, IsRight};
-ghost use Rattle.txs_cli_report.specs.Lent.{script_of, told_of};
+ghost use Rattle.txs_cli_report.specs.Lent.{script_of, text_in, told_of};
 ghost use Rattle.txs_cli_report.specs.Told.{IsCompiled};
 ghost use Rattle.txs_code_decode.specs.CodeForm.{HasForm};
 ghost use Rattle.txs_machine.specs.Schedule.{spread};
@@ -19,7 +19,8 @@ use txs_audit_answer::{AuditError, Verdict};
 use txs_cli_audit::{Audited, add_audit};
 use txs_cli_report::explain::Script;
 use txs_cli_report::script::report_lines;
-use txs_cli_report::told::{Told, UNUSABLE, complaint, refused};
+use txs_cli_report::told::{Told, refused};
+use txs_cli_report::unnamed::no_actor;
 use txs_code_meaning::Verified;
 use txs_compile::compile;
 use txs_machine::{Entries, Repeated, RunError, ScheduleError};
@@ -86,7 +87,7 @@ fn work_compiled<
     requires right { (a : _) (p : _) (r : _) (n : _) (w : _) (v : _) → A.post auditor.now a p r n w v → IsRight p.now r.now n v }
     requires compiled { IsCompiled script.text.now (program_of compiled.now.0) compiled.now.1 }
     requires form { HasForm compiled.now.1 }
-    ensures { IfOk result (λ t. AuditedTells (IsUnworked (λ code. HasFailed (X.post runner.now) code working.workers working.options.steps))
+    ensures { IfOk result (λ t. AuditedTells (by_workers (λ code. HasFailed (X.post runner.now) code working.workers working.options.steps))
         (λ p r e. HasNoAnswer (A.post auditor.now) p r (audit_turns working.options.steps) working.workers e) (script_of script.entry) working.options (told_of t)) }
 {
     match run_all(alloc, runner, &compiled.1, working) {
@@ -102,18 +103,21 @@ fn play_compiled<A: Fn(Global, &Program, &Report, u32, usize) -> Result<Verdict,
     script: Script<'_>,
     compiled: &(Program, Verified),
     plays: &[Repeated],
+    turns: &str,
     working: Working,
 ) -> Result<Told, AllocError>
     requires audit { (a : _) (p : _) (r : _) (n : _) (w : _) → A.pre auditor.now a p r n w }
     requires right { (a : _) (p : _) (r : _) (n : _) (w : _) (v : _) → A.post auditor.now a p r n w v → IsRight p.now r.now n v }
     requires compiled { IsCompiled script.text.now (program_of compiled.now.0) compiled.now.1 }
     requires form { HasForm compiled.now.1 }
-    ensures { IfOk result (λ t. AuditedTells (IsUnplayed (spread plays.now))
+    ensures { IfOk result (λ t. AuditedTells (by_plays (spread plays.now) (text_in script.entry.file))
         (λ p r e. HasNoAnswer (A.post auditor.now) p r (audit_turns working.options.steps) working.workers e) (script_of script.entry) working.options (told_of t)) }
 {
     match run_plays(alloc, &compiled.1, plays, working.options.steps) {
         Ok(ran) => audit_run(alloc, auditor, script, compiled, ran, working),
-        Err(ScheduleError::NoActor) => complaint(alloc, UNUSABLE, "run failed: NoActor"),
+        Err(ScheduleError::NoActor) => {
+            no_actor(alloc, script.file, turns, plays, compiled.1.code())
+        }
         Err(ScheduleError::Memory) => Err(AllocError),
     }
 }
@@ -133,7 +137,7 @@ pub(crate) fn work_audited<
     requires ran { (a : _) (code : _) (n : _) (steps : _) (r : _) → X.post runner.now a code n steps r → RunsLawfully code.now steps r }
     requires audit { (a : _) (p : _) (r : _) (n : _) (w : _) → A.pre auditor.now a p r n w }
     requires right { (a : _) (p : _) (r : _) (n : _) (w : _) (v : _) → A.post auditor.now a p r n w v → IsRight p.now r.now n v }
-    ensures { IfOk result (λ t. AuditedTells (IsUnworked (λ code. HasFailed (X.post runner.now) code working.workers working.options.steps))
+    ensures { IfOk result (λ t. AuditedTells (by_workers (λ code. HasFailed (X.post runner.now) code working.workers working.options.steps))
         (λ p r e. HasNoAnswer (A.post auditor.now) p r (audit_turns working.options.steps) working.workers e) (script_of script.entry) working.options (told_of t)) }
 {
     match compile(alloc, script.text) {
@@ -150,15 +154,16 @@ pub(crate) fn play_audited<
     auditor: &A,
     script: Script<'_>,
     plays: &[Repeated],
+    turns: &str,
     working: Working,
 ) -> Result<Told, AllocError>
     requires audit { (a : _) (p : _) (r : _) (n : _) (w : _) → A.pre auditor.now a p r n w }
     requires right { (a : _) (p : _) (r : _) (n : _) (w : _) (v : _) → A.post auditor.now a p r n w v → IsRight p.now r.now n v }
-    ensures { IfOk result (λ t. AuditedTells (IsUnplayed (spread plays.now))
+    ensures { IfOk result (λ t. AuditedTells (by_plays (spread plays.now) (text_in script.entry.file))
         (λ p r e. HasNoAnswer (A.post auditor.now) p r (audit_turns working.options.steps) working.workers e) (script_of script.entry) working.options (told_of t)) }
 {
     match compile(alloc, script.text) {
-        Ok(compiled) => play_compiled(alloc, auditor, script, &compiled, plays, working),
+        Ok(compiled) => play_compiled(alloc, auditor, script, &compiled, plays, turns, working),
         Err(error) => refused(alloc, script, &error),
     }
 }

@@ -1,7 +1,7 @@
 //! Reads a script that is to run and to be audited, and writes what is told of it.
 
 ghost use Rattle.std.specs.Prelude.{IfSome};
-ghost use Rattle.txs_cli.specs.Audited.{IsUnplayed, IsUnworked, ScheduleAuditedTells, StreamAuditedTells, audit_turns};
+ghost use Rattle.txs_cli.specs.Audited.{by_plays, by_workers, ScheduleAuditedTells, StreamAuditedTells, audit_turns};
 ghost use Rattle.txs_cli.specs.Runner.{HasFailed, IsRunnable, RunsLawfully};
 ghost use Rattle.txs_cli_audit.specs.Audit.{HasNoAnswer, IsRight};
 ghost use Rattle.txs_cli_report.specs.Lent.{text_in};
@@ -47,7 +47,7 @@ pub(crate) fn work_stream<
     requires ran { (a : _) (code : _) (n : _) (steps : _) (r : _) → X.post runner.now a code n steps r → RunsLawfully code.now steps r }
     requires audit { (a : _) (p : _) (r : _) (n : _) (w : _) → A.pre auditor.now a p r n w }
     requires right { (a : _) (p : _) (r : _) (n : _) (w : _) (v : _) → A.post auditor.now a p r n w v → IsRight p.now r.now n v }
-    ensures { IfSome (R.remaining reader.old) (λ input. (t : PlainTold) × StreamAuditedTells (IsUnworked (λ code. HasFailed (X.post runner.now) code working.workers working.options.steps))
+    ensures { IfSome (R.remaining reader.old) (λ input. (t : PlainTold) × StreamAuditedTells (by_workers (λ code. HasFailed (X.post runner.now) code working.workers working.options.steps))
         (λ p r e. HasNoAnswer (A.post auditor.now) p r (audit_turns working.options.steps) working.workers e) (record { text = front input; file = text_in file.entry }) working.options t
         × Written (W.contents writer.old) (W.contents writer.new) (F.contents faults.old) (F.contents faults.new) t result) }
 {
@@ -71,6 +71,7 @@ fn play_stream<
     alloc: Global,
     auditor: &A,
     plays: &[Repeated],
+    turns: &str,
     working: Working,
     file: Option<&str>,
     reader: &mut R,
@@ -79,14 +80,14 @@ fn play_stream<
 ) -> u8
     requires audit { (a : _) (p : _) (r : _) (n : _) (w : _) → A.pre auditor.now a p r n w }
     requires right { (a : _) (p : _) (r : _) (n : _) (w : _) (v : _) → A.post auditor.now a p r n w v → IsRight p.now r.now n v }
-    ensures { IfSome (R.remaining reader.old) (λ input. (t : PlainTold) × StreamAuditedTells (IsUnplayed (spread plays.now))
+    ensures { IfSome (R.remaining reader.old) (λ input. (t : PlainTold) × StreamAuditedTells (by_plays (spread plays.now) (text_in file.entry))
         (λ p r e. HasNoAnswer (A.post auditor.now) p r (audit_turns working.options.steps) working.workers e) (record { text = front input; file = text_in file.entry }) working.options t
         × Written (W.contents writer.old) (W.contents writer.new) (F.contents faults.old) (F.contents faults.new) t result) }
 {
     match read_bytes(alloc, reader) {
         Ok(bytes) => {
             let text = bytes.as_slice();
-            let told = play_audited(alloc, auditor, Script { text, file }, plays, working);
+            let told = play_audited(alloc, auditor, Script { text, file }, plays, turns, working);
             write_answer(told, writer, faults)
         }
         Err(fault) => write_answer(unread(alloc, fault), writer, faults),
@@ -119,7 +120,9 @@ pub(crate) fn schedule_stream<
     match read_plays(alloc, turns) {
         Ok(plays) => {
             let plays = plays.as_slice();
-            play_stream(alloc, auditor, plays, working, file, reader, writer, faults)
+            play_stream(
+                alloc, auditor, plays, turns, working, file, reader, writer, faults,
+            )
         }
         Err(ListError::Wrong(wrong)) => refuse_list(alloc, turns, wrong, file, writer, faults),
         Err(ListError::Memory) => write_told(&[], b"out of memory\n", SPENT, writer, faults),

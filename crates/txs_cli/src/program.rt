@@ -145,7 +145,7 @@ pub fn play<R: Read, W: Write, F: Write>(
     ensures { IfSome (R.remaining reader.old) (λ input. (t : Told) × ArgsTell input t
         × Written (W.contents writer.old) (W.contents writer.new) (F.contents faults.old) (F.contents faults.new) t result) }
 {
-    match parse_words(alloc, args) {
+    match parse_words(alloc, args, false) {
         Ok(request) => {
             let status = play_words(alloc, &request, reader, writer, faults);
             drop(request);

@@ -57,7 +57,7 @@ fn run_bytes(
     ensures { IfOk result (λ t. CodeTells bytes.now (told_of t) (Ran (spread plays.now) options.steps options.cells options.events)) }
 {
     match load_verified(alloc, bytes) {
-        Ok(code) => run_by_turns(alloc, no_script(), &code, plays, options),
+        Ok(code) => run_by_turns(alloc, no_script(), &code, plays, "", options),
         Err(error) => refused(alloc, error),
     }
 }

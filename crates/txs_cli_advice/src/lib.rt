@@ -1,20 +1,22 @@
-//! What to do about a line on the standard error, in a sentence: one for each kind of refusal, fault and stop; and for a refusal,
-//! where that is known, one about what is at its span: a name of clojure.core, a form of another shape, a sign or a number that the
-//! profile leaves out, a call with a wrong count of arguments. For a value that a validator refused: which cells may be meant.
+//! What to do about a line on the standard error, in a sentence: one for each kind of refusal, fault and stop; and for a refusal or a
+//! fault, where that is known, one about what is at its span: a name of clojure.core, a name that is near to a known one, a form of
+//! another shape, a bracket that is open, a wrong count of arguments, a value of another kind. For a value that a validator refused:
+//! which cells may be meant.
 #![tactic(auto)]
 
-mod clojure;
+pub mod checked;
+mod found;
 pub mod kinds;
-pub mod refused;
-mod rows;
-mod script;
-mod sentence;
-mod shapes;
-mod signs;
+mod named;
+mod shaped;
 pub mod states;
+pub mod top;
+mod validated;
 
+pub use checked::on_check;
 pub use kinds::{
     OF_JOURNAL, OF_LIST, OF_MEMORY, OF_STEPS, of_check, of_fault, of_read, of_resolve,
 };
-pub use refused::{on_check, on_read, on_resolve};
 pub use states::on_fault;
+pub use top::on_resolve;
+pub use txs_cli_advice_script::on_read;

@@ -3,7 +3,7 @@
 use clap::error::ErrorKind;
 use clap::{Arg, ArgAction, ArgMatches, Command, Error, value_parser};
 use std::alloc::{AllocError, Global};
-use txs_cli_request::{Input, Request, RunOptions};
+use txs_cli_request::{Explain, Input, Request, RunOptions};
 
 /// How many steps an actor makes at most, where the words don't say it.
 const DEFAULT_STEPS: u64 = 100_000_000;
@@ -11,8 +11,9 @@ const DEFAULT_STEPS: u64 = 100_000_000;
 /// How many workers there are, where the words don't say it.
 const DEFAULT_WORKERS: u64 = 4;
 
-/// What `--version` says behind the program's name.
-const VERSION: &str = "0.1.0 (a profile of Clojure 1.11; byte forms TXS1 and TXS2)";
+/// What `--version` says behind the program's name: with the kit by which the sources are proved.
+const VERSION: &str =
+    "0.1.0 (a profile of Clojure 1.11; byte forms TXS1 and TXS2; proved by rattle-kit-13f)";
 
 /// What stands below each text of help: what the statuses say, of which the highest that applies counts.
 const STATUSES: &str = "Statuses, of which the highest that applies counts:
@@ -30,6 +31,8 @@ enum Kind {
     Flag,
     /// A flag that excludes this other one.
     Without(&'static str),
+    /// A flag, or one of `WHEN` with a `=` before it.
+    When,
     /// A text.
     Text,
     /// The name of a file, which has to be there.
@@ -44,18 +47,21 @@ type Opt = (&'static str, &'static str, Kind);
 /// The file of a command.
 const FILE: Opt = ("FILE", "The script; without it, standard input", Kind::File);
 
-/// The flag by which a command explains what it complains of.
+/// When a command explains what it complains of, as words.
+static WHEN: [&str; 3] = ["always", "never", "auto"];
+
+/// The option of when a command explains what it complains of.
 const EXPLAIN: Opt = (
     "explain",
-    "Shows the place of a refusal or a fault, and what to do",
-    Kind::Flag,
+    "When to show where a refusal, fault or stop is, and what to do: `always` (also without WHEN), `never`, or `auto`: if standard error is a terminal; else auto",
+    Kind::When,
 );
 
 /// The flag by which a command takes code in place of a script.
 const CODE: Opt = (
     "code",
     "Takes the byte form of code, as `build` writes it; not with --explain",
-    Kind::Without("explain"),
+    Kind::Flag,
 );
 
 /// The option of which file is written.
@@ -141,6 +147,14 @@ fn option<'a>(alloc: Global, of: &Opt) -> Result<Arg<'a>, AllocError> {
     match of.2 {
         Kind::Flag => Ok(arg.action(ArgAction::SetTrue)),
         Kind::Without(other) => arg.action(ArgAction::SetTrue).conflicts_with(other),
+        Kind::When => Ok(
+            arg.value_name("WHEN")
+                .num_args(0..=1)
+                .require_equals(true)
+                .default_missing_value("always")
+                .hide_possible_values(true)
+                .value_parser(WHEN.as_slice()),
+        ),
         Kind::Out => Ok(arg.value_name("F").required(true)),
         Kind::Number(most) => Ok(arg.value_parser(value_parser!(u64).range(1..=most))),
         _ => Ok(arg),
@@ -172,11 +186,10 @@ fn commands<'a>(alloc: Global) -> Result<Vec<Command<'a>>, AllocError> {
 fn command<'a>(alloc: Global) -> Result<Command<'a>, AllocError> {
     let commands = commands(alloc)?;
     Command::new(alloc, "txs")
-        .about("Compiles and runs transaction scripts")
+        .about("Compiles and runs transaction scripts; `txs FILE` is `txs run FILE`")
         .version(VERSION)
         .after_help(STATUSES)
         .subcommand_required(true)
-        .disable_help_subcommand(true)
         .no_binary_name(true)
         .subcommands(commands)?
         .bin_name("txs")
@@ -226,11 +239,22 @@ fn request_of(name: &str, words: &ArgMatches<'_>, input: Input, text: String) ->
     run_of(name, words, input, text)
 }
 
-/// What the matched words ask for. An option that the command lacks reads as one that isn't there.
-fn asked(alloc: Global, matches: &ArgMatches<'_>) -> Result<Request, AllocError> {
-    let Some((name, words)) = matches.subcommand() else {
-        return Ok(Request::Faulty(String::new(alloc)));
-    };
+/// When the words of a command say that lines are explained.
+fn explain_of(words: &ArgMatches<'_>) -> Explain {
+    match words.get_str("explain").unwrap_or("auto") {
+        "always" => Explain::Always,
+        "never" => Explain::Never,
+        _ => Explain::Auto,
+    }
+}
+
+/// What a command's words ask for, whose lines are explained or not. An option that the command lacks reads as one that isn't there.
+fn asked_of(
+    alloc: Global,
+    name: &str,
+    words: &ArgMatches<'_>,
+    explain: bool,
+) -> Result<Request, AllocError> {
     let option = if name == "build" { "out" } else { "turns" };
     let text = String::from_str(alloc, words.get_str(option).unwrap_or(""))?;
     let file = match words.get_str("FILE") {
@@ -240,9 +264,82 @@ fn asked(alloc: Global, matches: &ArgMatches<'_>) -> Result<Request, AllocError>
     let input = Input {
         file,
         code: words.get_flag("code"),
-        explain: words.get_flag("explain"),
+        explain,
     };
     Ok(request_of(name, words, input, text))
+}
+
+/// What the matched words ask for, where the standard error is a terminal or isn't. Of code nothing is explained, since there is no script to show.
+fn asked(
+    alloc: Global,
+    matches: &ArgMatches<'_>,
+    is_terminal: bool,
+) -> Result<Request, AllocError> {
+    let Some((name, words)) = matches.subcommand() else {
+        return Ok(Request::Faulty(String::new(alloc)));
+    };
+    match (explain_of(words), words.get_flag("code")) {
+        (Explain::Always, true) => excluded(alloc, name),
+        (_, true) => asked_of(alloc, name, words, false),
+        (when, false) => asked_of(alloc, name, words, when.is_meant(is_terminal)),
+    }
+}
+
+/// The usage fault of words of this command that ask for code, and that it be explained.
+fn excluded(alloc: Global, name: &str) -> Result<Request, AllocError> {
+    let Some(row) = COMMANDS.iter().find(|row| row.0 == name) else {
+        return Ok(Request::Faulty(String::new(alloc)));
+    };
+    let full = format!(in alloc; "txs {name}")?;
+    let mut command = below(alloc, row)?.bin_name(full.as_str())?;
+    let error = command.error(
+        ErrorKind::ArgumentConflict,
+        "the argument '--code' cannot be used with '--explain'",
+    )?;
+    told(alloc, &error)
+}
+
+/// Appends a command's name to a list of them, and a comma before all but the first.
+fn add_name(names: &mut String, name: &str) -> Result<(), AllocError> {
+    if !names.is_empty() {
+        names.push_str(", ")?;
+    }
+    write!(names, "`{name}`")
+}
+
+/// The commands that have this option, as a list of their names.
+fn commands_with(alloc: Global, flag: &str) -> Result<String, AllocError> {
+    let mut names = String::new(alloc);
+    for row in &COMMANDS {
+        if row.2.iter().any(|of| of.0 == flag) {
+            add_name(&mut names, row.0)?;
+        }
+    }
+    Ok(names)
+}
+
+/// The text of a usage fault for an argument that its command lacks, which is the option of another: in place of the tip to give it as
+/// a value the tip says of which. Any other text stays as it is.
+fn with_tip(alloc: Global, text: String) -> Result<String, AllocError> {
+    let Some((flag, rest)) = unexpected(text.as_str()) else {
+        return Ok(text);
+    };
+    let names = commands_with(alloc, flag)?;
+    if names.is_empty() {
+        return Ok(text);
+    }
+    format!(in alloc;
+        "error: unexpected argument '--{flag}' found\n\n  tip: `--{flag}` is an option of {names}\n\nUsage: {rest}"
+    )
+}
+
+/// The option that a text of `clap` says is unexpected, and what stands behind the word for usage.
+fn unexpected(text: &str) -> Option<(&str, &str)> {
+    let (flag, behind) = text
+        .strip_prefix("error: unexpected argument '--")?
+        .split_once("' found")?;
+    let (_, usage) = behind.split_once("\n\nUsage: ")?;
+    Some((flag, usage))
 }
 
 /// The text of what isn't run: help, or a usage fault.
@@ -252,16 +349,39 @@ fn told(alloc: Global, error: &Error) -> Result<Request, AllocError> {
     }
     let text = format!(in alloc; "{error}")?;
     Ok(if error.use_stderr() {
-        Request::Faulty(text)
+        Request::Faulty(with_tip(alloc, text)?)
     } else {
         Request::Shown(text)
     })
 }
 
-/// What the words after the program's name ask for.
-pub fn parse_words(alloc: Global, args: &[String]) -> Result<Request, AllocError> {
-    match command(alloc)?.try_get_matches_from(args) {
-        Ok(matches) => asked(alloc, &matches),
+/// Whether a first word names a file that is to run: it is no option, and no command.
+fn names_file(word: &str) -> bool {
+    !word.starts_with('-') && word != "help" && !COMMANDS.iter().any(|row| row.0 == word)
+}
+
+/// All words of a command line. Where the first names a file, they begin with `run`.
+fn with_command(alloc: Global, args: &[String]) -> Result<Vec<&str>, AllocError> {
+    let mut words = Vec::new(alloc);
+    if args.first().is_some_and(|word| names_file(word.as_str())) {
+        words.push("run")?;
+    }
+    for arg in args {
+        words.push(arg.as_str())?;
+    }
+    Ok(words)
+}
+
+/// What the words after the program's name ask for. Whether the standard error is a terminal decides whether lines are explained, where
+/// the words don't.
+pub fn parse_words(
+    alloc: Global,
+    args: &[String],
+    is_terminal: bool,
+) -> Result<Request, AllocError> {
+    let words = with_command(alloc, args)?;
+    match command(alloc)?.try_get_matches_from(words.as_slice()) {
+        Ok(matches) => asked(alloc, &matches, is_terminal),
         Err(error) => told(alloc, &error),
     }
 }

@@ -54,12 +54,12 @@ failed_behind script f front old begun ended new advice b e n =
     told_behind script (failed_line front f) (Some f.span) old new advice (is_failed_line front f) (n ∙ ap (λ (l : List ℕ). l ++ lesson) line)
 
 -- of one that was stopped
-pub stopped_behind : (script : Script) (why front old begun ended new advice : List ℕ) → begun ≡ old ++ front → ended ≡ stopped_line begun why → new ≡ ended ++ lesson_of script.file script.text None (Some advice)
-    → (l : List ℕ) × IsLesson script (stopped_line front why) None l × (new ≡ old ++ l)
-stopped_behind script why front old begun ended new advice b e n =
-    let lesson : List ℕ = lesson_of script.file script.text None (Some advice) in
+pub stopped_behind : (script : Script) (at : Option Span) (why front old begun ended new advice : List ℕ) → begun ≡ old ++ front → ended ≡ stopped_line begun why → new ≡ ended ++ lesson_of script.file script.text at (Some advice)
+    → (l : List ℕ) × IsLesson script (stopped_line front why) at l × (new ≡ old ++ l)
+stopped_behind script at why front old begun ended new advice b e n =
+    let lesson : List ℕ = lesson_of script.file script.text at (Some advice) in
     let line : ended ≡ old ++ stopped_line front why = e ∙ ap (λ (l : List ℕ). stopped_line l why) b ∙ four_assoc old front (codes " stopped: ") why (codes "\n") in
-    told_behind script (stopped_line front why) None old new advice (is_stopped_line front why) (n ∙ ap (λ (l : List ℕ). l ++ lesson) line)
+    told_behind script (stopped_line front why) at old new advice (is_stopped_line front why) (n ∙ ap (λ (l : List ℕ). l ++ lesson) line)
 
 -- without a sentence nothing is explained
 unexplained : (file : Option (List ℕ)) (text : List ℕ) (at : Option Span) → lesson_of file text at None ≡ []
@@ -76,9 +76,9 @@ no_lesson script line None none is = is ∙ unexplained script.file script.text 
 no_lesson script line (Some advice) none is = cc
 
 -- of one that may not have ended, where nothing is told of it as of one that is done
-pub ended_told : (script : Script) (front : List ℕ) (o : Option Outcome) (line : List ℕ) → IsLesson script (end_line front (how_ended o)) (end_place (how_ended o)) line → EndTold script front o line
-ended_told script front None line h = no_lesson script line h.advice (h.told.1 refl) h.is
-ended_told script front (Some o) line h = h
+pub ended_told : (script : Script) (front : List ℕ) (o : Option Outcome) (at : Option Span) (line : List ℕ) → IsLesson script (end_line front (how_ended o)) (end_place (how_ended o) at) line → EndTold script front o at line
+ended_told script front None at line h = no_lesson script line h.advice (h.told.1 refl) h.is
+ended_told script front (Some o) at line h = h
 
 -- its status
 pub ended_status : (o : Option Outcome) → status_of (how_ended o) ≡ end_status o

@@ -101,10 +101,10 @@ agent_rest k n name entries r rest kind is = subst₂ (λ (k' : CellKind) (es : 
 
 -- its lines
 pub agent_told : (script : Script) (failure : CellId → Option Fault) (k : CellKind) (n : ℕ) (given name : List ℕ) (entries : List ActorReport) (r : ActorReport) (rest : List ActorReport) (f : Option Fault) (lines : List ℕ)
-    → k ≡ Agent → entries ≡ r ∷ rest → given ≡ name → f ≡ failure (record { kind = Agent; number = n }) → AgentTold script given f r.outcome lines → AreAgentsTold script failure (alone k n name) entries lines
+    → k ≡ Agent → entries ≡ r ∷ rest → given ≡ name → f ≡ failure (record { kind = Agent; number = n }) → AgentTold script given f r.outcome r.place lines → AreAgentsTold script failure (alone k n name) entries lines
 agent_told script failure k n given name entries r rest f lines kind is named failed told =
     subst₂ (λ (k' : CellKind) (es : List ActorReport). AreAgentsTold script failure (alone k' n name) es lines) (sym kind) (sym is)
-    (lines, [], subst₂ (λ (l : List ℕ) (o : Option Fault). AgentTold script l o r.outcome lines) named failed told, refl, sym (append-nil lines))
+    (lines, [], subst₂ (λ (l : List ℕ) (o : Option Fault). AgentTold script l o r.outcome r.place lines) named failed told, refl, sym (append-nil lines))
 
 -- its status
 pub agent_status : (m now : ℕ) (failure : CellId → Option Fault) (k : CellKind) (n : ℕ) (name : List ℕ) (entries : List ActorReport) (r : ActorReport) (rest : List ActorReport) (f : Option Fault)

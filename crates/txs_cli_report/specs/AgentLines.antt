@@ -9,6 +9,7 @@ use Rattle.txs_world_book.specs.Served.{cells_of}
 use Rattle.txs_cli_report.specs.Lines.{Script, IsLesson, agent_front, end_line, end_place, status_of}
 use Rattle.txs_value_cell.specs.declared.cell.CellDefinition.{CellDefinition}
 use Rattle.txs_value_base.specs.declared.fault.Fault.{Fault}
+use Rattle.txs_value_base.specs.declared.fault.Span.{Span}
 use Rattle.txs_value_data.specs.declared.value.CellId.{CellId}
 use Rattle.txs_value_data.specs.declared.value.CellKind.{CellKind}
 use Rattle.txs_value_data.specs.declared.value.CellKind.TheVariants.{Ref, Atom, Agent}
@@ -20,10 +21,10 @@ abbrev pub failed_by : Option Fault → Option Outcome
 failed_by None = None
 failed_by (Some f) = Some (Failed f)
 
--- what is told of one whose line begins so: how it ended, if it has
-abbrev pub EndTold : Script → List ℕ → Option Outcome → List ℕ → Type 0
-EndTold script front None line = line ≡ []
-EndTold script front (Some o) line = IsLesson script (end_line front o) (end_place o) line
+-- what is told of one whose line begins so: how it ended, if it has, and where, if it was stopped
+abbrev pub EndTold : Script → List ℕ → Option Outcome → Option Span → List ℕ → Type 0
+EndTold script front None at line = line ≡ []
+EndTold script front (Some o) at line = IsLesson script (end_line front o) (end_place o at) line
 
 -- the status of one that ended so, if it has
 abbrev pub end_status : Option Outcome → ℕ
@@ -31,11 +32,11 @@ end_status None = 0
 end_status (Some o) = status_of o
 
 -- What is told of an agent: that it has failed, if it has, and behind that how its actor ended, if it has, which is that it was stopped.
-pub record AgentTold (script : Script) (name : List ℕ) (failure : Option Fault) (outcome : Option Outcome) (lines : List ℕ) : Type 0 where
+pub record AgentTold (script : Script) (name : List ℕ) (failure : Option Fault) (outcome : Option Outcome) (place : Option Span) (lines : List ℕ) : Type 0 where
   pub failed : List ℕ
   pub stopped : List ℕ
-  pub first : EndTold script (agent_front name) (failed_by failure) failed
-  pub behind : EndTold script (agent_front name) outcome stopped
+  pub first : EndTold script (agent_front name) (failed_by failure) None failed
+  pub behind : EndTold script (agent_front name) outcome place stopped
   pub is : lines ≡ failed ++ stopped
 
 -- ---- all agents
@@ -60,7 +61,7 @@ abbrev pub AreAgentsTold : Script → (CellId → Option Fault) → List (CellId
 AreAgentsTold script failure [] rs lines = lines ≡ []
 AreAgentsTold script failure (g ∷ gs) [] lines = ⊥
 AreAgentsTold script failure (g ∷ gs) (r ∷ rs) lines =
-    (one : List ℕ) × (rest : List ℕ) × AgentTold script g.1 (failure g.0) r.outcome one × AreAgentsTold script failure gs rs rest × (lines ≡ one ++ rest)
+    (one : List ℕ) × (rest : List ℕ) × AgentTold script g.1 (failure g.0) r.outcome r.place one × AreAgentsTold script failure gs rs rest × (lines ≡ one ++ rest)
 
 -- the highest of a status and those of these agents
 abbrev pub status_of_agents : ℕ → (CellId → Option Fault) → List (CellId × List ℕ) → List ActorReport → ℕ

@@ -39,7 +39,7 @@ abbrev pub wanted_of : Use → Wanted
 wanted_of lent_use.Check = Check
 wanted_of lent_use.Listing = Listing
 wanted_of lent_use.Build = Build
-wanted_of (lent_use.Run plays options) = Run (spread plays.now) options.steps options.cells options.events
+wanted_of (lent_use.Run plays turns options) = Run (spread plays.now) options.steps options.cells options.events
 
 -- how the line begins that tells of one
 abbrev pub front_of : Front → List ℕ

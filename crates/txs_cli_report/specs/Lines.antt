@@ -67,10 +67,13 @@ end_line front StepsSpent = stopped_line front (codes "StepsSpent")
 end_line front JournalFull = stopped_line front (codes "JournalFull")
 end_line front Memory = stopped_line front (codes "Memory")
 
--- the place where it ended
-abbrev pub end_place : Outcome → Option Span
-end_place (Failed f) = Some f.span
-end_place _ = None
+-- the place where it ended: that of the fault, or where it was stopped, which its entry in the report says
+abbrev pub end_place : Outcome → Option Span → Option Span
+end_place Done at = None
+end_place (Failed f) at = Some f.span
+end_place StepsSpent at = at
+end_place JournalFull at = at
+end_place Memory at = at
 
 -- what explains a line: nothing where no file is named, or where there is no sentence
 abbrev pub lesson_of : Option (List ℕ) → List ℕ → Option Span → Option (List ℕ) → List ℕ
@@ -119,4 +122,9 @@ status_from m (r ∷ rs) = status_from (max m (status_of (how_ended r.outcome)))
 abbrev pub AreLessons : Script → ℕ → List ActorReport → List ℕ → Type 0
 AreLessons script k [] errors = errors ≡ []
 AreLessons script k (r ∷ rs) errors =
-    (line : List ℕ) × (rest : List ℕ) × IsLesson script (end_line (thread_front k) (how_ended r.outcome)) (end_place (how_ended r.outcome)) line × AreLessons script (suc k) rs rest × (errors ≡ line ++ rest)
+    (line : List ℕ) × (rest : List ℕ) × IsLesson script (end_line (thread_front k) (how_ended r.outcome)) (end_place (how_ended r.outcome) r.place) line × AreLessons script (suc k) rs rest × (errors ≡ line ++ rest)
+
+-- What is told of all threads of a run: how each ended; or of none, where lines are explained, that there is none.
+abbrev pub AreThreadsTold : Script → List ActorReport → List ℕ → Type 0
+AreThreadsTold script [] errors = (advice : List ℕ) × (errors ≡ lesson_of script.file script.text None (Some advice))
+AreThreadsTold script (r ∷ rs) errors = AreLessons script 0 (r ∷ rs) errors

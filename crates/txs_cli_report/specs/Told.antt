@@ -24,7 +24,7 @@ use Rattle.txs_machine.specs.declared.schedule.Play.{Play}
 use Rattle.txs_world_protocol.specs.declared.report.ActorReport.{ActorReport}
 use Rattle.txs_cli_report.specs.AgentLines.{AreAgentsTold, failure_of, named_from, status_of_agents}
 use Rattle.txs_cli_report.specs.CellLines.{cell_lines}
-use Rattle.txs_cli_report.specs.Lines.{Script, IsLesson, AreLessons, all_printed, list_place, refused_line, refused_place, status_from}
+use Rattle.txs_cli_report.specs.Lines.{Script, IsLesson, AreThreadsTold, all_printed, list_place, refused_line, refused_place, status_from}
 use Rattle.txs_cli_plays.specs.EventLines.{event_lines}
 use Rattle.txs_cli_plays.specs.Plays.{plays_in}
 use Rattle.txs_cli_plays.specs.declared.plays.WrongPlay.{WrongPlay}
@@ -32,6 +32,7 @@ use Rattle.txs_world_shared.specs.SharedState.{PlainShared, shared_of, numbered_
 use Rattle.txs_tree_meaning.specs.Tree.{PlainProgram}
 use Rattle.txs_value_data.specs.Limits.{most_nodes, most_script}
 use Rattle.txs_value_cell.specs.declared.cell.CellDefinition.{CellDefinition}
+use Rattle.txs_value_base.specs.declared.fault.Span.{Span}
 
 -- what is told: the bytes of both streams, and the status
 pub record Told : Type 0 where
@@ -53,11 +54,11 @@ pub data Wanted : Type 0 where
 
 -- ---- what is told of a run
 
--- The standard error of a run: for each thread the line that tells how it ended, and behind these what is told of each agent.
+-- The standard error of a run: for each thread the line that tells how it ended, or where lines are explained that there is none, and behind these what is told of each agent.
 pub record EndsTold (cells : List CellDefinition) (script : Script) (s : PlainShared) (threads agents : List ActorReport) (errors : List ℕ) : Type 0 where
   pub of_threads : List ℕ
   pub of_agents : List ℕ
-  pub first : AreLessons script 0 threads of_threads
+  pub first : AreThreadsTold script threads of_threads
   pub behind : AreAgentsTold script (failure_of s) (named_from 0 cells) agents of_agents
   pub is : errors ≡ of_threads ++ of_agents
 
@@ -104,13 +105,24 @@ abbrev pub RunAnswers : PlainCode → Script → List Play → (steps : ℕ) →
 RunAnswers code script plays steps cells events s None = all_named (actors_of code) plays ≡ false
 RunAnswers code script plays steps cells events s (Some t) = (all_named (actors_of code) plays ≡ true) × WholeRunTells code script steps cells events s t
 
+-- the name under which a list is explained, where lines are
+abbrev pub list_name : Option (List ℕ) → Option (List ℕ)
+list_name None = None
+list_name (Some file) = Some (codes "--turns")
+
+-- The standard error where a play names no actor: the line that says so, and where lines are explained, which play of the list it is.
+pub record NoActorTold (file : Option (List ℕ)) (errors : List ℕ) : Type 0 where
+  pub turns : List ℕ
+  pub at : Option Span
+  pub told : IsLesson (record { text = turns; file = list_name file }) (codes "run failed: NoActor\n") at errors
+
 -- What is told of code that runs by these plays over a new state, be it a script's or not: what the run tells, or that a play names no actor, and nothing ran.
 pub data TurnsTell (code : PlainCode) (script : Script) (plays : List Play) (steps : ℕ) (cells events : Bool) (t : Told) : Type 0 where
   of_turns :
       (s : PlainShared) (of : IsStateOf code s) (named : all_named (actors_of code) plays ≡ true) (told : WholeRunTells code script steps cells events s t) → TurnsTell code script plays steps cells events t
   of_none :
       (unnamed : all_named (actors_of code) plays ≡ false)
-      (output : t.output ≡ []) (errors : t.errors ≡ codes "run failed: NoActor" ++ codes "\n") (status : t.status ≡ 2) → TurnsTell code script plays steps cells events t
+      (output : t.output ≡ []) (errors : NoActorTold script.file t.errors) (status : t.status ≡ 2) → TurnsTell code script plays steps cells events t
 
 -- What a run that leaves what its actors share so, and that has this report, tells: what the threads printed and then the agents, how each ended, which agents have failed and whose
 -- actors were stopped, with the highest status; and behind it the cells and the events, where they are wanted.
@@ -162,7 +174,7 @@ pub data ScriptTells (script : Script) (t : Told) : Wanted → Type 0 where
   of_no_actor :
       (plays : List Play) (steps : ℕ) (with_cells with_events : Bool) (p : PlainProgram) (code : PlainCode) (compiled : IsCompiled script.text p code)
       (unnamed : all_named (actors_of code) plays ≡ false)
-      (output : t.output ≡ []) (errors : t.errors ≡ codes "run failed: NoActor" ++ codes "\n") (status : t.status ≡ 2) → ScriptTells script t (Run plays steps with_cells with_events)
+      (output : t.output ≡ []) (errors : NoActorTold script.file t.errors) (status : t.status ≡ 2) → ScriptTells script t (Run plays steps with_cells with_events)
 
 -- as much of an input as is read: its first bytes, one more than a script may have
 abbrev pub front : List ℕ → List ℕ
@@ -177,11 +189,6 @@ pub data StreamTells (script : Script) (wanted : Wanted) (t : Told) : Type 0 whe
 pub data Tells (script : Script) (wanted : Wanted) (t : Told) : Type 0 where
   of_stream : (told : StreamTells script wanted t) → Tells script wanted t
   of_memory : (output : t.output ≡ []) (errors : t.errors ≡ codes "out of memory\n") (status : t.status ≡ 4) → Tells script wanted t
-
--- the name under which a list is explained, where lines are
-abbrev pub list_name : Option (List ℕ) → Option (List ℕ)
-list_name None = None
-list_name (Some file) = Some (codes "--turns")
 
 -- What is told of a list of plays that says none: where it is wrong, or that there was no memory.
 pub data ListTells (turns : List ℕ) (name : Option (List ℕ)) (t : Told) : Type 0 where

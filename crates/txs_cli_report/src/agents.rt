@@ -57,8 +57,8 @@ fn add_cell<'a>(
     let name = cell.name.as_bytes();
     let failed = how_ended(failed_by(failure));
     let stopped = how_ended(entry.outcome);
-    tell_end(told, script, Front::Agent(name), failed)?;
-    tell_end(told, script, Front::Agent(name), stopped)?;
+    tell_end(told, script, Front::Agent(name), failed, None)?;
+    tell_end(told, script, Front::Agent(name), stopped, entry.place)?;
     Ok(rest)
 }
 

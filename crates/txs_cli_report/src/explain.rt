@@ -1,9 +1,9 @@
-//! What stands behind a line on the standard error where it is explained: the place in the script, the line
-//! of the script with carets below it, and what to do.
+//! What stands behind a line on the standard error where it is explained: a line with the place in the script and what to do, and the
+//! line of the script with carets below it.
 
 ghost use Rattle.std.specs.Prelude.{◌≡◌, ◌++◌, OnErr, OnOk};
 ghost use Rattle.txs_value_data.specs.Printed.{Extends};
-ghost use Rattle.txs_cli_report.specs.Explained.{place_line, shown_where, explained};
+ghost use Rattle.txs_cli_report.specs.Explained.{place_where, shown_where, explained};
 
 use std::alloc::AllocError;
 use txs_cli_plays::{write_both, write_number};
@@ -18,33 +18,28 @@ pub struct Script<'a> {
     pub file: Option<&'a str>,
 }
 
-/// Appends the line that names a place: the file, the line and the column, both from 1.
-fn write_place(out: &mut Vec<u8>, file: &str, text: &[u8], offset: usize) -> Result<(), AllocError>
-    ensures ok { OnOk result (out.new.items ≡ out.old.items ++ place_line file.now text.now offset) }
-    ensures kept { Extends out.old.items out.new.items }
-{
-    let place = position(text, offset);
-    out.extend_from_slice(file.as_bytes())?;
-    write_number(out, b":", place.line)?;
-    write_number(out, b":", place.column)?;
-    out.extend_from_slice(b"\n")
-}
-
-/// Appends the lines that show a place, if there is one.
-fn write_shown(
-    out: &mut Vec<u8>,
-    file: &str,
-    text: &[u8],
-    at: Option<Span>,
-) -> Result<(), AllocError>
-    ensures ok { OnOk result (out.new.items ≡ out.old.items ++ shown_where file.now text.now at) }
+/// Appends the line and the column where a place begins, both from 1 and behind a colon, if there is one.
+fn write_place(out: &mut Vec<u8>, text: &[u8], at: Option<Span>) -> Result<(), AllocError>
+    ensures ok { OnOk result (out.new.items ≡ out.old.items ++ place_where text.now at) }
     ensures kept { Extends out.old.items out.new.items }
 {
     let Some(at) = at else {
         return Ok(());
     };
-    write_place(out, file, text, at.from as usize)?;
-    write_pointed(text, at.from as usize, at.to as usize, out)
+    let place = position(text, at.from as usize);
+    write_number(out, b":", place.line)?;
+    write_number(out, b":", place.column)
+}
+
+/// Appends the lines that point to a place, if there is one.
+fn write_shown(out: &mut Vec<u8>, text: &[u8], at: Option<Span>) -> Result<(), AllocError>
+    ensures ok { OnOk result (out.new.items ≡ out.old.items ++ shown_where text.now at) }
+    ensures kept { Extends out.old.items out.new.items }
+{
+    match at {
+        Some(at) => write_pointed(text, at.from as usize, at.to as usize, out),
+        None => Ok(()),
+    }
 }
 
 /// Appends what explains a line.
@@ -58,13 +53,15 @@ fn append_explained(
     ensures ok { OnOk result (out.new.items ≡ out.old.items ++ explained file.now text.now at advice.now) }
     ensures kept { Extends out.old.items out.new.items }
 {
-    write_shown(out, file, text, at)?;
-    write_both(out, advice.as_bytes(), b"\n")
+    out.extend_from_slice(file.as_bytes())?;
+    write_place(out, text, at)?;
+    write_both(out, b": ", advice.as_bytes())?;
+    out.extend_from_slice(b"\n")?;
+    write_shown(out, text, at)
 }
 
-/// Appends what explains a line: a place of the script, if the line has one, as the file's name, line and
-/// column, and below it the line of the script with carets under what is there; and then what to do. After an error
-/// nothing is appended.
+/// Appends what explains a line: the file's name, behind it the line and column where the line's place begins, if it has one, and what to do;
+/// and below that the line of the script with carets under what is at the place. After an error nothing is appended.
 pub fn write_explained(
     out: &mut Vec<u8>,
     file: &str,

@@ -10,6 +10,7 @@ pub mod schedule;
 pub mod script;
 pub mod streams;
 pub mod told;
+pub mod unnamed;
 
 pub use play::{play_script, write_answer, write_told};
 pub use schedule::play_schedule;

@@ -8,21 +8,11 @@ ghost use Rattle.txs_cli_report.specs.Told.{Told as PlainTold, ListTells, Schedu
 
 use crate::explain::Script;
 use crate::play::{play_script, write_answer, write_told};
-use crate::told::{SPENT, Use, wrong_list};
+use crate::told::{SPENT, Use, list_name, wrong_list};
 use std::alloc::Global;
 use std::io::{Read, Write};
 use txs_cli_plays::{ListError, WrongPlay, read_plays};
 use txs_cli_request::RunOptions;
-
-/// The name under which a list of plays is explained, where lines are.
-fn list_name<'a>(file: Option<&str>) -> Option<&'a str>
-    ensures { text_in result ≡ list_name (text_in file.entry) }
-{
-    match file {
-        Some(_) => Some("--turns"),
-        None => None,
-    }
-}
 
 /// Writes what is told of a list of plays that has an item which says none.
 pub fn refuse_list<W: Write, F: Write>(
@@ -64,6 +54,7 @@ pub fn play_schedule<R: Read, W: Write, F: Write>(
         Ok(plays) => {
             let wanted = Use::Run {
                 plays: plays.as_slice(),
+                turns,
                 options,
             };
             play_script(alloc, wanted, file, reader, writer, faults)

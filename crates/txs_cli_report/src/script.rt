@@ -18,7 +18,8 @@ ghost use Rattle.txs_tree_meaning.specs.View.{program_of};
 use crate::agents::add_agents;
 use crate::cells::write_cells;
 use crate::explain::Script;
-use crate::told::{Told, UNUSABLE, Use, answer, complaint, of_threads, refused};
+use crate::told::{Told, Use, answer, of_threads, refused};
+use crate::unnamed::no_actor;
 use std::alloc::{AllocError, Global};
 use std::mem;
 use txs_cli_plays::write_events;
@@ -190,13 +191,14 @@ pub fn run_code(
     }
 }
 
-/// Runs all threads and agents of the code by these plays and then in rounds, and tells of the run; or that a play names no actor. The code may be that
-/// of a script or not.
+/// Runs all threads and agents of the code by these plays, which are written so, and then in rounds, and tells of the run; or that a play names no
+/// actor. The code may be that of a script or not.
 pub fn run_by_turns(
     alloc: Global,
     script: Script<'_>,
     code: &Verified,
     plays: &[Repeated],
+    turns: &str,
     options: RunOptions,
 ) -> Result<Told, AllocError>
     requires few { length code.now.threads ≤ 64 }
@@ -206,7 +208,7 @@ pub fn run_by_turns(
     let mut shared = open_state(alloc, code)?;
     match run_code(alloc, script, code, plays, options, &mut shared)? {
         Some(told) => Ok(told),
-        None => complaint(alloc, UNUSABLE, "run failed: NoActor"),
+        None => no_actor(alloc, script.file, turns, plays, code.code()),
     }
 }
 
@@ -260,7 +262,11 @@ fn use_compiled(
         Use::Check => accepted(alloc),
         Use::Listing => listing_of(alloc, code.code()),
         Use::Build => form_of(alloc, code),
-        Use::Run { plays, options } => run_by_turns(alloc, script, code, plays, options),
+        Use::Run {
+            plays,
+            turns,
+            options,
+        } => run_by_turns(alloc, script, code, plays, turns, options),
     }
 }
 

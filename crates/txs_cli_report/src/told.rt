@@ -4,8 +4,8 @@ ghost use Rattle.std.specs.Prelude.{◌≡◌, ◌≢◌, ◌≤◌, ◌++◌, �
 ghost use Rattle.txs_compile.specs.Compiled.{IsRefusal};
 ghost use Rattle.txs_compile.specs.declared.compile_error.CompileError.TheVariants.{Memory};
 ghost use Rattle.txs_cli_report.specs.Lent.{front_of, text_in, script_of, told_of};
-ghost use Rattle.txs_cli_report.specs.Lines.{IsLesson, at_place, lesson_of, list_place, refusal_line, refused_line, refused_place, thread_front, failed_line, stopped_line, end_line, end_place, status_of, how_ended, status_from, AreLessons};
-ghost use Rattle.txs_cli_report.specs.Told.{ScriptTells, Wanted};
+ghost use Rattle.txs_cli_report.specs.Lines.{IsLesson, at_place, lesson_of, list_place, refusal_line, refused_line, refused_place, thread_front, failed_line, stopped_line, end_line, end_place, status_of, how_ended, status_from, AreLessons, AreThreadsTold};
+ghost use Rattle.txs_cli_report.specs.Told.{ScriptTells, Wanted, list_name};
 
 use crate::explain::{Script, write_explained};
 use std::alloc::{AllocError, Global};
@@ -77,6 +77,8 @@ pub enum Use<'a> {
     /// Its threads and agents run by these plays and then in rounds, as the options say.
     Run {
         plays: &'a [Repeated],
+        /// The plays as they are written, in a list.
+        turns: &'a str,
         options: RunOptions,
     },
 }
@@ -95,6 +97,10 @@ const FAILED: u8 = 3;
 
 /// Steps or memory didn't suffice.
 pub const SPENT: u8 = 4;
+
+/// What is said of a script without threads, where lines are explained.
+const OF_NONE: &str =
+    "There is no `future` at the top, so nothing runs: put what is to run into one.";
 
 /// A text on the standard output alone.
 pub fn answer(output: Vec<u8>, alloc: Global) -> Told
@@ -130,7 +136,7 @@ pub fn complaint(alloc: Global, status: u8, line: &str) -> Result<Told, AllocErr
 }
 
 /// Appends what explains a line, where a file is named.
-fn explain(
+pub(crate) fn explain(
     errors: &mut Vec<u8>,
     script: Script<'_>,
     at: Option<Span>,
@@ -214,10 +220,7 @@ fn advice_on(
     error: &CompileError,
 ) -> Result<Option<String>, AllocError> {
     match error {
-        CompileError::Read(e) => match on_read(text, *e) {
-            Some(advice) => Ok(Some(String::from_str(alloc, advice)?)),
-            None => Ok(None),
-        },
+        CompileError::Read(e) => on_read(alloc, text, *e),
         CompileError::Resolve(e) => on_resolve(alloc, text, *e),
         CompileError::Check(e) => on_check(alloc, text, *e),
         CompileError::Memory => Ok(None),
@@ -265,8 +268,18 @@ pub fn refused(alloc: Global, script: Script<'_>, error: &CompileError) -> Resul
     })
 }
 
+/// The name under which a list of plays is explained, where lines are.
+pub(crate) fn list_name<'a>(file: Option<&str>) -> Option<&'a str>
+    ensures { text_in result ≡ list_name (text_in file.entry) }
+{
+    match file {
+        Some(_) => Some("--turns"),
+        None => None,
+    }
+}
+
 /// Where the item stands that says no play, if its places are numbers of 32 bits.
-fn list_place(wrong: WrongPlay) -> Option<Span>
+pub(crate) fn list_place(wrong: WrongPlay) -> Option<Span>
     ensures { result ≡ list_place wrong }
 {
     let to = wrong.from.checked_add(wrong.length)?;
@@ -318,37 +331,41 @@ fn write_failed(
     explain(errors, script, Some(fault.span), sentence.as_str())
 }
 
-/// Appends the line of one that was stopped, and what explains it.
+/// Appends the line of one that was stopped there, and what explains it.
 fn write_stopped(
     errors: &mut Vec<u8>,
     script: Script<'_>,
     front: Front<'_>,
     why: &[u8],
+    at: Option<Span>,
     advice: &str,
 ) -> Result<(), AllocError>
-    ensures { OnOk result ((line : List ℕ) × IsLesson (script_of script.entry) (stopped_line (front_of front.entry) why.now) None line × (errors.new.items ≡ errors.old.items ++ line)) }
+    ensures { OnOk result ((line : List ℕ) × IsLesson (script_of script.entry) (stopped_line (front_of front.entry) why.now) at line × (errors.new.items ≡ errors.old.items ++ line)) }
 {
     write_front(errors, front)?;
     write_both(errors, b" stopped: ", why)?;
     errors.extend_from_slice(b"\n")?;
-    explain(errors, script, None, advice)
+    explain(errors, script, at, advice)
 }
 
-/// Appends the line that tells how a thread, an agent or an agent's actor ended, if there is one, and what explains it.
+/// Appends the line that tells how a thread, an agent or an agent's actor ended, if there is one, and what explains it: with this place where it was stopped.
 fn write_end(
     errors: &mut Vec<u8>,
     script: Script<'_>,
     front: Front<'_>,
     outcome: Outcome,
+    at: Option<Span>,
 ) -> Result<(), AllocError>
-    ensures { OnOk result ((line : List ℕ) × IsLesson (script_of script.entry) (end_line (front_of front.entry) outcome) (end_place outcome) line × (errors.new.items ≡ errors.old.items ++ line)) }
+    ensures { OnOk result ((line : List ℕ) × IsLesson (script_of script.entry) (end_line (front_of front.entry) outcome) (end_place outcome at) line × (errors.new.items ≡ errors.old.items ++ line)) }
 {
     match outcome {
         Outcome::Done => Ok(()),
         Outcome::Failed(fault) => write_failed(errors, script, front, fault),
-        Outcome::StepsSpent => write_stopped(errors, script, front, b"StepsSpent", OF_STEPS),
-        Outcome::JournalFull => write_stopped(errors, script, front, b"JournalFull", OF_JOURNAL),
-        Outcome::Memory => write_stopped(errors, script, front, b"Memory", OF_MEMORY),
+        Outcome::StepsSpent => { write_stopped(errors, script, front, b"StepsSpent", at, OF_STEPS) }
+        Outcome::JournalFull => {
+            write_stopped(errors, script, front, b"JournalFull", at, OF_JOURNAL)
+        }
+        Outcome::Memory => { write_stopped(errors, script, front, b"Memory", at, OF_MEMORY) }
     }
 }
 
@@ -363,19 +380,20 @@ fn status_of(outcome: Outcome) -> u8
     }
 }
 
-/// Adds what is told of a thread, an agent or an agent's actor that ended so, but for what it printed: its line, if there is one, and the status, where it is higher.
+/// Adds what is told of a thread, an agent or an agent's actor that ended so, and was stopped there, if it was, but for what it printed: its line, if there is one, and the status, where it is higher.
 pub(crate) fn tell_end(
     told: &mut Told,
     script: Script<'_>,
     front: Front<'_>,
     outcome: Outcome,
+    at: Option<Span>,
 ) -> Result<(), AllocError>
     ensures output { told.new.output.items ≡ told.old.output.items }
-    ensures errors { OnOk result ((line : List ℕ) × IsLesson (script_of script.entry) (end_line (front_of front.entry) outcome) (end_place outcome) line × (told.new.errors.items ≡ told.old.errors.items ++ line)) }
+    ensures errors { OnOk result ((line : List ℕ) × IsLesson (script_of script.entry) (end_line (front_of front.entry) outcome) (end_place outcome at) line × (told.new.errors.items ≡ told.old.errors.items ++ line)) }
     ensures status { told.new.status ≡ max told.old.status (status_of outcome) }
 {
     told.status = told.status.max(status_of(outcome));
-    write_end(&mut told.errors, script, front, outcome)
+    write_end(&mut told.errors, script, front, outcome, at)
 }
 
 /// How a thread ended; every thread of a run has. Of one that hasn't, nothing is told, as of one that is done.
@@ -396,14 +414,20 @@ fn add_thread(
     thread: &ActorReport,
 ) -> Result<(), AllocError>
     ensures output { told.new.output.items ≡ told.old.output.items }
-    ensures errors { OnOk result ((line : List ℕ) × IsLesson (script_of script.entry) (end_line (thread_front k) (how_ended thread.now.outcome)) (end_place (how_ended thread.now.outcome)) line × (told.new.errors.items ≡ told.old.errors.items ++ line)) }
+    ensures errors { OnOk result ((line : List ℕ) × IsLesson (script_of script.entry) (end_line (thread_front k) (how_ended thread.now.outcome)) (end_place (how_ended thread.now.outcome) thread.now.place) line × (told.new.errors.items ≡ told.old.errors.items ++ line)) }
     ensures status { OnOk result (told.new.status ≡ max told.old.status (status_of (how_ended thread.now.outcome))) }
 {
-    tell_end(told, script, Front::Thread(k), how_ended(thread.outcome))
+    tell_end(
+        told,
+        script,
+        Front::Thread(k),
+        how_ended(thread.outcome),
+        thread.place,
+    )
 }
 
-/// What is told of all threads that have run, in their order, but for what they printed.
-pub fn of_threads(alloc: Global, script: Script<'_>, report: &Entries) -> Result<Told, AllocError>
+/// What is told of all threads that have run, in their order, but for what they printed: how each ended.
+fn of_ends(alloc: Global, script: Script<'_>, report: &Entries) -> Result<Told, AllocError>
     requires few { length report.now.threads.items ≤ 64 }
     ensures output { IfOk result (λ t. t.output.items ≡ []) }
     ensures errors { IfOk result (λ t. AreLessons (script_of script.entry) 0 report.now.threads.items t.errors.items) }
@@ -414,4 +438,29 @@ pub fn of_threads(alloc: Global, script: Script<'_>, report: &Entries) -> Result
         add_thread(&mut told, script, k as u16, thread)?;
     }
     Ok(told)
+}
+
+/// What is told of a run of no thread: where a file is named, that there is none.
+fn of_none(alloc: Global, script: Script<'_>) -> Result<Told, AllocError>
+    ensures output { IfOk result (λ t. t.output.items ≡ []) }
+    ensures errors { IfOk result (λ t. (advice : List ℕ) × (t.errors.items ≡ lesson_of (text_in script.entry.file) script.entry.text.now None (Some advice))) }
+    ensures status { IfOk result (λ t. t.status ≡ 0) }
+{
+    let mut told = answer(Vec::new(alloc), alloc);
+    explain(&mut told.errors, script, None, OF_NONE)?;
+    Ok(told)
+}
+
+/// What is told of all threads that have run, in their order, but for what they printed: how each ended, or where a file is named, that there is
+/// none.
+pub fn of_threads(alloc: Global, script: Script<'_>, report: &Entries) -> Result<Told, AllocError>
+    requires few { length report.now.threads.items ≤ 64 }
+    ensures output { IfOk result (λ t. t.output.items ≡ []) }
+    ensures errors { IfOk result (λ t. AreThreadsTold (script_of script.entry) report.now.threads.items t.errors.items) }
+    ensures status { IfOk result (λ t. t.status ≡ status_from 0 report.now.threads.items) }
+{
+    if report.threads.as_slice().is_empty() {
+        return of_none(alloc, script);
+    }
+    of_ends(alloc, script, report)
 }

@@ -1,5 +1,32 @@
 //! Requests to the program, one for each command.
 
+ghost use Rattle.std.specs.Prelude.{◌≡◌};
+ghost use Rattle.txs_cli_request.specs.Explained.{is_explained};
+
+/// When refusals, faults and stops of a script are explained.
+#[derive(Clone, Copy)]
+pub enum Explain {
+    /// Each is.
+    Always,
+    /// None is.
+    Never,
+    /// Each is where the standard error is a terminal.
+    Auto,
+}
+
+impl Explain {
+    /// Whether they are explained, where it is known whether the standard error is a terminal.
+    pub fn is_meant(self, is_terminal: bool) -> bool
+        ensures { result ≡ is_explained self is_terminal }
+    {
+        match self {
+            Explain::Always => true,
+            Explain::Never => false,
+            Explain::Auto => is_terminal,
+        }
+    }
+}
+
 /// What a command works on.
 #[derive(Drop)]
 pub struct Input {

@@ -1,7 +1,7 @@
 -- What is told for a request where what runs code may have failed so, is told where it may have failed in more ways.
 use Rattle.std.proofs.Common.{ℕ, Bool, true, false, List}
 use Rattle.txs_audit_answer.specs.declared.verdict.AuditError.{AuditError}
-use Rattle.txs_cli.specs.Audited.{AuditedTells, IsUnworked, StreamAuditedTells, audit_turns}
+use Rattle.txs_cli.specs.Audited.{AuditedTells, StreamAuditedTells, audit_turns, by_workers}
 use Rattle.txs_cli.specs.Audited as audited
 use Rattle.txs_cli.specs.CodeWorkersTold.{StreamWorkedCodeTells, WorkedCodeTells}
 use Rattle.txs_cli.specs.CodeWorkersTold as code
@@ -44,12 +44,12 @@ module _ (f g : PlainCode → RunError → Type 0) (more : (d : PlainCode) (e : 
 
   -- of an audit
   module _ (unaudited : Parts → Report → AuditError → Type 0) where
-    audit_weaker : (s : Script) (o : RunOptions) (t : Told) → AuditedTells (IsUnworked f) unaudited s o t → AuditedTells (IsUnworked g) unaudited s o t
-    audit_weaker s o t (audited.of_run parts d compiled told explained) = audited.of_run parts d compiled told explained
+    audit_weaker : (s : Script) (o : RunOptions) (t : Told) → AuditedTells (by_workers f) unaudited s o t → AuditedTells (by_workers g) unaudited s o t
+    audit_weaker s o t (audited.of_run parts d compiled may told explained) = audited.of_run parts d compiled may told explained
     audit_weaker s o t (audited.of_refused told) = audited.of_refused told
     audit_weaker s o t (audited.of_unrun parts d compiled told) = audited.of_unrun parts d compiled (told.0, more d told.0 told.1, told.2)
 
-    audited_weaker : (s : Script) (o : RunOptions) (t : Told) → StreamAuditedTells (IsUnworked f) unaudited s o t → StreamAuditedTells (IsUnworked g) unaudited s o t
+    audited_weaker : (s : Script) (o : RunOptions) (t : Told) → StreamAuditedTells (by_workers f) unaudited s o t → StreamAuditedTells (by_workers g) unaudited s o t
     audited_weaker s o t (audited.of_script told) = audited.of_script (audit_weaker s o t told)
     audited_weaker s o t (audited.of_unread output errors status) = audited.of_unread output errors status
     audited_weaker s o t (audited.of_memory output errors status) = audited.of_memory output errors status

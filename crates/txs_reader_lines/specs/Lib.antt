@@ -1,3 +1,6 @@
 pub mod Place
+pub mod Sign
+pub mod Window
 pub mod Pointed
+pub mod Safe
 pub mod Extends

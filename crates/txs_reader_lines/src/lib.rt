@@ -7,8 +7,10 @@ mod law;
 mod lines;
 pub mod place;
 mod pointed;
+mod sign;
+mod window;
 
 pub use find::position;
-pub use law::places_follow;
+pub use law::{lines_are_safe, places_follow, plain_lines_stay, window_holds};
 pub use lines::line_at;
 pub use pointed::write_pointed;

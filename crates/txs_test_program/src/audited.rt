@@ -87,17 +87,17 @@ fn tells(alloc: Global, answered: Verdict, line: &str, errors: &str, status: u8)
 }
 
 // Of a commit.
-const COMMIT: &str = "a.clj:3:1
+const COMMIT: &str =
+    "a.clj:3:1: What thread 0 did at its event 0 (index 2 of the journal, commit) isn't explained by the text. The run went wrong, or the report was changed.
 (future (dosync (alter r + 10)))
 ^^^^^^^^^^^^^^^^^^^^^^^^^^^^^^^^
-What thread 0 did at its event 0 (index 2 of the journal, commit) isn't explained by the text. The run went wrong, or the report was changed.
 ";
 
 // Of an action.
-const ACT: &str = "a.clj:4:9
+const ACT: &str =
+    "a.clj:4:9: What agent g did at its event 0 (index 1 of the journal, act) needs more turns of a loop than there are steps: give it more steps by `--steps N`.
 (future (send g + 2))
         ^^^^^^^^^^^^
-What agent g did at its event 0 (index 1 of the journal, act) needs more turns of a loop than there are steps: give it more steps by `--steps N`.
 ";
 
 #[test]

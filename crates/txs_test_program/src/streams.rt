@@ -145,7 +145,7 @@ fn each_write_may_fail(rt: HostRuntime) {
 
 // Words, one list a line; the first is empty.
 const UNUSABLE: &str = "
-walk
+--walk
 run --steps 0
 run --steps 1000000000001
 run --workers 0
@@ -163,9 +163,9 @@ fn are_unusable(alloc: Global, words: &str) -> bool {
     status == 2 && out.is_empty() && !err.is_empty()
 }
 
-// The line is shown as its bytes are, also where they are no text.
+// A byte that is no text is shown by its value.
 const EXPLAINED: &[u8] =
-    b"refused 1 NotUtf8 at 8..9\n-:1:9\n(future \xff)\n        ^\nSave the script as UTF-8: no valid character begins here.\n";
+    b"refused 1 NotUtf8 at 8..9\n-:1:9: Save the script as UTF-8: no valid character begins here.\n(future \\xff)\n        ^^^^\n";
 
 #[test]
 fn words_that_cannot_be_used_and_bytes_that_are_explained(rt: HostRuntime) {

@@ -77,7 +77,7 @@ fn plays_by<T: Threads + Wait + Sync>(threads: &T, alloc: Global, line: &str) ->
     let Ok(args) = args_of(alloc, line) else {
         return false;
     };
-    let Ok(request) = parse_words(alloc, args.as_slice()) else {
+    let Ok(request) = parse_words(alloc, args.as_slice(), false) else {
         return false;
     };
     let mut output = Vec::new(alloc);

@@ -1,12 +1,13 @@
-use Rattle.std.proofs.Common.{◌≡◌, ◌++◌, [], codes, IfErr, false, subst}
+use Rattle.std.proofs.Common.{◌≡◌, [], IfErr, IfOk, true, false, subst}
 use Rattle.txs_cli_report.proofs.Fronts.{ok_maps, ok_three}
 use Rattle.txs_cli_report.specs.Lent.{script_of, told_of}
+use Rattle.txs_cli_report.specs.Told.{NoActorTold}
 use Rattle.txs_machine.specs.Agents.{actors_of}
 use Rattle.txs_machine.specs.Schedule.{all_named, spread}
 use Rattle.txs_machine.specs.declared.schedule.ScheduleError.TheVariants.{NoActor}
 use Rattle.txs_cli.proofs.Audits.{of_audited}
 use Rattle.txs_cli.proofs.audited.play_compiled.Goals as goal
-use Rattle.txs_cli.specs.Audited.{AuditedRunTells, AuditedTells, IsUnplayed, audit_turns, of_unrun}
+use Rattle.txs_cli.specs.Audited.{AuditedRunTells, AuditedTells, by_plays, audit_turns, of_unrun}
 use Rattle.txs_cli_audit.specs.Audit.{HasNoAnswer}
 use Rattle.txs_audit_answer.specs.declared.verdict.AuditError.{AuditError}
 use Rattle.txs_tree_meaning.specs.View.{Parts}
@@ -19,9 +20,11 @@ returns-in-Ok g c =
     let code = c.args.compiled.now.1 in
     let o = c.args.working.options in
     let script = script_of c.args.script in
-    let unrun = IsUnplayed (spread c.args.plays.now) in
-    ok_maps c.audit_run.result (λ t. AuditedRunTells (unaudited parts) parts code script o (told_of t)) (λ t. AuditedTells unrun unaudited script o (told_of t))
-    (λ t told. of_audited unrun unaudited script o (told_of t) parts code c.requires.compiled told) c.audit_run.ensures
+    let plays = spread c.args.plays.now in
+    let way = by_plays plays script.file in
+    let may : all_named (actors_of code) plays ≡ true = subst (λ r. IfOk r (λ ran. all_named (actors_of code) plays ≡ true)) c.in-Ok.is c.run_plays.ensures.named in
+    ok_maps c.audit_run.result (λ t. AuditedRunTells (unaudited parts) parts code script o (told_of t)) (λ t. AuditedTells way unaudited script o (told_of t))
+    (λ t told. of_audited way unaudited script o (told_of t) parts code c.requires.compiled may told) c.audit_run.ensures
 
 -- a play names no actor
 pub returns-in-Err-NoActor : goal.returns-in-Err-NoActor
@@ -32,6 +35,6 @@ returns-in-Err-NoActor g c =
     let plays = spread c.args.plays.now in
     let script = script_of c.args.script in
     let unnamed : all_named (actors_of code) plays ≡ false = subst (λ r. IfErr r (λ e. e ≡ NoActor → all_named (actors_of code) plays ≡ false)) c.in-Err-NoActor.is c.run_plays.ensures.unnamed c.in-Err-NoActor.field-0-is in
-    let e = c.complaint.ensures in
-    ok_three c.complaint.result (λ t. (told_of t).output ≡ []) (λ t. t.errors.items ≡ codes "run failed: NoActor" ++ codes "\n") (λ t. t.status ≡ 2)
-    (λ t. AuditedTells (IsUnplayed plays) unaudited script c.args.working.options (told_of t)) (λ t output errors status. of_unrun parts code c.requires.compiled (unnamed, output, errors, status)) e.output e.errors e.status
+    let e = c.no_actor.ensures in
+    ok_three c.no_actor.result (λ t. (told_of t).output ≡ []) (λ t. NoActorTold script.file t.errors.items) (λ t. t.status ≡ 2)
+    (λ t. AuditedTells (by_plays plays script.file) unaudited script c.args.working.options (told_of t)) (λ t output errors status. of_unrun parts code c.requires.compiled (unnamed, output, errors, status)) e.output e.errors e.status

@@ -5,7 +5,7 @@ use Rattle.txs_cli.proofs.Audits.{of_audited}
 use Rattle.txs_cli.proofs.Failing.{failed_so}
 use Rattle.txs_cli.proofs.audited.work_compiled.Goals as goal
 use Rattle.txs_cli.specs.RunTold.{FailureTells}
-use Rattle.txs_cli.specs.Audited.{AuditedRunTells, AuditedTells, IsUnworked, audit_turns, of_unrun}
+use Rattle.txs_cli.specs.Audited.{AuditedRunTells, AuditedTells, by_workers, audit_turns, of_unrun}
 use Rattle.txs_cli.specs.Runner.{FailsAs, HasFailed}
 use Rattle.txs_cli_audit.specs.Audit.{HasNoAnswer}
 use Rattle.txs_audit_answer.specs.declared.verdict.AuditError.{AuditError}
@@ -22,8 +22,8 @@ returns-in-Ok g c =
     let code = c.args.compiled.now.1 in
     let o = c.args.working.options in
     let script = script_of c.args.script in
-    ok_maps c.audit_run.result (λ t. AuditedRunTells (unaudited parts) parts code script o (told_of t)) (λ t. AuditedTells (IsUnworked failed) unaudited script o (told_of t))
-    (λ t told. of_audited (IsUnworked failed) unaudited script o (told_of t) parts code c.requires.compiled told) c.audit_run.ensures
+    ok_maps c.audit_run.result (λ t. AuditedRunTells (unaudited parts) parts code script o (told_of t)) (λ t. AuditedTells (by_workers failed) unaudited script o (told_of t))
+    (λ t told. of_audited (by_workers failed) unaudited script o (told_of t) parts code c.requires.compiled tt told) c.audit_run.ensures
 
 -- the run has no report
 pub returns-in-Err : goal.returns-in-Err
@@ -35,5 +35,5 @@ returns-in-Err g c =
     let script = script_of c.args.script in
     let failure = c.in-Err.failure in
     let so : FailsAs (failed code) failure = subst (λ r. IfErr r (FailsAs (failed code))) c.in-Err.is c.run_all.ensures.failed in
-    ok_maps c.of_failure.result (λ t. FailureTells failure (told_of t)) (λ t. AuditedTells (IsUnworked failed) unaudited script c.args.working.options (told_of t))
+    ok_maps c.of_failure.result (λ t. FailureTells failure (told_of t)) (λ t. AuditedTells (by_workers failed) unaudited script c.args.working.options (told_of t))
     (λ t told. of_unrun parts code c.requires.compiled (failure, failed_so (failed code) failure told.told so, told)) c.of_failure.ensures

@@ -9,7 +9,7 @@ use Rattle.txs_cli_report.specs.Told as list
 use Rattle.txs_cli_report.specs.Told.{Told, Written, front}
 use Rattle.txs_cli_report.proofs.Fronts.{some_maps, some_always}
 use Rattle.txs_cli.proofs.audited_stream.schedule_stream.Goals as goal
-use Rattle.txs_cli.specs.Audited.{IsUnplayed, ScheduleAuditedTells, StreamAuditedTells, audit_turns, of_list, of_plays}
+use Rattle.txs_cli.specs.Audited.{by_plays, ScheduleAuditedTells, StreamAuditedTells, audit_turns, of_list, of_plays}
 use Rattle.txs_cli_audit.specs.Audit.{HasNoAnswer}
 use Rattle.txs_audit_answer.specs.declared.verdict.AuditError.{AuditError}
 use Rattle.txs_tree_meaning.specs.View.{Parts}
@@ -25,7 +25,7 @@ returns-in-Ok g c =
     let said : List Play → Result (List Play) WrongPlay = λ ps. Ok ps in
     let read : plays_in c.args.turns.now ≡ said plays = c.in-Ok.ensures.plays ∙ ap (λ rs. said (spread rs)) (sym c.as_slice-plays.ensures.value) in
     let writes : Told → Type 0 = λ t. Written (g.W.Write.contents c.args.writer.now) (g.W.Write.contents c.play_stream.new.writer) (g.F.Write.contents c.args.faults.now) (g.F.Write.contents c.play_stream.new.faults) t c.play_stream.result in
-    some_maps known (λ input. (t : Told) × StreamAuditedTells (IsUnplayed plays) unaudited (script input) o t × writes t)
+    some_maps known (λ input. (t : Told) × StreamAuditedTells (by_plays plays (text_in c.args.file)) unaudited (script input) o t × writes t)
     (λ input. (t : Told) × ScheduleAuditedTells c.args.turns.now unaudited (script input) o t × writes t)
     (λ input h. (h.0, of_plays plays read h.1, h.2)) c.play_stream.ensures
 

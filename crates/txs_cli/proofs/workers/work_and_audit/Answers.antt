@@ -5,7 +5,7 @@ use Rattle.txs_cli.specs.Telling.{WorkAuditTells}
 use Rattle.txs_cli_report.specs.Lines.{Script}
 use Rattle.txs_cli_report.specs.Told.{Told, Written, front}
 use Rattle.std.specs.Option.{IfSome}
-use Rattle.txs_cli.specs.Audited.{IsUnworked, StreamAuditedTells, audit_turns}
+use Rattle.txs_cli.specs.Audited.{by_workers, StreamAuditedTells, audit_turns}
 use Rattle.txs_cli.specs.Runner.{HasFailed}
 use Rattle.txs_cli_audit.specs.Audit.{HasNoAnswer}
 use Rattle.txs_audit_answer.specs.declared.verdict.AuditError.{AuditError}
@@ -32,4 +32,4 @@ returns g c =
     let script : List ℕ → Option (List ℕ) → Script = λ text file. record { text = text; file = file } in
     let writes : Told → Type 0 = λ t. Written (g.W.Write.contents c.args.writer.now) (g.W.Write.contents c.work_stream.new.writer) (g.F.Write.contents c.args.faults.now) (g.F.Write.contents c.work_stream.new.faults) t c.work_stream.result in
     where_unasked known tells writes c.args.input.now.code c.if-input.false
-    (subst (λ (n : Option (List ℕ)). IfSome known (λ bytes. (t : Told) × StreamAuditedTells (IsUnworked failed) unaudited (script (front bytes) n) o t × writes t)) c.explained_as-name.ensures c.work_stream.ensures)
+    (subst (λ (n : Option (List ℕ)). IfSome known (λ bytes. (t : Told) × StreamAuditedTells (by_workers failed) unaudited (script (front bytes) n) o t × writes t)) c.explained_as-name.ensures c.work_stream.ensures)

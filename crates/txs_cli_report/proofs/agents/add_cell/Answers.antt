@@ -1,4 +1,4 @@
-use Rattle.std.proofs.Common.{◌≡◌, max, ◌++◌, ◌∙◌, ℕ, List, Option, refl, ap, subst, append_assoc}
+use Rattle.std.proofs.Common.{◌≡◌, max, ◌++◌, ◌∙◌, ℕ, List, Option, None, refl, ap, subst, append_assoc}
 use Rattle.txs_world_protocol.specs.declared.event.Outcome.{Outcome}
 use Rattle.txs_cli_report.specs.AgentLines.{AgentTold, end_status, failed_by, failure_of}
 use Rattle.txs_cli_report.specs.Lent.{script_of}
@@ -24,11 +24,11 @@ returns-clause-errors c =
     let one = c.in_ok-tell_end.ensures.errors in
     let two = c.in_ok-tell_end-2.ensures.errors in
     let failed = c.how_ended-failed.ensures ∙ ap (λ (o : Option Outcome). how_ended o) c.failed_by.ensures in
-    let told : AgentTold script name f r.outcome (one.0 ++ two.0) = record {
+    let told : AgentTold script name f r.outcome r.place (one.0 ++ two.0) = record {
       failed = one.0;
       stopped = two.0;
-      first = ended_told script front (failed_by f) one.0 (subst (λ (o : Outcome). IsLesson script (end_line front o) (end_place o) one.0) failed one.1);
-      behind = ended_told script front r.outcome two.0 (subst (λ (o : Outcome). IsLesson script (end_line front o) (end_place o) two.0) c.how_ended-stopped.ensures two.1);
+      first = ended_told script front (failed_by f) None one.0 (subst (λ (o : Outcome). IsLesson script (end_line front o) (end_place o None) one.0) failed one.1);
+      behind = ended_told script front r.outcome r.place two.0 (subst (λ (o : Outcome). IsLesson script (end_line front o) (end_place o r.place) two.0) c.how_ended-stopped.ensures two.1);
       is = refl;
     } in (
       one.0 ++ two.0,

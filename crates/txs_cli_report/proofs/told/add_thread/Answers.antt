@@ -11,7 +11,7 @@ returns-clause-errors c =
     let front = thread_front c.args.k in
     let old = c.args.told.now.errors.items in
     let new = c.tell_end.new.told.errors.items in
-    subst (λ (o : Outcome). OnOk c.tell_end.result ((line : List ℕ) × IsLesson script (end_line front o) (end_place o) line × (new ≡ old ++ line))) c.how_ended.ensures c.tell_end.ensures.errors
+    subst (λ (o : Outcome). OnOk c.tell_end.result ((line : List ℕ) × IsLesson script (end_line front o) (end_place o c.args.thread.now.place) line × (new ≡ old ++ line))) c.how_ended.ensures c.tell_end.ensures.errors
 
 pub returns-clause-status : goal.returns-clause-status
 returns-clause-status c =

@@ -11,7 +11,7 @@ pub returns-in-Done : goal.returns-in-Done
 returns-in-Done c =
     let script = script_of c.args.script in
     let front = front_of c.args.front in
-    ([], subst (λ (o : Outcome). IsLesson script (end_line front o) (end_place o) []) (sym c.in-Done.is) (nothing_told script None [] refl), sym (append-nil c.args.errors.now.items))
+    ([], subst (λ (o : Outcome). IsLesson script (end_line front o) (end_place o c.args.at) []) (sym c.in-Done.is) (nothing_told script None [] refl), sym (append-nil c.args.errors.now.items))
 
 pub returns-in-StepsSpent : goal.returns-in-StepsSpent
 returns-in-StepsSpent c =
@@ -19,7 +19,7 @@ returns-in-StepsSpent c =
     let front = front_of c.args.front in
     let old = c.args.errors.now.items in
     let new = c.write_stopped.new.errors.items in
-    subst (λ (o : Outcome). OnOk c.write_stopped.result ((line : List ℕ) × IsLesson script (end_line front o) (end_place o) line × (new ≡ old ++ line))) (sym c.in-StepsSpent.is) c.write_stopped.ensures
+    subst (λ (o : Outcome). OnOk c.write_stopped.result ((line : List ℕ) × IsLesson script (end_line front o) (end_place o c.args.at) line × (new ≡ old ++ line))) (sym c.in-StepsSpent.is) c.write_stopped.ensures
 
 pub returns-in-JournalFull : goal.returns-in-JournalFull
 returns-in-JournalFull c =
@@ -27,7 +27,7 @@ returns-in-JournalFull c =
     let front = front_of c.args.front in
     let old = c.args.errors.now.items in
     let new = c.write_stopped-in-JournalFull.new.errors.items in
-    subst (λ (o : Outcome). OnOk c.write_stopped-in-JournalFull.result ((line : List ℕ) × IsLesson script (end_line front o) (end_place o) line × (new ≡ old ++ line))) (sym c.in-JournalFull.is) c.write_stopped-in-JournalFull.ensures
+    subst (λ (o : Outcome). OnOk c.write_stopped-in-JournalFull.result ((line : List ℕ) × IsLesson script (end_line front o) (end_place o c.args.at) line × (new ≡ old ++ line))) (sym c.in-JournalFull.is) c.write_stopped-in-JournalFull.ensures
 
 pub returns-in-Memory : goal.returns-in-Memory
 returns-in-Memory c =
@@ -35,4 +35,4 @@ returns-in-Memory c =
     let front = front_of c.args.front in
     let old = c.args.errors.now.items in
     let new = c.write_stopped-in-Memory.new.errors.items in
-    subst (λ (o : Outcome). OnOk c.write_stopped-in-Memory.result ((line : List ℕ) × IsLesson script (end_line front o) (end_place o) line × (new ≡ old ++ line))) (sym c.in-Memory.is) c.write_stopped-in-Memory.ensures
+    subst (λ (o : Outcome). OnOk c.write_stopped-in-Memory.result ((line : List ℕ) × IsLesson script (end_line front o) (end_place o c.args.at) line × (new ≡ old ++ line))) (sym c.in-Memory.is) c.write_stopped-in-Memory.ensures

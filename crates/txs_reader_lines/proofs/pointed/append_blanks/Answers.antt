@@ -1,8 +1,12 @@
-use Rattle.std.proofs.Common.{take}
-use Rattle.txs_reader_lines.specs.Pointed.{blanks}
-use Rattle.txs_reader_lines.proofs.Growing.{Extends-after}
+use Rattle.std.proofs.Common.{◌++◌, sym, ap, ◌∙◌, append-nil, arith}
+use Rattle.std.proofs.lemmas.Bool.Decides.{nat_tests}
+use Rattle.std.specs.List.{flat_map}
+use Rattle.txs_reader_lines.specs.Sign.{blank}
+use Rattle.txs_reader_lines.proofs.Signs.{signs-empty}
 use Rattle.txs_reader_lines.proofs.pointed.append_blanks.Goals as goal
 
-pub returns-in_err-append_blank-clause-kept : goal.returns-in_err-append_blank-clause-kept
-returns-in_err-append_blank-clause-kept c =
-    Extends-after c.args.out.now.items c.loop-byte.out.items c.append_blank.new.out.items (blanks (take c.loop-byte.byte-index c.args.bytes.now)) c.loop-byte.invariant c.append_blank.ensures.kept
+pub returns-clause-ok : goal.returns-clause-ok
+returns-clause-ok c =
+    let out = c.loop-rest.out.items in
+    let none = signs-empty c.loop-rest.rest.now (grind (arith, nat_tests)) in
+    sym (append-nil out) ∙ ap (λ ss. out ++ flat_map blank ss) (sym none) ∙ c.loop-rest.invariant.rest

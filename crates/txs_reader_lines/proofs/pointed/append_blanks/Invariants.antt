@@ -1,6 +1,14 @@
-use Rattle.std.proofs.Common.{◌≡◌, ◌++◌, take}
-use Rattle.txs_reader_lines.specs.Pointed.{blanks}
+use Rattle.std.proofs.Common.{◌≡◌, ◌++◌, length}
+use Rattle.std.specs.List.{flat_map}
+use Rattle.txs_reader_lines.specs.Extends.{Extends}
+use Rattle.txs_reader_lines.specs.Sign.{signs, blank}
 use Rattle.txs_reader_lines.proofs.pointed.append_blanks.Given as goal
 
-abbrev pub invariant-loop-byte : goal.invariant-loop-byte
-invariant-loop-byte l = l.out.items ≡ l.fn.out.items ++ blanks (take l.byte-index l.bytes)
+abbrev pub invariant-loop-rest : goal.invariant-loop-rest
+invariant-loop-rest l = record {
+  kept : Extends l.fn.out.items l.out.items;
+  rest : l.out.items ++ flat_map blank (signs l.rest) ≡ l.fn.out.items ++ flat_map blank (signs l.bytes);
+}
+
+abbrev pub decreases-loop-rest : goal.decreases-loop-rest
+decreases-loop-rest l = length l.rest
