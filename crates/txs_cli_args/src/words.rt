@@ -1,5 +1,8 @@
 //! The words of the command line.
 
+ghost use Rattle.std.specs.Prelude.{◌≡◌, true, false, IfOk};
+ghost use Rattle.txs_cli_args.specs.Asked.{ExplainsScripts, OfScripts};
+
 use clap::error::ErrorKind;
 use clap::{Arg, ArgAction, ArgMatches, Command, Error, value_parser};
 use std::alloc::{AllocError, Global};
@@ -206,7 +209,10 @@ fn options_of(words: &ArgMatches<'_>) -> RunOptions {
 }
 
 /// What the words of a command that runs something ask for, with its input and the text of `--turns`.
-fn run_of(name: &str, words: &ArgMatches<'_>, input: Input, plays: String) -> Request {
+fn run_of(name: &str, words: &ArgMatches<'_>, input: Input, plays: String) -> Request
+    requires { OfScripts input }
+    ensures { ExplainsScripts result }
+{
     let options = options_of(words);
     if name == "schedule" {
         return Request::Schedule {
@@ -224,7 +230,10 @@ fn run_of(name: &str, words: &ArgMatches<'_>, input: Input, plays: String) -> Re
 }
 
 /// What a command's words ask for, with its input and the text of `--turns` or `--out`.
-fn request_of(name: &str, words: &ArgMatches<'_>, input: Input, text: String) -> Request {
+fn request_of(name: &str, words: &ArgMatches<'_>, input: Input, text: String) -> Request
+    requires { OfScripts input }
+    ensures { ExplainsScripts result }
+{
     if name == "build" {
         return Request::Build { input, out: text };
     }
@@ -253,8 +262,12 @@ fn asked_of(
     alloc: Global,
     name: &str,
     words: &ArgMatches<'_>,
+    code: bool,
     explain: bool,
-) -> Result<Request, AllocError> {
+) -> Result<Request, AllocError>
+    requires { code ≡ true → explain ≡ false }
+    ensures { IfOk result ExplainsScripts }
+{
     let option = if name == "build" { "out" } else { "turns" };
     let text = String::from_str(alloc, words.get_str(option).unwrap_or(""))?;
     let file = match words.get_str("FILE") {
@@ -263,30 +276,30 @@ fn asked_of(
     };
     let input = Input {
         file,
-        code: words.get_flag("code"),
+        code,
         explain,
     };
     Ok(request_of(name, words, input, text))
 }
 
 /// What the matched words ask for, where the standard error is a terminal or isn't. Of code nothing is explained, since there is no script to show.
-fn asked(
-    alloc: Global,
-    matches: &ArgMatches<'_>,
-    is_terminal: bool,
-) -> Result<Request, AllocError> {
+fn asked(alloc: Global, matches: &ArgMatches<'_>, is_terminal: bool) -> Result<Request, AllocError>
+    ensures { IfOk result ExplainsScripts }
+{
     let Some((name, words)) = matches.subcommand() else {
         return Ok(Request::Faulty(String::new(alloc)));
     };
     match (explain_of(words), words.get_flag("code")) {
         (Explain::Always, true) => excluded(alloc, name),
-        (_, true) => asked_of(alloc, name, words, false),
-        (when, false) => asked_of(alloc, name, words, when.is_meant(is_terminal)),
+        (_, true) => asked_of(alloc, name, words, true, false),
+        (when, false) => asked_of(alloc, name, words, false, when.is_meant(is_terminal)),
     }
 }
 
 /// The usage fault of words of this command that ask for code, and that it be explained.
-fn excluded(alloc: Global, name: &str) -> Result<Request, AllocError> {
+fn excluded(alloc: Global, name: &str) -> Result<Request, AllocError>
+    ensures { IfOk result ExplainsScripts }
+{
     let Some(row) = COMMANDS.iter().find(|row| row.0 == name) else {
         return Ok(Request::Faulty(String::new(alloc)));
     };
@@ -343,7 +356,9 @@ fn unexpected(text: &str) -> Option<(&str, &str)> {
 }
 
 /// The text of what isn't run: help, or a usage fault.
-fn told(alloc: Global, error: &Error) -> Result<Request, AllocError> {
+fn told(alloc: Global, error: &Error) -> Result<Request, AllocError>
+    ensures { IfOk result ExplainsScripts }
+{
     if error.kind() == ErrorKind::OutOfMemory {
         return Err(AllocError);
     }
@@ -373,12 +388,10 @@ fn with_command(alloc: Global, args: &[String]) -> Result<Vec<&str>, AllocError>
 }
 
 /// What the words after the program's name ask for. Whether the standard error is a terminal decides whether lines are explained, where
-/// the words don't.
-pub fn parse_words(
-    alloc: Global,
-    args: &[String],
-    is_terminal: bool,
-) -> Result<Request, AllocError> {
+/// the words don't; of code in its byte form nothing is explained.
+pub fn parse_words(alloc: Global, args: &[String], is_terminal: bool) -> Result<Request, AllocError>
+    ensures { IfOk result ExplainsScripts }
+{
     let words = with_command(alloc, args)?;
     match command(alloc)?.try_get_matches_from(words.as_slice()) {
         Ok(matches) => asked(alloc, &matches, is_terminal),

@@ -1,5 +1,5 @@
 -- What an agent's actor asks it may ask, it is handed what it may run, and it goes on so after the answer.
-use Rattle.std.proofs.Common.{◌≡◌, ◌≤◌, ◌+◌, ◌-◌, ℕ, zero, suc, Bool, true, false, not, nat_lt, List, [], ◌∷◌, ◌++◌, length, get_or, Option, Some, None, Ok, Err, refl, sym, ap, subst, ◌∙◌, ◌⊎◌, inl, inr, arith}
+use Rattle.std.proofs.Common.{◌≡◌, ◌≤◌, ◌+◌, ◌-◌, ℕ, zero, suc, Bool, true, false, not, nat_lt, List, [], ◌∷◌, ◌++◌, length, get_or, Option, Some, None, refl, sym, ap, subst, ◌∙◌, ◌⊎◌, inl, inr, arith}
 use Rattle.std.proofs.lemmas.Bool.Decides.{nat_tests}
 use Rattle.txs_world_protocol.specs.declared.ask.Ask.{Ask}
 use Rattle.txs_world_protocol.specs.declared.ask.Ask.TheVariants as ask
@@ -21,13 +21,13 @@ use Rattle.txs_code_meaning.specs.declared.instr.Instr.TheVariants as instr
 use Rattle.txs_machine_actor.specs.PlainActor.{PlainActor, IsActorOf, Lives, AttendsOn, MayAnswer, MayRun, HandsOut, answered, answered_if, asked_for, unanswered, code_of, CanGoOn}
 use Rattle.txs_machine_actor.specs.Turns.{TurnsOf}
 use Rattle.txs_machine_actor.specs.declared.outcome.Turn.TheVariants as turned
-use Rattle.txs_machine_transaction.specs.Asks.{ask_for, ask_of_read, applied_in}
+use Rattle.txs_machine_transaction.specs.Asks.{ask_for, applied_in}
 use Rattle.txs_machine_transaction.specs.Transaction.{is_running}
 use Rattle.txs_machine_transaction.specs.declared.state.Pending.{Pending}
 use Rattle.txs_machine_transaction.specs.declared.state.Pending.TheVariants as pending
 use Rattle.txs_world_book.specs.Book.{actors, has_agent}
 use Rattle.txs_world_book.specs.Book as world
-use Rattle.txs_world_book.specs.Served.{served, cells_of}
+use Rattle.txs_world_book.specs.Served.{cells_of}
 use Rattle.txs_world.specs.Store.{takes, next_action}
 use Rattle.txs_theorem_runs.specs.Lawful.{NamesOwn, RunAsksLawful}
 use Rattle.txs_theorem_runs.specs.Run as run

@@ -1,8 +1,7 @@
 -- A schedule has one run: where nothing was stopped for memory its turns are all determined.
-use Rattle.std.proofs.Common.{◌≡◌, ◌==◌, ◌<◌, ◌+◌, ◌-◌, ℕ, zero, suc, Bool, true, false, ◌&&◌, nat_lt, List, [], ◌∷◌, ◌++◌, length, Option, Some, None, refl, sym, ap, subst, ◌∙◌, append_assoc, ◌⊎◌, inl, inr, if◌then◌else◌, arith}
+use Rattle.std.proofs.Common.{◌≡◌, ◌==◌, ◌<◌, ◌+◌, ℕ, zero, suc, Bool, true, false, ◌&&◌, nat_lt, List, [], ◌∷◌, ◌++◌, length, Option, Some, None, refl, sym, ap, subst, ◌∙◌, ◌⊎◌, inl, inr, if◌then◌else◌, arith}
 use Rattle.std.proofs.lemmas.Bool.Decides.{nat_tests}
 use Rattle.txs_world_protocol.specs.declared.event.Event.{Event}
-use Rattle.txs_world_protocol.specs.declared.event.Outcome.{Outcome}
 use Rattle.txs_world_protocol.specs.declared.event.Outcome.TheVariants as outcome
 use Rattle.txs_world_protocol.specs.declared.report.ActorReport.{ActorReport}
 use Rattle.txs_value_base.specs.Places.{nth}
@@ -14,12 +13,11 @@ use Rattle.txs_theorem_runs.specs.Run as run
 use Rattle.txs_theorem_runs.specs.Run.{Stop, JournalFull, Memory, TurnsSpent, Unlawful, Actor, State, Play, Moved, TakesTurn, IsStopped, actor_of, moves, turns_from, stops_from}
 use Rattle.txs_theorem_runs.specs.Shared.{Shared}
 use Rattle.txs_world_shared.specs.SharedState.{PlainShared, shared_of}
-use Rattle.txs_machine.specs.Agents.{agents_of, actors_of}
+use Rattle.txs_machine.specs.Agents.{actors_of}
 use Rattle.txs_machine.specs.RunOver.{books_of}
 use Rattle.txs_machine.specs.Schedule.{player, all_named}
-use Rattle.txs_machine.specs.Scheduled.{after_turns, run_of, most_turns, is_quiet, turns_next, turns_at, own_turns, outcome_of, AreTurnsOf, IsPlay, ArePlays, IsOver, AreRounds, AreRoundsIf, AreScheduledFrom, AreScheduled, IsEntryOf, IsScheduledRun, NoneForMemory, IsUndisturbedRun, IsSameEntry, AreSameEntries, SchedulesAreExact, asks_from}
+use Rattle.txs_machine.specs.Scheduled.{after_turns, run_of, most_turns, is_quiet, turns_next, turns_at, own_turns, outcome_of, AreTurnsOf, ArePlays, AreRounds, AreRoundsIf, AreScheduled, IsEntryOf, IsUndisturbedRun, IsSameEntry, SchedulesAreExact, asks_from}
 use Rattle.txs_machine.specs.declared.schedule.Play.{Play as AnyPlay}
-use Rattle.txs_machine.specs.declared.schedule.Play.TheVariants as play
 use Rattle.txs_machine.proofs.Going.{turns_append}
 
 abbrev is_some : {A : Type 0} → Option A → Type 0

@@ -1,8 +1,7 @@
 -- An agent's actor that has nothing to do asks for an action, and is told that there is none: after the turn it is where it was.
-use Rattle.std.proofs.Common.{◌≡◌, ◌<◌, ℕ, zero, suc, ◌==◌, Bool, true, false, nat_lt, List, [], ◌∷◌, length, map, Option, Some, None, refl, sym, ap, subst, ◌∙◌, ◌⊎◌, inl, inr, if◌then◌else◌, arith}
+use Rattle.std.proofs.Common.{◌≡◌, ◌<◌, ℕ, zero, suc, ◌==◌, Bool, true, false, nat_lt, List, [], ◌∷◌, length, map, Option, Some, None, refl, sym, ap, subst, ◌∙◌, inl, inr, if◌then◌else◌, arith}
 use Rattle.std.proofs.lemmas.Bool.Decides.{nat_tests}
 use Rattle.std.proofs.Math.Path.{fun_ext}
-use Rattle.txs_world_protocol.specs.declared.ask.Ask.{Ask}
 use Rattle.txs_world_protocol.specs.declared.ask.Ask.TheVariants as ask
 use Rattle.txs_world_protocol.specs.declared.ask.Reply.TheVariants as reply
 use Rattle.txs_world_protocol.specs.declared.event.Event.{Event}
@@ -12,18 +11,18 @@ use Rattle.txs_value_data.proofs.SameLemmas.{numbers, number-itself}
 use Rattle.txs_value_data.specs.declared.value.CellId.{CellId}
 use Rattle.txs_world_protocol.specs.Ask.{Writes}
 use Rattle.txs_code_meaning.specs.ActorState.{ActorState, InHand, Await, take_action, asks, heard, handed_out, receives}
-use Rattle.txs_code_meaning.specs.Machine.{PlainInstr, Push, Load, Store, Pop, Jump, JumpFalse, CoreOf, CallOf, Return, MakeVector, PrintOf, TxBegin, TxEnd, LookOf, PutOf, OpenOf, CloseOf, SendOf, Halt, TakeOf, RunOf, FinishOf, ThreadCode, Configuration, Activity, Outside, Restarting, Running, Applying, Swapping, Turned, Asking, Unfinished, agent_code, act, fetch, on, started, turn}
+use Rattle.txs_code_meaning.specs.Machine.{PlainInstr, Push, Load, Store, Pop, Jump, JumpFalse, CoreOf, CallOf, Return, MakeVector, PrintOf, TxBegin, TxEnd, LookOf, PutOf, OpenOf, CloseOf, SendOf, Halt, TakeOf, RunOf, FinishOf, ThreadCode, Configuration, Activity, Outside, Restarting, Running, Applying, Swapping, Asking, Unfinished, agent_code, act, fetch, on, started, turn}
 use Rattle.txs_code_meaning.specs.OwnCells.{NamesOwnCells}
 use Rattle.txs_code_meaning.specs.PlainCode.{PlainCode, library_of}
-use Rattle.txs_machine_actor.specs.PlainActor.{PlainActor, code_of, configuration_of, state_of}
+use Rattle.txs_machine_actor.specs.PlainActor.{PlainActor, code_of, configuration_of}
 use Rattle.txs_world.specs.Laws.{ServeKeeps}
 use Rattle.txs_world.specs.Store.{first_action, next_action, is_taken, takes}
-use Rattle.txs_world_book.specs.Book.{actor_of, is_failed, mail_after, newest, opening, waits}
+use Rattle.txs_world_book.specs.Book.{is_failed, mail_after, newest, opening, waits}
 use Rattle.txs_world_book.specs.Served.{Served, cells_of, served}
 use Rattle.txs_theorem_runs.specs.Invariant.{ActorInvariant, RunInvariant}
 use Rattle.txs_theorem_runs.specs.Lawful.{RunAsksLawful}
-use Rattle.txs_theorem_runs.specs.Run.{Actor, State, Play, TakesTurn, Moved, moved, answered, asked, play, placed, turned, replied, plays_from}
-use Rattle.txs_theorem_runs.specs.Shared.{Shared, serve_on, shared_after, may_ask}
+use Rattle.txs_theorem_runs.specs.Run.{Actor, State, Play, TakesTurn, Moved, moved, asked, play, placed, replied}
+use Rattle.txs_theorem_runs.specs.Shared.{Shared, serve_on, shared_after}
 use Rattle.txs_theorem_runs.specs.Staged.{IsOpen, IsStaged, StagedActor, StandsIn, outside_stage, redoes_some, stage_at_end, stage_in}
 use Rattle.txs_theorem_runs.specs.Stages.{Stage, Resting, Idle, Open, Viewing, Swapping as SwappingAt}
 use Rattle.txs_theorem_runs.specs.Standing.{StandingActor, TakesOne, TakesTurns}
@@ -33,9 +32,9 @@ use Rattle.txs_theorem_runs.proofs.Steps.{play_holds}
 use Rattle.txs_theorem_runs.proofs.Taken.{is_busy, stage_by, stage_is, taken_so}
 use Rattle.txs_theorem_runs.proofs.Told.{fresh_stands}
 use Rattle.txs_theorem_runs.proofs.Whole.{opening_holds}
-use Rattle.txs_world_shared.specs.SharedState.{PlainShared, shared_of}
+use Rattle.txs_world_shared.specs.SharedState.{PlainShared}
 use Rattle.txs_machine.specs.RunOver.{books_of}
-use Rattle.txs_machine.specs.Running.{ComesTo, GoesAs, IsAgentAt, IsPlayerOf}
+use Rattle.txs_machine.specs.Running.{GoesAs, IsAgentAt, IsPlayerOf}
 use Rattle.txs_machine.specs.Scheduled.{after_turns, own_turns, run_of}
 use Rattle.txs_world_protocol.specs.declared.event.Place.{Place}
 use Rattle.txs_machine.proofs.Attending.{agent_names, asks_so}

@@ -97,7 +97,7 @@ GoesOn Stuck o = ⊥
 abbrev pub IsGoing : Actor → Type 0
 IsGoing x = GoesOn x.at x.stopped
 
--- A run is over: no thread goes on, and for each agent whose actor does nothing waits, or it has failed.
+-- A run is over where no thread goes on, and each agent whose actor goes on has failed or has an empty mailbox.
 pub record IsOver (code : PlainCode) (st : State) : Type 0 where
   pub threads : (k : ℕ) → k < length code.threads → IsGoing (st.actors k) → ⊥
   pub agents : (i : ℕ) (g : CellId) → nth (agents_of code) i ≡ Some g → IsGoing (st.actors (length code.threads + i)) → next_action (cells_of code.cells) (st.shared.books 0) g ≡ None
@@ -107,7 +107,7 @@ abbrev pub asks_from : ℕ → ℕ → List Play
 asks_from k zero = []
 asks_from k (suc n) = play.Ask k ∷ asks_from (suc k) n
 
--- these are the turns of so many rounds: each is an ask of each actor, in ascending order, and the last of them, and no other, leaves a run that is over
+-- These are the turns of so many rounds: each is an ask of each actor, in ascending order. The run is over behind the last of them, and before none.
 abbrev pub AreRounds : PlainCode → ℕ → ℕ → State → List run.Play → Type 0
 AreRounds code limit zero st us = IsOver code st × (us ≡ [])
 AreRounds code limit (suc n) st us =

@@ -1,12 +1,13 @@
 //! What the workers leave: everything after the joins, without a handle.
 
-ghost use Rattle.std.specs.Prelude.{◌≡◌, ◌↔◌, ◌⊎◌, length, true, false, None, IsTrue, IfOk, IfErr, IfSome};
+ghost use Rattle.std.specs.Prelude.{◌≡◌, ◌<◌, ◌↔◌, ◌⊎◌, length, true, false, None, IsTrue, IfOk, IfErr, IfSome};
 ghost use Rattle.txs_machine.specs.Agents.{agents_of};
 ghost use Rattle.txs_machine.specs.declared.run_error.RunError.TheVariants.{JournalMismatch, Memory};
 ghost use Rattle.txs_threads.specs.Run.{AllEnded, AreAgents, IsDrained, AllDrained, IsLeft, IsMismatch};
 ghost use Rattle.txs_world_book.specs.Book.{has_agent};
 ghost use Rattle.txs_world_book.specs.Served.{cells_of};
-ghost use Rattle.txs_world_shared.specs.SharedState.{is_lawful, answer_to, Answers};
+ghost use Rattle.txs_theorem_runs.specs.Shared.{book_for};
+ghost use Rattle.txs_world_shared.specs.SharedState.{is_lawful, answer_to, numbered_book, Answers};
 
 use crate::atoms::Atoms;
 use crate::runnable::{AfterReply, Runnable};
@@ -26,6 +27,7 @@ use txs_world_shared::SharedState;
 /// as it is.
 fn serve_state(shared: &mut SharedState, actor: u16, ask: Ask) -> Option<Served>
     ensures served { IfSome result (λ v. Answers shared.old ask (answer_to shared.old actor ask) v.reply shared.new) }
+    ensures index { IfSome result (λ v. length (numbered_book shared.old (book_for shared.old.cells ask)) < 4294967296 → v.at ≡ length (numbered_book shared.old (book_for shared.old.cells ask))) }
     ensures lawful { (result ≡ None → is_lawful shared.old actor ask ≡ false) × (is_lawful shared.old actor ask ≡ false → result ≡ None) }
     ensures refused { result ≡ None → shared.new ≡ shared.old }
 {

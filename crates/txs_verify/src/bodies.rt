@@ -12,6 +12,7 @@ ghost use Rattle.txs_verify.specs.Going.{AllJumpWithin};
 ghost use Rattle.txs_verify.specs.Marks.{mark_at};
 ghost use Rattle.txs_verify.specs.Verdict.{AreKinds, AreRightBodies, AreWalked, AreWalkedThreads, AreLeastRooms, BodyInForm, IsInForm, IsRefused, IsRefusedAlone, IsIllTyped, IsRefusedBehind, IsRefusedFunction, IsRefusedOnPaths, IsRefusedWalk, IsLeastRoom, IsRoomFor, IsWalked, IsWrongOnPaths, OrMemory, callable, name_of, stopped};
 ghost use Rattle.txs_verify.specs.Walk.{WhereRefused};
+ghost use Rattle.txs_verify.specs.declared.error.VerifyErrorKind.TheVariants as kind;
 ghost use Rattle.txs_verify.specs.declared.walk.Mark.{Mark as AMark};
 
 use crate::alone::look_alone;
@@ -251,7 +252,9 @@ fn walk_functions(
 /// What is told where a function is refused: the first validator that isn't pure, by what the functions before it are for, or else the
 /// function.
 fn first_refusal(kinds: &[Kind], cells: &[CellDefinition], refused: VerifyError) -> VerifyError
-    ensures { (fs : List CodeBody) → OrMemory refused.kind (IsRefusedBehind fs kinds.now refused) → OrMemory result.kind (IsRefusedWalk fs (validators_of cells.now) result) }
+    ensures refused { (fs : List CodeBody) → OrMemory refused.kind (IsRefusedBehind fs kinds.now refused) → OrMemory result.kind (IsRefusedWalk fs (validators_of cells.now) result) }
+    // It needs no memory.
+    ensures whole { result.kind ≡ kind.Memory → refused.kind ≡ kind.Memory }
 {
     if refused.kind == VerifyErrorKind::Memory {
         return refused;

@@ -1,11 +1,12 @@
 //! The places that the code of a body comes to, each found once.
 
-ghost use Rattle.std.specs.Prelude.{◌≡◌, ◌<◌, ◌≤◌, ◌+◌, ℕ, List, [], length, Some, IfOk, IfErr, OnOk};
+ghost use Rattle.std.specs.Prelude.{◌≡◌, ◌<◌, ◌≤◌, ◌+◌, ℕ, List, [], length, Some, Err, IfOk, IfErr, OnOk};
 ghost use Rattle.txs_code_meaning.specs.PlainCode.{parameters_of};
 ghost use Rattle.txs_value_base.specs.Places.{nth};
 ghost use Rattle.txs_verify.specs.Going.{AllJumpWithin, AreReached, Goes, JumpsWithin, no_marks};
 ghost use Rattle.txs_verify.specs.Marks.{mark_at, IsClosed};
 ghost use Rattle.txs_verify.specs.Refused.{BreaksOff};
+ghost use Rattle.txs_verify.specs.declared.error.Stop.TheVariants as stop;
 ghost use Rattle.txs_verify.specs.declared.walk.Mark.{Mark as AMark};
 ghost use Rattle.txs_verify.specs.Walk.{Gives, Walk, WhereRefused, ends_nothing, looked, next_places, passed, reached, reached_each};
 
@@ -23,7 +24,9 @@ pub struct Mark {
 
 /// Whether a place may be come to with this mark, where it has an earlier one.
 fn agree(earlier: Mark, mark: Mark, to: usize) -> Result<(), Stop>
-    ensures { (s : Walk) → Gives result s (reached (Some earlier) s to mark) }
+    ensures gives { (s : Walk) → Gives result s (reached (Some earlier) s to mark) }
+    // It needs no memory.
+    ensures whole { result ≡ Err stop.Memory → ⊥ }
 {
     if earlier.depth != mark.depth {
         return Err(Stop::Refused(Refusal {

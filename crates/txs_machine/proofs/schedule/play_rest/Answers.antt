@@ -1,4 +1,4 @@
-use Rattle.std.proofs.Common.{◌≡◌, ◌<◌, ◌≤◌, ◌+◌, ◌-◌, ◌++◌, ℕ, length, refl, rules, sym, ap, subst, ◌∙◌, ◌⊎◌, inl, inr, arith}
+use Rattle.std.proofs.Common.{◌≡◌, ◌<◌, ◌+◌, ◌-◌, ◌++◌, refl, rules, subst, ◌∙◌, inr, arith}
 use Rattle.std.specs.Prelude.{◌^◌}
 use Rattle.txs_machine.specs.Running.{GoOnBy, left_all}
 use Rattle.txs_machine.specs.Scheduled.{asks_from, ArePlays, AreTurnsOf}

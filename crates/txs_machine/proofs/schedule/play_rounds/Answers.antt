@@ -1,5 +1,4 @@
-use Rattle.std.proofs.Common.{◌≡◌, ◌+◌, ◌-◌, length, refl, rules, ◌∙◌, arith}
-use Rattle.txs_machine.specs.Running.{ArePlaying}
+use Rattle.std.proofs.Common.{◌-◌, refl, rules, ◌∙◌, arith}
 use Rattle.txs_machine.specs.Scheduled.{asks_from, ArePlays, AreRoundsIf, LeadRounds}
 use Rattle.txs_machine.proofs.Playing.{later_itself, later_than}
 use Rattle.txs_machine.proofs.Scheduled.{actors_all, before_later, first_round, none_on, rounds_lead, rounds_made, stays, still, then_on, unwanted}

@@ -13,4 +13,4 @@ returns-in-Ok-clause-wrong c =
 
 pub returns-in-Err-clause-wrong : goal.returns-in-Err-clause-wrong
 returns-in-Err-clause-wrong c =
-    c.first_refusal.ensures c.args.functions.now (subst (λ ks. OrMemory c.in-Err.refused.kind (IsRefusedBehind c.args.functions.now ks c.in-Err.refused)) (sym c.as_slice-in-Err.ensures.value) c.in-Err.ensures.wrong)
+    c.first_refusal.ensures.refused c.args.functions.now (subst (λ ks. OrMemory c.in-Err.refused.kind (IsRefusedBehind c.args.functions.now ks c.in-Err.refused)) (sym c.as_slice-in-Err.ensures.value) c.in-Err.ensures.wrong)

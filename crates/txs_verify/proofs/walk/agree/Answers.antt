@@ -1,5 +1,5 @@
 use Rattle.std.proofs.Common.{rules}
 use Rattle.txs_verify.proofs.walk.agree.Goals as goal
 
-pub returns : goal.returns
-returns c = search rules
+pub returns-clause-gives : goal.returns-clause-gives
+returns-clause-gives c = search rules

@@ -15,4 +15,4 @@ pub returns-in-Some-clause-gives : goal.returns-in-Some-clause-gives
 returns-in-Some-clause-gives c =
     let at = mark_is c.args.marks.now.items c.args.to c.index-here.result.now (search rules) in
     let some : mark_at c.args.marks.now.items c.args.to ≡ Some c.in-Some.earlier = at ∙ sym c.index-here.ensures ∙ c.in-Some.is in
-    subst (λ x. Gives c.agree.result (c.args.marks.now.items, c.args.waiting.now.items) (reached x (c.args.marks.now.items, c.args.waiting.now.items) c.args.to c.args.mark)) (sym some) (c.agree.ensures (c.args.marks.now.items, c.args.waiting.now.items))
+    subst (λ x. Gives c.agree.result (c.args.marks.now.items, c.args.waiting.now.items) (reached x (c.args.marks.now.items, c.args.waiting.now.items) c.args.to c.args.mark)) (sym some) (c.agree.ensures.gives (c.args.marks.now.items, c.args.waiting.now.items))
