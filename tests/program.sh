@@ -131,7 +131,7 @@ is "a file that isn't there" "$(on_terminal none.clj)" "$(printf 'read failed\nn
 is "code is not explained" "$(on_terminal schedule --code --turns x new.bin)" 'wrong list'
 is "a good end is not explained" "$(on_terminal a.clj)" '1'
 
-# ---- the kit by which the program is proved, as its page names it
+# ---- the kit that the sources are for, as the page names it
 is "the kit" "$("$program" --version | grep -o 'rattle-kit-[0-9a-z]*')" "$(sed -n 's/^Kit: `\(rattle-kit-[0-9a-z]*\) .*/\1/p' "$here/README.md")"
 
 echo "$passed passed, $failed failed"

@@ -1,2 +1,3 @@
 pub mod Parted
 pub mod Pieced
+pub mod Started

@@ -5,6 +5,7 @@ ghost use Rattle.txs_tree_meaning.specs.View.{program_of};
 ghost use Rattle.txs_theorem_audit.specs.Audited.{Fine, answer, books_of, report_as};
 ghost use Rattle.txs_theorem_audit.specs.Pieces.{pieces_finding, pieces_of, pieces_serial};
 ghost use Rattle.txs_theorem_audit.specs.Verdict.{fits_sizes, traces_found, verdict};
+ghost use Rattle.txs_audit.specs.Started.{NeedsWorkers};
 ghost use Rattle.txs_audit_trace.specs.Named.{off_in};
 ghost use Rattle.txs_audit_answer.specs.Answered.{as_verdict};
 ghost use Rattle.txs_audit_answer.specs.declared.verdict.AuditError.TheVariants.{NoThread};
@@ -80,16 +81,18 @@ fn audit_books<R: Threads + Wait + Sync, G: Gate>(
     requires sizes { fits_sizes (program_of program.now) (report_as report.now) ≡ true }
     requires traces { Fine ≡ traces_found (books_of (report_as report.now)) (suc (length (report_as report.now).atom_books)) 0 ((report_as report.now).threads ++ (report_as report.now).agents) }
     requires workers { workers ≤ 64 }
-    ensures { IfOk result (λ v. as_verdict v ≡ verdict (program_of program.now) (report_as report.now) turns) }
+    ensures verdict { IfOk result (λ v. as_verdict v ≡ verdict (program_of program.now) (report_as report.now) turns) }
+    ensures started { IfErr result (λ e. e ≡ NoThread → NeedsWorkers (program_of program.now) (report_as report.now)) }
 {
     // A law that the proof uses; it does nothing when it runs.
     pieces_are_all();
-    match open_books(alloc, program, report)? {
-        Ok(books) => audit_pieces(rt, alloc, &books, workers, turns, gate),
-        Err(finding) => Ok(verdict_of(Found {
+    match open_books(alloc, program, report) {
+        Ok(Ok(books)) => audit_pieces(rt, alloc, &books, workers, turns, gate),
+        Ok(Err(finding)) => Ok(verdict_of(Found {
             finding,
             serial: false,
         })),
+        Err(_) => Err(AuditError::Memory),
     }
 }
 
@@ -108,6 +111,7 @@ pub fn audit_gated<R: Threads + Wait + Sync, G: Gate>(
 ) -> Result<Verdict, AuditError>
     ensures workers { IfOk result (λ v. (0 < workers) × (workers ≤ 64)) }
     ensures none { IfErr result (λ e. ((workers ≡ 0) ⊎ (64 < workers)) → e ≡ NoThread) }
+    ensures started { IfErr result (λ e. e ≡ NoThread → 0 < workers → workers ≤ 64 → NeedsWorkers (program_of program.now) (report_as report.now)) }
     ensures verdict { IfOk result (λ v. as_verdict v ≡ verdict (program_of program.now) (report_as report.now) turns) }
 {
     if workers == 0 || workers > 64 {
@@ -116,9 +120,10 @@ pub fn audit_gated<R: Threads + Wait + Sync, G: Gate>(
     if !has_sizes(program, report) {
         return Ok(Verdict::Differs { actor: 0, event: 0 });
     }
-    match first_off(alloc, program, report)? {
-        Some((actor, event)) => Ok(Verdict::Differs { actor, event }),
-        None => audit_books(rt, alloc, program, report, workers, turns, gate),
+    match first_off(alloc, program, report) {
+        Ok(Some((actor, event))) => Ok(Verdict::Differs { actor, event }),
+        Ok(None) => audit_books(rt, alloc, program, report, workers, turns, gate),
+        Err(_) => Err(AuditError::Memory),
     }
 }
 
@@ -127,7 +132,8 @@ pub fn audit_gated<R: Threads + Wait + Sync, G: Gate>(
 /// txs_theorem_audit, and the first that finds something is answered.
 ///
 /// # Errors
-/// `NoThread` if `workers` is 0 or over 64, with nothing done, or if a worker couldn't be started; `Memory` if there was no memory.
+/// `NoThread` if `workers` is 0 or over 64, with nothing done, or if a worker couldn't be started, which are started only once sizes, traces and
+/// books are found to be right; `Memory` if there was no memory.
 pub fn audit<R: Threads + Wait + Sync>(
     rt: &R,
     alloc: Global,
@@ -138,6 +144,7 @@ pub fn audit<R: Threads + Wait + Sync>(
 ) -> Result<Verdict, AuditError>
     ensures workers { IfOk result (λ v. (0 < workers) × (workers ≤ 64)) }
     ensures none { IfErr result (λ e. ((workers ≡ 0) ⊎ (64 < workers)) → e ≡ NoThread) }
+    ensures started { IfErr result (λ e. e ≡ NoThread → 0 < workers → workers ≤ 64 → NeedsWorkers (program_of program.now) (report_as report.now)) }
     ensures verdict { IfOk result (λ v. as_verdict v ≡ verdict (program_of program.now) (report_as report.now) turns) }
 {
     audit_gated(rt, alloc, program, report, workers, turns, &OpenGate)

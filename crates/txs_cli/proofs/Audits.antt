@@ -7,15 +7,17 @@ use Rattle.txs_cli_report.specs.Lines.{Script}
 use Rattle.txs_cli_report.specs.Told.{Told, IsCompiled, behind_bytes}
 use Rattle.txs_cli_request.specs.declared.request.RunOptions.{RunOptions}
 use Rattle.txs_code_meaning.specs.PlainCode.{PlainCode}
+use Rattle.txs_machine.specs.declared.schedule.Entries.{Entries}
 use Rattle.txs_theorem_audit.specs.Audited.{Verdict}
 use Rattle.txs_tree_meaning.specs.View.{Parts, program_of}
 use Rattle.txs_world_protocol.specs.declared.report.Report.{Report}
+use Rattle.txs_world_shared.specs.SharedState.{PlainShared}
 
 -- the script's program explains the run
-pub of_audited : (way : Way) (unaudited : Parts → Report → AuditError → Type 0) (script : Script) (o : RunOptions) (t : Told) (parts : Parts) (code : PlainCode)
-    → IsCompiled script.text (program_of parts) code → way.ran code → AuditedRunTells (unaudited parts) parts code script o t → AuditedTells way unaudited script o t
-of_audited way unaudited script o t parts code compiled may told =
-    of_run parts code compiled may told (told.worked.explained (program_of parts) (sym compiled.same) compiled.follows compiled.agents compiled.sends compiled.agents_send)
+pub of_audited : (way : Way) (unaudited : Parts → Report → AuditError → Type 0) (script : Script) (o : RunOptions) (t : Told) (parts : Parts) (code : PlainCode) (shared : PlainShared) (entries : Entries)
+    → IsCompiled script.text (program_of parts) code → way.ran code o.steps shared entries → AuditedRunTells (unaudited parts) parts code script o shared entries t → AuditedTells way unaudited script o t
+of_audited way unaudited script o t parts code shared entries compiled ran told =
+    of_run parts code shared entries compiled ran told (told.worked.explained (program_of parts) (sym compiled.same) compiled.follows compiled.agents compiled.sends compiled.agents_send)
 
 -- what is told of an audit behind some lines is told of it behind what the threads printed and these lines
 pub audit_behind : (failed : AuditError → Type 0) (script : Script) (v : Verdict) (bytes : List ℕ) (before t : Told) → AuditTells failed script v before t → AuditTells failed script v (behind_bytes bytes before) (behind_bytes bytes t)

@@ -52,6 +52,6 @@ of_bytes failed bytes code script steps cells events t of none (of_failure failu
 pub code_by_turns : (bytes : List ℕ) (code : PlainCode) (script : Script) (plays : List Play) (steps : ℕ) (cells events : Bool) (t : Told)
     → IsFormOf bytes code → script ≡ no_script → TurnsTell code script plays steps cells events t → CodeTells bytes t (Ran plays steps cells events)
 code_by_turns bytes code script plays steps cells events t of none (of_turns s state named told) =
-    turns_told.of_run plays steps cells events told.ran code s of state named (subst (λ (x : Script). RunTells code x steps s told.ran) none told.told) told.output told.errors told.status
+    turns_told.of_run plays steps cells events told.ran code s of state named (subst (λ (x : Script). RunTells code x plays steps s told.ran) none told.told) told.output told.errors told.status
 code_by_turns bytes code script plays steps cells events t of none (of_none unnamed output errors status) =
     turns_told.of_no_actor plays steps cells events code of unnamed output (subst (λ (x : Script). NoActorTold x.file t.errors) none errors) status

@@ -11,6 +11,7 @@ use Rattle.txs_code_meaning.specs.PlainCode.{PlainCode}
 use Rattle.txs_machine.specs.Agents.{actors_of}
 use Rattle.txs_machine.specs.RunTheorem.{ExplainsAll}
 use Rattle.txs_machine.specs.Schedule.{all_named}
+use Rattle.txs_machine.specs.Scheduled.{IsScheduledRun}
 use Rattle.txs_machine.specs.declared.run_error.RunError.{RunError}
 use Rattle.txs_machine.specs.declared.schedule.Entries.{Entries}
 use Rattle.txs_machine.specs.declared.schedule.Play.{Play}
@@ -35,11 +36,9 @@ pub record IsRunReport (s : PlainShared) (entries : Entries) (r : Report) : Type
   pub cells : r.cells.items ≡ values_of s
   pub failed : r.failed.items ≡ faults_of s
 
--- What is told of a run of a program's code and of the audit of its report: what the report tells, and behind it the verdict on the report, or
--- that who audits had no answer, which may be for such reasons.
-pub record AuditedRunTells (unaudited : Report → AuditError → Type 0) (parts : Parts) (code : PlainCode) (script : Script) (o : RunOptions) (t : Told) : Type 0 where
-  pub shared : PlainShared
-  pub entries : Entries
+-- What is told of a run of a program's code, which leaves this state and has these entries, and of the audit of its report: what the report tells, and
+-- behind it the verdict on the report, or that who audits had no answer, which may be for such reasons.
+pub record AuditedRunTells (unaudited : Report → AuditError → Type 0) (parts : Parts) (code : PlainCode) (script : Script) (o : RunOptions) (shared : PlainShared) (entries : Entries) (t : Told) : Type 0 where
   pub worked : IsWorked code o.steps shared entries
   pub ran : Told
   pub told : ReportTells code script shared entries o.cells o.events ran
@@ -47,17 +46,18 @@ pub record AuditedRunTells (unaudited : Report → AuditError → Type 0) (parts
   pub of : IsRunReport shared entries report
   pub audited : AuditTells (unaudited report) script (verdict (program_of parts) (report_as report) (audit_turns o.steps)) ran t
 
--- A way to run code: what is so of code that has run in it, and what is told of code in place of a run.
+-- A way to run code: what is so of a run in it, in which each actor makes so many steps at most, and what is told of code in place of a run.
 pub record Way : Type 1 where
-  pub ran : PlainCode → Type 0
+  pub ran : PlainCode → (steps : ℕ) → PlainShared → Entries → Type 0
   pub unrun : PlainCode → Told → Type 0
 
 -- What is told of a script that is to run and to be audited: of its run, which its program explains, and of the audit; that the script is refused; or
 -- what is told in place of a run.
 pub data AuditedTells (way : Way) (unaudited : Parts → Report → AuditError → Type 0) (script : Script) (o : RunOptions) (t : Told) : Type 0 where
   of_run :
-      (parts : Parts) (code : PlainCode) (compiled : IsCompiled script.text (program_of parts) code) (may : way.ran code) (told : AuditedRunTells (unaudited parts) parts code script o t)
-      (explained : ExplainsAll (program_of parts) (shared_of told.shared) told.entries.threads.items told.entries.agents.items) → AuditedTells way unaudited script o t
+      (parts : Parts) (code : PlainCode) (shared : PlainShared) (entries : Entries) (compiled : IsCompiled script.text (program_of parts) code) (ran : way.ran code o.steps shared entries)
+      (told : AuditedRunTells (unaudited parts) parts code script o shared entries t)
+      (explained : ExplainsAll (program_of parts) (shared_of shared) entries.threads.items entries.agents.items) → AuditedTells way unaudited script o t
   of_refused : (told : (wanted : Wanted) → ScriptTells script t wanted) → AuditedTells way unaudited script o t
   of_unrun : (parts : Parts) (code : PlainCode) (compiled : IsCompiled script.text (program_of parts) code) (told : way.unrun code t) → AuditedTells way unaudited script o t
 
@@ -69,13 +69,18 @@ IsUnworked failed code t = (failure : RunError) × failed code failure × Failur
 abbrev pub IsUnplayed : List Play → Option (List ℕ) → PlainCode → Told → Type 0
 IsUnplayed plays file code t = (all_named (actors_of code) plays ≡ false) × (t.output ≡ []) × NoActorTold file t.errors × (t.status ≡ 2)
 
--- by workers any code runs
-abbrev pub by_workers : (PlainCode → RunError → Type 0) → Way
-by_workers failed = record { ran = λ code. Unit {0}; unrun = IsUnworked failed }
+-- A run by a schedule: its entries name actors, and the run is that by just its turns, in its order, and by those of the rounds behind them.
+pub record IsPlayed (plays : List Play) (code : PlainCode) (steps : ℕ) (shared : PlainShared) (entries : Entries) : Type 0 where
+  pub named : all_named (actors_of code) plays ≡ true
+  pub scheduled : IsScheduledRun code steps plays true shared entries.threads.items entries.agents.items
 
--- by plays code runs whose actors they name
+-- by workers any code runs, and any run is one
+abbrev pub by_workers : (PlainCode → RunError → Type 0) → Way
+by_workers failed = record { ran = λ code steps shared entries. Unit {0}; unrun = IsUnworked failed }
+
+-- by a schedule code runs whose actors it names, and by no other turns
 abbrev pub by_plays : List Play → Option (List ℕ) → Way
-by_plays plays file = record { ran = λ code. all_named (actors_of code) plays ≡ true; unrun = IsUnplayed plays file }
+by_plays plays file = record { ran = IsPlayed plays; unrun = IsUnplayed plays file }
 
 -- What is told of a stream whose front is the script: that it couldn't be read, that there was no memory, or what is told of the script.
 pub data StreamAuditedTells (way : Way) (unaudited : Parts → Report → AuditError → Type 0) (script : Script) (o : RunOptions) (t : Told) : Type 0 where

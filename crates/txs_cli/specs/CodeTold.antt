@@ -64,7 +64,7 @@ pub data CodeTells (bytes : List ℕ) (t : Told) : CodeWanted → Type 0 where
       (output : t.output ≡ listing code) (errors : t.errors ≡ []) (status : t.status ≡ 0) → CodeTells bytes t Listed
   of_run :
       (plays : List Play) (steps : ℕ) (with_cells with_events : Bool) (ran : Told) (code : PlainCode) (s : PlainShared) (of : IsFormOf bytes code) (state : IsStateOf code s)
-      (named : all_named (actors_of code) plays ≡ true) (told : RunTells code no_script steps s ran)
+      (named : all_named (actors_of code) plays ≡ true) (told : RunTells code no_script plays steps s ran)
       (output : t.output ≡ (ran.output ++ cells_told with_cells code.cells s) ++ events_told with_events (numbered_book s 0)) (errors : t.errors ≡ ran.errors) (status : t.status ≡ ran.status)
       → CodeTells bytes t (Ran plays steps with_cells with_events)
   of_no_actor :

@@ -3,6 +3,7 @@
 ghost use Rattle.std.specs.Prelude.{◌≡◌, ◌≤◌, length, true, false, [], IsTrue, IfOk, IfErr};
 ghost use Rattle.txs_machine.specs.Agents.{actors_of, agents_of};
 ghost use Rattle.txs_machine.specs.Schedule.{all_named, spread};
+ghost use Rattle.txs_machine.specs.Scheduled.{IsScheduledRun};
 ghost use Rattle.txs_machine.specs.declared.run_error.RunError.TheVariants.{Memory};
 ghost use Rattle.txs_machine.specs.declared.schedule.ScheduleError.TheVariants.{NoActor};
 ghost use Rattle.txs_cli.specs.Runner.{FailsAs, HasFailed, IsRunnable, IsWorked, RunsLawfully};
@@ -38,6 +39,7 @@ pub(crate) fn run_plays(
     requires few { length code.now.threads ≤ 64 }
     ensures lawful { IfOk result (λ ran. IsWorked code.now steps ran.0 ran.1) }
     ensures named { IfOk result (λ ran. all_named (actors_of code.now) (spread plays.now) ≡ true) }
+    ensures scheduled { IfOk result (λ ran. IsScheduledRun code.now steps (spread plays.now) true ran.0 ran.1.threads.items ran.1.agents.items) }
     ensures unnamed { IfErr result (λ e. e ≡ NoActor → all_named (actors_of code.now) (spread plays.now) ≡ false) }
 {
     let mut shared = open_state(alloc, code)?;

@@ -51,7 +51,7 @@ fn audit_run<A: Fn(Global, &Program, &Report, u32, usize) -> Result<Verdict, Aud
     requires right { (a : _) (p : _) (r : _) (n : _) (w : _) (v : _) → A.post auditor.now a p r n w v → IsRight p.now r.now n v }
     requires form { HasForm compiled.now.1 }
     requires worked { IsWorked compiled.now.1 working.options.steps ran.0 ran.1 }
-    ensures { IfOk result (λ t. AuditedRunTells (λ r e. HasNoAnswer (A.post auditor.now) compiled.now.0 r (audit_turns working.options.steps) working.workers e) compiled.now.0 compiled.now.1 (script_of script.entry) working.options (told_of t)) }
+    ensures { IfOk result (λ t. AuditedRunTells (λ r e. HasNoAnswer (A.post auditor.now) compiled.now.0 r (audit_turns working.options.steps) working.workers e) compiled.now.0 compiled.now.1 (script_of script.entry) working.options ran.0 ran.1 (told_of t)) }
 {
     let (shared, entries) = ran;
     let code = compiled.1.code();

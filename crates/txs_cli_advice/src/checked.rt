@@ -1,5 +1,10 @@
 //! What to do about a program that isn't sound, by what is at the span of the refusal.
 
+ghost use Rattle.std.specs.Prelude.{◌≡◌, None, false, string_bytes, IfOk, IfSome};
+ghost use Rattle.txs_reader_lines.specs.Safe.{Safe};
+ghost use Rattle.txs_cli_advice_script.specs.Sentences.{says};
+ghost use Rattle.txs_cli_advice.specs.Seen.{check_seen};
+
 use std::alloc::{AllocError, Global};
 use txs_check::{CheckError, CheckErrorKind};
 use txs_cli_advice_script::{
@@ -113,20 +118,32 @@ fn on_inside(list: &[Form]) -> Sentence<'_> {
 }
 
 /// What to do about a validator, by its name.
-fn on_validator(name: &str, kind: CheckErrorKind) -> Sentence<'_> {
+fn on_validator(name: &str, kind: CheckErrorKind) -> Sentence<'_>
+    ensures { check_seen kind ≡ false → says result ≡ None }
+{
     match kind {
         CheckErrorKind::NotPure => about(name, NOT_PURE),
         CheckErrorKind::Arity => about(name, VALIDATOR),
-        _ => plain(""),
+        CheckErrorKind::RecurCount
+        | CheckErrorKind::InsideOnly
+        | CheckErrorKind::OutsideOnly
+        | CheckErrorKind::RecurNotTail
+        | CheckErrorKind::RecurAcrossDosync
+        | CheckErrorKind::CodeTooLarge
+        | CheckErrorKind::Memory => plain(""),
     }
 }
 
 /// What to do about a list that isn't sound.
-fn on_list<'a>(forms: &'a [Form], list: &'a [Form], kind: CheckErrorKind) -> Sentence<'a> {
+fn on_list<'a>(forms: &'a [Form], list: &'a [Form], kind: CheckErrorKind) -> Sentence<'a>
+    ensures { check_seen kind ≡ false → says result ≡ None }
+{
     let call = call_of(list);
     let head = name_at(list, 0);
+    if call.name.is_empty() {
+        return plain("");
+    }
     match kind {
-        _ if call.name.is_empty() => plain(""),
         CheckErrorKind::RecurCount => Sentence {
             front: "",
             name: "",
@@ -142,12 +159,17 @@ fn on_list<'a>(forms: &'a [Form], list: &'a [Form], kind: CheckErrorKind) -> Sen
         CheckErrorKind::Arity => on_arity(forms, call),
         CheckErrorKind::InsideOnly => on_inside(list),
         CheckErrorKind::OutsideOnly => about(head, in_rows(&OUTSIDE, head, OUTSIDE_CALL)),
-        _ => plain(""),
+        CheckErrorKind::RecurNotTail
+        | CheckErrorKind::RecurAcrossDosync
+        | CheckErrorKind::CodeTooLarge
+        | CheckErrorKind::Memory => plain(""),
     }
 }
 
 /// What to do about a program that isn't sound, as far as that is seen at the span, in these forms.
-pub(crate) fn on_checked(forms: &[Form], error: CheckError) -> Sentence<'_> {
+pub(crate) fn on_checked(forms: &[Form], error: CheckError) -> Sentence<'_>
+    ensures { check_seen error.kind ≡ false → says result ≡ None }
+{
     let here = surroundings(forms, error.at, "", unlike(""));
     let name = name_at(here.parts, here.index);
     if name.is_empty() {
@@ -157,15 +179,15 @@ pub(crate) fn on_checked(forms: &[Form], error: CheckError) -> Sentence<'_> {
     }
 }
 
-/// What to do about a program that isn't sound, as far as that is seen at the span.
+/// What to do about a program that isn't sound, as far as that is seen at the span: nothing where the kind of the refusal says it all.
 ///
 /// # Errors
 /// Where there was no memory for the sentence, or for the forms of the script.
-pub fn on_check(
-    alloc: Global,
-    text: &[u8],
-    error: CheckError,
-) -> Result<Option<String>, AllocError> {
+#[tactic(auto, using(txs_cli_advice_script::proofs::Shows::none_from_option_map))]
+pub fn on_check(alloc: Global, text: &[u8], error: CheckError) -> Result<Option<String>, AllocError>
+    ensures safe { IfOk result (λ shown. IfSome shown (λ text. Safe (string_bytes text))) }
+    ensures quiet { check_seen error.kind ≡ false → IfOk result (λ shown. shown ≡ None) }
+{
     match forms_of(alloc, text) {
         Ok(forms) => written(alloc, on_checked(&forms, error)),
         Err(error) => Err(error),

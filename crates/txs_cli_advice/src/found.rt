@@ -1,6 +1,9 @@
 //! What to do about a value of another kind than the one that is taken, as far as the script says what it is: by a literal, or by the
 //! name of a constant or of a cell.
 
+ghost use Rattle.std.specs.Prelude.{string_bytes, IfOk, IfSome};
+ghost use Rattle.txs_reader_lines.specs.Safe.{Safe};
+
 use crate::validated::is_bound;
 use std::alloc::{AllocError, Global};
 use txs_cli_advice_script::{
@@ -248,7 +251,9 @@ fn on_list(
     text: &[u8],
     list: &[Form],
     wrong: Wrong,
-) -> Result<Option<String>, AllocError> {
+) -> Result<Option<String>, AllocError>
+    ensures { IfOk result (λ shown. IfSome shown (λ text. Safe (string_bytes text))) }
+{
     let name = taker(list, wrong);
     let (from, to) = suspects(list, wrong);
     let kind = wrong_literal(list, from, to, wrong);
@@ -285,7 +290,9 @@ pub(crate) fn on_wrong(
     text: &[u8],
     at: Span,
     wrong: Wrong,
-) -> Result<Option<String>, AllocError> {
+) -> Result<Option<String>, AllocError>
+    ensures { IfOk result (λ shown. IfSome shown (λ text. Safe (string_bytes text))) }
+{
     let word = bytes_at(text, at);
     if word.len() > MOST_LOOKED_AT {
         return Ok(None);

@@ -1,7 +1,7 @@
 //! What to do about a refusal, a fault or a stop: one sentence for each, in a table for each layer. A
 //! refusal for want of memory has none, since the program tells of it by another line; nor has a good end.
 
-ghost use Rattle.std.specs.Prelude.{◌≡◌, ◌↔◌, IsNone};
+ghost use Rattle.std.specs.Prelude.{◌≡◌, ◌<◌, ◌↔◌, length, IsNone};
 
 use txs_check::CheckErrorKind;
 use txs_reader::ReadErrorKind;
@@ -103,8 +103,10 @@ pub fn of_check(kind: CheckErrorKind) -> Option<&'static str>
     })
 }
 
-/// What to do about a fault.
-pub fn of_fault(kind: FaultKind) -> &'static str {
+/// What to do about a fault: for each kind there is a sentence.
+pub fn of_fault(kind: FaultKind) -> &'static str
+    ensures { 0 < length result.now }
+{
     match kind {
         FaultKind::Overflow => "Keep the result within the 64 bits of whole numbers.",
         FaultKind::DivideByZero => "Test the divisor first: here it is 0.",

@@ -1,7 +1,7 @@
 //! What to do about a line on the standard error, in a sentence: one for each kind of refusal, fault and stop; and for a refusal or a
 //! fault, where that is known, one about what is at its span: a name of clojure.core, a name that is near to a known one, a form of
 //! another shape, a bracket that is open, a wrong count of arguments, a value of another kind. For a value that a validator refused:
-//! which cells may be meant.
+//! which cells may be meant. Each of these is one line that is safe to show, or there is none.
 #![tactic(auto)]
 
 pub mod checked;

@@ -1,5 +1,9 @@
 //! What to do about a name that isn't known, is taken, or is called and is no function.
 
+ghost use Rattle.std.specs.Prelude.{◌≡◌, None, false};
+ghost use Rattle.txs_cli_advice_script.specs.Sentences.{says};
+ghost use Rattle.txs_cli_advice.specs.Seen.{name_seen};
+
 use txs_cli_advice_script::{
     Around, Sentence, about, definition_of, instead_for, is_of_language, name_at, nearest_defined,
     of_clojure, of_two, or, plain, surroundings, word_at,
@@ -172,7 +176,9 @@ fn on_again(name: &str) -> Sentence<'_> {
 }
 
 /// What to do about a name that is refused, as far as that is seen at the span, in these forms.
-pub(crate) fn on_name<'a>(text: &'a [u8], forms: &'a [Form], error: ResolveError) -> Sentence<'a> {
+pub(crate) fn on_name<'a>(text: &'a [u8], forms: &'a [Form], error: ResolveError) -> Sentence<'a>
+    ensures { name_seen error.kind ≡ false → says result ≡ None }
+{
     let name = word_at(text, error.at);
     let here = surroundings(forms, error.at, name, unlike(name));
     match error.kind {
@@ -184,6 +190,8 @@ pub(crate) fn on_name<'a>(text: &'a [u8], forms: &'a [Form], error: ResolveError
             name,
             "` can't call itself: write a `loop`, or `recur` where nothing is left to do behind it.",
         ),
-        _ => plain(""),
+        ResolveErrorKind::BadForm | ResolveErrorKind::TooMany | ResolveErrorKind::Memory => {
+            plain("")
+        }
     }
 }

@@ -1,5 +1,9 @@
 //! What to do about a fault, by what is at its span in the script.
 
+ghost use Rattle.std.specs.Prelude.{◌≡◌, ◌<◌, None, false, length, string_bytes, IfOk, IfSome};
+ghost use Rattle.txs_reader_lines.specs.Safe.{Safe};
+ghost use Rattle.txs_cli_advice.specs.Seen.{fault_seen};
+
 use crate::found::{Wrong, on_wrong};
 use crate::validated::on_refused;
 use std::alloc::{AllocError, Global};
@@ -14,7 +18,11 @@ const MOST_READ: usize = 65_536;
 ///
 /// # Errors
 /// Where there was no memory for the sentence, or for the forms of the script.
-pub fn on_fault(alloc: Global, text: &[u8], fault: Fault) -> Result<Option<String>, AllocError> {
+pub fn on_fault(alloc: Global, text: &[u8], fault: Fault) -> Result<Option<String>, AllocError>
+    ensures safe { IfOk result (λ shown. IfSome shown (λ text. Safe (string_bytes text))) }
+    ensures long { 65536 < length text.now → result ≡ Ok None }
+    ensures quiet { fault_seen fault.kind ≡ false → result ≡ Ok None }
+{
     if text.len() > MOST_READ {
         return Ok(None);
     }
@@ -27,6 +35,14 @@ pub fn on_fault(alloc: Global, text: &[u8], fault: Fault) -> Result<Option<Strin
             on_wrong(alloc, text, fault.span, Wrong::Changed)
         }
         FaultKind::OutsideOnly => on_wrong(alloc, text, fault.span, Wrong::Inside),
-        _ => Ok(None),
+        FaultKind::Overflow
+        | FaultKind::DivideByZero
+        | FaultKind::IndexOut
+        | FaultKind::PopEmpty
+        | FaultKind::SetAfterCommute
+        | FaultKind::RetryLimit
+        | FaultKind::AgentFailed
+        | FaultKind::TooDeep
+        | FaultKind::TooLong => Ok(None),
     }
 }

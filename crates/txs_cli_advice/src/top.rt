@@ -1,6 +1,11 @@
 //! What to do about forms that are no program: a name, a form of another shape, or forms at the top of the script that belong into a
 //! future, with the refusal that comes next once they are there.
 
+ghost use Rattle.std.specs.Prelude.{◌≡◌, None, false, string_bytes, IfOk, IfSome};
+ghost use Rattle.txs_reader_lines.specs.Safe.{Safe};
+ghost use Rattle.txs_cli_advice_script.specs.Sentences.{says};
+ghost use Rattle.txs_cli_advice.specs.Seen.{resolve_seen};
+
 use crate::checked::on_checked;
 use crate::kinds::{of_check, of_resolve};
 use crate::named::on_name;
@@ -8,8 +13,8 @@ use crate::shaped::{on_form, on_head, on_top};
 use std::alloc::{AllocError, Global};
 use txs_check::{CheckError, CheckErrorKind, check};
 use txs_cli_advice_script::{
-    Sentence, definition_of, forms_of, is_of_language, name_at, or, parts_at, plain, surroundings,
-    write, write_count, written,
+    Sentence, definition_of, forms_of, if_safe, is_of_language, name_at, or, parts_at, plain,
+    surroundings, write, write_count, written,
 };
 use txs_cli_names::{
     NOT_AT_TOP, instead_of, instead_of_word, is_of_top, nearest_at_top, takes, unlike,
@@ -263,10 +268,12 @@ fn write_all(
 }
 
 /// What to do about strays, and about what comes next.
-fn on_all(alloc: Global, text: &[u8], forms: Vec<Form>) -> Result<Option<String>, AllocError> {
+fn on_all(alloc: Global, text: &[u8], forms: Vec<Form>) -> Result<Option<String>, AllocError>
+    ensures { IfOk result (λ shown. IfSome shown (λ text. Safe (string_bytes text))) }
+{
     let mut out = String::new(alloc);
     match write_all(alloc, &mut out, text, forms) {
-        Ok(()) => Ok(Some(out)),
+        Ok(()) => Ok(if_safe(out)),
         Err(error) => Err(error),
     }
 }
@@ -283,7 +290,9 @@ fn index_at(forms: &[Form], at: Span) -> usize {
 
 /// What to do about forms that are no program, as far as that is seen at the span: about a name, a list that belongs at the top, or a
 /// form below that.
-fn on_resolved<'a>(text: &'a [u8], forms: &'a [Form], error: ResolveError) -> Sentence<'a> {
+fn on_resolved<'a>(text: &'a [u8], forms: &'a [Form], error: ResolveError) -> Sentence<'a>
+    ensures { resolve_seen error.kind ≡ false → says result ≡ None }
+{
     if !matches!(error.kind, ResolveErrorKind::BadForm) {
         return on_name(text, forms, error);
     }
@@ -318,11 +327,15 @@ fn on_stray(forms: &[Form], i: usize) -> Sentence<'_> {
 ///
 /// # Errors
 /// Where there was no memory for the sentence, or for the forms of the script.
+#[tactic(auto, using(txs_cli_advice_script::proofs::Shows::none_from_option_map))]
 pub fn on_resolve(
     alloc: Global,
     text: &[u8],
     error: ResolveError,
-) -> Result<Option<String>, AllocError> {
+) -> Result<Option<String>, AllocError>
+    ensures safe { IfOk result (λ shown. IfSome shown (λ text. Safe (string_bytes text))) }
+    ensures quiet { resolve_seen error.kind ≡ false → IfOk result (λ shown. shown ≡ None) }
+{
     let forms = match forms_of(alloc, text) {
         Ok(forms) => forms,
         Err(error) => return Err(error),

@@ -1,7 +1,10 @@
 //! What to do about a value that a validator refused: which cells may be meant, and what their validators are.
 
+ghost use Rattle.std.specs.Prelude.{string_bytes, IfOk, IfSome};
+ghost use Rattle.txs_reader_lines.specs.Safe.{Safe};
+
 use std::alloc::{AllocError, Global};
-use txs_cli_advice_script::{bytes_at, forms_of, name_at, parts_at};
+use txs_cli_advice_script::{bytes_at, forms_of, if_safe, name_at, parts_at};
 use txs_cli_names::in_rows;
 use txs_reader::{Bracket, Form};
 use txs_value_base::Span;
@@ -54,16 +57,20 @@ fn cell_at<'a>(forms: &'a [Form], i: usize, kind: &str, named: &str) -> Validate
     Validated { cell, validator }
 }
 
-/// These parts, one after the other.
-fn join(alloc: Global, parts: &[&str]) -> Result<Option<String>, AllocError> {
+/// These parts, one after the other, if all of them are safe to show.
+fn join(alloc: Global, parts: &[&str]) -> Result<Option<String>, AllocError>
+    ensures { IfOk result (λ shown. IfSome shown (λ text. Safe (string_bytes text))) }
+{
     match parts.join(alloc, "") {
-        Ok(text) => Ok(Some(text)),
+        Ok(text) => Ok(if_safe(text)),
         Err(error) => Err(error),
     }
 }
 
 /// The sentence about the only cell that may be meant.
-fn of_one(alloc: Global, one: Validated<'_>) -> Result<Option<String>, AllocError> {
+fn of_one(alloc: Global, one: Validated<'_>) -> Result<Option<String>, AllocError>
+    ensures { IfOk result (λ shown. IfSome shown (λ text. Safe (string_bytes text))) }
+{
     join(
         alloc,
         &[
@@ -84,7 +91,9 @@ fn of_cells(
     forms: &[Form],
     kind: &str,
     named: &str,
-) -> Result<Option<String>, AllocError> {
+) -> Result<Option<String>, AllocError>
+    ensures { IfOk result (λ shown. IfSome shown (λ text. Safe (string_bytes text))) }
+{
     let mut parts = Vec::new(alloc);
     let mut last = 0_usize;
     for i in 0..forms.len() {
@@ -110,11 +119,9 @@ fn of_cells(
 }
 
 /// The cells that may be meant where a value was refused at a span, with their validators, if that is seen.
-pub(crate) fn on_refused(
-    alloc: Global,
-    text: &[u8],
-    at: Span,
-) -> Result<Option<String>, AllocError> {
+pub(crate) fn on_refused(alloc: Global, text: &[u8], at: Span) -> Result<Option<String>, AllocError>
+    ensures { IfOk result (λ shown. IfSome shown (λ text. Safe (string_bytes text))) }
+{
     let here = match forms_of(alloc, bytes_at(text, at)) {
         Ok(here) => here,
         Err(error) => return Err(error),

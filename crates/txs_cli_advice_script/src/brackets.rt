@@ -95,7 +95,7 @@ fn ends_with_deref(text: &[u8]) -> bool {
 }
 
 /// What to do about a closing bracket, which stands behind this text, and fits none that is open.
-pub fn on_unopened(front: &[u8]) -> Sentence<'_> {
+pub(crate) fn on_unopened(front: &[u8]) -> Sentence<'_> {
     if ends_with_deref(front) {
         return plain("Put a form behind the `@`, before the bracket closes.");
     }
@@ -112,7 +112,7 @@ pub fn on_unopened(front: &[u8]) -> Sentence<'_> {
 }
 
 /// What to do about a script that ends with a bracket, a text or a `@` open, of which the innermost begins with this byte.
-pub fn on_unclosed(text: &[u8], byte: u8) -> Sentence<'_> {
+pub(crate) fn on_unclosed(text: &[u8], byte: u8) -> Sentence<'_> {
     if byte == b'"' {
         return plain("The text that begins here has no end: close it by `\"`.");
     }

@@ -1,12 +1,16 @@
 //! What to do about a script that isn't read, by what is at the span of the refusal.
 
+ghost use Rattle.std.specs.Prelude.{◌≡◌, None, false, string_bytes, IfOk, IfSome};
+ghost use Rattle.txs_reader_lines.specs.Safe.{Safe};
+ghost use Rattle.txs_cli_advice_script.specs.Reading.{is_seen, of_language};
+ghost use Rattle.txs_cli_advice_script.specs.Sentences.{says};
+
 use crate::brackets::{on_unclosed, on_unopened};
 use crate::script::{bytes_at, word_at};
 use crate::sentence::{Sentence, about, instead_for, of_clojure, of_two, or, plain, written};
 use std::alloc::{AllocError, Global};
-use std::str;
 use txs_cli_names::{
-    byte_at, inside, instead_of, instead_of_call, of_code, of_left_out, of_mark, takes,
+    byte_at, inside, instead_of, instead_of_call, of_code, of_left_out, of_mark, takes, text_of,
 };
 use txs_reader::{ReadError, ReadErrorKind};
 use txs_value_base::Span;
@@ -22,8 +26,10 @@ const TOKEN: &str =
 static QUOTED: [&'static str; 5] = ["require", "use", "import", "refer", "alias"];
 
 /// Whether a form or a core operation has the name.
-pub fn is_of_language(name: &str) -> bool {
-    !inside(name).is_empty() | !takes(name).1.is_empty()
+pub fn is_of_language(name: &str) -> bool
+    ensures { result ≡ of_language name.now }
+{
+    !inside(name).is_empty() || !takes(name).1.is_empty()
 }
 
 /// What to do about a name of another namespace, or of a class.
@@ -56,7 +62,7 @@ fn quoting(front: &str) -> &str {
 
 /// The characters before a span.
 fn front_of(text: &[u8], at: Span) -> &str {
-    str::from_utf8(text.get(..at.from as usize).unwrap_or(&[])).unwrap_or("")
+    text_of(text.get(..at.from as usize).unwrap_or(&[]))
 }
 
 /// What to do about a word that is left out, at a span.
@@ -85,20 +91,31 @@ fn on_token(text: &[u8], at: Span) -> Sentence<'_> {
 }
 
 /// What to do about a script that isn't read, as far as that is seen at the span.
-fn of_place(text: &[u8], error: ReadError) -> Sentence<'_> {
+fn of_place(text: &[u8], error: ReadError) -> Sentence<'_>
+    ensures { is_seen error.kind ≡ false → says result ≡ None }
+{
     match error.kind {
         ReadErrorKind::NotUtf8 | ReadErrorKind::BadToken => on_token(text, error.at),
         ReadErrorKind::LeftOut => on_left_out(text, error.at),
         ReadErrorKind::Unopened => on_unopened(front_of(text, error.at).as_bytes()),
         ReadErrorKind::Unclosed => on_unclosed(text, byte_at(text, error.at.from as usize, 0)),
-        _ => plain(""),
+        ReadErrorKind::NumberTooLarge
+        | ReadErrorKind::BadEscape
+        | ReadErrorKind::TooDeep
+        | ReadErrorKind::TooLarge
+        | ReadErrorKind::Memory => plain(""),
     }
 }
 
-/// What to do about a script that isn't read, as far as that is seen at the span.
+/// What to do about a script that isn't read, as far as that is seen at the span: nothing where the kind of the refusal says it all, or
+/// where the sentence would have a character of the script that isn't safe to show.
 ///
 /// # Errors
 /// Where there was no memory for the sentence.
-pub fn on_read(alloc: Global, text: &[u8], error: ReadError) -> Result<Option<String>, AllocError> {
+#[tactic(auto, using(crate::proofs::Shows::none_from_option_map))]
+pub fn on_read(alloc: Global, text: &[u8], error: ReadError) -> Result<Option<String>, AllocError>
+    ensures safe { IfOk result (λ shown. IfSome shown (λ text. Safe (string_bytes text))) }
+    ensures quiet { is_seen error.kind ≡ false → IfOk result (λ shown. shown ≡ None) }
+{
     written(alloc, of_place(text, error))
 }

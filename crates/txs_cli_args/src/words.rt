@@ -14,9 +14,10 @@ const DEFAULT_STEPS: u64 = 100_000_000;
 /// How many workers there are, where the words don't say it.
 const DEFAULT_WORKERS: u64 = 4;
 
-/// What `--version` says behind the program's name: with the kit by which the sources are proved.
+/// What `--version` says behind the program's name: with the kit that the sources are for. A checked program is made of the same sources, and says the
+/// same; so this says nothing of proofs.
 const VERSION: &str =
-    "0.1.0 (a profile of Clojure 1.11; byte forms TXS1 and TXS2; proved by rattle-kit-13f)";
+    "0.1.0 (a profile of Clojure 1.11; byte forms TXS1 and TXS2; for rattle-kit-13f)";
 
 /// What stands below each text of help: what the statuses say, of which the highest that applies counts.
 const STATUSES: &str = "Statuses, of which the highest that applies counts:

@@ -1,5 +1,8 @@
 //! The names of clojure.core that this profile leaves out, and what to write in their place.
 
+ghost use Rattle.std.specs.Prelude.{◌≡◌, [], map};
+ghost use Rattle.txs_cli_names.specs.Rows.{said_in};
+
 use crate::rows::{Row, in_rows};
 
 /// Of vectors and sequences.
@@ -332,7 +335,9 @@ static CALLS: [Row; 10] = [
 ];
 
 /// What to do about a name of clojure.core that this profile leaves out; an empty text about any other name.
-pub fn instead_of(name: &str) -> &'static str {
+pub fn instead_of(name: &str) -> &'static str
+    ensures { result.now ≡ said_in (map (λ row. (row.0.now, row.1.now)) ITEMS) name.now (said_in (map (λ row. (row.0.now, row.1.now)) VALUES) name.now (said_in (map (λ row. (row.0.now, row.1.now)) FORMS) name.now (said_in (map (λ row. (row.0.now, row.1.now)) THREADS) name.now (said_in (map (λ row. (row.0.now, row.1.now)) OTHERS) name.now [])))) }
+{
     let rest = in_rows(&THREADS, name, in_rows(&OTHERS, name, ""));
     in_rows(
         &ITEMS,
@@ -342,11 +347,15 @@ pub fn instead_of(name: &str) -> &'static str {
 }
 
 /// What to do about a word that is no name of clojure.core, and is one of another language; an empty text about any other word.
-pub fn instead_of_word(name: &str) -> &'static str {
+pub fn instead_of_word(name: &str) -> &'static str
+    ensures { result.now ≡ said_in (map (λ row. (row.0.now, row.1.now)) WORDS) name.now [] }
+{
     in_rows(&WORDS, name, "")
 }
 
 /// What to do about a name of another namespace or of a class, written whole; an empty text about any other.
-pub fn instead_of_call(name: &str) -> &'static str {
+pub fn instead_of_call(name: &str) -> &'static str
+    ensures { result.now ≡ said_in (map (λ row. (row.0.now, row.1.now)) CALLS) name.now [] }
+{
     in_rows(&CALLS, name, "")
 }

@@ -1,5 +1,10 @@
 //! The shapes of the forms, and how many arguments the core operations take.
 
+ghost use Rattle.std.specs.Prelude.{◌≡◌, [], false, map};
+ghost use Rattle.txs_cli_names.specs.Language.{count_shown, form_shape};
+ghost use Rattle.txs_cli_names.specs.Nears.{Nearest};
+ghost use Rattle.txs_cli_names.specs.Rows.{said_in, words_of};
+
 use crate::near::Near;
 use crate::rows::{Row, in_rows, nearest_in};
 
@@ -154,37 +159,54 @@ static OPERATIONS: [(&'static str, Takes); 17] = [
 static TOP: [(&'static str, bool); 1] = [("ns def defn future", true)];
 
 /// Whether a list that begins with this name stands at the top of a script.
-pub fn is_of_top(name: &str) -> bool {
+#[tactic(auto, unfolding(crate::specs::Rows::said_in))]
+pub fn is_of_top(name: &str) -> bool
+    ensures { result ≡ said_in (map (λ row. (row.0.now, row.1)) TOP) name.now false }
+{
     in_rows(&TOP, name, false)
 }
 
 /// The shape of a form of the top of a script, or of a cell in a `def`; else this.
-pub fn shape_at_top(name: &str, otherwise: &'static str) -> &'static str {
+pub fn shape_at_top(name: &str, otherwise: &'static str) -> &'static str
+    ensures { result.now ≡ said_in (map (λ row. (row.0.now, row.1.now)) AT_TOP) name.now otherwise.now }
+{
     in_rows(&AT_TOP, name, otherwise)
 }
 
 /// What to write of a form below the top of a script, by its name, which is empty for a list that begins with no name; an empty text
 /// about any other name.
-pub fn inside(name: &str) -> &'static str {
+pub fn inside(name: &str) -> &'static str
+    ensures { result.now ≡ form_shape name.now }
+{
     in_rows(&INSIDE, name, "")
 }
 
 /// What a core operation takes; empty texts for any other name.
-pub fn takes(name: &str) -> Takes {
+pub fn takes(name: &str) -> Takes
+    ensures count { result.0 ≡ said_in (map (λ row. (row.0.now, row.1.0)) OPERATIONS) name.now 0 }
+    ensures shown { result.1.now ≡ count_shown name.now }
+    ensures more { result.2.now ≡ said_in (map (λ row. (row.0.now, row.1.2.now)) OPERATIONS) name.now [] }
+{
     in_rows(&OPERATIONS, name, (0, "", ""))
 }
 
 /// The form of the top that is nearest to a name, if it is nearer than this.
-pub fn nearest_at_top(name: &str, best: Near<'static>) -> Near<'static> {
+pub fn nearest_at_top(name: &str, best: Near<'static>) -> Near<'static>
+    ensures { Nearest (words_of (map (λ row. row.0.now) TOP)) best.entry result }
+{
     nearest_in(&TOP, name, best)
 }
 
 /// The form that is nearest to a name, if it is nearer than this.
-pub fn nearest_form(name: &str, best: Near<'static>) -> Near<'static> {
+pub fn nearest_form(name: &str, best: Near<'static>) -> Near<'static>
+    ensures { Nearest (words_of (map (λ row. row.0.now) INSIDE)) best.entry result }
+{
     nearest_in(&INSIDE, name, best)
 }
 
 /// The core operation that is nearest to a name, if it is nearer than this.
-pub fn nearest_operation(name: &str, best: Near<'static>) -> Near<'static> {
+pub fn nearest_operation(name: &str, best: Near<'static>) -> Near<'static>
+    ensures { Nearest (words_of (map (λ row. row.0.now) OPERATIONS)) best.entry result }
+{
     nearest_in(&OPERATIONS, name, best)
 }

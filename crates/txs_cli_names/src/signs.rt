@@ -1,5 +1,11 @@
 //! What a word that isn't read is, by its first bytes, and what to write in its place.
 
+ghost use Rattle.std.specs.Prelude.{◌≡◌, [], ◌∷◌, None, map, slice_index_or};
+ghost use Rattle.std.specs.Option.{option_copied, option_map, option_or};
+ghost use Rattle.txs_cli_names.specs.Rows.{said_in, said_of};
+ghost use Rattle.txs_cli_names.specs.Shown.{front_of, text_of};
+ghost use Rattle.txs_cli_names.specs.Signs.{begins_number, left_out};
+
 use crate::rows::{Row, in_rows, of_bytes};
 use std::str;
 
@@ -158,32 +164,87 @@ static QUALIFIED: [Row; 1] = [(
     "A name of another namespace or of a class is left out: write a `defn` of its own, with no `/` in its name.",
 )];
 
+/// Whether a word is a number, by its first two bytes.
+fn begins_number(first: u8, second: u8) -> bool
+    ensures { result ≡ begins_number first second }
+{
+    first.is_ascii_digit() || ((first == b'+' || first == b'-') && second.is_ascii_digit())
+}
+
+/// What to do about a word that begins with `#`, by the next byte.
+#[tactic(auto, using(crate::proofs::Texts::option_copied_laws))]
+fn of_dispatch(second: u8) -> Option<&'static str>
+    ensures { option_copied result ≡ option_or (said_of (map (λ row. (row.0.now, row.1.now)) DISPATCH) (second ∷ [])) (Some TAGGED.now) }
+{
+    of_bytes(&DISPATCH, &[second]).or(Some(TAGGED))
+}
+
+/// What to do about a word that is neither that nor a number, by its first byte, or since it is the name of another namespace.
+#[tactic(auto, using(crate::proofs::Texts::option_copied_laws))]
+fn of_first(first: u8, word: &[u8]) -> Option<&'static str>
+    ensures { option_copied result ≡ option_or (said_of (map (λ row. (row.0.now, row.1.now)) FIRST) (first ∷ [])) (said_of (map (λ row. (row.0.now, row.1.now)) QUALIFIED) word.now) }
+{
+    of_bytes(&FIRST, &[first]).or(of_bytes(&QUALIFIED, word))
+}
+
 /// What to do about a word that is left out, with this byte after it; nothing is known of some.
-pub fn of_left_out(word: &[u8], next: u8) -> Option<&'static str> {
+#[tactic(auto, unfolding(crate::specs::Signs::left_out))]
+pub fn of_left_out(word: &[u8], next: u8) -> Option<&'static str>
+    ensures { option_copied result ≡ left_out (slice_index_or word.now 0 0) (slice_index_or word.now 1 next) word.now }
+{
     let first = byte_at(word, 0, 0);
     let second = byte_at(word, 1, next);
-    match first {
-        b'#' => of_bytes(&DISPATCH, &[second]).or(Some(TAGGED)),
-        b'0'..=b'9' => of_number(word),
-        b'+' | b'-' if second.is_ascii_digit() => of_number(word),
-        _ => of_bytes(&FIRST, &[first]).or(of_bytes(&QUALIFIED, word)),
+    if first == b'#' {
+        of_dispatch(second)
+    } else if begins_number(first, second) {
+        of_number(word)
+    } else {
+        of_first(first, word)
     }
 }
 
 /// The byte at an index, or this past the end.
-pub fn byte_at(bytes: &[u8], i: usize, otherwise: u8) -> u8 {
+pub fn byte_at(bytes: &[u8], i: usize, otherwise: u8) -> u8
+    ensures { result ≡ slice_index_or bytes.now i otherwise }
+{
     bytes.get(i).copied().unwrap_or(otherwise)
 }
 
 /// What to do about a number that is left out.
-fn of_number(word: &[u8]) -> Option<&'static str> {
+#[tactic(auto, using(crate::proofs::Texts::option_copied_laws))]
+fn of_number(word: &[u8]) -> Option<&'static str>
+    ensures { option_copied result ≡ option_or (said_of (map (λ row. (row.0.now, row.1.now)) NUMBERS) word.now) (Some DIGITS.now) }
+{
     of_bytes(&NUMBERS, word).or(Some(DIGITS))
 }
 
+/// The characters that these bytes are; none where they are no characters.
+#[tactic(auto, using(crate::proofs::Texts::text_of_laws))]
+pub fn text_of(bytes: &[u8]) -> &str
+    ensures { result.now ≡ text_of bytes.now }
+{
+    match str::from_utf8(bytes) {
+        Ok(text) => text,
+        Err(_) => "",
+    }
+}
+
+/// The bytes from the first on, so many; none where there are fewer.
+fn front_of(bytes: &[u8], count: usize) -> &[u8]
+    ensures { result.now ≡ front_of count bytes.now }
+{
+    if count <= bytes.len() {
+        &bytes[..count]
+    } else {
+        &[]
+    }
+}
+
 /// What the row says that has the first bytes, so many.
-fn of_front(rows: &'static [Known], bytes: &[u8], count: usize) -> Option<&'static str> {
-    let front = bytes.get(..count).unwrap_or(&[]);
-    in_rows(rows, str::from_utf8(front).unwrap_or(""), None)
+fn of_front(rows: &'static [Known], bytes: &[u8], count: usize) -> Option<&'static str>
+    ensures { option_copied result ≡ said_in (map (λ row. (row.0.now, option_copied row.1)) rows.now) (text_of (front_of count bytes.now)) None }
+{
+    in_rows(rows, text_of(front_of(bytes, count)), None)
 }
 
 /// What to do about what is called and is no function, by its first byte; nothing about a number or a text.
@@ -204,16 +265,22 @@ static CALLED: [Row; 4] = [
 static VALUES: [Known; 1] = [("nil true false", Some(""))];
 
 /// What to do about what is called and is no function, but for a symbol; an empty text where nothing is known.
-pub fn of_called(word: &str) -> Option<&'static str> {
-    of_bytes(&CALLED, word.as_bytes().get(..1).unwrap_or(&[])).or(in_rows(&VALUES, word, None))
+pub fn of_called(word: &str) -> Option<&'static str>
+    ensures { option_copied result ≡ option_or (said_of (map (λ row. (row.0.now, row.1.now)) CALLED) (front_of 1 word.now)) (said_in (map (λ row. (row.0.now, option_map (λ text. text.now) row.1)) VALUES) word.now None) }
+{
+    of_bytes(&CALLED, front_of(word.as_bytes(), 1)).or(in_rows(&VALUES, word, None))
 }
 
 /// What to do about a text that begins as code in its byte form does.
-pub fn of_code(text: &[u8]) -> Option<&'static str> {
+pub fn of_code(text: &[u8]) -> Option<&'static str>
+    ensures { option_copied result ≡ said_in (map (λ row. (row.0.now, option_map (λ text. text.now) row.1)) CODE) (text_of (front_of 4 text.now)) None }
+{
     of_front(&CODE, text, 4)
 }
 
 /// What to do about a word of which no character may begin one.
-pub fn of_mark(word: &[u8]) -> Option<&'static str> {
+pub fn of_mark(word: &[u8]) -> Option<&'static str>
+    ensures { option_copied result ≡ said_in (map (λ row. (row.0.now, option_map (λ text. text.now) row.1)) MARKS) (text_of (front_of 3 word.now)) None }
+{
     of_front(&MARKS, word, 3)
 }

@@ -19,6 +19,7 @@ use Rattle.txs_machine.specs.Agents.{actors_of, AgentsAreDone, AreDrained, AreEx
 use Rattle.txs_machine.specs.RunOver.{IsStateOf, books_of}
 use Rattle.txs_machine.specs.RunTheorem.{ExplainsAll}
 use Rattle.txs_machine.specs.Schedule.{AreDone, HaveEnded, IsExplainedBy, all_named}
+use Rattle.txs_machine.specs.Scheduled.{IsScheduledRun}
 use Rattle.txs_machine.specs.declared.schedule.Entries.{Entries}
 use Rattle.txs_machine.specs.declared.schedule.Play.{Play}
 use Rattle.txs_world_protocol.specs.declared.report.ActorReport.{ActorReport}
@@ -68,10 +69,12 @@ run_status cells s threads agents = status_of_agents (status_from 0 threads) (fa
 
 -- What a run of all threads and agents of the code over what they share tells, which it leaves so: what the threads printed and then the agents, how each ended, which
 -- agents have failed and whose actors were stopped, and the highest status. The entries of the report say what each actor did, and each program that
--- the code follows explains them: those of the threads, and, where the code follows its functions as well and sends what it may send, all.
-pub record RunTells (code : PlainCode) (script : Script) (steps : ℕ) (s : PlainShared) (t : Told) : Type 0 where
+-- the code follows explains them: those of the threads, and, where the code follows its functions as well and sends what it may send, all. It is the run
+-- by just the turns that the schedule says, in its order, and by those of the rounds behind them.
+pub record RunTells (code : PlainCode) (script : Script) (plays : List Play) (steps : ℕ) (s : PlainShared) (t : Told) : Type 0 where
   pub rans : List ActorReport
   pub agents : List ActorReport
+  pub scheduled : IsScheduledRun code steps plays true s rans agents
   pub done : AreDone code steps (books_of s) rans
   pub ended : HaveEnded rans
   pub explained : IsExplainedBy code (shared_of s) rans
@@ -93,9 +96,9 @@ events_told false book = []
 events_told true book = event_lines 0 book
 
 -- What is told of such a run, and behind it of its cells and events, where they are wanted.
-pub record WholeRunTells (code : PlainCode) (script : Script) (steps : ℕ) (cells events : Bool) (s : PlainShared) (t : Told) : Type 0 where
+pub record WholeRunTells (code : PlainCode) (script : Script) (plays : List Play) (steps : ℕ) (cells events : Bool) (s : PlainShared) (t : Told) : Type 0 where
   pub ran : Told
-  pub told : RunTells code script steps s ran
+  pub told : RunTells code script plays steps s ran
   pub output : t.output ≡ (ran.output ++ cells_told cells code.cells s) ++ events_told events (numbered_book s 0)
   pub errors : t.errors ≡ ran.errors
   pub status : t.status ≡ ran.status
@@ -103,7 +106,7 @@ pub record WholeRunTells (code : PlainCode) (script : Script) (steps : ℕ) (cel
 -- what a run by these plays comes to: a play names no actor, or what the run tells
 abbrev pub RunAnswers : PlainCode → Script → List Play → (steps : ℕ) → (cells events : Bool) → PlainShared → Option Told → Type 0
 RunAnswers code script plays steps cells events s None = all_named (actors_of code) plays ≡ false
-RunAnswers code script plays steps cells events s (Some t) = (all_named (actors_of code) plays ≡ true) × WholeRunTells code script steps cells events s t
+RunAnswers code script plays steps cells events s (Some t) = (all_named (actors_of code) plays ≡ true) × WholeRunTells code script plays steps cells events s t
 
 -- the name under which a list is explained, where lines are
 abbrev pub list_name : Option (List ℕ) → Option (List ℕ)
@@ -119,7 +122,7 @@ pub record NoActorTold (file : Option (List ℕ)) (errors : List ℕ) : Type 0 w
 -- What is told of code that runs by these plays over a new state, be it a script's or not: what the run tells, or that a play names no actor, and nothing ran.
 pub data TurnsTell (code : PlainCode) (script : Script) (plays : List Play) (steps : ℕ) (cells events : Bool) (t : Told) : Type 0 where
   of_turns :
-      (s : PlainShared) (of : IsStateOf code s) (named : all_named (actors_of code) plays ≡ true) (told : WholeRunTells code script steps cells events s t) → TurnsTell code script plays steps cells events t
+      (s : PlainShared) (of : IsStateOf code s) (named : all_named (actors_of code) plays ≡ true) (told : WholeRunTells code script plays steps cells events s t) → TurnsTell code script plays steps cells events t
   of_none :
       (unnamed : all_named (actors_of code) plays ≡ false)
       (output : t.output ≡ []) (errors : NoActorTold script.file t.errors) (status : t.status ≡ 2) → TurnsTell code script plays steps cells events t
@@ -167,7 +170,7 @@ pub data ScriptTells (script : Script) (t : Told) : Wanted → Type 0 where
       (p : PlainProgram) (code : PlainCode) (compiled : IsCompiled script.text p code) (told : FormTold code t) → ScriptTells script t Build
   of_run :
       (plays : List Play) (steps : ℕ) (with_cells with_events : Bool) (ran : Told) (p : PlainProgram) (code : PlainCode) (s : PlainShared) (compiled : IsCompiled script.text p code)
-      (of : IsStateOf code s) (named : all_named (actors_of code) plays ≡ true) (told : RunTells code script steps s ran)
+      (of : IsStateOf code s) (named : all_named (actors_of code) plays ≡ true) (told : RunTells code script plays steps s ran)
       (explained : ExplainsAll p (shared_of s) told.rans told.agents)
       (output : t.output ≡ (ran.output ++ cells_told with_cells p.cells s) ++ events_told with_events (numbered_book s 0)) (errors : t.errors ≡ ran.errors) (status : t.status ≡ ran.status)
       → ScriptTells script t (Run plays steps with_cells with_events)

@@ -31,9 +31,9 @@ module _ (code : PlainCode) (limit : ℕ) (ys : List Play) (rounds : Bool) (s : 
         played = all_played code ys xs ts out.steps threads;
         ended = λ wanted. all_ended code xs ts (out.ended wanted) threads;
         explained = explained;
-        agents = agents_done traced known.done code limit s all rs out.turns out.playing agents;
-        drained = λ wanted. agents_drained traced known.done code limit s all rs out.turns out.playing agents (out.idle wanted);
-        all_explained = all_explained_by traced known.done code limit s all rs out.turns out.playing agents reported staged ts explained;
+        agents = agents_done traced known.done code limit s xs all.agents.items rs out.turns out.playing.agents out.playing.run agents;
+        drained = λ wanted. agents_drained traced known.done code limit s xs all.agents.items rs out.turns out.playing.agents out.playing.run agents (out.idle wanted);
+        all_explained = all_explained_by traced known.done code limit s xs all.agents.items rs out.turns out.playing.agents out.playing.run agents reported staged ts explained;
         scheduled = scheduled_so code limit ys rounds s all out.turns ts rs out.scheduled out.playing threads agents;
       }
 

@@ -879,7 +879,7 @@ length_map f [] = refl
 length_map f (x ∷ xs) = ap suc (length_map f xs)
 
 -- what is answered to an ask
-serve_may : (cells : List CellDefinition) (a : ℕ) (q : Ask) (book : List Event) → MayAnswer q (serve_on cells a q book).reply
+pub serve_may : (cells : List CellDefinition) (a : ℕ) (q : Ask) (book : List Event) → MayAnswer q (serve_on cells a q book).reply
 serve_may cells a ask.Begin book = tt
 serve_may cells a (ask.Look c p) book = looked_may _ a c p book (is_outdated c.number p book)
 serve_may cells a (ask.View cs) book = length_map (λ c. world_book.newest (world_book.opening (cells_of cells)) book c.number) cs
@@ -895,7 +895,7 @@ serve_may cells a (ask.CloseAt c p x) book = closed_may a c p x book
 serve_may cells a (ask.Broke c p) book = added_may (ask.Broke c p) a _ reply.Done book (nat_lt (length book) most_events) tt tt
 
 -- want of memory is told of what takes some
-memory_may : (q : Ask) (r : Reply) → MayAnswer q r → TakesMemoryFor q r → MayAnswer q reply.Memory
+pub memory_may : (q : Ask) (r : Reply) → MayAnswer q r → TakesMemoryFor q r → MayAnswer q reply.Memory
 memory_may ask.Begin (reply.At p) m t = t
 memory_may ask.Begin (reply.Is v) m t = absurd m
 memory_may ask.Begin (reply.Views p vs) m t = absurd m

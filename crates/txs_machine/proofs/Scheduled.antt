@@ -246,7 +246,8 @@ printed_so a (Some outcome.StepsSpent) at why h = sym (ap printed_at h.0)
 printed_so a (Some outcome.JournalFull) at why h = sym (ap printed_at h.1 ∙ ap (λ (u : ActorState). u.printed) h.2)
 printed_so a (Some outcome.Memory) at why h = sym (ap printed_at h.1 ∙ ap (λ (u : ActorState). u.printed) h.2)
 
-entry_so : (code : PlainCode) (books : ℕ → List Event) (k : ℕ) (x : Player) (y : Actor) (r : ActorReport) → IsPlayerOf code k books x.actor x.trace.items y → IsReported code x r → IsEntryOf code books k y r
+-- an entry is that of its actor in the run
+pub entry_so : (code : PlainCode) (books : ℕ → List Event) (k : ℕ) (x : Player) (y : Actor) (r : ActorReport) → IsPlayerOf code k books x.actor x.trace.items y → IsReported code x r → IsEntryOf code books k y r
 entry_so code books k x y r p rep = record {
   ended = sym rep.ended ∙ outcome_so x.actor x.actor.outcome y.at y.stopped p.placed;
   printed = sym rep.printed ∙ printed_so x.actor x.actor.outcome y.at y.stopped p.placed;

@@ -194,7 +194,7 @@ agent_acts code g h = agent_indexed code.cells (length code.threads) g h
 -- ---- a run goes on
 
 -- what was told to an actor of a run holds
-told_holds : RunTraced → (code : PlainCode) (s : PlainShared) (ys : List Play) (j : ℕ) → shared_of s ≡ (run_of code ys).shared → ActorTraced code.cells (length code.threads) (books_of s) j ((run_of code ys).actors j)
+pub told_holds : RunTraced → (code : PlainCode) (s : PlainShared) (ys : List Play) (j : ℕ) → shared_of s ≡ (run_of code ys).shared → ActorTraced code.cells (length code.threads) (books_of s) j ((run_of code ys).actors j)
 told_holds law code s ys j same = subst (λ (b : ℕ → List Event). ActorTraced code.cells (length code.threads) b j ((run_of code ys).actors j)) (sym (ap (λ (sh : Shared). sh.books) same)) (law code.cells (length code.threads) (code_of code) ys j)
 
 -- what another adds leaves where a player is
@@ -281,11 +281,11 @@ pub attendants_many : (xs : List AgentPlayer) → length (attendants xs) ≡ len
 attendants_many [] = refl
 attendants_many (x ∷ xs) = ap suc (attendants_many xs)
 
-module _ (traced : RunTraced) (done : DoneIsUndisturbed) (code : PlainCode) (limit : ℕ) (s : PlainShared) (all : Players) (rs : List ActorReport) (turns : List Play) (h : ArePlayingBy code limit s all turns) (rep : AreReported code (attendants all.agents.items) rs) where
+module _ (traced : RunTraced) (done : DoneIsUndisturbed) (code : PlainCode) (limit : ℕ) (s : PlainShared) (of_threads : List Player) (of_agents : List AgentPlayer) (rs : List ActorReport) (turns : List Play) (attend : AreAttending code limit (length code.threads) (agents_of code) of_agents) (by_turns : IsRunBy code s of_threads of_agents turns) (rep : AreReported code (attendants of_agents) rs) where
   -- an entry and its actor
   record IsEntry (i : ℕ) (r : ActorReport) : Type 0 where
     player : AgentPlayer
-    there : nth all.agents.items i ≡ Some player
+    there : nth of_agents i ≡ Some player
     reported : IsReported code player.player r
     agent : CellId
     named : nth (agents_of code) i ≡ Some agent
@@ -294,9 +294,9 @@ module _ (traced : RunTraced) (done : DoneIsUndisturbed) (code : PlainCode) (lim
 
   entry_at : (i : ℕ) (r : ActorReport) → nth rs i ≡ Some r → IsEntry i r
   entry_at i r e =
-      let x = reported_at code (attendants all.agents.items) rs i r rep e in
-      let y = attendant_at all.agents.items i x.0 x.1 in
-      let a = attending_at code limit (length code.threads) i (agents_of code) all.agents.items y.0 h.agents y.1 in
+      let x = reported_at code (attendants of_agents) rs i r rep e in
+      let y = attendant_at of_agents i x.0 x.1 in
+      let a = attending_at code limit (length code.threads) i (agents_of code) of_agents y.0 attend y.1 in
       record {
         player = y.0;
         there = y.1;
@@ -304,12 +304,12 @@ module _ (traced : RunTraced) (done : DoneIsUndisturbed) (code : PlainCode) (lim
         agent = a.0;
         named = a.1;
         attends = a.2;
-        of = h.run.agents i y.0 y.1;
+        of = by_turns.agents i y.0 y.1;
       }
 
   agent_done : (i : ℕ) (r : ActorReport) → IsEntry i r → AgentHasDone code (length code.threads + i) limit (books_of s) r
   agent_done i r x =
-      let t = told_holds traced code s turns (length code.threads + i) h.run.shared in
+      let t = told_holds traced code s turns (length code.threads + i) by_turns.shared in
       let y = (run_of code turns).actors (length code.threads + i) in
       let trace : places_of r.trace.items ≡ trace_of code.cells (books_of s) (length code.threads + i) y.entries = ap places_of (sym x.reported.traced) ∙ x.of.traced in
       record {
@@ -332,7 +332,7 @@ module _ (traced : RunTraced) (done : DoneIsUndisturbed) (code : PlainCode) (lim
 
   pub agents_done : AgentsAreDone code limit (books_of s) rs
   agents_done = record {
-    one_each = as_many code (attendants all.agents.items) rs rep ∙ attendants_many all.agents.items ∙ as_attending code limit (length code.threads) (agents_of code) all.agents.items h.agents;
+    one_each = as_many code (attendants of_agents) rs rep ∙ attendants_many of_agents ∙ as_attending code limit (length code.threads) (agents_of code) of_agents attend;
     each = λ i r e. agent_done i r (entry_at i r e);
   }
 
@@ -342,7 +342,7 @@ module _ (traced : RunTraced) (done : DoneIsUndisturbed) (code : PlainCode) (lim
   idle_at (y ∷ xs) zero x d e = subst (λ (z : AgentPlayer). z.player.actor.outcome ≡ None → HasWork code s z.agent → ⊥) (ap (or_else y) e) d.0
   idle_at (y ∷ xs) (suc i) x d e = idle_at xs i x d.1 e
 
-  pub agents_drained : AreIdle code s all.agents.items → AreDrained code (shared_of s) rs
+  pub agents_drained : AreIdle code s of_agents → AreDrained code (shared_of s) rs
   agents_drained idle i g r named e out = go (next_action (cells_of code.cells) (books_of s 0) g) refl
     where
       x : IsEntry i r
@@ -353,7 +353,7 @@ module _ (traced : RunTraced) (done : DoneIsUndisturbed) (code : PlainCode) (lim
 
       go : (o : Option Action) → next_action (cells_of code.cells) (books_of s 0) g ≡ o → o ≡ None
       go None f = refl
-      go (Some y) f = absurd (idle_at all.agents.items i x.player idle x.there (x.reported.ended ∙ out) (subst (HasWork code s) (sym same) (y, f)))
+      go (Some y) f = absurd (idle_at of_agents i x.player idle x.there (x.reported.ended ∙ out) (subst (HasWork code s) (sym same) (y, f)))
 
   -- ---- what a program means of agents
 
@@ -379,7 +379,7 @@ module _ (traced : RunTraced) (done : DoneIsUndisturbed) (code : PlainCode) (lim
       threads = sym (length_map (thread_code code) code.threads) ∙ follows.as_many
 
       book : books_of s 0 ≡ (run_of code turns).shared.books 0
-      book = ap (λ (sh : Shared). sh.books 0) h.run.shared
+      book = ap (λ (sh : Shared). sh.books 0) by_turns.shared
 
       mapped : (bs : List CodeBody) (i n : ℕ) (c : ThreadCode) → nth (map (thread_code code) bs) i ≡ Some c → record { functions = function_codes code; validators = validators_of code.cells; main = own_body code n (nth bs i) } ≡ c
       mapped [] i n c e = absurd (subst is_some (sym e) tt)
@@ -402,7 +402,7 @@ module _ (traced : RunTraced) (done : DoneIsUndisturbed) (code : PlainCode) (lim
 
       -- the books of the run
       bs : books_of s ≡ (run_of code turns).shared.books
-      bs = ap (λ (sh : Shared). sh.books) h.run.shared
+      bs = ap (λ (sh : Shared). sh.books) by_turns.shared
 
       agent_explained : (i : ℕ) (g : CellId) (r : ActorReport) → IsEntry i r → nth (agents_from 0 p.cells) i ≡ Some g → ExplainsAgent p (length p.threads + i) g (books_of s) r
       agent_explained i g r x named =

@@ -175,6 +175,19 @@ pub record IsScheduledRun (code : PlainCode) (limit : ℕ) (ys : List Play) (rou
   pub threads_are : (k : ℕ) (ran : ActorReport) → nth threads k ≡ Some ran → IsEntryOf code (books_of s) k ((run_of code turns).actors k) ran
   pub agents_are : (i : ℕ) (ran : ActorReport) → nth agents i ≡ Some ran → IsEntryOf code (books_of s) (length code.threads + i) ((run_of code turns).actors (length code.threads + i)) ran
 
+-- these turns are those of the first so many actors
+abbrev pub AreTurnsBelow : ℕ → List run.Play → Type 0
+AreTurnsBelow m [] = Unit {0}
+AreTurnsBelow m (y ∷ ys) = (run.actor_of y < m) × AreTurnsBelow m ys
+
+-- The state and the entries of a report are those of a run by turns of the actors in some order, each turn with its ask served and answered in the same step.
+pub record IsInterleaving (code : PlainCode) (s : PlainShared) (threads agents : List ActorReport) : Type 0 where
+  pub turns : List run.Play
+  pub below : AreTurnsBelow (actors_of code) turns
+  pub shared : shared_of s ≡ (run_of code turns).shared
+  pub threads_are : (k : ℕ) (ran : ActorReport) → nth threads k ≡ Some ran → IsEntryOf code (books_of s) k ((run_of code turns).actors k) ran
+  pub agents_are : (i : ℕ) (ran : ActorReport) → nth agents i ≡ Some ran → IsEntryOf code (books_of s) (length code.threads + i) ((run_of code turns).actors (length code.threads + i)) ran
+
 -- ---- exactness
 
 -- no entry ended since a growth of memory was refused

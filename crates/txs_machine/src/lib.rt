@@ -11,8 +11,11 @@ pub mod run_error;
 pub mod schedule;
 
 pub use law::{actors_explained, actors_follow, explained_reports_are_serial, schedules_are_exact};
+pub use player::{AgentPlayer, Player, Players};
 pub use run_error::RunError;
-pub use schedule::{Entries, Play, Repeated, ScheduleError, run_repeated, run_schedule};
+pub use schedule::{
+    Entries, Play, Repeated, ScheduleError, report_all, run_repeated, run_schedule,
+};
 pub use txs_machine_actor::{Actor, Turn, actors_run, may_answer};
 pub use txs_world_protocol::{ActorReport, Outcome, Place, Report};
 pub use txs_world_shared::SharedState;

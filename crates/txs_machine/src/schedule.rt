@@ -531,7 +531,10 @@ fn report_agents(
 }
 
 /// What all actors did.
-fn report_all(alloc: Global, code: &Verified, players: Players) -> Result<Entries, AllocError>
+///
+/// # Errors
+/// `AllocError` where there was no memory for the entries.
+pub fn report_all(alloc: Global, code: &Verified, players: Players) -> Result<Entries, AllocError>
     ensures threads { IfOk result (λ report. AreReported code.now players.threads.items report.threads.items) }
     ensures agents { IfOk result (λ report. AreReported code.now (attendants players.agents.items) report.agents.items) }
 {

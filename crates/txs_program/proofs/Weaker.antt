@@ -45,7 +45,7 @@ module _ (f g : PlainCode → RunError → Type 0) (more : (d : PlainCode) (e : 
   -- of an audit
   module _ (unaudited : Parts → Report → AuditError → Type 0) where
     audit_weaker : (s : Script) (o : RunOptions) (t : Told) → AuditedTells (by_workers f) unaudited s o t → AuditedTells (by_workers g) unaudited s o t
-    audit_weaker s o t (audited.of_run parts d compiled may told explained) = audited.of_run parts d compiled may told explained
+    audit_weaker s o t (audited.of_run parts d shared entries compiled ran told explained) = audited.of_run parts d shared entries compiled ran told explained
     audit_weaker s o t (audited.of_refused told) = audited.of_refused told
     audit_weaker s o t (audited.of_unrun parts d compiled told) = audited.of_unrun parts d compiled (told.0, more d told.0 told.1, told.2)
 

@@ -14,3 +14,4 @@ pub use find::position;
 pub use law::{lines_are_safe, places_follow, plain_lines_stay, window_holds};
 pub use lines::line_at;
 pub use pointed::write_pointed;
+pub use sign::is_escaped;

@@ -27,7 +27,7 @@ pub(crate) fn last_sign(bytes: &[u8]) -> (Option<char>, usize)
 
 /// Whether a character can't be seen, or changes how others are seen.
 #[tactic(auto, unfolding(crate::specs::Sign::is_escaped))]
-fn is_escaped(c: char) -> bool
+pub fn is_escaped(c: char) -> bool
     ensures { result ≡ is_escaped c }
 {
     matches!(

@@ -5,7 +5,6 @@ mod actors;
 mod code;
 mod copies;
 mod frames;
-mod gathered;
 mod mail;
 mod optimised;
 mod program;

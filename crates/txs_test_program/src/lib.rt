@@ -1,6 +1,5 @@
 //! What no contract says of the program, and no row of `tests/rows` shows: the program beside the evaluators, streams that
-//! fail, and the limits of programs; and of running threads: that a report comes and is no mismatch, that workers run at once,
-//! and that parts that don't agree are told.
+//! fail, and the limits of programs; and of running threads: that a report comes and is no mismatch, and that workers run at once.
 #![tactic(auto)]
 
 #[cfg(test)]
@@ -9,8 +8,6 @@ mod at_once;
 mod audited;
 #[cfg(test)]
 mod audits;
-#[cfg(test)]
-mod by_hand;
 #[cfg(test)]
 mod changed;
 #[cfg(test)]

@@ -151,14 +151,6 @@ one_agent cells threads g h hg hh e =
 pub no_thread : (m n : ℕ) → nat_lt (m + n) m ≡ true → ⊥
 no_thread m n h = let z = ltb-true (m + n) m h in omega (arith, z)
 
-within_nth : (cells : List StoreCell) (k : ℕ) → agent_at cells k ≡ true → k < length cells
-within_nth [] k h = absurd (false≢true h)
-within_nth (c ∷ cells) zero h = omega arith
-within_nth (c ∷ cells) (suc k) h = let r = within_nth cells k h in omega (arith, r)
-
-pub agent_within : (cells : List StoreCell) (g : CellId) → has_agent cells g ≡ true → g.number < length cells
-agent_within cells g h = within_nth cells g.number (agent_there cells g h).1
-
 -- ---- other actors
 
 append_none : (xs : List Event) → xs ++ [] ≡ xs

@@ -24,7 +24,7 @@ use Rattle.txs_world.specs.Store.{next_action, takes}
 use Rattle.txs_theorem_runs.specs.Agents.{SendsSound, RunsAgents, ActorsSendSound, AgentExplained, RunActsMean}
 use Rattle.txs_theorem_runs.specs.Goes.{AsksNothing, AsksAt, GoesTo}
 use Rattle.txs_theorem_runs.specs.Invariant.{ActorInvariant, RunInvariant}
-use Rattle.txs_theorem_runs.specs.Placed.{is_finish}
+use Rattle.txs_theorem_runs.specs.Finished.{is_finish}
 use Rattle.txs_theorem_runs.specs.Run.{Stop, Actor, Moved, exchange, entry, stop, comes_to, hears, replied, asked, asks_for, turned, turns_from, stops_from, Play, TakesTurn, IsStopped, State, moves, actor_of, play, plays_from, opens}
 use Rattle.txs_theorem_runs.specs.Run as run_of
 use Rattle.txs_theorem_runs.specs.Shared.{Shared, book_for, serve_on, may_ask}

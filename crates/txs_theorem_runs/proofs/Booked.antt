@@ -155,6 +155,3 @@ module _ (cells : List CellDefinition) (threads : ℕ) (books : ℕ → List Eve
         let lt : k < length (books 0) = omega (arith, le) in
         let e = item_at (books 0) k lt in
         grows k e.0 e.1 lt (all_before k (omega (arith, le)))
-
-    pub all_of_them : All (books 0)
-    all_of_them = subst All (taken_whole (books 0)) (all_before (length (books 0)) (omega arith))

@@ -14,7 +14,7 @@ use Rattle.txs_tree_meaning.specs.Meaning.{Completion}
 use Rattle.txs_tree_meaning.specs.Thread.{ThreadState}
 use Rattle.txs_theorem_threads.specs.FollowsAgent.{MeansAsked}
 use Rattle.txs_theorem_threads.specs.RepliesFit.{halted, HasWaited}
-use Rattle.txs_theorem_runs.specs.Placed.{is_finish}
+use Rattle.txs_theorem_runs.specs.Finished.{is_finish}
 use Rattle.txs_theorem_runs.specs.Stages.{Stage, Resting, Idle, Open, Viewing, Swapping, AsksIn, stage_after}
 
 -- the agent runs an action

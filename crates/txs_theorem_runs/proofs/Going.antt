@@ -59,12 +59,6 @@ module _ (code : ThreadCode) where
       subst (λ l. Came l there) (append_assoc xs (exchange_of e ∷ []) (map exchange_of es))
       (went es (xs ++ exchange_of e ∷ []) (turn code (given (exchange_of e ∷ []) g.1)) there (heard xs g.1 (exchange_of e) (walked xs g.0 at (Unfinished g.1) h g.2)) g.4)
 
-  -- ---- consumed
-
-  pub walk_consumes : (n : ℕ) (at there : Turned Configuration) → HasConsumed at → WalksTo code n at there → HasConsumed there
-  walk_consumes zero at there h w = subst HasConsumed w h
-  walk_consumes (suc n) at there h w = walk_consumes n (turn code w.0) there (turn_consumed code w.0 (subst HasConsumed w.1 h)) w.3
-
   -- ---- stages
 
   module _ (agent : Bool) (staged : StagedActor agent code) where
@@ -79,13 +73,6 @@ module _ (code : ThreadCode) where
     pub turn_in : (xs : List Exchange) (st : Stage) (c : Configuration) → Came xs (Unfinished c) → IsStaged agent st (Unfinished c) → StagedFrom agent st (turn code c) (λ q r. turn code (given (exchange q r ∷ []) c))
     turn_in xs st c h s = staged h.turns xs c h.ran s.0 st s.1
 
-    pub walk_staged : (xs : List Exchange) (st : Stage) (n : ℕ) (at there : Turned Configuration) → Came xs at → IsStaged agent st at → WalksTo code n at there → IsStaged agent st there
-    walk_staged xs st zero at there h s w = subst (IsStaged agent st) w s
-    walk_staged xs st (suc n) at there h s w =
-        let came : Came xs (Unfinished w.0) = subst (Came xs) w.1 h in
-        let here : IsStaged agent st (Unfinished w.0) = subst (IsStaged agent st) w.1 s in
-        walk_staged xs st n (turn code w.0) there (step xs w.0 came) (turn_staged st (turn code w.0) _ w.2 (turn_in xs st w.0 came here)) w.3
-
     pub asked_staged : (st : Stage) (c : Configuration) (q : Ask) → AsksAt code c q → StagedFrom agent st (turn code c) (λ q r. turn code (given (exchange q r ∷ []) c))
         → (s : ActorState) × (turn code c ≡ Asking s) × AsksIn agent st q × ((r : Reply) → IsStaged agent (stage_after st q r) (turn code (given (exchange q r ∷ []) c))) × HandsIn s q (λ q r. turn code (given (exchange q r ∷ []) c))
     asked_staged st c q a h =
@@ -96,36 +83,8 @@ module _ (code : ThreadCode) where
         ) in
         (a.0, a.1, x.0, x.1, x.2)
 
-    pub goes_staged : (es : List Entry) (xs : List Exchange) (st : Stage) (at there : Turned Configuration) → Came xs at → IsStaged agent st at → GoesTo code at es there → (end : Stage) × AreStaged agent st es end × IsStaged agent end there
-    goes_staged [] xs st at there h s g = (st, refl, walk_staged xs st g.0 at there h s g.1)
-    goes_staged (e ∷ es) xs st at there h s g =
-        let c = g.1 in
-        let came : Came xs (Unfinished c) = walked xs g.0 at (Unfinished c) h g.2 in
-        let here : IsStaged agent st (Unfinished c) = walk_staged xs st g.0 at (Unfinished c) h s g.2 in
-        let asks = asked_staged st c e.ask g.3 (turn_in xs st c came here) in
-        let rest = goes_staged es (xs ++ exchange_of e ∷ []) (stage_after st e.ask e.reply) (turn code (given (exchange_of e ∷ []) c)) there (heard xs c (exchange_of e) came) (asks.3 e.reply) g.4 in
-        (rest.0, (asks.2, rest.1), rest.2)
-
   -- ---- what is sent
 
   module _ (functions : List PlainFunction) (by : CodeSendsSound functions code) where
     abbrev Sound : Turned Configuration → Type 0
     Sound o = Holds (HoldsSound functions) (HoldsSound functions) o
-
-    walk_sound : (n : ℕ) (at there : Turned Configuration) → Sound at → WalksTo code n at there → Sound there
-    walk_sound zero at there h w = subst Sound w h
-    walk_sound (suc n) at there h w = walk_sound n (turn code w.0) there (turn_sound functions code by w.0 (subst Sound w.1 h)) w.3
-
-    -- each of these asks sends only what a program may send
-    abbrev pub SendSound : List Entry → Type 0
-    SendSound [] = Unit {0}
-    SendSound (e ∷ es) = AskSound functions e.ask × SendSound es
-
-    asked_sound : (c : Configuration) (q : Ask) → AsksAt code c q → Sound (turn code c) → AskSound functions q
-    asked_sound c q a h = subst (WantSound functions) a.2 (subst Sound a.1 h).2
-
-    pub goes_sound : (es : List Entry) (at there : Turned Configuration) → Sound at → GoesTo code at es there → SendSound es
-    goes_sound [] at there h g = tt
-    goes_sound (e ∷ es) at there h g =
-        let here : HoldsSound functions g.1.state = walk_sound g.0 at (Unfinished g.1) h g.2 in
-        (asked_sound g.1 e.ask g.3 (turn_sound functions code by g.1 here), goes_sound es (turn code (given (exchange_of e ∷ []) g.1)) there (turn_sound functions code by (given (exchange_of e ∷ []) g.1) here) g.4)

@@ -22,7 +22,7 @@ use Rattle.txs_world_book.specs.Served.{cells_of}
 use Rattle.txs_world.specs.Laws.{ActionStays, acts_for, no_acts}
 use Rattle.txs_world.specs.Store.{next_action}
 use Rattle.txs_theorem_runs.specs.Goes.{AsksNothing, WalksTo, AsksAt, GoesTo}
-use Rattle.txs_theorem_runs.specs.Placed.{is_finish, finished_at}
+use Rattle.txs_theorem_runs.specs.Finished.{is_finish, finished_at}
 use Rattle.txs_theorem_runs.specs.Shared.{book_for, serve_on}
 use Rattle.txs_theorem_runs.specs.Told.{Entry, exchange_of, AllHold}
 use Rattle.txs_theorem_runs.proofs.Acting.{each_behind}

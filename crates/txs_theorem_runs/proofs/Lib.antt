@@ -19,7 +19,6 @@ pub mod Lawful
 pub mod Naming
 pub mod OneActor
 pub mod Owned
-pub mod Placed
 pub mod Refused
 pub mod Replayed
 pub mod Report

@@ -39,7 +39,7 @@ use Rattle.txs_world.specs.Store.{next_action, first_action, takes, finishes, sp
 use Rattle.txs_theorem_runs.specs.Agents.{AllSound, meaning_after, IsBooked, ActionDid, ActMeans, StillMeans, EventMeans, OfEvent, ActsInTurn, HasPrintedJust}
 use Rattle.txs_theorem_runs.specs.Explains.{outcome_at}
 use Rattle.txs_theorem_runs.specs.Goes.{AsksNothing, WalksTo, AsksAt, GoesTo}
-use Rattle.txs_theorem_runs.specs.Placed.{is_finish, finished_at}
+use Rattle.txs_theorem_runs.specs.Finished.{is_finish, finished_at}
 use Rattle.txs_theorem_runs.specs.Printed.{HasPrinted}
 use Rattle.txs_theorem_runs.specs.Run.{exchange}
 use Rattle.txs_theorem_runs.specs.Shared.{book_for}

@@ -22,7 +22,7 @@ use Rattle.txs_world_book.specs.Book.{opening, after, newest, is_outdated, least
 use Rattle.txs_world_book.specs.Served.{Served, served, adds, event_of, cells_of}
 use Rattle.txs_world.specs.Store.{looks, commits, sends_to, takes, next_action, merged}
 use Rattle.txs_theorem_runs.specs.Agents.{ActionDid, EventMeans, OfEvent, ActsInTurn}
-use Rattle.txs_theorem_runs.specs.Placed.{is_finish}
+use Rattle.txs_theorem_runs.specs.Finished.{is_finish}
 use Rattle.txs_theorem_runs.specs.Shared.{atom_of, is_atom, book_for, serve_on}
 use Rattle.txs_theorem_runs.specs.Told.{Entry, Place, IsExchanged, EntryHolds, adding}
 use Rattle.txs_theorem_runs.proofs.Replayed.{length_taken, stands_there}

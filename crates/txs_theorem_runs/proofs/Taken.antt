@@ -30,7 +30,7 @@ use Rattle.txs_world_book.specs.declared.cell.StoreCell.{StoreCell}
 use Rattle.txs_world.specs.Laws.{ServeKeeps}
 use Rattle.txs_world.specs.Store.{none_taken, is_taken, finishes, span_of, hands_out, is_over, taken_after}
 use Rattle.txs_theorem_runs.specs.Invariant.{ActorInvariant, RunInvariant}
-use Rattle.txs_theorem_runs.specs.Placed.{is_finish}
+use Rattle.txs_theorem_runs.specs.Finished.{is_finish}
 use Rattle.txs_theorem_runs.specs.Run.{Stop, Actor, Moved, moved, entry, stop, comes_to, replied, asked, asks_for, turned, turns_from, stops_from, Play, TakesTurn, IsStopped, State, moves, actor_of, play, plays_from, opens}
 use Rattle.txs_theorem_runs.specs.Run as run_of
 use Rattle.txs_theorem_runs.specs.Shared.{Shared, book_for, serve_on, may_ask}

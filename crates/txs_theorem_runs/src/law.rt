@@ -6,7 +6,6 @@ ghost use Rattle.txs_theorem_runs.specs.Explains.{RunExplained, ProgramExplained
 ghost use Rattle.txs_theorem_runs.specs.Invariant.{OpeningHolds, PlayHolds, InvariantExplains};
 ghost use Rattle.txs_theorem_runs.specs.Lawful.{RunAsksLawful, TypedStands, TypedActorsStand};
 ghost use Rattle.txs_theorem_runs.specs.Laws.{ToldFits, ServedIsTold, OthersLeaveTold, AloneHistory};
-ghost use Rattle.txs_theorem_runs.specs.Placed.{PlacedReported};
 ghost use Rattle.txs_theorem_runs.specs.Printed.{RunPrints};
 ghost use Rattle.txs_theorem_runs.specs.Refused.{RunRefusals};
 ghost use Rattle.txs_theorem_runs.specs.Report.{RunTraced, RunReported, TypedAreStaged};
@@ -160,15 +159,5 @@ pub fn every_report_is_explained()
     done_is_undisturbed();
     refused_is_undisturbed();
     action_stays();
-    replies_fit();
-}
-
-/// A program explains all that actors did, where each was answered what the books say at its indexes, whatever the order of the actors.
-pub fn every_placed_report_is_explained()
-    ensures { PlacedReported }
-{
-    unwritten_stays();
-    done_is_undisturbed();
-    refused_is_undisturbed();
     replies_fit();
 }

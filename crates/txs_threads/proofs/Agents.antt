@@ -12,8 +12,6 @@ use Rattle.txs_machine.specs.Agents.{agents_of, AreDrained}
 use Rattle.txs_machine.specs.RunOver.{IsStateOf}
 use Rattle.txs_world_protocol.specs.declared.report.ActorReport.{ActorReport}
 use Rattle.txs_machine.proofs.Together.{agent_at}
-use Rattle.txs_threads_gather.specs.ByPlace.{AgreesByPlace}
-use Rattle.txs_threads_gather.specs.Played.{PlainPlayed}
 use Rattle.txs_threads.specs.Run.{AreAgents, IsDrained, AllDrained}
 
 abbrev is_some : {A : Type 0} → Option A → Type 0
@@ -36,13 +34,6 @@ pub acts_at : (code : PlainCode) (gs : List CellId) (i threads number : ℕ) (g 
 acts_at code gs i threads number g all many place below read =
     let there : nth (agents_of code) i ≡ Some g = subst (λ l. nth l i ≡ Some g) all (nth_at gs i g below read) in
     subst (λ n. IsActorOf code n g) (sym (place ∙ ap (λ n. n + i) many)) (agent_at code i g there).acts
-
--- a state that agrees with actors of the code is of its cells and threads
-pub state_of : (code : PlainCode) (s t : PlainShared) (limit : ℕ) (ps : List PlainPlayed) → s ≡ t → AgreesByPlace code limit t ps → IsStateOf code s
-state_of code s t limit ps same agrees = record {
-  cells = ap (λ (x : PlainShared). x.cells) same ∙ agrees.cells;
-  threads = ap (λ (x : PlainShared). x.threads) same ∙ agrees.threads;
-}
 
 -- the agents of a code are agents of a state of its cells
 pub are_agents : (code : PlainCode) (s : PlainShared) (gs : List CellId) → IsStateOf code s → gs ≡ agents_of code → AreAgents s gs

@@ -23,21 +23,7 @@ use Rattle.txs_code_meaning.specs.contracts.code.Code.TheInside as code_in
 use Rattle.txs_code_meaning.specs.contracts.verified.Verified as verified_is
 use Rattle.txs_code_meaning.specs.contracts.verified.Verified.TheInside as verified_in
 use Rattle.txs_code_meaning.proofs.fusing.Fused.TheSendSync as fused_sent
-use Rattle.txs_threads_gather.specs.contracts.played.Played as played_is
-use Rattle.txs_threads_gather.specs.contracts.played.Played.TheInside as played_in
-use Rattle.txs_threads.specs.contracts.atoms.Atoms as atoms_is
-use Rattle.txs_threads.specs.contracts.scheduler.Scheduler as scheduler_is
-use Rattle.txs_threads.proofs.scheduler.Actors.TheSendSync as actors_sent
-use Rattle.std.specs.contracts.sync.Mutex as mutex_is
-use Rattle.std.specs.contracts.alloc.Global as global_is
-use Rattle.std.specs.contracts.impls.GlobalAllocator.TheImpl as allocator
-use Rattle.std.proofs.sync.Mutex.TheSendSync as mutex
 use Rattle.std.below.std_heap.proofs.GlobalAllocator.TheSendSync as heap
-use Rattle.crossbeam_channel.specs.contracts.channel.Sender as sender_is
-use Rattle.crossbeam_channel.specs.contracts.channel.Receiver as receiver_is
-use Rattle.crossbeam_channel.proofs.channel.Receiver.TheSendSync as receiver
-use Rattle.crossbeam_channel.proofs.channel.Sender.TheSendSync as sender
-use Rattle.std.specs.contracts.option.Option as option_is
 use Rattle.txs_value_data.specs.contracts.value.Value as value
 use Rattle.txs_value_cell.specs.contracts.action.Action as action
 use Rattle.txs_value_data.proofs.value.CellId.TheSendSync as cell_id_sent
@@ -50,10 +36,6 @@ use Rattle.txs_world_protocol.specs.contracts.ask.Ask as ask_is
 use Rattle.txs_world_protocol.specs.contracts.ask.Reply as reply_is
 use Rattle.txs_world_protocol.specs.contracts.event.EventKind as event_kind_is
 use Rattle.txs_world_protocol.specs.contracts.event.Event as event_is
-use Rattle.txs_threads_replay.specs.contracts.kept.KeptEntry as kept_is
-use Rattle.txs_threads_replay.specs.contracts.stored.Stored as stored_is
-use Rattle.txs_threads_replay.specs.contracts.kept.KeptEntries as kept_entries_is
-use Rattle.txs_threads_replay.specs.contracts.kept.KeptEntries.TheInside as kept_entries_in
 use Rattle.txs_frame.specs.contracts.frame.Commute as commute_is
 use Rattle.txs_frame.specs.contracts.frame.TxFrame as tx_frame_is
 use Rattle.txs_frame.specs.contracts.frame.TxFrame.TheInside as tx_frame_in
@@ -91,6 +73,20 @@ use Rattle.txs_world.specs.contracts.store.Store as store_is
 use Rattle.txs_world.specs.contracts.store.Store.TheInside as store_in
 use Rattle.txs_world_shared.specs.contracts.state.SharedState as shared_state_is
 use Rattle.txs_world_shared.specs.contracts.state.SharedState.TheInside as shared_state_in
+use Rattle.txs_world_protocol.proofs.event.Place.TheSendSync as place_sent
+use Rattle.txs_machine.specs.contracts.player.Player as player_is
+use Rattle.txs_history.proofs.log.Log.TheSendSync as log_sent
+use Rattle.txs_history.proofs.log.Past.TheSendSync as past_sent
+use Rattle.txs_history.specs.declared.log.Naming as naming_is
+use Rattle.txs_history_store.specs.declared.run.Run as run_is
+use Rattle.txs_history_store.specs.contracts.serve.Served as served_is
+use Rattle.txs_history_store.specs.contracts.store.LoggedStore as logged_store_is
+use Rattle.txs_history_store.specs.contracts.store.LoggedStore.TheInside as logged_store_in
+use Rattle.txs_history_store.specs.contracts.atom.LoggedAtom as logged_atom_is
+use Rattle.txs_history_store.specs.contracts.atom.LoggedAtom.TheInside as logged_atom_in
+use Rattle.txs_history_actor.specs.contracts.step.Step as step_is
+use Rattle.txs_history_actor.specs.contracts.actor.LoggedActor as logged_actor_is
+use Rattle.txs_history_actor.specs.contracts.actor.LoggedActor.TheInside as logged_actor_in
 
 pub value_send : IsSend value.the_row
 value_send = search (crosses, knot.crosses, sendable) depth 60 fits 20000
@@ -130,21 +126,6 @@ event_field_send = struct_send (S.shape event_is.the_type) (plain_send _ _ _ _ _
 
 pub event_send : IsSend event_is.the_row
 event_send = recorded_send (event_is.the_field).row _ _ (event_is.the_type).to_one event_field_send
-
-pub kept_field_send : IsSend (kept_is.the_field).row
-kept_field_send = struct_send (S.shape kept_is.the_type) ((search (ask_field_send, crosses, sendable) depth 60 fits 20000), ((search (reply_field_send, crosses, sendable) depth 60 fits 20000), (plain_send _ _ _ _ _, tt)))
-
-pub kept_send : IsSend kept_is.the_row
-kept_send = recorded_send (kept_is.the_field).row _ _ (kept_is.the_type).to_one kept_field_send
-
-pub stored_field_send : IsSend (stored_is.the_field).row
-stored_field_send = enum_send (E.shape stored_is.the_type) ((plain_send _ _ _ _ _, (plain_send _ _ _ _ _, tt)), ((cell_id_sent.the_field_send, (plain_send _ _ _ _ _, (value_field_send, (plain_send _ _ _ _ _, tt)))), ((cell_id_sent.the_field_send, (value_field_send, (plain_send _ _ _ _ _, tt))), ((cell_id_sent.the_field_send, (plain_send _ _ _ _ _, (value_field_send, (plain_send _ _ _ _ _, tt)))), ((cell_id_sent.the_field_send, (plain_send _ _ _ _ _, (value_field_send, (plain_send _ _ _ _ _, tt)))), (((search (kept_send, crosses, sendable) depth 60 fits 20000), tt), tt))))))
-
-pub stored_send : IsSend stored_is.the_row
-stored_send = recorded_send (stored_is.the_field).row _ _ (stored_is.the_type).to_one stored_field_send
-
-pub kept_entries_send : IsSend kept_entries_is.the_row
-kept_entries_send = view_send kept_entries_in.the_row _ _ _ _ (recorded_send (kept_entries_in.the_field).row _ _ (kept_entries_in.the_type).to_one (struct_send (S.shape kept_entries_in.the_type) ((search (global.the_field_send, crosses, sendable) depth 60 fits 20000), ((search (stored_send, crosses, sendable) depth 60 fits 20000), tt))))
 
 pub commute_field_send : IsSend (commute_is.the_field).row
 commute_field_send = struct_send (S.shape commute_is.the_type) (cell_id_sent.the_field_send, ((search (callee_sent.the_field_send, crosses, sendable) depth 60 fits 20000), ((search (value_send, listed.the_send, crosses, sendable) depth 60 fits 20000), tt)))
@@ -258,44 +239,25 @@ code_sync = view_sync code_in.the_row _ _ _ _ (recorded_sync (code_in.the_field)
 pub verified_sync : IsSync verified_is.the_row
 verified_sync = view_sync verified_in.the_row _ _ _ _ (recorded_sync (verified_in.the_field).row _ _ (verified_in.the_type).to_one (struct_sync (S.shape verified_in.the_type) (code_sync, (search (plain_sync, vec.the_sync, crosses, sendable) depth 60 fits 20000, (search (plain_sync, vec.the_sync, crosses, sendable) depth 60 fits 20000, (search (vec.the_sync, listed.the_sync, fused_sent.the_sync, crosses, sendable) depth 60 fits 20000, (search (vec.the_sync, listed.the_sync, fused_sent.the_sync, crosses, sendable) depth 60 fits 20000, (plain_sync _ _ _ _ _, tt))))))))
 
--- ---- actors, and what lies under the lock
+-- ---- actors, and what is under the locks
 
-module _ (a : NamedLft) where
-  pub played_send : IsSend (played_is.the_row a)
-  played_send = view_send (played_in.the_row a) _ _ _ _ (recorded_send (played_in.the_field a).row _ _ (played_in.the_type a).to_one (struct_send (S.shape (played_in.the_type a)) (search (global.the_field_send, crosses, sendable) depth 60 fits 20000, (shr_send _ _ verified_is.the_row verified_sync, (shr_slice_send _ _ Builtin.bool (plain_sync _ _ _ _ _), (actor_send, (plain_send _ _ _ _ _, (search (ask_send, option.the_field_send, crosses, sendable) depth 60 fits 20000, (kept_entries_send, (search (ask_send, option.the_field_send, crosses, sendable) depth 60 fits 20000, (plain_send _ _ _ _ _, tt)))))))))))
+pub player_field_send : IsSend (player_is.the_field).row
+player_field_send = struct_send (S.shape player_is.the_type) ((search (actor_send, crosses, sendable) depth 60 fits 20000), ((search (place_sent.the_send, vec.the_send, crosses, sendable) depth 60 fits 20000), tt))
 
--- an atom under its lock, and all of them
-atom_locked : IsSync (mutex_is.the_row atom_book_is.the_row)
-atom_locked = mutex.the_sync atom_book_is.the_row atom_book_send
+pub served_field_send : IsSend (served_is.the_field).row
+served_field_send = struct_send (S.shape served_is.the_type) ((search (reply_field_send, crosses, sendable) depth 60 fits 20000), (plain_send _ _ _ _ _, (plain_send _ _ _ _ _, tt)))
 
-pub atoms_sync : IsSync atoms_is.the_row
-atoms_sync = recorded_sync (atoms_is.the_field).row _ _ (atoms_is.the_type).to_one (struct_sync (S.shape atoms_is.the_type) (plain_sync _ _ _ _ _, (search (plain_sync, vec.the_sync, crosses, sendable) depth 60 fits 20000, (search (atom_locked, vec.the_sync, crosses, sendable) depth 60 fits 20000, tt))))
+pub step_field_send : IsSend (step_is.the_field).row
+step_field_send = enum_send (E.shape step_is.the_type) (tt, (((search (ask_field_send, crosses, sendable) depth 60 fits 20000), tt), ((plain_send _ _ _ _ _, ((search (served_field_send, crosses, sendable) depth 60 fits 20000), tt)), (tt, tt))))
 
-module _ (P : RattleType) (p : IsSend P) where
-  pub scheduler_send : IsSend (scheduler_is.the_row P)
-  scheduler_send = recorded_send (scheduler_is.the_field P).row _ _ (scheduler_is.the_type P).to_one (struct_send (S.shape (scheduler_is.the_type P)) (store_send, (actors_sent.the_field_send P p, tt)))
+-- of a run
+module _ (J : RattleType) (run : run_is.Ghosts J.Denot) (name : naming_is.Ghosts J.Denot) where
+  pub logged_store_send : IsSend (logged_store_is.the_row J run name)
+  logged_store_send = view_send (logged_store_in.the_row J run name) _ _ _ _ (recorded_send (logged_store_in.the_field J run name).row _ _ (logged_store_in.the_type J run name).to_one (struct_send (S.shape (logged_store_in.the_type J run name)) ((search (store_send, crosses, sendable) depth 60 fits 20000), ((search (log_sent.the_send, crosses, sendable) depth 60 fits 20000), (plain_send _ _ _ _ _, tt)))))
 
--- what a worker holds: the runtime, what lies under the store's lock, the atoms, both ends of the channel, and the gate, each lent
-module _ (R P G : RattleType) (r : IsSync (param 0 R)) (p : IsSend (param 1 P)) (g : IsSync (param 2 G)) where
-  scheduler_shared : IsSync (mutex_is.the_row (scheduler_is.the_row (param 1 P)))
-  scheduler_shared = mutex.the_sync (scheduler_is.the_row (param 1 P)) (scheduler_send (param 1 P) p)
+  pub logged_atom_send : IsSend (logged_atom_is.the_row J run name)
+  logged_atom_send = view_send (logged_atom_in.the_row J run name) _ _ _ _ (recorded_send (logged_atom_in.the_field J run name).row _ _ (logged_atom_in.the_type J run name).to_one (struct_send (S.shape (logged_atom_in.the_type J run name)) ((search (atom_book_send, crosses, sendable) depth 60 fits 20000), (plain_send _ _ _ _ _, ((search (log_sent.the_send, crosses, sendable) depth 60 fits 20000), (plain_send _ _ _ _ _, tt))))))
 
-  message_sent : IsSend (option_is.the_row (param 1 P))
-  message_sent = search (option.the_send, p, crosses, sendable) depth 60 fits 20000
-
-  sender_shared : IsSync (sender_is.the_row (option_is.the_row (param 1 P)) global_is.the_row allocator.ghosts)
-  sender_shared = search (sender.the_sync, message_sent, global.the_send, global.the_sync, heap.the_frees, crosses, sendable) depth 60 fits 20000
-
-  receiver_shared : IsSync (receiver_is.the_row (option_is.the_row (param 1 P)) global_is.the_row allocator.ghosts)
-  receiver_shared = search (receiver.the_sync, message_sent, global.the_send, global.the_sync, heap.the_frees, crosses, sendable) depth 60 fits 20000
-
-  abbrev pub worker_fields : NamedLft → NamedLft → NamedLft → NamedLft → NamedLft → NamedLft → List RattleType
-  worker_fields a b l c d e =
-      (shr_ref_field a (param 0 R) tt).row ∷ (shr_ref_field b (mutex_is.the_row (scheduler_is.the_row (param 1 P))) tt).row
-      ∷ (shr_ref_field l atoms_is.the_row tt).row
-      ∷ (shr_ref_field c (sender_is.the_row (option_is.the_row (param 1 P)) global_is.the_row allocator.ghosts) tt).row
-      ∷ (shr_ref_field d (receiver_is.the_row (option_is.the_row (param 1 P)) global_is.the_row allocator.ghosts) tt).row ∷ (shr_ref_field e (param 2 G) tt).row ∷ []
-
-  pub worker_send : (n : Sym) (a b l c d e : NamedLft) → IsSend (TupleAt n (worker_fields a b l c d e))
-  worker_send n a b l c d e =
-      recorded_send (field_at n (worker_fields a b l c d e)).row _ _ (type_at n (worker_fields a b l c d e)).to_one (struct_send (S.shape (type_at n (worker_fields a b l c d e))) (shr_send _ _ _ r, (shr_send _ _ _ scheduler_shared, (shr_send _ _ _ atoms_sync, (shr_send _ _ _ sender_shared, (shr_send _ _ _ receiver_shared, (shr_send _ _ _ g, tt)))))))
+  module _ (a : NamedLft) where
+    pub logged_actor_send : IsSend (logged_actor_is.the_row a J run name)
+    logged_actor_send = view_send (logged_actor_in.the_row a J run name) _ _ _ _ (recorded_send (logged_actor_in.the_field a J run name).row _ _ (logged_actor_in.the_type a J run name).to_one (struct_send (S.shape (logged_actor_in.the_type a J run name)) (shr_send _ _ verified_is.the_row verified_sync, (shr_slice_send _ _ Builtin.bool (plain_sync _ _ _ _ _), ((search (player_field_send, crosses, sendable) depth 60 fits 20000), (plain_send _ _ _ _ _, ((search (past_sent.the_send, crosses, sendable) depth 60 fits 20000), ((search (step_field_send, crosses, sendable) depth 60 fits 20000), tt))))))))

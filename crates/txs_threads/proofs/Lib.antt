@@ -3,3 +3,4 @@ pub mod Answered
 pub mod Crossing
 pub mod Ended
 pub mod Mail
+pub mod Opening

@@ -4,13 +4,16 @@ ghost use Rattle.std.specs.Prelude.{◌≡◌, ◌<◌, ◌≤◌, ◌+◌, leng
 ghost use Rattle.txs_machine_actor.specs.PlainActor.{Lives};
 ghost use Rattle.txs_machine_actor.specs.Turns.{IsNew};
 ghost use Rattle.txs_machine.specs.Agents.{agents_of};
-ghost use Rattle.txs_threads_gather.specs.Callees.{AreCallees};
+ghost use Rattle.txs_history_actor.specs.Callees.{AreCallees};
 
 use crate::scheduler::{Actors, agent_at};
 use std::alloc::{AllocError, Global};
 use txs_code_meaning::Verified;
+use txs_history::Past;
+use txs_history_actor::LoggedActor;
+use txs_history_store::Run;
 use txs_machine_actor::Actor;
-use txs_threads_gather::Played;
+use txs_theorem_history::Asked;
 use txs_value_cell::list_agents;
 use txs_value_data::CellId;
 
@@ -46,16 +49,19 @@ fn actor_at(
 }
 
 /// All actors, before their first turns, the last one first: those of threads are ready, and those of agents are parked, since nothing waits for them yet.
-#[tactic(auto, using(txs_threads_gather::proofs::Playing::renewed))]
-pub(crate) fn open_all<'a>(
-    actors: &mut Actors<Played<'a>>,
+#[tactic(auto, using(txs_history_actor::proofs::On::renewed))]
+pub(crate) fn open_all<'a, J: Run>(
+    actors: &mut Actors<LoggedActor<'a, J>>,
     alloc: Global,
     code: &'a Verified,
     callees: &'a [bool],
     agents: &[CellId],
     threads: u16,
     max_steps: u64,
+    past: &Past<Asked, J>,
 ) -> Result<(), AllocError>
+    requires code { code.now ≡ J.code }
+    requires limit { max_steps ≡ J.limit }
     requires callees { AreCallees code.now callees.now }
     requires agents { agents.now ≡ agents_of code.now }
     requires many { threads ≡ length code.now.threads }
@@ -66,8 +72,8 @@ pub(crate) fn open_all<'a>(
     for k in 0..many {
         let number = many - 1 - k;
         let actor = actor_at(alloc, code, agents, threads, number, max_steps)?;
-        let played = Played::new(alloc, code, callees, actor, max_steps);
-        actors.add(agents, threads, number, played);
+        let logged = LoggedActor::new(alloc, code, callees, actor, past.again());
+        actors.add(agents, threads, number, logged);
     }
     Ok(())
 }

@@ -1,49 +1,44 @@
-//! The atoms, each with its book under a lock of its own.
+//! The atoms, each under a lock of its own.
 
-ghost use Rattle.std.specs.Prelude.{◌≡◌, length, false, None, IfSome};
-ghost use Rattle.txs_world_book.specs.Atom.{AtomAnswers, serve_atom};
-ghost use Rattle.txs_world_shared.specs.Apart.{may_ask_atom};
+ghost use Rattle.std.specs.Prelude.{◌≡◌, ◌≤◌, length, IfErr};
+ghost use Rattle.txs_history_store.specs.Logged.{locks_of};
+ghost use Rattle.txs_machine.specs.declared.run_error.RunError.TheVariants.{Memory};
+ghost use Rattle.txs_threads.specs.Run.{AreOpened};
 
-use crate::scheduler::{Served, count};
+use crate::runnable::AsksAtom;
 use std::alloc::{AllocError, Global};
 use std::hint::spin_loop;
 use std::sync::{Mutex, MutexGuard, Wait};
+use txs_code_meaning::Verified;
+use txs_history::Opened;
+use txs_history_store::{LoggedAtom, LoggedStore, Run};
+use txs_machine::RunError;
+use txs_theorem_history::Asked;
 use txs_value_data::CellId;
+use txs_world::Store;
 use txs_world_book::AtomBook;
-use txs_world_protocol::Ask;
-use txs_world_shared::atoms::serve_alone;
 
 /// How often a worker that finds an atom's lock held looks again before it sleeps.
 const LOOKS: u32 = 200;
 
 /// The atoms of a run.
 #[derive(Drop)]
-pub struct Atoms {
-    /// How many actors there are.
-    actors: usize,
+pub struct Atoms<A> {
     /// Of each cell the index of its lock; of one that is no atom a number behind all of them.
     indexes: Vec<usize>,
     /// The atoms, in the order of their cells.
-    locks: Vec<Mutex<AtomBook>>,
+    locks: Vec<Mutex<A>>,
 }
 
-/// Serves an ask from one atom, if the actor may ask it there: one event of its book, or one answer without an event. Else, and only then, it is refused, and all
-/// is left as it is.
-fn serve_locked(atom: &mut AtomBook, actors: usize, actor: u16, ask: Ask) -> Option<Served>
-    ensures served { IfSome result (λ v. AtomAnswers atom.old (serve_atom atom.old.cell atom.old.opening actor ask atom.old.book) v.reply atom.new) }
-    ensures lawful { (result ≡ None → may_ask_atom actors actor ask atom.old ≡ false) × (may_ask_atom actors actor ask atom.old ≡ false → result ≡ None) }
-    ensures index { IfSome result (λ v. v.at ≡ length atom.old.book) }
-    ensures refused { result ≡ None → atom.new ≡ atom.old }
-{
-    let at = count(atom.events());
-    match serve_alone(atom, actors, actor, ask) {
-        Some(reply) => Some(Served { reply, at }),
-        None => None,
-    }
+/// The atoms behind a run, without their locks.
+#[derive(Drop)]
+pub struct FreeAtoms<A> {
+    indexes: Vec<usize>,
+    atoms: Vec<A>,
 }
 
 /// An atom's lock, taken. What is done under it is short, so a worker that finds it held looks again for a while before it sleeps.
-fn lock_atom<'a, R: Wait>(rt: &R, lock: &'a Mutex<AtomBook>) -> MutexGuard<'a, AtomBook> {
+fn lock_atom<'a, R: Wait, A>(rt: &R, lock: &'a Mutex<A>) -> MutexGuard<'a, A> {
     for _ in 0..LOOKS {
         if let Some(guard) = lock.try_lock() {
             return guard;
@@ -62,64 +57,104 @@ fn no_indexes(alloc: Global, cells: usize) -> Result<Vec<usize>, AllocError> {
     Ok(indexes)
 }
 
-impl Atoms {
-    /// Puts each of these atoms, which are among so many cells, under a lock, for so many actors.
+/// The index of a cell's atom, of one that is no atom a number behind all of them.
+fn index_of(indexes: &[usize], cell: CellId) -> usize {
+    let number = usize::from(cell.number);
+    if number < indexes.len() {
+        indexes[number]
+    } else {
+        usize::MAX
+    }
+}
+
+impl<A: Drop> Atoms<A> {
+    /// Room for the atoms among so many cells.
     ///
     /// # Errors
-    /// `AllocError` where there was no memory for the locks.
-    pub fn open(
-        alloc: Global,
-        cells: usize,
-        actors: usize,
-        books: Vec<AtomBook>,
-    ) -> Result<Atoms, AllocError> {
-        let mut indexes = no_indexes(alloc, cells)?;
-        let mut locks = Vec::with_capacity(alloc, books.len())?;
-        for book in books {
-            let number = usize::from(book.cell().number);
-            if number < indexes.len() {
-                indexes[number] = locks.len();
-            }
-            let _ = locks.push(Mutex::new(book));
-        }
-        Ok(Atoms {
-            actors,
-            indexes,
-            locks,
-        })
+    /// `AllocError` where there was no memory for it.
+    pub fn open(alloc: Global, cells: usize, atoms: usize) -> Result<Atoms<A>, AllocError> {
+        let indexes = no_indexes(alloc, cells)?;
+        let locks = Vec::with_capacity(alloc, atoms)?;
+        Ok(Atoms { indexes, locks })
     }
 
-    /// Serves an ask that names this atom under its lock, if the actor may ask it.
-    pub fn serve<R: Wait>(&self, rt: &R, actor: u16, cell: CellId, ask: Ask) -> Option<Served> {
+    /// Puts the atom of this cell under a lock, behind those before it.
+    pub fn add(&mut self, cell: CellId, atom: A) {
         let number = usize::from(cell.number);
-        let index = if number < self.indexes.len() {
-            self.indexes[number]
-        } else {
-            usize::MAX
-        };
+        if number < self.indexes.len() {
+            self.indexes[number] = self.locks.len();
+        }
+        let _ = self.locks.push(Mutex::new(atom));
+    }
+
+    /// Serves an actor's ask that names this atom, under its lock: whether it was served.
+    pub fn serve<R: Wait, P: AsksAtom<A>>(&self, rt: &R, cell: CellId, actor: &mut P) -> bool {
+        let index = index_of(self.indexes.as_slice(), cell);
         if index >= self.locks.len() {
-            drop(ask);
-            return None;
+            return false;
         }
         let mut atom = lock_atom(rt, &self.locks[index]);
-        serve_locked(&mut atom, self.actors, actor, ask)
+        actor.ask_atom(&mut atom)
     }
 
-    /// The atoms with their books, in the order of their cells.
+    /// The atoms without their locks, in the order of their cells.
     ///
     /// # Errors
     /// `AllocError` where there was no memory for the list.
-    pub fn into_books(self, alloc: Global) -> Result<Vec<AtomBook>, AllocError> {
-        let Atoms {
-            actors: _,
-            indexes,
-            locks,
-        } = self;
-        drop(indexes);
-        let mut books = Vec::with_capacity(alloc, locks.len())?;
+    pub fn into_free(self, alloc: Global) -> Result<FreeAtoms<A>, AllocError> {
+        let Atoms { indexes, locks } = self;
+        let mut atoms = Vec::with_capacity(alloc, locks.len())?;
         for lock in locks {
-            let _ = books.push(lock.into_inner());
+            let _ = atoms.push(lock.into_inner());
         }
-        Ok(books)
+        Ok(FreeAtoms { indexes, atoms })
     }
+}
+
+impl<A: Drop> FreeAtoms<A> {
+    /// Serves an actor's ask that names this atom: whether it was served.
+    pub fn serve<P: AsksAtom<A>>(&mut self, cell: CellId, actor: &mut P) -> bool {
+        let index = index_of(self.indexes.as_slice(), cell);
+        if index >= self.atoms.len() {
+            return false;
+        }
+        actor.ask_atom(&mut self.atoms[index])
+    }
+
+    /// The atoms, in the order of their cells.
+    pub fn into_atoms(self) -> Vec<A>
+        ensures { result ≡ self.atoms }
+    {
+        let FreeAtoms { indexes, atoms } = self;
+        drop(indexes);
+        atoms
+    }
+}
+
+/// The store and the atoms, before the first ask, each with its log of the history.
+pub(crate) fn open_logged<J: Run>(
+    alloc: Global,
+    code: &Verified,
+    mut opened: Opened<Asked>,
+    parts: (Store, Vec<AtomBook>),
+) -> Result<(LoggedStore<J>, Atoms<LoggedAtom<J>>), RunError>
+    requires book { opened.seen.book ≡ J.book }
+    requires first { opened.next ≡ 0 }
+    requires locks { opened.count ≡ locks_of J.code.cells }
+    requires code { code.now ≡ J.code }
+    requires few { length code.now.cells ≤ 65535 }
+    requires parts { AreOpened code.now parts.0 parts.1.items }
+    ensures { IfErr result (λ e. e ≡ Memory) }
+{
+    let (store, books) = parts;
+    let actors = store.actors();
+    let store = LoggedStore::new(store, opened.next::<J>());
+    let cells = code.code().cells().len();
+    let mut atoms = Atoms::open(alloc, cells, books.len())?;
+    for book in books {
+        let cell = book.cell();
+        let atom = LoggedAtom::new(book, actors, opened.next::<J>());
+        atoms.add(cell, atom);
+    }
+    Ok((store, atoms))
 }

@@ -1,60 +1,57 @@
 //! What the workers leave: everything after the joins, without a handle.
 
-ghost use Rattle.std.specs.Prelude.{◌≡◌, ◌<◌, ◌↔◌, ◌⊎◌, length, true, false, None, IsTrue, IfOk, IfErr, IfSome};
+ghost use Rattle.std.specs.Prelude.{◌≡◌, ◌≤◌, ◌↔◌, ◌⊎◌, length, true, IsTrue, IfOk, IfErr};
 ghost use Rattle.txs_machine.specs.Agents.{agents_of};
 ghost use Rattle.txs_machine.specs.declared.run_error.RunError.TheVariants.{JournalMismatch, Memory};
-ghost use Rattle.txs_threads.specs.Run.{AllEnded, AreAgents, IsDrained, AllDrained, IsLeft, IsMismatch};
+ghost use Rattle.txs_threads.specs.Run.{AllEnded, AreAgents, IsDrained, AllDrained, IsLeft};
 ghost use Rattle.txs_world_book.specs.Book.{has_agent};
 ghost use Rattle.txs_world_book.specs.Served.{cells_of};
-ghost use Rattle.txs_theorem_runs.specs.Shared.{book_for};
-ghost use Rattle.txs_world_shared.specs.SharedState.{is_lawful, answer_to, numbered_book, Answers};
 
-use crate::atoms::Atoms;
-use crate::runnable::{AfterReply, Runnable};
-use crate::scheduler::{Actors, Scheduler, Served};
+use crate::atoms::{Atoms, FreeAtoms};
+use crate::runnable::{AsksAtom, AsksStore, Ran, Runnable, Wanted};
+use crate::scheduler::{Actors, Scheduler};
 use std::alloc::Global;
 use txs_code_meaning::Verified;
+use txs_history::Past;
+use txs_history_actor::{AfterReply, LoggedActor};
+use txs_history_run::{Gathered, settle};
+use txs_history_store::{LoggedAtom, LoggedStore, Run};
 use txs_machine::{ActorReport, RunError};
-use txs_machine_actor::Turn;
-use txs_threads_gather::{Gathered, Played, gather};
+use txs_theorem_history::Asked;
 use txs_value_data::CellId;
-use txs_world::Store;
-use txs_world_book::AtomBook;
-use txs_world_protocol::Ask;
 use txs_world_shared::SharedState;
 
-/// Serves an ask from the state, if the actor may ask it: one event of its book, or one answer without an event. Else, and only then, it is refused, and all is left
-/// as it is.
-fn serve_state(shared: &mut SharedState, actor: u16, ask: Ask) -> Option<Served>
-    ensures served { IfSome result (λ v. Answers shared.old ask (answer_to shared.old actor ask) v.reply shared.new) }
-    ensures index { IfSome result (λ v. length (numbered_book shared.old (book_for shared.old.cells ask)) < 4294967296 → v.at ≡ length (numbered_book shared.old (book_for shared.old.cells ask))) }
-    ensures lawful { (result ≡ None → is_lawful shared.old actor ask ≡ false) × (is_lawful shared.old actor ask ≡ false → result ≡ None) }
-    ensures refused { result ≡ None → shared.new ≡ shared.old }
-{
-    if !shared.lawful(actor, &ask) {
-        drop(ask);
-        return None;
-    }
-    let at = u32::try_from(shared.numbered_events(shared.book_for(&ask)).len()).unwrap_or(u32::MAX);
-    let reply = shared.serve(actor, ask);
-    Some(Served { reply, at })
+/// Serves an actor's ask, and has it go on with the answer: whether it goes on.
+fn serve_left<S, A: Drop, P: AsksStore<S> + AsksAtom<A>>(
+    store: &mut S,
+    atoms: &mut FreeAtoms<A>,
+    actor: &mut P,
+    wanted: Wanted,
+) -> bool {
+    let asked = match wanted.atom {
+        Some(cell) => atoms.serve(cell, actor),
+        None => actor.ask_store(store),
+    };
+    asked
+        && matches!(
+            actor.go_on(),
+            AfterReply::GoesOn | AfterReply::Redoes | AfterReply::Again
+        )
 }
 
-/// Rounds of one ask of each actor that hasn't ended, until none continues: each is turned up to its next ask, which is served and answered, or to its end.
-fn play_rounds<P: Runnable>(shared: &mut SharedState, actors: &mut [P]) {
+/// Rounds of one ask of each actor that hasn't ended, until none goes on: each is turned up to its next ask, which is served and answered, or to its end.
+fn run_rounds<S, A: Drop, P: AsksStore<S> + AsksAtom<A>>(
+    store: &mut S,
+    atoms: &mut FreeAtoms<A>,
+    actors: &mut [P],
+) {
     for _ in 0..u64::MAX {
         let mut more = false;
         for one in actors.iter_mut() {
             match one.run(u64::MAX) {
-                Some(Turn::Went) => more = true,
-                Some(Turn::Asks(ask)) => {
-                    let served = serve_state(shared, one.number(), ask);
-                    more |= matches!(
-                        one.hear(served),
-                        AfterReply::GoesOn | AfterReply::Redoes | AfterReply::Again
-                    );
-                }
-                Some(Turn::Ended(_)) | None => {}
+                Ran::Went => more = true,
+                Ran::Asks(wanted) => more |= serve_left(store, atoms, one, wanted),
+                Ran::Ended => {}
             }
         }
         if !more {
@@ -63,8 +60,8 @@ fn play_rounds<P: Runnable>(shared: &mut SharedState, actors: &mut [P]) {
     }
 }
 
-/// All actors, in the order of their numbers, when what the workers left unended was run in rounds.
-fn play_out<P: Runnable>(shared: &mut SharedState, mut actors: Actors<P>) -> Vec<P> {
+/// All actors, in the order of their numbers.
+fn all_actors<P: Runnable>(mut actors: Actors<P>) -> Vec<P> {
     actors.wake_all();
     let Actors {
         mut ready,
@@ -76,7 +73,6 @@ fn play_out<P: Runnable>(shared: &mut SharedState, mut actors: Actors<P>) -> Vec
     let _ = ready.append(&mut down);
     drop(down);
     ready.sort_unstable_by_key(P::number);
-    play_rounds(shared, ready.as_mut_slice());
     ready
 }
 
@@ -134,75 +130,37 @@ fn is_whole(gathered: &Gathered, agents: &[CellId]) -> bool
     are_drained(&gathered.shared, agents, gathered.report.agents.as_slice())
 }
 
-/// The state that the workers left: each lock is taken once more, and what lay under it moved out.
-fn state_left(
-    alloc: Global,
-    code: &Verified,
-    store: Store,
-    atoms: Atoms,
-) -> Result<SharedState, RunError>
-    ensures refusals { IfErr result (λ e. (e ≡ JournalMismatch) ⊎ (e ≡ Memory)) }
-{
-    let books = match atoms.into_books(alloc) {
-        Ok(books) => books,
-        Err(_) => {
-            drop(store);
-            return Err(RunError::Memory);
-        }
-    };
-    match SharedState::join(alloc, code.code().cells(), store, books) {
-        Ok(Some(shared)) => Ok(shared),
-        Ok(None) => Err(RunError::JournalMismatch),
-        Err(_) => Err(RunError::Memory),
-    }
-}
-
-/// Compares actors, in the order of their numbers, with what they shared; each may make so many steps. A mismatch has a reason: either `gather` finds one, or
-/// a thread hasn't ended or something waits for an agent that continues.
-fn gather_parts(
+/// Runs in rounds what the workers left unended, and reports the actors, where all asks are theirs.
+pub(crate) fn settle_left<J: Run>(
     alloc: Global,
     code: &Verified,
     agents: &[CellId],
-    max_steps: u64,
-    store: Store,
-    atoms: Vec<AtomBook>,
-    played: Vec<Played<'_>>,
+    scheduler: Scheduler<LoggedStore<J>, LoggedActor<'_, J>>,
+    atoms: Atoms<LoggedAtom<J>>,
+    past: Past<Asked, J>,
 ) -> Result<Gathered, RunError>
+    requires code { code.now ≡ J.code }
     requires agents { agents.now ≡ agents_of code.now }
-    ensures left { IfOk result (λ g. IsLeft code.now max_steps g.shared g.report.threads.items g.report.agents.items) }
-    ensures mismatch { IfErr result (λ e. e ≡ JournalMismatch → IsMismatch code.now max_steps store atoms.items played.entry.items) }
+    requires few { length code.now.cells ≤ 65535 }
+    ensures left { IfOk result (λ g. IsLeft code.now J.limit g.shared g.report) }
     ensures refusals { IfErr result (λ e. (e ≡ JournalMismatch) ⊎ (e ≡ Memory)) }
 {
-    let gathered = gather(alloc, code, max_steps, store, atoms, played)?;
+    let Scheduler { mut store, actors } = scheduler;
+    let mut all = all_actors(actors);
+    let mut atoms = match atoms.into_free(alloc) {
+        Ok(atoms) => atoms,
+        Err(_) => {
+            drop(store);
+            drop(all);
+            drop(past);
+            return Err(RunError::Memory);
+        }
+    };
+    run_rounds(&mut store, &mut atoms, all.as_mut_slice());
+    let gathered = settle(alloc, code, agents, store, atoms.into_atoms(), all, past)?;
     if is_whole(&gathered, agents) {
         return Ok(gathered);
     }
     drop(gathered);
     Err(RunError::JournalMismatch)
-}
-
-/// Runs in rounds what the workers left unended, and compares the actors with what they shared, as `gather_parts` does.
-pub(crate) fn gather_left(
-    alloc: Global,
-    code: &Verified,
-    agents: &[CellId],
-    max_steps: u64,
-    scheduler: Scheduler<Played<'_>>,
-    atoms: Atoms,
-) -> Result<Gathered, RunError>
-    requires agents { agents.now ≡ agents_of code.now }
-    ensures left { IfOk result (λ g. IsLeft code.now max_steps g.shared g.report.threads.items g.report.agents.items) }
-    ensures refusals { IfErr result (λ e. (e ≡ JournalMismatch) ⊎ (e ≡ Memory)) }
-{
-    let Scheduler { store, actors } = scheduler;
-    let mut shared = match state_left(alloc, code, store, atoms) {
-        Ok(shared) => shared,
-        Err(refused) => {
-            drop(actors);
-            return Err(refused);
-        }
-    };
-    let all = play_out(&mut shared, actors);
-    let (store, books) = shared.into_parts();
-    gather_parts(alloc, code, agents, max_steps, store, books, all)
 }

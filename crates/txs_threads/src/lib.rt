@@ -1,5 +1,5 @@
-//! Actors that several worker threads run over one shared state: the store under a lock, and each atom under a lock of its own. Promises that each program that
-//! the code follows explains a report, whatever the workers did.
+//! Actors that several worker threads run over one shared state: the store under a lock, and each atom under a lock of its own. Promises that what
+//! the workers did is an interleaving, and that each program that the code follows explains the report.
 #![tactic(auto)]
 
 mod actors;
@@ -12,5 +12,5 @@ mod scheduler;
 
 pub use gate::{AskKind, Gate, Moment, OpenGate};
 pub use run::run_threads;
+pub use txs_history_run::Gathered;
 pub use txs_machine::RunError;
-pub use txs_threads_gather::{Gathered, KeptEntries, KeptEntry, Played, gather, sent_functions};

@@ -2,35 +2,40 @@
 
 ghost use Rattle.std.specs.Prelude.{◌≡◌, ◌<◌, ◌≤◌, ◌+◌, ◌⊎◌, length, IfOk, IfErr};
 ghost use Rattle.std.specs.Thread.{IsSend, IsSync};
-ghost use Rattle.txs_machine.specs.Agents.{agents_of, AreDrained, AreExplainedBy};
-ghost use Rattle.txs_machine.specs.RunOver.{IsStateOf};
-ghost use Rattle.txs_machine.specs.Schedule.{HaveEnded, IsExplainedBy};
+ghost use Rattle.txs_machine.specs.Agents.{agents_of, AgentsAreDone, AreDrained, AreExplainedBy};
+ghost use Rattle.txs_machine.specs.RunOver.{IsStateOf, books_of};
+ghost use Rattle.txs_machine.specs.Schedule.{AreDone, HaveEnded, IsExplainedBy};
 ghost use Rattle.txs_machine.specs.declared.run_error.RunError.TheVariants.{NoThread, JournalMismatch, Memory};
-ghost use Rattle.txs_threads_gather.specs.Callees.{AreCallees};
-ghost use Rattle.txs_threads_gather.specs.Gather.{AllHaveDone, AllHaveAttended};
+ghost use Rattle.txs_history_actor.specs.Callees.{AreCallees};
+ghost use Rattle.txs_history_store.specs.Logged.{locks_of};
+ghost use Rattle.txs_machine.specs.Scheduled.{IsInterleaving};
 ghost use Rattle.txs_world_shared.specs.SharedState.{shared_of};
-ghost use Rattle.txs_threads.specs.Run.{IsLeft};
+ghost use Rattle.txs_threads.specs.Run.{AreOpened, IsLeft};
 
 use crate::actors::{agents_in, open_all};
-use crate::atoms::Atoms;
-use crate::gate::{AskKind, Gate, Moment, kind_of};
-use crate::left::gather_left;
-use crate::runnable::{AfterReply, Runnable};
-use crate::scheduler::{Scheduler, Served, Step};
+use crate::atoms::{Atoms, open_logged};
+use crate::gate::{AskKind, Gate, Moment};
+use crate::left::settle_left;
+use crate::runnable::{AsksAtom, AsksStore, Journal, Ran, Wanted};
+use crate::scheduler::{Scheduler, Step};
 use crossbeam_channel::{Receiver, Sender};
 use std::alloc::Global;
 use std::hint::spin_loop;
+use std::marker::Brand;
 use std::sync::{Mutex, MutexGuard, Wait};
 use std::thread;
 use std::thread::Threads;
 use txs_code_meaning::Verified;
+use txs_history::Opened;
+use txs_history_actor::{AfterReply, sent_functions};
+use txs_history_run::Gathered;
+use txs_history_store::Run;
 use txs_machine::RunError;
-use txs_machine_actor::Turn;
-use txs_threads_gather::{Gathered, Played, sent_functions};
+use txs_theorem_history::Asked;
 use txs_value_data::CellId;
-use txs_world_protocol::Ask;
+use txs_world::Store;
+use txs_world_book::AtomBook;
 use txs_world_shared::SharedState;
-use txs_world_shared::atoms::atom_named;
 
 /// How many workers there may be.
 const MOST_WORKERS: usize = 64;
@@ -59,10 +64,10 @@ enum Handover {
 }
 
 /// What lies under the store's lock, to serve an ask. Most asks are short, so a worker that finds the lock held looks again for a while before it sleeps.
-fn lock_for<'a, R: Wait, P: Runnable>(
+fn lock_for<'a, R: Wait, S, P>(
     rt: &R,
-    scheduler: &'a Mutex<Scheduler<P>>,
-) -> MutexGuard<'a, Scheduler<P>> {
+    scheduler: &'a Mutex<Scheduler<S, P>>,
+) -> MutexGuard<'a, Scheduler<S, P>> {
     for _ in 0..LOOKS {
         if let Some(guard) = scheduler.try_lock() {
             return guard;
@@ -73,49 +78,41 @@ fn lock_for<'a, R: Wait, P: Runnable>(
 }
 
 /// Sends the word that no actor is live.
-fn send_stop<R: Wait, P: Runnable>(rt: &R, to: &Sender<Option<P>>) {
+fn send_stop<R: Wait, P: Drop>(rt: &R, to: &Sender<Option<P>>) {
     let _ = to.send(rt, None);
 }
 
 /// Hands an actor on, or puts it down where that can't be: whether it was the last that was live.
-fn hand_on<R: Wait, P: Runnable>(
+fn hand_on<R: Wait, S: Journal, P: AsksStore<S>>(
     rt: &R,
-    scheduler: &Mutex<Scheduler<P>>,
+    scheduler: &Mutex<Scheduler<S, P>>,
     to: &Sender<Option<P>>,
-    played: P,
+    actor: P,
 ) -> bool {
-    let Err(back) = to.send(rt, Some(played)) else {
+    let Err(back) = to.send(rt, Some(actor)) else {
         return false;
     };
     match back.into_inner() {
-        Some(played) => scheduler.lock(rt).put(played),
+        Some(actor) => scheduler.lock(rt).put(actor),
         None => false,
     }
 }
 
 /// Hands on the actors that are ready: whether the last that was live had to be put down.
-fn hand_on_ready<R: Wait, P: Runnable>(
+fn hand_on_ready<R: Wait, S: Journal, P: AsksStore<S>>(
     rt: &R,
-    scheduler: &Mutex<Scheduler<P>>,
+    scheduler: &Mutex<Scheduler<S, P>>,
     to: &Sender<Option<P>>,
 ) -> bool {
     let mut last = false;
     for _ in rt.forever() {
         let ready = scheduler.lock(rt).next();
         match ready {
-            Some(played) => last = hand_on(rt, scheduler, to, played),
+            Some(actor) => last = hand_on(rt, scheduler, to, actor),
             None => return last,
         }
     }
     last
-}
-
-/// The agent for which an action is to be taken, if that is what is asked.
-fn taker(ask: &Ask) -> Option<CellId> {
-    match ask {
-        Ask::Take { agent } => Some(*agent),
-        _ => None,
-    }
 }
 
 /// What becomes of an actor after an answer, by what it is to do next; its ask may have been for an action for this agent. Nothing where it continues, and has
@@ -136,67 +133,66 @@ fn after_answer(
     }
 }
 
-/// Serves an ask under the lock of the book that it is for: an atom's, or the store's. Hands on the agents that it woke.
-fn serve_under<R: Wait, P: Runnable>(
+/// Serves an actor's ask under the lock of the book that it is for: an atom's, or the store's. Hands on the agents that it woke. Whether it was served.
+fn serve_under<R: Wait, S: Journal, A: Drop, P: AsksStore<S> + AsksAtom<A>>(
     rt: &R,
-    scheduler: &Mutex<Scheduler<P>>,
-    atoms: &Atoms,
+    scheduler: &Mutex<Scheduler<S, P>>,
+    atoms: &Atoms<A>,
     to: &Sender<Option<P>>,
-    actor: u16,
-    ask: Ask,
-) -> Option<Served> {
-    if let Some(cell) = atom_named(&ask) {
-        return atoms.serve(rt, actor, cell, ask);
+    actor: &mut P,
+    atom: Option<CellId>,
+) -> bool {
+    if let Some(cell) = atom {
+        return atoms.serve(rt, cell, actor);
     }
-    let Step { served, woke } = lock_for(rt, scheduler).serve(actor, ask);
+    let Step { asked, woke } = lock_for(rt, scheduler).serve(actor);
     if woke {
         hand_on_ready(rt, scheduler, to);
     }
-    served
+    asked
 }
 
-/// Serves an actor's ask, hands on the agents that it woke, and hands the actor the answer.
-fn serve_ask<R: Wait, P: Runnable, G: Gate>(
+/// Serves an actor's ask, hands on the agents that it woke, and has the actor go on with the answer.
+fn serve_ask<R: Wait, S: Journal, A: Drop, P: AsksStore<S> + AsksAtom<A>, G: Gate>(
     rt: &R,
-    scheduler: &Mutex<Scheduler<P>>,
-    atoms: &Atoms,
+    scheduler: &Mutex<Scheduler<S, P>>,
+    atoms: &Atoms<A>,
     to: &Sender<Option<P>>,
     gate: &G,
-    played: &mut P,
-    ask: Ask,
+    actor: &mut P,
+    wanted: Wanted,
     left: &mut u32,
 ) -> Option<Handover> {
-    let actor = played.number();
-    let kind = kind_of(&ask);
-    let agent = taker(&ask);
-    let served = serve_under(rt, scheduler, atoms, to, actor, ask);
-    let next = played.hear(served);
-    if !matches!(next, AfterReply::Broken) {
-        gate.pass(actor, Moment::Answered(kind));
+    if !serve_under(rt, scheduler, atoms, to, actor, wanted.atom) {
+        return Some(Handover::Rests(None));
     }
-    after_answer(next, agent, is_within(kind), left)
+    let next = actor.go_on();
+    if !matches!(next, AfterReply::Broken) {
+        gate.pass(actor.number(), Moment::Answered(wanted.kind));
+    }
+    after_answer(next, wanted.agent, is_within(wanted.kind), left)
 }
 
 /// Runs an actor up to so many asks, each of which is served, to a retry, until nothing waits for it, or to its end. It is turned so often at once as the gate
 /// allows, and no further than to its next ask.
-fn play<R: Wait, P: Runnable, G: Gate>(
+fn play<R: Wait, S: Journal, A: Drop, P: AsksStore<S> + AsksAtom<A>, G: Gate>(
     rt: &R,
-    scheduler: &Mutex<Scheduler<P>>,
-    atoms: &Atoms,
+    scheduler: &Mutex<Scheduler<S, P>>,
+    atoms: &Atoms<A>,
     to: &Sender<Option<P>>,
     gate: &G,
-    played: &mut P,
+    actor: &mut P,
 ) -> Handover {
     let budget = gate.most_turns().max(1);
     let mut left = ASKS;
     for _ in rt.forever() {
-        gate.pass(played.number(), Moment::Local);
-        let standing = match played.run(budget) {
-            Some(Turn::Went) => None,
-            Some(Turn::Asks(ask)) => serve_ask(
-                rt, scheduler, atoms, to, gate, played, ask, &mut left,
+        gate.pass(actor.number(), Moment::Local);
+        let standing = match actor.run(budget) {
+            Ran::Went => None,
+            Ran::Asks(wanted) => serve_ask(
+                rt, scheduler, atoms, to, gate, actor, wanted, &mut left,
             ),
-            Some(Turn::Ended(_)) | None => Some(Handover::Rests(None)),
+            Ran::Ended => Some(Handover::Rests(None)),
         };
         if let Some(standing) = standing {
             return standing;
@@ -207,25 +203,25 @@ fn play<R: Wait, P: Runnable, G: Gate>(
 
 /// One worker: receives actors and runs each for a while, until none is live. Those that continue are handed on, and those that rest are parked or put down; or
 /// handed on, where something waits for their agent by now.
-fn work<R: Wait, P: Runnable, G: Gate>(
+fn work<R: Wait, S: Journal, A: Drop, P: AsksStore<S> + AsksAtom<A>, G: Gate>(
     rt: &R,
-    scheduler: &Mutex<Scheduler<P>>,
-    atoms: &Atoms,
+    scheduler: &Mutex<Scheduler<S, P>>,
+    atoms: &Atoms<A>,
     to: &Sender<Option<P>>,
     from: &Receiver<Option<P>>,
     gate: &G,
 ) {
     for _ in rt.forever() {
-        let Ok(Some(mut played)) = from.recv(rt) else {
+        let Ok(Some(mut actor)) = from.recv(rt) else {
             break;
         };
-        let last = match play(rt, scheduler, atoms, to, gate, &mut played) {
-            Handover::GoesOn => hand_on(rt, scheduler, to, played),
+        let last = match play(rt, scheduler, atoms, to, gate, &mut actor) {
+            Handover::GoesOn => hand_on(rt, scheduler, to, actor),
             Handover::Rests(agent) => {
-                let rests = scheduler.lock(rt).rest(agent, played);
+                let rests = scheduler.lock(rt).rest(agent, actor);
                 match rests {
                     Ok(last) => last,
-                    Err(played) => hand_on(rt, scheduler, to, played),
+                    Err(actor) => hand_on(rt, scheduler, to, actor),
                 }
             }
         };
@@ -237,9 +233,9 @@ fn work<R: Wait, P: Runnable, G: Gate>(
 }
 
 /// Hands the workers what is ready, or the word to stop where nothing is live or not all of them were started.
-fn feed<R: Wait, P: Runnable>(
+fn feed<R: Wait, S: Journal, P: AsksStore<S>>(
     rt: &R,
-    scheduler: &Mutex<Scheduler<P>>,
+    scheduler: &Mutex<Scheduler<S, P>>,
     to: &Sender<Option<P>>,
     started: bool,
 ) {
@@ -254,11 +250,17 @@ fn feed<R: Wait, P: Runnable>(
 ///
 /// # Errors
 /// `NoThread` where a worker couldn't be started, and nothing was run; `Memory` where there was none for the channel.
-fn run_scheduler<R: Threads + Wait + Sync, P: Runnable + Send, G: Gate>(
+fn run_scheduler<
+    R: Threads + Wait + Sync,
+    S: Journal + Send,
+    A: Drop + Send,
+    P: AsksStore<S> + AsksAtom<A> + Send,
+    G: Gate,
+>(
     rt: &R,
     alloc: Global,
-    scheduler: &Mutex<Scheduler<P>>,
-    atoms: &Atoms,
+    scheduler: &Mutex<Scheduler<S, P>>,
+    atoms: &Atoms<A>,
     room: usize,
     gate: &G,
     workers: usize,
@@ -275,6 +277,8 @@ fn run_scheduler<R: Threads + Wait + Sync, P: Runnable + Send, G: Gate>(
             requires runtime { IsSync R.row }
             requires gate { IsSync G.row }
             requires actors { IsSend P.row }
+            requires store { IsSend S.row }
+            requires atoms { IsSend A.row }
         {
             let mut started = true;
             for _ in 0..workers {
@@ -297,11 +301,13 @@ fn run_scheduler<R: Threads + Wait + Sync, P: Runnable + Send, G: Gate>(
     Err(RunError::NoThread)
 }
 
-/// Runs the actors of a code, whose actions call these functions and whose agents are these, by so many workers; an actor makes no more than `max_steps`
-/// steps.
-fn run_actors<R: Threads + Wait + Sync, G: Gate>(
+/// Runs the actors of a code, whose actions call these functions and whose agents are these, by so many workers, in one history of all that they ask; an
+/// actor makes no more than `max_steps` steps.
+fn run_in<J: Run + Send + Sync, R: Threads + Wait + Sync, G: Gate>(
     rt: &R,
     alloc: Global,
+    opened: Opened<Asked>,
+    parts: (Store, Vec<AtomBook>),
     code: &Verified,
     callees: &[bool],
     agents: &[CellId],
@@ -309,30 +315,29 @@ fn run_actors<R: Threads + Wait + Sync, G: Gate>(
     max_steps: u64,
     gate: &G,
 ) -> Result<Gathered, RunError>
+    requires book { opened.seen.book ≡ J.book }
+    requires first { opened.next ≡ 0 }
+    requires locks { opened.count ≡ locks_of J.code.cells }
+    requires code { code.now ≡ J.code }
+    requires limit { max_steps ≡ J.limit }
+    requires parts { AreOpened code.now parts.0 parts.1.items }
     requires callees { AreCallees code.now callees.now }
     requires agents { agents.now ≡ agents_of code.now }
     requires few { length code.now.threads + length code.now.cells ≤ 65535 }
     requires workers { workers ≤ 64 }
-    ensures left { IfOk result (λ g. IsLeft code.now max_steps g.shared g.report.threads.items g.report.agents.items) }
+    ensures left { IfOk result (λ g. IsLeft code.now max_steps g.shared g.report) }
     ensures refusals { IfErr result (λ e. (e ≡ NoThread) ⊎ (e ≡ JournalMismatch) ⊎ (e ≡ Memory)) }
 {
     let threads = code.code().threads().len();
     let room = threads + agents.len() + workers + 1;
     let threads = threads as u16;
-    let shared = SharedState::open(alloc, code.code().cells(), threads)?;
-    let (store, books) = shared.into_parts();
-    let cells = code.code().cells().len();
-    let many = store.actors();
-    let atoms = match Atoms::open(alloc, cells, many, books) {
-        Ok(atoms) => atoms,
-        Err(_) => {
-            drop(store);
-            return Err(RunError::Memory);
-        }
-    };
+    let past = opened.past::<J>();
+    let (store, atoms) = open_logged::<J>(alloc, code, opened, parts)?;
     let mut scheduler = Scheduler::new(alloc, store);
     let actors = &mut scheduler.actors;
-    let opened = open_all(actors, alloc, code, callees, agents, threads, max_steps);
+    let opened = open_all(
+        actors, alloc, code, callees, agents, threads, max_steps, &past,
+    );
     let scheduler = Mutex::new(scheduler);
     let ran = match opened {
         Ok(()) => run_scheduler(rt, alloc, &scheduler, &atoms, room, gate, workers),
@@ -340,10 +345,11 @@ fn run_actors<R: Threads + Wait + Sync, G: Gate>(
     };
     let scheduler = scheduler.into_inner();
     match ran {
-        Ok(()) => gather_left(alloc, code, agents, max_steps, scheduler, atoms),
+        Ok(()) => settle_left(alloc, code, agents, scheduler, atoms, past),
         Err(refused) => {
             drop(scheduler);
             drop(atoms);
+            drop(past);
             Err(refused)
         }
     }
@@ -360,14 +366,23 @@ fn run_all<R: Threads + Wait + Sync, G: Gate>(
 ) -> Result<Gathered, RunError>
     requires few { length code.now.threads + length code.now.cells ≤ 65535 }
     requires workers { workers ≤ 64 }
-    ensures left { IfOk result (λ g. IsLeft code.now max_steps g.shared g.report.threads.items g.report.agents.items) }
+    ensures left { IfOk result (λ g. IsLeft code.now max_steps g.shared g.report) }
     ensures refusals { IfErr result (λ e. (e ≡ NoThread) ⊎ (e ≡ JournalMismatch) ⊎ (e ≡ Memory)) }
 {
     let agents = agents_in(alloc, code)?;
     let callees = sent_functions(alloc, code)?;
-    run_actors(
+    let shared = SharedState::open(
+        alloc,
+        code.code().cells(),
+        code.code().threads().len() as u16,
+    )?;
+    let parts = shared.into_parts();
+    let opened = Opened::new(parts.1.len() as u64 + 1);
+    run_in::<Brand, R, G>(
         rt,
         alloc,
+        opened,
+        parts,
         code,
         callees.as_slice(),
         agents.as_slice(),
@@ -383,7 +398,7 @@ fn run_all<R: Threads + Wait + Sync, G: Gate>(
 ///
 /// # Errors
 /// `NoThread` where `workers` is 0 or over 64, or a worker couldn't be started, and nothing was run; `Memory` where there was no memory for actors, books or
-/// the comparison; `JournalMismatch` where what the actors kept doesn't agree with the books.
+/// the report; `JournalMismatch` where a lock lets another in, which none does.
 pub fn run_threads<R: Threads + Wait + Sync, G: Gate>(
     rt: &R,
     alloc: Global,
@@ -396,14 +411,13 @@ pub fn run_threads<R: Threads + Wait + Sync, G: Gate>(
     ensures workers { IfOk result (λ g. (0 < workers) × (workers ≤ 64)) }
     ensures none { IfErr result (λ e. ((workers ≡ 0) ⊎ (64 < workers)) → e ≡ NoThread) }
     ensures of { IfOk result (λ g. IsStateOf code.now g.shared) }
-    ensures one_each { IfOk result (λ g. length g.report.threads.items ≡ length code.now.threads) }
-    ensures agents_each { IfOk result (λ g. length g.report.agents.items ≡ length (agents_of code.now)) }
     ensures ended { IfOk result (λ g. HaveEnded g.report.threads.items) }
     ensures drained { IfOk result (λ g. AreDrained code.now (shared_of g.shared) g.report.agents.items) }
-    ensures done { IfOk result (λ g. AllHaveDone code.now max_steps g.shared g.report.threads.items) }
-    ensures attended { IfOk result (λ g. AllHaveAttended code.now max_steps g.shared g.report.agents.items) }
+    ensures done { IfOk result (λ g. AreDone code.now max_steps (books_of g.shared) g.report.threads.items) }
+    ensures agents_done { IfOk result (λ g. AgentsAreDone code.now max_steps (books_of g.shared) g.report.agents.items) }
     ensures explained { IfOk result (λ g. IsExplainedBy code.now (shared_of g.shared) g.report.threads.items) }
     ensures all_explained { IfOk result (λ g. AreExplainedBy code.now (shared_of g.shared) g.report.threads.items g.report.agents.items) }
+    ensures interleaved { IfOk result (λ g. IsInterleaving code.now g.shared g.report.threads.items g.report.agents.items) }
     ensures refusals { IfErr result (λ e. (e ≡ NoThread) ⊎ (e ≡ JournalMismatch) ⊎ (e ≡ Memory)) }
 {
     if workers == 0 || workers > MOST_WORKERS {

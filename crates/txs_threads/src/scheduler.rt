@@ -1,64 +1,13 @@
 //! What lies under the lock of the store.
 
 ghost use Rattle.std.proofs.Common.{get_or};
-ghost use Rattle.std.specs.Prelude.{◌≡◌, ◌<◌, ◌≤◌, ◌+◌, ◌-◌, ◌++◌, ◌∷◌, [], false, length, vec_capacity, IfSome, OnOk, None};
-ghost use Rattle.txs_value_data.specs.Limits.{most_events};
-ghost use Rattle.txs_world.specs.Store.{is_lawful, serve, store_after, Answers};
+ghost use Rattle.std.specs.Prelude.{◌≡◌, ◌<◌, ◌≤◌, ◌+◌, ◌-◌, ◌++◌, ◌∷◌, [], length, vec_capacity, OnOk};
 
-use crate::runnable::Runnable;
+use crate::runnable::{AsksStore, Journal, Runnable};
 use std::alloc::{AllocError, Global};
 use std::mem;
 use txs_value_data::CellId;
-use txs_world::Store;
-use txs_world_protocol::{Ask, Event, EventKind, Reply};
-
-/// An answer, and how many events its book had before.
-#[derive(Drop)]
-pub struct Served {
-    pub reply: Reply,
-    pub at: u32,
-}
-
-/// How many events a book has, as an index in it.
-#[tactic(auto, unfolding(txs_value_data::specs::Limits::most_events))]
-pub(crate) fn count(events: &[Event]) -> u32
-    requires { length events.now ≤ most_events }
-    ensures { result ≡ length events.now }
-{
-    events.len() as u32
-}
-
-/// Serves an ask from the store, if the actor may ask it there: one event of its book, or one answer without an event. Else, and only then, it is refused, and all
-/// is left as it is.
-fn serve_store(store: &mut Store, actor: u16, ask: Ask) -> Option<Served>
-    ensures served { IfSome result (λ v. Answers store.old (serve store.old.cells actor ask store.old.book) (store_after store.old ask (serve store.old.cells actor ask store.old.book)) v.reply store.new) }
-    ensures lawful { (result ≡ None → is_lawful store.old actor ask ≡ false) × (is_lawful store.old actor ask ≡ false → result ≡ None) }
-    ensures index { IfSome result (λ v. v.at ≡ length store.old.book) }
-    ensures refused { result ≡ None → store.new ≡ store.old }
-{
-    if !store.lawful(actor, &ask) {
-        drop(ask);
-        return None;
-    }
-    let at = count(store.events());
-    let reply = store.serve(actor, ask);
-    Some(Served { reply, at })
-}
-
-/// Whether an action waits for the agent of this actor, if it is an agent's.
-#[tactic(auto, using(crate::proofs::Mail::taker_is_agent))]
-fn has_mail(store: &Store, actor: u16, agent: Option<CellId>) -> bool {
-    let Some(agent) = agent else {
-        return false;
-    };
-    let take = Ask::Take { agent };
-    let lawful = store.lawful(actor, &take);
-    drop(take);
-    if !lawful {
-        return false;
-    }
-    store.failure(agent).is_none() && store.waiting(agent) > 0
-}
+use txs_world_protocol::{Event, EventKind};
 
 /// The actors that no worker runs.
 #[derive(Drop)]
@@ -99,20 +48,20 @@ impl<P: Runnable> Actors<P> {
     }
 
     /// Adds an actor before its first turn, with its number, where there is room for it: a thread's is ready, and the next one, and an agent's is parked.
-    pub fn add(&mut self, agents: &[CellId], threads: u16, number: u16, played: P)
+    pub fn add(&mut self, agents: &[CellId], threads: u16, number: u16, actor: P)
         requires { number < threads + length agents.now }
-        ensures thread { number < threads → length self.old.ready.items < vec_capacity self.old.ready → self.new.ready.items ≡ self.old.ready.items ++ played ∷ [] }
+        ensures thread { number < threads → length self.old.ready.items < vec_capacity self.old.ready → self.new.ready.items ≡ self.old.ready.items ++ actor ∷ [] }
         ensures agent { threads ≤ number → self.new.ready.items ≡ self.old.ready.items }
     {
         if number < threads {
-            let _ = self.ready.push(played);
+            let _ = self.ready.push(actor);
             return;
         }
-        self.rest(Some(agent_at(agents, threads, number)), played);
+        self.rest(Some(agent_at(agents, threads, number)), actor);
     }
 
     /// An actor that no worker turns any more is parked, at the place of this agent, or else put down: whether it was the last that was live.
-    fn rest(&mut self, agent: Option<CellId>, played: P) -> bool
+    fn rest(&mut self, agent: Option<CellId>, actor: P) -> bool
         ensures { self.new.ready.items ≡ self.old.ready.items }
     {
         let place = match agent {
@@ -120,9 +69,9 @@ impl<P: Runnable> Actors<P> {
             None => usize::MAX,
         };
         if place < self.parked.len() {
-            drop(mem::replace(&mut self.parked[place], Some(played)));
+            drop(mem::replace(&mut self.parked[place], Some(actor)));
         } else {
-            let _ = self.down.push(played);
+            let _ = self.down.push(actor);
         }
         self.live = self.live.saturating_sub(1);
         self.live == 0
@@ -146,26 +95,26 @@ impl<P: Runnable> Actors<P> {
         if cell >= self.parked.len() {
             return false;
         }
-        let Some(played) = self.parked[cell].take() else {
+        let Some(actor) = self.parked[cell].take() else {
             return false;
         };
         self.live = self.live.saturating_add(1);
-        let _ = self.ready.push(played);
+        let _ = self.ready.push(actor);
         true
     }
 }
 
-/// What came of an ask, and whether agents were woken by it, which are ready.
-#[derive(Drop)]
+/// Whether an ask was served, and whether agents were woken by it, which are ready.
+#[derive(Clone, Copy)]
 pub struct Step {
-    pub served: Option<Served>,
+    pub asked: bool,
     pub woke: bool,
 }
 
 /// What lies under the lock: the store, and the actors that no worker runs.
 #[derive(Drop)]
-pub struct Scheduler<P> {
-    pub store: Store,
+pub struct Scheduler<S, P> {
+    pub store: S,
     pub actors: Actors<P>,
 }
 
@@ -187,9 +136,9 @@ fn wake_by<P: Runnable>(actors: &mut Actors<P>, events: &[Event], at: usize) -> 
     }
 }
 
-impl<P: Runnable> Scheduler<P> {
+impl<S: Journal, P: AsksStore<S>> Scheduler<S, P> {
     /// What lies under the lock before there are actors.
-    pub fn new(alloc: Global, store: Store) -> Scheduler<P>
+    pub fn new(alloc: Global, store: S) -> Scheduler<S, P>
         ensures store { result.store ≡ store }
         ensures none { (result.actors.ready.items ≡ []) × (result.actors.parked.items ≡ []) × (result.actors.down.items ≡ []) × (result.actors.live ≡ 0) }
     {
@@ -204,18 +153,12 @@ impl<P: Runnable> Scheduler<P> {
         }
     }
 
-    /// Serves an ask from the store, if the actor may ask it there, and wakes the agents to which it sent actions, in one step. An ask that it may not ask is
-    /// refused, and no other.
-    pub fn serve(&mut self, actor: u16, ask: Ask) -> Step
-        ensures served { IfSome result.served (λ v. Answers self.old.store (serve self.old.store.cells actor ask self.old.store.book) (store_after self.old.store ask (serve self.old.store.cells actor ask self.old.store.book)) v.reply self.new.store) }
-        ensures lawful { (result.served ≡ None → is_lawful self.old.store actor ask ≡ false) × (is_lawful self.old.store actor ask ≡ false → result.served ≡ None) }
-        ensures index { IfSome result.served (λ v. v.at ≡ length self.old.store.book) }
-        ensures refused { result.served ≡ None → self.new.store ≡ self.old.store }
-    {
+    /// Serves an actor's ask from the store, and wakes the agents to which it sent actions, in one step.
+    pub fn serve(&mut self, actor: &mut P) -> Step {
         let before = self.store.events().len();
-        let served = serve_store(&mut self.store, actor, ask);
+        let asked = actor.ask_store(&mut self.store);
         let woke = wake_by(&mut self.actors, self.store.events(), before);
-        Step { served, woke }
+        Step { asked, woke }
     }
 
     /// The next actor that is ready. The store stays as it is.
@@ -226,10 +169,10 @@ impl<P: Runnable> Scheduler<P> {
     }
 
     /// An actor is put down: whether it was the last that was live. The store stays as it is.
-    pub fn put(&mut self, played: P) -> bool
+    pub fn put(&mut self, actor: P) -> bool
         ensures { self.new.store ≡ self.old.store }
     {
-        self.actors.rest(None, played)
+        self.actors.rest(None, actor)
     }
 
     /// The actor of this agent, which found nothing to do, is parked, and one of none is put down: whether it was the last that was live. The store stays
@@ -237,12 +180,14 @@ impl<P: Runnable> Scheduler<P> {
     ///
     /// # Errors
     /// The actor, where something waits for its agent by now.
-    pub fn rest(&mut self, agent: Option<CellId>, played: P) -> Result<bool, P>
+    pub fn rest(&mut self, agent: Option<CellId>, actor: P) -> Result<bool, P>
         ensures { self.new.store ≡ self.old.store }
     {
-        if has_mail(&self.store, played.number(), agent) {
-            return Err(played);
+        if let Some(agent) = agent {
+            if self.store.has_mail(actor.number(), agent) {
+                return Err(actor);
+            }
         }
-        Ok(self.actors.rest(agent, played))
+        Ok(self.actors.rest(agent, actor))
     }
 }

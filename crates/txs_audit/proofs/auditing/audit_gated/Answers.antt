@@ -8,6 +8,6 @@ use Rattle.txs_audit.proofs.auditing.audit_gated.Goals as goal
 pub returns-then-not-has_sizes-clause-verdict : goal.returns-then-not-has_sizes-clause-verdict
 returns-then-not-has_sizes-clause-verdict g c = by_sizes (program_of c.args.program.now) (report_as c.args.report.now) c.args.turns (sym c.has_sizes.ensures ∙ c.if-not-has_sizes.true)
 
-pub returns-in-Some-clause-verdict : goal.returns-in-Some-clause-verdict
-returns-in-Some-clause-verdict g c =
-    by_traces (program_of c.args.program.now) (report_as c.args.report.now) c.args.turns (sym c.has_sizes.ensures ∙ c.if-not-has_sizes.false) c.in-Some.actor c.in-Some.event (sym (ap off_in c.in-Some.is) ∙ c.in_ok-actor.ensures)
+pub returns-in-Ok-Some-clause-verdict : goal.returns-in-Ok-Some-clause-verdict
+returns-in-Ok-Some-clause-verdict g c =
+    by_traces (program_of c.args.program.now) (report_as c.args.report.now) c.args.turns (sym c.has_sizes.ensures ∙ c.if-not-has_sizes.false) c.in-Ok-Some.actor c.in-Ok-Some.event (sym (ap off_in c.in-Ok-Some.field-0-is) ∙ c.in-Ok-Some.ensures)

@@ -19,7 +19,7 @@ use Rattle.txs_cli.specs.Audited.{AuditedRunTells, audit_turns}
 
 -- code that has a form has no more threads and cells than the limits allow
 pub report_lines-requires-clause-few_threads : goal.report_lines-requires-clause-few_threads
-report_lines-requires-clause-few_threads g c = subst (λ (n : ℕ). n ≤ 64) (sym c.requires.worked.one_each) (few_threads c.args.compiled.now.1 c.requires.form)
+report_lines-requires-clause-few_threads g c = subst (λ (n : ℕ). n ≤ 64) (sym c.requires.worked.done.one_each) (few_threads c.args.compiled.now.1 c.requires.form)
 
 pub report_lines-requires-clause-few_cells : goal.report_lines-requires-clause-few_cells
 report_lines-requires-clause-few_cells g c = subst (λ (d : PlainCode). length d.cells ≤ 1000) (sym c.code-code.ensures.value) (few_cells c.args.compiled.now.1 c.requires.form)
@@ -28,7 +28,7 @@ pub report_lines-requires-clause-made : goal.report_lines-requires-clause-made
 report_lines-requires-clause-made g c = subst (λ (d : PlainCode). c.args.ran.0.cells ≡ d.cells) (sym c.code-code.ensures.value) c.requires.worked.of.cells
 
 pub report_lines-requires-clause-one_each : goal.report_lines-requires-clause-one_each
-report_lines-requires-clause-one_each g c = subst (λ (d : PlainCode). length c.args.ran.1.agents.items ≡ length (agents_of d)) (sym c.code-code.ensures.value) c.requires.worked.agents_each
+report_lines-requires-clause-one_each g c = subst (λ (d : PlainCode). length c.args.ran.1.agents.items ≡ length (agents_of d)) (sym c.code-code.ensures.value) c.requires.worked.agents_done.one_each
 
 within : (n : ℕ) → n ≤ 1000 → n ≤ 65535
 within n h = omega (arith, h)
@@ -58,9 +58,7 @@ returns g c =
     let why : ℕ → AuditError → Type 0 = λ n e. HasNoAnswer (goal.A-post g c.args.auditor.now) parts report n working.workers e in
     let answered : ℕ → Verdict = λ n. verdict (program_of parts) (report_as report) n in
     let audited : AuditTells (why (audit_turns o.steps)) script (answered (audit_turns o.steps)) lines more = subst (λ n. AuditTells (why n) script (answered n) lines more) c.turns_of-turns.ensures c.in_ok-add_audit.ensures.told in
-    let is : AuditedRunTells unaudited parts code script o told = record {
-      shared = shared;
-      entries = entries;
+    let is : AuditedRunTells unaudited parts code script o shared entries told = record {
       worked = c.requires.worked;
       ran = ran;
       told = subst (λ (d : PlainCode). ReportTells d script shared entries o.cells o.events ran) c.code-code.ensures.value c.in_ok-told.ensures;
@@ -71,5 +69,5 @@ returns g c =
     in
     let threads : entries.threads.items ≡ c.swap.new.x.items = ap (λ v. v.items) (sym (c.swap.ensures.x_after ∙ made.threads)) in
     let agents : entries.agents.items ≡ c.swap-2.new.x.items = ap (λ v. v.items) (sym (c.swap-2.ensures.x_after ∙ made.agents)) in
-    subst (λ (rs : List ActorReport). AuditedRunTells unaudited parts code script o (behind_bytes (all_printed (rs ++ c.swap-2.new.x.items)) more)) threads
-    (subst (λ (rs : List ActorReport). AuditedRunTells unaudited parts code script o (behind_bytes (all_printed (entries.threads.items ++ rs)) more)) agents is)
+    subst (λ (rs : List ActorReport). AuditedRunTells unaudited parts code script o shared entries (behind_bytes (all_printed (rs ++ c.swap-2.new.x.items)) more)) threads
+    (subst (λ (rs : List ActorReport). AuditedRunTells unaudited parts code script o shared entries (behind_bytes (all_printed (entries.threads.items ++ rs)) more)) agents is)

@@ -4,10 +4,11 @@ use Rattle.txs_cli_report.specs.Lent.{script_of, told_of}
 use Rattle.txs_cli_report.specs.Told.{NoActorTold}
 use Rattle.txs_machine.specs.Agents.{actors_of}
 use Rattle.txs_machine.specs.Schedule.{all_named, spread}
+use Rattle.txs_machine.specs.Scheduled.{IsScheduledRun}
 use Rattle.txs_machine.specs.declared.schedule.ScheduleError.TheVariants.{NoActor}
 use Rattle.txs_cli.proofs.Audits.{of_audited}
 use Rattle.txs_cli.proofs.audited.play_compiled.Goals as goal
-use Rattle.txs_cli.specs.Audited.{AuditedRunTells, AuditedTells, by_plays, audit_turns, of_unrun}
+use Rattle.txs_cli.specs.Audited.{AuditedRunTells, AuditedTells, IsPlayed, by_plays, audit_turns, of_unrun}
 use Rattle.txs_cli_audit.specs.Audit.{HasNoAnswer}
 use Rattle.txs_audit_answer.specs.declared.verdict.AuditError.{AuditError}
 use Rattle.txs_tree_meaning.specs.View.{Parts}
@@ -22,9 +23,13 @@ returns-in-Ok g c =
     let script = script_of c.args.script in
     let plays = spread c.args.plays.now in
     let way = by_plays plays script.file in
-    let may : all_named (actors_of code) plays ≡ true = subst (λ r. IfOk r (λ ran. all_named (actors_of code) plays ≡ true)) c.in-Ok.is c.run_plays.ensures.named in
-    ok_maps c.audit_run.result (λ t. AuditedRunTells (unaudited parts) parts code script o (told_of t)) (λ t. AuditedTells way unaudited script o (told_of t))
-    (λ t told. of_audited way unaudited script o (told_of t) parts code c.requires.compiled may told) c.audit_run.ensures
+    let played : IsPlayed plays code o.steps c.in-Ok.ran.0 c.in-Ok.ran.1 = record {
+      named = subst (λ r. IfOk r (λ ran. all_named (actors_of code) plays ≡ true)) c.in-Ok.is c.run_plays.ensures.named;
+      scheduled = subst (λ r. IfOk r (λ ran. IsScheduledRun code o.steps plays true ran.0 ran.1.threads.items ran.1.agents.items)) c.in-Ok.is c.run_plays.ensures.scheduled;
+    }
+    in
+    ok_maps c.audit_run.result (λ t. AuditedRunTells (unaudited parts) parts code script o c.in-Ok.ran.0 c.in-Ok.ran.1 (told_of t)) (λ t. AuditedTells way unaudited script o (told_of t))
+    (λ t told. of_audited way unaudited script o (told_of t) parts code c.in-Ok.ran.0 c.in-Ok.ran.1 c.requires.compiled played told) c.audit_run.ensures
 
 -- a play names no actor
 pub returns-in-Err-NoActor : goal.returns-in-Err-NoActor

@@ -22,8 +22,8 @@ returns-in-Ok g c =
     let code = c.args.compiled.now.1 in
     let o = c.args.working.options in
     let script = script_of c.args.script in
-    ok_maps c.audit_run.result (λ t. AuditedRunTells (unaudited parts) parts code script o (told_of t)) (λ t. AuditedTells (by_workers failed) unaudited script o (told_of t))
-    (λ t told. of_audited (by_workers failed) unaudited script o (told_of t) parts code c.requires.compiled tt told) c.audit_run.ensures
+    ok_maps c.audit_run.result (λ t. AuditedRunTells (unaudited parts) parts code script o c.in-Ok.ran.0 c.in-Ok.ran.1 (told_of t)) (λ t. AuditedTells (by_workers failed) unaudited script o (told_of t))
+    (λ t told. of_audited (by_workers failed) unaudited script o (told_of t) parts code c.in-Ok.ran.0 c.in-Ok.ran.1 c.requires.compiled tt told) c.audit_run.ensures
 
 -- the run has no report
 pub returns-in-Err : goal.returns-in-Err

@@ -14,7 +14,7 @@ report_run-requires-clause-few_threads g c =
     let shared = c.in-Ok.shared in
     let report = c.in-Ok.report in
     let worked : IsWorked c.args.code.now c.args.working.options.steps shared report = subst (λ r. RunsLawfully c.args.code.now c.args.working.options.steps r) c.in-Ok.is c.run_all.ensures.lawful in
-    subst (λ (n : ℕ). n ≤ 64) (sym worked.one_each) c.requires.few_threads
+    subst (λ (n : ℕ). n ≤ 64) (sym worked.done.one_each) c.requires.few_threads
 
 pub report_run-requires-clause-few_cells : goal.report_run-requires-clause-few_cells
 report_run-requires-clause-few_cells g c = subst (λ (d : PlainCode). length d.cells ≤ 1000) (sym c.code.ensures.value) c.requires.few_cells
@@ -31,7 +31,7 @@ report_run-requires-clause-one_each g c =
     let shared = c.in-Ok.shared in
     let report = c.in-Ok.report in
     let worked : IsWorked c.args.code.now c.args.working.options.steps shared report = subst (λ r. RunsLawfully c.args.code.now c.args.working.options.steps r) c.in-Ok.is c.run_all.ensures.lawful in
-    subst (λ (d : PlainCode). length report.agents.items ≡ length (agents_of d)) (sym c.code.ensures.value) worked.agents_each
+    subst (λ (d : PlainCode). length report.agents.items ≡ length (agents_of d)) (sym c.code.ensures.value) worked.agents_done.one_each
 
 pub returns-in-Ok : goal.returns-in-Ok
 returns-in-Ok g c =

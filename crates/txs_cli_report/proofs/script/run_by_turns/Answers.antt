@@ -30,7 +30,7 @@ returns-in-Some c =
     let o = c.args.options in
     let s = c.run_code.new.shared in
     let told = told_of c.in-Some.told in
-    let ran : (all_named (actors_of code) plays ≡ true) × WholeRunTells code script o.steps o.cells o.events s told =
+    let ran : (all_named (actors_of code) plays ≡ true) × WholeRunTells code script plays o.steps o.cells o.events s told =
     subst (λ (r : Option owned.Told). RunAnswers code script plays o.steps o.cells o.events s (option_map told_of r)) c.in-Some.is c.in_ok-told.ensures.told
     in
     of_turns s c.run_code.ensures.of ran.0 ran.1

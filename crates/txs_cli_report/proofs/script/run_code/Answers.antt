@@ -2,6 +2,7 @@ use Rattle.std.proofs.Common.{◌≡◌, ◌≤◌, ◌∙◌, length, refl, sym
 use Rattle.txs_code_meaning.specs.PlainCode.{PlainCode}
 use Rattle.txs_disasm.proofs.SentLemmas.{on_err}
 use Rattle.txs_machine.specs.Agents.{agents_of}
+use Rattle.txs_machine.specs.Schedule.{spread}
 use Rattle.txs_cli_report.specs.Lent.{script_of, told_of}
 use Rattle.txs_cli_report.specs.Told.{ReportTells}
 use Rattle.txs_cli_report.proofs.Turns.{whole_run}
@@ -27,7 +28,7 @@ returns-in_ok-told-in-Ok-clause-told c =
     let t = told_of c.in_ok-told-in-Ok.told in
     let is : ReportTells code script s report options.cells options.events t = subst (λ (d : PlainCode). ReportTells d script s report options.cells options.events t) c.code.ensures.value c.in_ok-told-in-Ok.ensures in (
       r.named,
-      whole_run code script options.steps s report options.cells options.events t r.done (r.ended refl) r.explained r.agents (r.drained refl) r.all_explained is,
+      whole_run code script (spread c.args.plays.now) options.steps s report options.cells options.events t r.scheduled r.done (r.ended refl) r.explained r.agents (r.drained refl) r.all_explained is,
     )
 
 pub returns-in_err-told-in-Ok-clause-named : goal.returns-in_err-told-in-Ok-clause-named

@@ -4,7 +4,7 @@ use Rattle.txs_value_cell.proofs.AgentsLemmas.{agents_few}
 use Rattle.txs_threads.proofs.actors.open_all.Goals as goal
 
 pub overflow_cast-many : goal.overflow_cast-many
-overflow_cast-many c =
+overflow_cast-many g c =
     let cells = agents_few 0 c.args.code.now.cells in
     let many = c.requires.many in
     let few = c.requires.few in
@@ -12,7 +12,7 @@ overflow_cast-many c =
     omega (arith, cells, many, few, same)
 
 pub overflow_add-many : goal.overflow_add-many
-overflow_add-many c =
+overflow_add-many g c =
     let cells = agents_few 0 c.args.code.now.cells in
     let many = c.requires.many in
     let few = c.requires.few in

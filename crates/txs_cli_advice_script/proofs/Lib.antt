@@ -1,0 +1,4 @@
+pub mod Parts
+pub mod Shows
+pub mod Lists
+pub mod Nearby

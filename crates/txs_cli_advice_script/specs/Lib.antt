@@ -1,0 +1,4 @@
+pub mod Sentences
+pub mod Forms
+pub mod Surroundings
+pub mod Reading

@@ -1,0 +1,5 @@
+pub mod Rows
+pub mod Shown
+pub mod Signs
+pub mod Nears
+pub mod Language

@@ -1,0 +1,7 @@
+pub mod Answering
+pub mod Numbers
+pub mod On
+pub mod Running
+pub mod Sent
+pub mod Taking
+pub mod Turning

@@ -1,0 +1,80 @@
+-- What a turn and an answer leave of an actor's number, and of how many steps it may make.
+use Rattle.std.proofs.Common.{◌≡◌, ◌≤◌, Bool, true, false, nat_lt, Option, Some, None, refl, sym, ap, subst, ◌∙◌, arith}
+use Rattle.txs_world_protocol.specs.declared.ask.Reply.TheVariants as reply
+use Rattle.txs_world_protocol.specs.declared.event.Outcome.{Outcome}
+use Rattle.txs_world_protocol.specs.declared.event.Outcome.TheVariants as outcome
+use Rattle.txs_code_meaning.specs.PlainCode.{PlainCode}
+use Rattle.txs_machine_actor.specs.PlainActor.{PlainActor, answered, answered_for, answered_if}
+use Rattle.txs_machine_actor.specs.Turns.{Answers, Moves, TurnsFrom}
+use Rattle.txs_machine_actor.specs.declared.outcome.Turn.{Turn}
+use Rattle.txs_machine_actor.specs.declared.outcome.Turn.TheVariants as turned
+use Rattle.txs_machine_transaction.specs.declared.state.Pending.{Pending}
+use Rattle.txs_machine_transaction.specs.declared.state.Pending.TheVariants.{Begin, Read, Ensure, Open, View, Reset, Send, Swap, Close, Commit, Hold, Fail, Broke, Take, Finish}
+use Rattle.txs_machine.specs.RunOver.{IsLimited}
+use Rattle.txs_machine.proofs.Answered.{idle_outcome}
+
+step_number : (code : PlainCode) (a b : PlainActor) (r : Turn) → Answers code a r b → b.number ≡ a.number
+step_number code a b turned.Went u = u.1.number
+step_number code a b (turned.Asks q) u = u.1.number
+step_number code a b (turned.Ended outcome.Done) u = u.1.number
+step_number code a b (turned.Ended (outcome.Failed f)) u = u.1.number
+step_number code a b (turned.Ended outcome.StepsSpent) u = absurd u
+step_number code a b (turned.Ended outcome.JournalFull) u = absurd u
+step_number code a b (turned.Ended outcome.Memory) u = u.1.number
+
+move_number : (code : PlainCode) (a b : PlainActor) (r : Turn) (may : Bool) → Moves code a may r b → b.number ≡ a.number
+move_number code a b r true u = step_number code a b r u
+move_number code a b r false u = ap (λ (x : PlainActor). x.number) u.1
+
+-- a turn leaves whose actor it is
+pub turn_number : (code : PlainCode) (a b : PlainActor) (r : Turn) (o : Option Outcome) → TurnsFrom code a o r b → b.number ≡ a.number
+turn_number code a b r None u = move_number code a b r (nat_lt a.steps a.limit) u
+turn_number code a b r (Some o) u = ap (λ (x : PlainActor). x.number) u.1
+
+-- an actor of the same limit, with no more steps
+abbrev NoMore : PlainActor → PlainActor → Type 0
+NoMore a b = (b.limit ≡ a.limit) × (b.steps ≤ a.steps)
+
+idle_for : (a : PlainActor) (p : Pending) → NoMore a (answered_for a p reply.Idle)
+idle_for a (Begin left from) = (refl, omega arith)
+idle_for a (Read c) = (refl, omega arith)
+idle_for a (Ensure c es) = (refl, omega arith)
+idle_for a (Open c n kept) = (refl, omega arith)
+idle_for a (View phase) = (refl, omega arith)
+idle_for a (Reset c v) = (refl, omega arith)
+idle_for a (Send x n) = (refl, omega arith)
+idle_for a (Swap c n from) = (refl, omega arith)
+idle_for a (Close c p v) = (refl, omega arith)
+idle_for a Commit = (refl, omega arith)
+idle_for a (Hold xs) = (refl, omega arith)
+idle_for a (Fail f) = (refl, omega arith)
+idle_for a (Broke c p f) = (refl, omega arith)
+idle_for a (Take g) = (refl, omega arith)
+idle_for a (Finish g new) = (refl, omega arith)
+
+abbrev IsGoing : Option Outcome → Type 0
+IsGoing None = Unit {0}
+IsGoing (Some o) = ⊥
+
+-- where there is no action for it, an agent has the limit that it had
+pub idle_limit : (a : PlainActor) → (answered a reply.Idle).limit ≡ a.limit
+idle_limit a = go a.pending
+  where
+    go : (o : Option Pending) → (answered_if a o reply.Idle).limit ≡ a.limit
+    go None = refl
+    go (Some p) = (idle_for a p).0
+
+-- and keeps to it
+pub idle_limited : (a : PlainActor) → a.outcome ≡ None → IsLimited a.limit a → IsLimited (answered a reply.Idle).limit (answered a reply.Idle)
+idle_limited a e h = record {
+  limited = refl;
+  within = omega (arith, less.0, less.1, h.within);
+  spent = λ s. absurd (subst IsGoing (sym e ∙ sym (idle_outcome a) ∙ s) tt);
+}
+  where
+    less : NoMore a (answered a reply.Idle)
+    less = go a.pending
+      where
+        go : (o : Option Pending) → NoMore a (answered_if a o reply.Idle)
+        go None = (refl, omega arith)
+        go (Some p) = idle_for a p

@@ -1,0 +1,2 @@
+pub mod Actor
+pub mod Callees

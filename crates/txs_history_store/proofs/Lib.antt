@@ -1,0 +1,4 @@
+pub mod Asking
+pub mod Locking
+pub mod Noting
+pub mod Serving

@@ -1,0 +1,5 @@
+pub mod Counting
+pub mod Following
+pub mod Interleaving
+pub mod Sharing
+pub mod Turns

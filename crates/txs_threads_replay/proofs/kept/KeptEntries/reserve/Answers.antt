@@ -1,5 +1,0 @@
-use Rattle.std.proofs.Common.{rules}
-use Rattle.txs_threads_replay.proofs.kept.KeptEntries.reserve.Goals as goal
-
-pub returns : goal.returns
-returns c = search rules
