@@ -1,6 +1,6 @@
 ghost use Rattle.std.specs.Prelude.{◌≡◌, ◌+◌, ◌==◌, ◌<◌, ◌≤◌, ◌^◌, ◌++◌, ◌∷◌, ◌⊎◌, [], length, MatchBool, IsTrue, IsFalse, true, replicate};
 ghost use mathlib.Core.List.{IsPrefix};
-ghost use Rattle.txs_history.specs.History.{events_of, locks_in, IsWithin, WasAdded};
+ghost use Rattle.txs_history.specs.History.{events_of, locks_in, HasOthers, IsWithin, WasAdded};
 ghost use Rattle.txs_history.specs.Rules.{word_of};
 ghost use Rattle.txs_history.specs.declared.log.Entry.TheVariants as entry;
 
@@ -279,14 +279,14 @@ impl<E, J: Naming> Log<E, J> {
     /// Adds an event under its number, behind all that it and the past have seen, and the past then has seen the event, too. So whoever
     /// adds events under several locks with one past has them in the history in its own order.
     ///
-    /// False where the history has events under this number that weren't added here; then nothing is added. No code adds such events,
-    /// but the type alone doesn't say so: the word is compared.
+    /// False only where the history has events under this number that weren't added here. Then nothing is added, and the past has seen those. No code adds
+    /// such events, but the type alone doesn't say so: the word is compared.
     pub fn push<X, M: StandsFor<X, E>>(&mut self, past: &mut Past<E, J>, about: &X) -> bool
         requires room { length (events_of self.old.key self.old.log) < 2 ^ 62 }
         ensures key { self.new.key ≡ self.old.key }
         ensures seen { IsTrue result → past.new ≡ self.new.log }
         ensures pushed { IsTrue result → WasAdded self.old.key self.old.log past.old self.new.log (M.event about.now) }
-        ensures failed { IsFalse result → (self.new ≡ self.old) × (past.new ≡ past.old) }
+        ensures failed { IsFalse result → (self.new ≡ self.old) × HasOthers self.old.key self.old.log past.old past.new }
     {
         let lent = Lent {
             key: self.key,
@@ -305,6 +305,7 @@ impl<E, J: Naming> Log<E, J> {
             .word
             .compare_exchange::<Add, Nothing>(len, len + 1, &mut seen, &mut offer, &mut pen);
         if found != len {
+            past.seen = seen;
             return false;
         }
         past.seen = seen.again();
@@ -331,15 +332,20 @@ impl<E, J: Naming> Log<E, J> {
     }
 
     /// Whether a past, which has seen what the log has, has just the log's events under its number. So logs that are whole beside one
-    /// past have all its events between them.
-    pub fn is_whole(&self, past: &Past<E, J>) -> bool
-        requires seen { IsPrefix self.now.log past.now }
-        ensures whole { IsTrue result → events_of self.now.key past.now ≡ events_of self.now.key self.now.log }
+    /// past have all its events between them. False only where the history has others, which the past then has seen.
+    pub fn is_whole(&self, past: &mut Past<E, J>) -> bool
+        requires seen { IsPrefix self.now.log past.old }
+        ensures whole { IsTrue result → (past.new ≡ past.old) × (events_of self.now.key past.old ≡ events_of self.now.key self.now.log) }
+        ensures others { IsFalse result → HasOthers self.now.key self.now.log past.old past.new }
     {
         let mut seen = past.seen.again();
         let mut offer: Offer<Entry<E>, u64, Law, Nothing> = seen.plain::<Nothing, u64, Look>(
             &self.key,
         );
-        self.word.load::<Look, Nothing>(&mut seen, &mut offer) == self.len
+        if self.word.load::<Look, Nothing>(&mut seen, &mut offer) == self.len {
+            return true;
+        }
+        past.seen = seen;
+        false
     }
 }

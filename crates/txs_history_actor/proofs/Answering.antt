@@ -1,5 +1,5 @@
 -- The answer to an ask of an actor that follows a history.
-use Rattle.std.proofs.Common.{◌≡◌, ◌≤◌, ◌+◌, ◌⊎◌, ◌==◌, ℕ, zero, suc, Bool, true, false, nat_lt, List, [], ◌∷◌, ◌++◌, length, map, Option, Some, None, refl, sym, ap, subst, ◌∙◌, inl, inr, if◌then◌else◌, arith}
+use Rattle.std.proofs.Common.{◌≡◌, ◌≤◌, ℕ, suc, Bool, true, false, nat_lt, List, [], ◌∷◌, ◌++◌, length, map, Option, Some, None, refl, sym, ap, subst, ◌∙◌, if◌then◌else◌, arith}
 use Rattle.std.proofs.lemmas.Bool.Decides.{nat_tests}
 use mathlib.Core.List.{IsPrefix}
 use Rattle.txs_world_protocol.specs.declared.ask.Ask.{Ask}
@@ -10,10 +10,10 @@ use Rattle.txs_world_protocol.specs.declared.event.Outcome.{Outcome}
 use Rattle.txs_world_protocol.specs.declared.event.Outcome.TheVariants as outcome
 use Rattle.txs_world_protocol.specs.declared.event.Place.{Place}
 use Rattle.txs_value_data.specs.Limits.{most_events}
-use Rattle.txs_code_meaning.specs.Machine.{ThreadCode, Configuration, Turned, Unfinished, turn}
+use Rattle.txs_code_meaning.specs.Machine.{ThreadCode, Configuration, Turned, Unfinished}
 use Rattle.txs_code_meaning.specs.PlainCode.{PlainCode}
 use Rattle.txs_machine_actor.specs.Laws.{ActorsRun}
-use Rattle.txs_machine_actor.specs.PlainActor.{PlainActor, Lives, MayAnswer, Stops, answered, unanswered, configuration_of, state_of, code_of, standing, SameBut, Awaits, HasRun}
+use Rattle.txs_machine_actor.specs.PlainActor.{PlainActor, Lives, MayAnswer, Stops, answered, unanswered, configuration_of, state_of, code_of, standing, SameBut}
 use Rattle.txs_machine_actor.proofs.Following.{Unstopped, unstopped_if}
 use Rattle.txs_history.specs.declared.log.Entry.TheVariants as entered
 use Rattle.txs_world_book.specs.Served.{Served as Answer}
@@ -22,15 +22,14 @@ use Rattle.txs_theorem_runs.specs.Run as run
 use Rattle.txs_theorem_runs.specs.Run.{Actor, Moved, Stop, entry, hears, new_actor, replied, stop}
 use Rattle.txs_theorem_runs.specs.Shared.{Shared, book_for, serve_on, may_ask, shared_after}
 use Rattle.txs_theorem_runs.specs.Told.{Entry, exchange_of, IsExchanged, AllHold, trace_of}
-use Rattle.txs_theorem_runs.specs.Told as told_by
 use Rattle.txs_theorem_runs.proofs.Growing.{IsFull, Serves, own_hold}
 use Rattle.txs_theorem_runs.proofs.Serving.{serves}
-use Rattle.txs_theorem_history.specs.Following.{FollowsAll, IsAt, IsNextAsk, after_turn}
+use Rattle.txs_theorem_history.specs.Following.{FollowsAll, IsNextAsk, after_turn}
 use Rattle.txs_theorem_history.specs.History.{History, asked_by, shared_by}
 use Rattle.txs_theorem_history.proofs.Following.{follows_more, follows_prefix, follows_stops, turn_with_ask}
 use Rattle.txs_theorem_history.proofs.Sharing.{books_grow, hold_on, shared_next}
 use Rattle.txs_machine.specs.Running.{IsPlacedAs, IsPlayerOf}
-use Rattle.txs_machine.specs.RunOver.{AtFullBook, places_of}
+use Rattle.txs_machine.specs.RunOver.{places_of}
 use Rattle.txs_machine.specs.Scheduled.{steps_by}
 use Rattle.txs_machine.proofs.Answered.{Leaves, answer_leaves, full_stops, memory_stops, full_state, memory_state, idle_number, idle_outcome, idle_steps}
 use Rattle.txs_machine.proofs.RunOver as over

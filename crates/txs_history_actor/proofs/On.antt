@@ -4,7 +4,6 @@ use Rattle.txs_world_protocol.specs.declared.ask.Ask.{Ask}
 use Rattle.txs_world_protocol.specs.declared.ask.Reply.{Reply}
 use Rattle.txs_world_protocol.specs.declared.ask.Reply.TheVariants as reply
 use Rattle.txs_world_protocol.specs.declared.event.Outcome.{Outcome}
-use Rattle.txs_world_protocol.specs.declared.event.Outcome.TheVariants as outcome
 use Rattle.txs_code_meaning.specs.Opening.{opening}
 use Rattle.txs_code_meaning.specs.PlainCode.{PlainCode}
 use Rattle.txs_code_meaning.specs.WellTyped.{WellTyped}
@@ -12,7 +11,7 @@ use Rattle.txs_machine_actor.specs.Laws.{ActorsRun}
 use Rattle.txs_machine_actor.specs.PlainActor.{PlainActor, CanGoOn, AttendsOn, Lives, MayAnswer, Stops, answered, unanswered, asked_for, configuration_of, code_of, HasRun, HasCome}
 use Rattle.txs_machine_transaction.specs.Asks.{applied_in}
 use Rattle.txs_machine_transaction.specs.Transaction.{is_running}
-use Rattle.txs_machine_actor.specs.Turns.{IsNew, TurnsFrom, Turns, GoesOnAfter, TurnsOf}
+use Rattle.txs_machine_actor.specs.Turns.{IsNew, Turns, GoesOnAfter, TurnsOf}
 use Rattle.txs_machine_actor.specs.declared.outcome.Turn.{Turn}
 use Rattle.txs_machine_actor.specs.declared.outcome.Turn.TheVariants as turned
 use Rattle.txs_machine_transaction.specs.declared.state.Pending.{Pending}
@@ -24,11 +23,11 @@ use Rattle.txs_theorem_runs.specs.Stages.{Stage, Idle, stage_after}
 use Rattle.txs_theorem_runs.specs.Told.{Entry, exchange_of, AreStaged}
 use Rattle.txs_theorem_runs.proofs.Known.{standing_staged}
 use Rattle.txs_machine.specs.RunOver.{IsLimited, AskedOn}
-use Rattle.txs_machine.proofs.Answered.{answer_leaves, stop_ends, idle_number, idle_outcome}
+use Rattle.txs_machine.proofs.Answered.{Leaves, answer_leaves, stop_ends, idle_number}
 use Rattle.txs_machine.proofs.Limits.{new_limited, turn_limited, answered_limited}
 use Rattle.txs_machine.proofs.RunOver.{as_is, as_known, turn_keeps, standing_of, stands_staged, turn_asked, no_entry, in_after, map_append, answer_asked, more_asked, idle_never}
 use Rattle.txs_history_actor.specs.Actor.{IsOn, IsThreadOn}
-use Rattle.txs_history_actor.proofs.Numbers.{turn_number, idle_limit, idle_limited}
+use Rattle.txs_history_actor.proofs.Numbers.{turn_number, idle_same, idle_limited}
 
 -- a new one has no entries
 pub new_on : ActorsRun → TypedStands → (code : PlainCode) (function_rooms thread_rooms : List ℕ) (limit : ℕ) (a : PlainActor) → WellTyped code function_rooms thread_rooms → IsNew code a.number limit a → IsOn code [] a
@@ -170,20 +169,27 @@ asker_goes code a q (inr h) f = go a.outcome refl a.pending f h.attends
     go (Some o) e None x g = cc
     go (Some o) e (Some p) x g = absurd g
 
--- a reply leaves an actor its limit
-pub answer_limit : (a : PlainActor) (q : Ask) (r : Reply) → unanswered a ≡ Some q → MayAnswer q r → (answered a r).limit ≡ a.limit
-answer_limit a q reply.Idle f may = idle_limit a
-answer_limit a q (reply.At p) f may = (answer_leaves a q (reply.At p) f may (λ i. cc)).limit
-answer_limit a q (reply.Is v) f may = (answer_leaves a q (reply.Is v) f may (λ i. cc)).limit
-answer_limit a q (reply.Views p vs) f may = (answer_leaves a q (reply.Views p vs) f may (λ i. cc)).limit
-answer_limit a q reply.Done f may = (answer_leaves a q reply.Done f may (λ i. cc)).limit
-answer_limit a q (reply.Retry c) f may = (answer_leaves a q (reply.Retry c) f may (λ i. cc)).limit
-answer_limit a q (reply.Changed c) f may = (answer_leaves a q (reply.Changed c) f may (λ i. cc)).limit
-answer_limit a q (reply.AgentIsFailed g) f may = (answer_leaves a q (reply.AgentIsFailed g) f may (λ i. cc)).limit
-answer_limit a q (reply.Action n x v) f may = (answer_leaves a q (reply.Action n x v) f may (λ i. cc)).limit
-answer_limit a q (reply.Opened p v) f may = (answer_leaves a q (reply.Opened p v) f may (λ i. cc)).limit
-answer_limit a q reply.Full f may = (answer_leaves a q reply.Full f may (λ i. cc)).limit
-answer_limit a q reply.Memory f may = (answer_leaves a q reply.Memory f may (λ i. cc)).limit
+-- an actor of the same limit and number
+abbrev pub IsSameActor : PlainActor → PlainActor → Type 0
+IsSameActor a b = (b.limit ≡ a.limit) × (b.number ≡ a.number)
+
+same_actor : (a b : PlainActor) → Leaves a b → IsSameActor a b
+same_actor a b k = (k.limit, k.number)
+
+-- a reply leaves an actor its limit and its number
+pub answer_same : (a : PlainActor) (q : Ask) (r : Reply) → unanswered a ≡ Some q → MayAnswer q r → IsSameActor a (answered a r)
+answer_same a q reply.Idle f may = idle_same a
+answer_same a q (reply.At p) f may = same_actor a (answered a (reply.At p)) (answer_leaves a q (reply.At p) f may (λ i. cc))
+answer_same a q (reply.Is v) f may = same_actor a (answered a (reply.Is v)) (answer_leaves a q (reply.Is v) f may (λ i. cc))
+answer_same a q (reply.Views p vs) f may = same_actor a (answered a (reply.Views p vs)) (answer_leaves a q (reply.Views p vs) f may (λ i. cc))
+answer_same a q reply.Done f may = same_actor a (answered a reply.Done) (answer_leaves a q reply.Done f may (λ i. cc))
+answer_same a q (reply.Retry c) f may = same_actor a (answered a (reply.Retry c)) (answer_leaves a q (reply.Retry c) f may (λ i. cc))
+answer_same a q (reply.Changed c) f may = same_actor a (answered a (reply.Changed c)) (answer_leaves a q (reply.Changed c) f may (λ i. cc))
+answer_same a q (reply.AgentIsFailed g) f may = same_actor a (answered a (reply.AgentIsFailed g)) (answer_leaves a q (reply.AgentIsFailed g) f may (λ i. cc))
+answer_same a q (reply.Action n x v) f may = same_actor a (answered a (reply.Action n x v)) (answer_leaves a q (reply.Action n x v) f may (λ i. cc))
+answer_same a q (reply.Opened p v) f may = same_actor a (answered a (reply.Opened p v)) (answer_leaves a q (reply.Opened p v) f may (λ i. cc))
+answer_same a q reply.Full f may = same_actor a (answered a reply.Full) (answer_leaves a q reply.Full f may (λ i. cc))
+answer_same a q reply.Memory f may = same_actor a (answered a reply.Memory) (answer_leaves a q reply.Memory f may (λ i. cc))
 
 -- an actor that has ended asks nothing
 pub ended_free : (code : PlainCode) (a : PlainActor) (o : Outcome) → Lives code a → a.outcome ≡ Some o → unanswered a ≡ None

@@ -1,5 +1,5 @@
 -- An actor that ran, as its code is the run's.
-use Rattle.std.proofs.Common.{◌≡◌, ℕ, true, List, [], Option, Some, None, refl, sym, ap, subst, ◌∙◌, inr}
+use Rattle.std.proofs.Common.{◌≡◌, ℕ, true, List, [], None, refl, sym, ap, subst, ◌∙◌, inr}
 use Rattle.txs_world_protocol.specs.Ask.{may_add_event}
 use Rattle.txs_world_protocol.specs.declared.ask.Ask.{Ask}
 use Rattle.txs_world_protocol.specs.declared.ask.Reply.TheVariants as reply
@@ -17,7 +17,8 @@ use Rattle.txs_history_actor.specs.Actor.{IsFollowing, IsInStep, IsWaiting}
 use Rattle.txs_history_actor.specs.declared.step.Step.{Step}
 use Rattle.txs_history_actor.specs.declared.step.Step.TheVariants as step
 use Rattle.txs_history_actor.proofs.Answering.{memory_follows}
-use Rattle.txs_history_actor.proofs.On.{answer_limit}
+use Rattle.txs_history_actor.proofs.Numbers.{turns_number}
+use Rattle.txs_history_actor.proofs.On.{answer_same}
 use Rattle.txs_history_actor.proofs.Turning.{IsTurned, turns_follow}
 
 -- an ask that may add an event may be refused for memory
@@ -37,12 +38,16 @@ module _ (laws : ActorsRun) (code own : PlainCode) (same : code ≡ own) (n : �
   pub ran_limit : b.limit ≡ a.limit
   ran_limit = (turns_limited own a.limit n a b r (subst (λ d. TurnsOf d n a r b) same turns) follows.on.limited).limited
 
+  pub ran_number : b.number ≡ a.number
+  ran_number = turns_number code n a b r turns
+
 -- an actor that asks, where there is no memory for the place of the event that the ask may add
 pub stopped_so : ActorsRun → (code own : PlainCode) → code ≡ own → (b c : PlainActor) (q : Ask) (tr : List Place) (m : ℕ) (h : History) → IsWaiting own b q tr m h → may_add_event q ≡ true → c ≡ answered b reply.Memory → Lives code c → unanswered c ≡ None
-    → IsFollowing own c tr m h × (c.limit ≡ b.limit)
+    → IsFollowing own c tr m h × (c.limit ≡ b.limit) × (c.number ≡ b.number)
 stopped_so laws code own same b c q tr m h w adds is lives free =
     let may = refused_may q adds in (
       subst (λ x. IsFollowing own x tr m h) (sym is)
           (memory_follows laws own b q tr m h w (subst (λ x. Lives own x) is (subst (λ d. Lives d c) same lives)) (subst (λ x. unanswered x ≡ None) is free) may),
-      ap (λ (x : PlainActor). x.limit) is ∙ answer_limit b q reply.Memory w.waits may,
+      ap (λ (x : PlainActor). x.limit) is ∙ (answer_same b q reply.Memory w.waits may).0,
+      ap (λ (x : PlainActor). x.number) is ∙ (answer_same b q reply.Memory w.waits may).1,
     )

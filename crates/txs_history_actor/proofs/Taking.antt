@@ -1,5 +1,5 @@
 -- An actor that takes the answer to its ask follows the history.
-use Rattle.std.proofs.Common.{◌≡◌, ◌++◌, ◌∷◌, [], ℕ, suc, Bool, true, false, nat_lt, List, length, Option, Some, None, refl, sym, ap, subst, ◌∙◌}
+use Rattle.std.proofs.Common.{◌≡◌, ◌++◌, ◌∷◌, [], ℕ, suc, Bool, true, false, nat_lt, List, length, None, refl, sym, ap, subst, ◌∙◌}
 use Rattle.txs_world_protocol.specs.declared.ask.Ask.{Ask}
 use Rattle.txs_world_protocol.specs.declared.ask.Reply.{Reply}
 use Rattle.txs_world_protocol.specs.declared.ask.Reply.TheVariants as reply
@@ -11,10 +11,10 @@ use Rattle.txs_machine_actor.specs.PlainActor.{PlainActor, Lives, MayAnswer, ans
 use Rattle.txs_history.specs.declared.log.Entry.TheVariants as entered
 use Rattle.txs_theorem_runs.specs.Shared.{book_for, may_ask, serve_on}
 use Rattle.txs_theorem_history.specs.History.{History, asked_by, shared_by}
-use Rattle.txs_history_store.specs.Logged.{WasServed, WasDone, WasAnswered, is_memory}
+use Rattle.txs_history_store.specs.Logged.{WasDone, is_memory}
 use Rattle.txs_history_store.specs.declared.serve.Served.{Served}
 use Rattle.txs_machine.proofs.RunOver.{memory_may, serve_may}
-use Rattle.txs_history_actor.specs.Actor.{IsFollowing, IsServed, IsWaiting, made_with, noted}
+use Rattle.txs_history_actor.specs.Actor.{IsFollowing, IsServed, made_with, noted}
 use Rattle.txs_history_actor.proofs.Answering.{answer_follows, memory_follows, waits_longer}
 
 -- a reply that says there was no memory

@@ -1,7 +1,5 @@
 -- Turns of an actor that follows a history.
-use Rattle.std.proofs.Common.{◌≡◌, ◌+◌, ◌⊎◌, ℕ, zero, suc, Bool, true, false, nat_lt, List, [], ◌∷◌, length, map, Option, Some, None, refl, sym, ap, subst, ◌∙◌, inl, inr, arith}
-use Rattle.txs_world_protocol.specs.Ask.{Exchange}
-use Rattle.txs_world_protocol.specs.declared.ask.Ask.{Ask}
+use Rattle.std.proofs.Common.{◌≡◌, ◌+◌, ◌⊎◌, ℕ, zero, suc, Bool, true, false, nat_lt, List, [], length, Option, Some, None, refl, sym, ap, subst, ◌∙◌, inl, inr, arith}
 use Rattle.txs_world_protocol.specs.declared.event.Outcome.{Outcome}
 use Rattle.txs_world_protocol.specs.declared.event.Outcome.TheVariants as outcome
 use Rattle.txs_world_protocol.specs.declared.event.Place.{Place}
@@ -9,21 +7,21 @@ use Rattle.txs_code_meaning.specs.Machine.{ThreadCode, Configuration, Turned, En
 use Rattle.txs_code_meaning.specs.Opening.{opening}
 use Rattle.txs_code_meaning.specs.PlainCode.{PlainCode}
 use Rattle.txs_machine_actor.specs.Laws.{ActorsRun}
-use Rattle.txs_machine_actor.specs.PlainActor.{PlainActor, Lives, configuration_of, state_of, code_of, unanswered, Awaits, HasRun}
-use Rattle.txs_machine_actor.specs.Turns.{Answers, Moves, Says, TurnsFrom, Turns, GoesOnAfter, TurnsOf, IsNew}
+use Rattle.txs_machine_actor.specs.PlainActor.{PlainActor, Lives, configuration_of, state_of, code_of, unanswered, Awaits}
+use Rattle.txs_machine_actor.specs.Turns.{Answers, Moves, Says, TurnsFrom, GoesOnAfter, TurnsOf, IsNew}
 use Rattle.txs_machine_actor.specs.declared.outcome.Turn.{Turn}
 use Rattle.txs_machine_actor.specs.declared.outcome.Turn.TheVariants as turned
 use Rattle.txs_theorem_runs.specs.Goes.{AsksNothing}
 use Rattle.txs_theorem_runs.specs.Lawful.{TypedStands}
 use Rattle.txs_theorem_runs.specs.Run as run
 use Rattle.txs_theorem_runs.specs.Run.{Actor, comes_to, new_actor, stop}
-use Rattle.txs_theorem_runs.specs.Told.{Entry, exchange_of, AllHold, trace_of}
+use Rattle.txs_theorem_runs.specs.Told.{AllHold, trace_of}
 use Rattle.txs_code_meaning.specs.WellTyped.{WellTyped}
 use Rattle.txs_theorem_history.specs.Following.{FollowsAll, IsAt, IsLeft, Strolls}
 use Rattle.txs_theorem_history.specs.History.{History, shared_by}
 use Rattle.txs_theorem_history.proofs.Following.{new_follows, follows_strolls, follows_stops, strolls_join}
-use Rattle.txs_machine.specs.Running.{IsPlacedAs, IsPlayerOf}
-use Rattle.txs_machine.specs.RunOver.{AtFullBook, places_of}
+use Rattle.txs_machine.specs.Running.{IsPlacedAs}
+use Rattle.txs_machine.specs.RunOver.{places_of}
 use Rattle.txs_machine.specs.Scheduled.{steps_by}
 use Rattle.txs_machine.proofs.RunOver.{Unfilled, move_unfilled}
 use Rattle.txs_history_actor.specs.Actor.{IsFollowing, IsOn, IsWaiting}

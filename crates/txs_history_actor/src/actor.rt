@@ -1,14 +1,21 @@
 //! An actor with what it has seen of the history.
 
-ghost use Rattle.std.specs.Prelude.{◌≡◌, ◌<◌, true, false, ◌++◌, ◌∷◌, [], None, Some, IfSome, IsTrue};
+ghost use Rattle.std.specs.Prelude.{◌≡◌, ◌<◌, ℕ, length, true, false, ◌++◌, ◌∷◌, [], None, Some, IfSome, IsTrue, IsFalse};
 ghost use mathlib.Core.List.{IsPrefix};
 ghost use Rattle.txs_world_protocol.specs.Ask.{may_add_event};
 ghost use Rattle.txs_machine_actor.specs.PlainActor.{Lives};
 ghost use Rattle.txs_machine_actor.specs.Turns.{IsNew};
 ghost use Rattle.txs_history_actor.specs.Actor.{IsFollowing, made_with, noted};
-ghost use Rattle.txs_history_actor.specs.Callees.{AreCallees};
+ghost use Rattle.txs_history_actor.specs.Callees.{AreCallees, HandsOutSent};
+ghost use Rattle.txs_history_actor.specs.declared.actor.AfterReply.TheVariants as after;
+ghost use Rattle.txs_history_actor.specs.declared.actor.Next.TheVariants as next;
 ghost use Rattle.txs_history_actor.specs.declared.step.Step.TheVariants as step;
-ghost use Rattle.txs_history_store.specs.Logged.{is_memory};
+ghost use Rattle.txs_history.specs.History.{HasOthers};
+ghost use Rattle.txs_history_store.specs.Logged.{is_memory, MayNot};
+ghost use Rattle.txs_history_store.specs.declared.serve.Served.{Served};
+ghost use Rattle.txs_world_protocol.specs.SeenEvent.{home};
+ghost use Rattle.txs_world_protocol.specs.declared.ask.Ask.{Ask};
+ghost use Rattle.txs_world_protocol.specs.declared.event.Outcome.{Outcome};
 
 use crate::callees::hands_out;
 use crate::step::Step;
@@ -107,7 +114,9 @@ impl<'a, J: Run> Model for LoggedActor<'a, J> {
 }
 
 /// What an actor is to do next, by the reply that it takes.
-fn after_reply(reply: &Reply) -> AfterReply {
+fn after_reply(reply: &Reply) -> AfterReply
+    ensures { result ≡ after.Broken → ⊥ }
+{
     match reply {
         Reply::Retry(_) => AfterReply::Again,
         Reply::Changed(cell) => redone(*cell),
@@ -117,7 +126,9 @@ fn after_reply(reply: &Reply) -> AfterReply {
 }
 
 /// What an actor does whose commit or swap found this cell changed.
-fn redone(cell: CellId) -> AfterReply {
+fn redone(cell: CellId) -> AfterReply
+    ensures { result ≡ after.Broken → ⊥ }
+{
     match cell.kind {
         CellKind::Ref => AfterReply::Redoes,
         _ => AfterReply::GoesOn,
@@ -173,8 +184,13 @@ fn has_room(trace: &mut Vec<Place>, ask: &Ask) -> bool
 impl<'a, J: Run> LoggedActor<'a, J> {
     /// Up to so many turns: an ask or an end is the last. Where it asks, and there is no memory for the place of the event that the ask may add, it has ended so.
     pub fn run(&mut self, budget: u64) -> Next
+        ensures number { self.new.player.actor.number ≡ self.old.player.actor.number }
         ensures past { self.new.past ≡ self.old.past }
         ensures asks { self.new.asks ≡ self.old.asks }
+        ensures went { result ≡ next.Went → self.new.step ≡ step.Runs }
+        ensures waits { result ≡ next.Waits → self.old.step ≡ step.Runs → ⊥ }
+        ensures asked { result ≡ next.Asks → (q : Ask) × (self.new.step ≡ step.Asks q) }
+        ensures ended { result ≡ next.Ended → (self.new.step ≡ step.Runs) × ((o : Outcome) × (self.new.player.actor.outcome ≡ Some o)) }
     {
         // A law that the proof uses; it does nothing when it runs.
         actors_run();
@@ -211,9 +227,13 @@ fn made_with(asks: u64, reply: &Reply) -> u64
 }
 
 impl<'a, J: Run> LoggedActor<'a, J> {
-    /// Its ask is served by the store, behind all that it has seen: whether it was. One whose ask isn't served does no more.
+    /// Its ask is served by the store, behind all that it has seen: whether it was. One whose ask isn't served does no more: it has made 2^64 - 1 asks,
+    /// may not ask this, or the store is broken.
     pub fn ask_store(&mut self, store: &mut LoggedStore<J>) -> bool
         ensures number { self.new.player.actor.number ≡ self.old.player.actor.number }
+        ensures served { IsTrue result → (v : Served) × (self.new.step ≡ step.Answered 0 v) }
+        ensures unserved { IsFalse result → store.new.broken ≡ false → (q : Ask) → self.old.step ≡ step.Asks q → self.old.asks < 18446744073709551615 → MayNot J.code.cells (length J.code.threads) 0 self.old.player.actor.number q store.old.log.log }
+        ensures breaks { store.new.broken ≡ true → store.old.broken ≡ false → HasOthers 0 store.old.log.log self.old.past self.new.past }
     {
         let Step::Asks(ask) = mem::replace(&mut self.step, Step::Broken) else {
             return false;
@@ -238,9 +258,13 @@ impl<'a, J: Run> LoggedActor<'a, J> {
 }
 
 impl<'a, J: Run> LoggedActor<'a, J> {
-    /// Its ask is served by an atom, behind all that it has seen: whether it was. One whose ask isn't served does no more.
+    /// Its ask is served by an atom, behind all that it has seen: whether it was. One whose ask isn't served does no more: it has made 2^64 - 1 asks,
+    /// may not ask this, or the atom is broken.
     pub fn ask_atom(&mut self, atom: &mut LoggedAtom<J>) -> bool
         ensures number { self.new.player.actor.number ≡ self.old.player.actor.number }
+        ensures served { IsTrue result → (v : Served) × (self.new.step ≡ step.Answered (home J.code.cells atom.old.atom.cell) v) }
+        ensures unserved { IsFalse result → atom.new.broken ≡ false → (q : Ask) → self.old.step ≡ step.Asks q → self.old.asks < 18446744073709551615 → MayNot J.code.cells (length J.code.threads) (home J.code.cells atom.old.atom.cell) self.old.player.actor.number q atom.old.log.log }
+        ensures breaks { atom.new.broken ≡ true → atom.old.broken ≡ false → HasOthers (home J.code.cells atom.old.atom.cell) atom.old.log.log self.old.past self.new.past }
     {
         let Step::Asks(ask) = mem::replace(&mut self.step, Step::Broken) else {
             return false;
@@ -265,9 +289,10 @@ impl<'a, J: Run> LoggedActor<'a, J> {
     }
 }
 
-/// Notes the place of an event, if one was added: whether it is noted.
+/// Notes the place of an event, if one was added: whether it is noted. One that wasn't added needs no note.
 fn note(trace: &mut Vec<Place>, lock: u64, at: u32, added: bool) -> bool
-    ensures { IsTrue result → trace.new.items ≡ noted added lock at trace.old.items }
+    ensures noted { IsTrue result → trace.new.items ≡ noted added lock at trace.old.items }
+    ensures added { IsFalse result → IsTrue added }
 {
     if !added {
         return true;
@@ -279,10 +304,14 @@ fn note(trace: &mut Vec<Place>, lock: u64, at: u32, added: bool) -> bool
 }
 
 impl<'a, J: Run> LoggedActor<'a, J> {
-    /// It takes the answer to its ask, and notes the place of the event that was added. One that has no answer, or is handed an action that no code sends, does no more.
+    /// It takes the answer to its ask, and notes the place of the event that was added. One that has no answer, is handed an action that
+    /// no code sends, or has no room for the place does no more.
     pub fn go_on(&mut self) -> AfterReply
+        ensures number { self.new.player.actor.number ≡ self.old.player.actor.number }
         ensures past { self.new.past ≡ self.old.past }
         ensures asks { self.new.asks ≡ self.old.asks }
+        ensures goes { (result ≡ after.Broken → ⊥) → self.new.step ≡ step.Runs }
+        ensures broken { result ≡ after.Broken → (lock : ℕ) (v : Served) → self.old.step ≡ step.Answered lock v → HandsOutSent J.code v.reply → v.added ≡ false → ⊥ }
     {
         // A law that the proof uses; it does nothing when it runs.
         actors_run();
@@ -306,7 +335,8 @@ impl<'a, J: Run> LoggedActor<'a, J> {
 impl<'a, J: Run> LoggedActor<'a, J> {
     /// The ask that it waits with, if it waits with one.
     pub fn asked(&self) -> Option<&Ask>
-        ensures { IfSome result (λ q. self.now.step ≡ step.Asks q.now) }
+        ensures is { IfSome result (λ q. self.now.step ≡ step.Asks q.now) }
+        ensures none { result ≡ None → (q : Ask) → self.now.step ≡ step.Asks q → ⊥ }
     {
         match &self.step {
             Step::Asks(ask) => Some(ask),
@@ -338,6 +368,7 @@ impl<'a, J: Run> LoggedActor<'a, J> {
     /// Whether it is to run, so that no ask of it waits. Then it follows what it has seen.
     pub fn runs(&self) -> bool
         ensures runs { IsTrue result → self.now.step ≡ step.Runs }
+        ensures waits { IsFalse result → self.now.step ≡ step.Runs → ⊥ }
         ensures follows { IsTrue result → IsFollowing J.code self.now.player.actor self.now.player.trace.items self.now.asks self.now.past }
         ensures limit { self.now.player.actor.limit ≡ J.limit }
     {

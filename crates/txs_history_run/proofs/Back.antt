@@ -1,13 +1,14 @@
 -- Steps of the loops over atoms and actors that are back.
-use Rattle.std.proofs.Common.{◌≡◌, ◌+◌, ◌<◌, ◌==◌, ℕ, zero, suc, Bool, true, false, List, [], ◌∷◌, ◌++◌, length, map, take, get_or, Option, Some, refl, ap, sym, ◌∙◌, subst, arith}
+use Rattle.std.proofs.Common.{◌≡◌, ◌+◌, ◌<◌, ◌==◌, ℕ, zero, suc, ◌≤◌, ◌^◌, Bool, true, false, List, [], ◌∷◌, ◌++◌, length, map, take, get_or, Option, Some, refl, ap, sym, ◌∙◌, subst, arith}
 use Rattle.std.proofs.lemmas.Bool.Decides.{nat_tests}
 use mathlib.Core.List.{IsPrefix}
 use Rattle.txs_value_base.specs.Places.{nth}
+use Rattle.txs_world_protocol.specs.SeenEvent.{home}
 use Rattle.txs_value_cell.specs.declared.cell.CellDefinition.{CellDefinition}
 use Rattle.txs_code_meaning.specs.PlainCode.{PlainCode}
 use Rattle.txs_value_data.specs.declared.value.CellId.{CellId}
 use Rattle.txs_history.proofs.Beginnings.{prefix_trans}
-use Rattle.txs_history.specs.History.{events_of, IsWithin}
+use Rattle.txs_history.specs.History.{events_of, HasOthers, IsWithin}
 use Rattle.txs_theorem_runs.specs.Shared.{store_of}
 use Rattle.txs_theorem_history.specs.History.{History, shared_by, sum_to}
 use Rattle.txs_history_store.specs.Logged.{PlainLoggedAtom, PlainLoggedStore, locks_of}
@@ -16,9 +17,9 @@ use Rattle.txs_history_actor.proofs.Answering.{follows_longer}
 use Rattle.txs_machine.specs.Running.{attendants}
 use Rattle.txs_machine.specs.declared.player.AgentPlayer.{AgentPlayer}
 use Rattle.txs_machine.specs.declared.player.Player.{Player}
-use Rattle.txs_history_run.specs.Back.{ActorsFollow, ActorsSeen, AreBack, AtomsLeft, AtomsSeen, IsLeftBy, asked_of, asked_at}
+use Rattle.txs_history_run.specs.Back.{ActorsFollow, ActorsSeen, AreBack, ArePlaced, AreWhole, AtomsLeft, AtomsSeen, IsLeftBy, IsPlaced, IsWhole, asked_of, asked_at}
 use Rattle.txs_history_run.specs.Settled.{IsSettled, asks_by}
-use Rattle.txs_history_run.proofs.Counting.{sum_next}
+use Rattle.txs_history_run.proofs.Counting.{sum_next, sum_below}
 use Rattle.txs_history_run.proofs.Lists.{is_some, or_else, same_at, within_of}
 
 -- ---- one more place
@@ -104,6 +105,38 @@ back_so code limit a b h store atoms actors count asked made p q within seen sto
       settled_longer code limit k h x (prefix_trans x.past b h (prefix_trans x.past a b (seen k x less e) p) q) (follow.each k x less e));
   all = sym counted ∙ same ∙ follow.counted;
 }
+
+-- ---- where something lacks
+
+-- a log beside which the history has others isn't whole
+pub lacks_whole : (k : ℕ) (own old new : History) (broken : Bool) → (broken ≡ false → HasOthers k own old new) → IsWhole k new own broken → ⊥
+lacks_whole k own old new broken lacks w = (lacks w.works).others w.same
+
+pub atom_lacks : (cells : List CellDefinition) (old new : History) (atoms : List PlainLoggedAtom) (i : ℕ) (a : PlainLoggedAtom) → nth atoms i ≡ Some a
+    → (a.broken ≡ false → HasOthers (home cells a.atom.cell) a.log.log old new) → AreWhole cells new atoms → ⊥
+atom_lacks cells old new atoms i a at lacks w = lacks_whole (home cells a.atom.cell) a.log.log old new a.broken lacks (w.each i a at)
+
+-- the first atoms alone have as many asks as none may have
+pub atoms_over : (cells : List CellDefinition) (h : History) (atoms : List PlainLoggedAtom) (i : ℕ) (a : PlainLoggedAtom) (sum count : ℕ) → nth atoms i ≡ Some a → count ≡ asked_of cells h (Some a)
+    → AtomsLeft cells h i atoms sum → i < length atoms → 2 ^ 64 ≤ sum + count → AreWhole cells h atoms → ⊥
+atoms_over cells h atoms i a sum count at asked before less over w =
+    let one : count ≡ asked_at cells h atoms i = asked ∙ ap (asked_of cells h) (sym at) in
+    let next = sum_next i (asked_at cells h atoms) in
+    let below = sum_below (i + 1) (length atoms) (asked_at cells h atoms) (omega (arith, less)) in
+    omega (arith, one, next, before.counted, below, over, w.few)
+
+-- an actor that isn't placed
+pub not_placed : (actors : List PlainLogged) (i : ℕ) (x : PlainLogged) → nth actors i ≡ Some x → (IsPlaced i x → ⊥) → ArePlaced actors → ⊥
+not_placed actors i x at not p = not (p.each i x at)
+
+-- the first actors alone made as many asks as none may make
+pub actors_over : (code : PlainCode) (limit : ℕ) (actors : List PlainLogged) (i : ℕ) (x : PlainLogged) (sum count : ℕ) → nth actors i ≡ Some x → count ≡ x.asks → ActorsFollow code limit i actors sum
+    → i < length actors → 2 ^ 64 ≤ sum + count → ArePlaced actors → ⊥
+actors_over code limit actors i x sum count at asked before less over p =
+    let one : count ≡ asks_by actors i = asked ∙ asks_there actors i x at in
+    let next = sum_next i (asks_by actors) in
+    let below = sum_below (i + 1) (length actors) (asks_by actors) (omega (arith, less)) in
+    omega (arith, one, next, before.counted, below, over, p.few)
 
 -- ---- agents and their actors
 

@@ -9,6 +9,20 @@ use Rattle.txs_theorem_history.specs.History.{History, asks_in, sum_to}
 pub sum_next : (n : ℕ) (f : ℕ → ℕ) → sum_to (n + 1) f ≡ sum_to n f + f n
 sum_next n f = let one : n + 1 ≡ suc n = omega arith in ap (λ m. sum_to m f) one
 
+below_case : (n m : ℕ) (f : ℕ → ℕ) → (suc n ≤ m → sum_to (suc n) f ≤ sum_to m f) → sum_to n f ≤ sum_to m f → (b : Bool) → (n == m) ≡ b → suc n ≤ suc m → sum_to (suc n) f ≤ sum_to (suc m) f
+below_case n m f more rest true is le =
+    let same : n ≡ m = grind (arith, nat_tests, is) in
+    subst (λ k. sum_to (suc n) f ≤ sum_to (suc k) f) same (omega arith)
+below_case n m f more rest false is le =
+    let lower : suc n ≤ m = grind (arith, nat_tests, is, le) in
+    omega (arith, more lower)
+
+-- more numbers have no lesser sum
+pub sum_below : (n m : ℕ) (f : ℕ → ℕ) → n ≤ m → sum_to n f ≤ sum_to m f
+sum_below zero m f le = omega arith
+sum_below (suc n) zero f le = absurd (omega (arith, le))
+sum_below (suc n) (suc m) f le = below_case n m f (sum_below (suc n) m f) (sum_below n m f (omega (arith, le))) (n == m) refl le
+
 pub sum_same : (n : ℕ) (f g : ℕ → ℕ) → ((i : ℕ) → i < n → f i ≡ g i) → sum_to n f ≡ sum_to n g
 sum_same zero f g is = refl
 sum_same (suc n) f g is = omega (arith, sum_same n f g (λ i less. is i (omega (arith, less))), is n (omega arith))

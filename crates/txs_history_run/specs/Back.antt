@@ -1,5 +1,5 @@
 -- What is known of the store, the atoms and the actors of a run, where all of them are back.
-use Rattle.std.specs.Prelude.{◌≡◌, ◌<◌, ◌+◌, ℕ, List, length, Option, Some, None}
+use Rattle.std.specs.Prelude.{◌≡◌, ◌<◌, ◌+◌, ◌^◌, ℕ, Bool, false, List, length, map, Option, Some, None}
 use mathlib.Core.List.{IsPrefix}
 use Rattle.txs_world_protocol.specs.SeenEvent.{home}
 use Rattle.txs_value_base.specs.Places.{nth}
@@ -11,6 +11,9 @@ use Rattle.txs_theorem_runs.specs.Shared.{store_of, atom_of}
 use Rattle.txs_theorem_history.specs.History.{History, shared_by, sum_to}
 use Rattle.txs_history_store.specs.Logged.{PlainLoggedStore, PlainLoggedAtom, locks_of}
 use Rattle.txs_history_actor.specs.Actor.{PlainLogged}
+use Rattle.txs_history_actor.specs.declared.step.Step.TheVariants as step
+use Rattle.txs_world_shared.specs.Apart.{ArePartsOf}
+use Rattle.txs_machine.specs.Agents.{actors_of}
 use Rattle.txs_machine.specs.Playing.{AreReported}
 use Rattle.txs_machine.specs.Running.{attendants}
 use Rattle.txs_machine.specs.declared.player.Player.{Player}
@@ -62,6 +65,42 @@ pub record AreBack (code : PlainCode) (limit : ℕ) (h : History) (store : Plain
   pub atoms_are : (k : ℕ) (a : PlainLoggedAtom) → nth atoms k ≡ Some a → IsLeftBy code.cells h a
   pub each : (k : ℕ) (p : PlainLogged) → nth actors k ≡ Some p → IsSettled code limit k h p
   pub all : length (events_of 0 h) + sum_to (length atoms) (asked_at code.cells h atoms) ≡ sum_to (length actors) (asks_by actors)
+
+-- ---- where nothing is missing
+
+-- nothing under a lock is broken or lacks an ask of the history
+pub record IsWhole (k : ℕ) (h own : History) (broken : Bool) : Type 0 where
+  pub works : broken ≡ false
+  pub same : events_of k h ≡ events_of k own
+
+-- no atom is broken or lacks an ask, and there are fewer than 2^64 asks of them
+pub record AreWhole (cells : List CellDefinition) (h : History) (atoms : List PlainLoggedAtom) : Type 0 where
+  pub each : (k : ℕ) (a : PlainLoggedAtom) → nth atoms k ≡ Some a → IsWhole (home cells a.atom.cell) h a.log.log a.broken
+  pub few : sum_to (length atoms) (asked_at cells h atoms) < 2 ^ 64
+
+-- an actor asks nothing, and isn't broken, and has the number of its place
+pub record IsPlaced (k : ℕ) (p : PlainLogged) : Type 0 where
+  pub number : p.player.actor.number ≡ k
+  pub runs : p.step ≡ step.Runs
+
+-- so each of them does, and they made fewer than 2^64 asks
+pub record ArePlaced (actors : List PlainLogged) : Type 0 where
+  pub each : (k : ℕ) (p : PlainLogged) → nth actors k ≡ Some p → IsPlaced k p
+  pub few : sum_to (length actors) (asks_by actors) < 2 ^ 64
+
+-- Store and atoms have the asks of the history, the actors ask nothing, and made as many.
+pub record Agree (cells : List CellDefinition) (h : History) (store : PlainLoggedStore) (atoms : List PlainLoggedAtom) (actors : List PlainLogged) : Type 0 where
+  pub store_is : IsWhole 0 h store.log.log store.broken
+  pub atoms_are : AreWhole cells h atoms
+  pub placed : ArePlaced actors
+  pub few : length (events_of 0 h) + sum_to (length atoms) (asked_at cells h atoms) < 2 ^ 64
+  pub all : length (events_of 0 h) + sum_to (length atoms) (asked_at cells h atoms) ≡ sum_to (length actors) (asks_by actors)
+
+-- Nothing is missing: there is an actor for each thread and each agent; store and atoms are the parts of the code's state; and all of them agree.
+pub record IsAllBack (code : PlainCode) (h : History) (store : PlainLoggedStore) (atoms : List PlainLoggedAtom) (actors : List PlainLogged) : Type 0 where
+  pub one_each : length actors ≡ actors_of code
+  pub parts : ArePartsOf code.cells store.store (map book_of atoms)
+  pub agree : Agree code.cells h store atoms actors
 
 -- a report of these actors
 pub record IsReportOf (code : PlainCode) (actors : List PlainLogged) (report : Entries) : Type 0 where

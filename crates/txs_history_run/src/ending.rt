@@ -1,6 +1,6 @@
 //! What is looked at where all actors and all logs are back, and the report of the run.
 
-ghost use Rattle.std.specs.Prelude.{◌≡◌, ◌≤◌, ◌+◌, ◌⊎◌, ◌++◌, length, map, IfOk, IfErr, IfSome, IsTrue};
+ghost use Rattle.std.specs.Prelude.{◌≡◌, ◌≤◌, ◌+◌, ◌⊎◌, ◌++◌, ◌^◌, ◌<◌, ◌↔◌, length, map, None, IfOk, IfErr, IfSome, IsTrue, IsFalse};
 ghost use mathlib.Core.List.{IsPrefix};
 ghost use Rattle.txs_history.specs.History.{events_of};
 ghost use Rattle.txs_theorem_history.specs.History.{History, shared_by, sum_to};
@@ -11,7 +11,7 @@ ghost use Rattle.txs_machine.specs.Running.{attendants};
 ghost use Rattle.txs_machine.specs.declared.run_error.RunError.TheVariants.{JournalMismatch, Memory};
 ghost use Rattle.txs_world_shared.specs.Apart.{ArePartsOf};
 ghost use Rattle.txs_world_shared.specs.Kept.{state_of};
-ghost use Rattle.txs_history_run.specs.Back.{ActorsFollow, ActorsSeen, AreBack, AtomsLeft, AtomsSeen, IsReportOf, asked_at, book_of, player_of};
+ghost use Rattle.txs_history_run.specs.Back.{ActorsFollow, ActorsSeen, Agree, AreBack, ArePlaced, AreWhole, AtomsLeft, AtomsSeen, IsAllBack, IsPlaced, IsReportOf, IsWhole, asked_at, book_of, player_of};
 ghost use Rattle.txs_history_run.specs.Settled.{IsRunReport, IsSettled, asks_by};
 
 use crate::law::settled_is_run;
@@ -54,10 +54,13 @@ fn show_actors<J: Run>(actors: &[LoggedActor<'_, J>], past: &mut Past<Asked, J>)
     }
 }
 
-/// How many asks these atoms were asked, if each was asked all that a past has seen of it.
-fn count_atoms<J: Run>(atoms: &[LoggedAtom<J>], past: &Past<Asked, J>) -> Option<u64>
-    requires { AtomsSeen (length atoms.now) atoms.now past.now }
-    ensures { IfSome result (λ n. AtomsLeft J.code.cells past.now (length atoms.now) atoms.now n) }
+/// How many asks these atoms were asked, if each was asked all that a past has seen of it. None only where an atom is broken, or the history has
+/// asks of it that it lacks, which the past then has seen, or there are 2^64 asks.
+fn count_atoms<J: Run>(atoms: &[LoggedAtom<J>], past: &mut Past<Asked, J>) -> Option<u64>
+    requires { AtomsSeen (length atoms.now) atoms.now past.old }
+    ensures seen { IfSome result (λ n. past.new ≡ past.old) }
+    ensures left { IfSome result (λ n. AtomsLeft J.code.cells past.old (length atoms.now) atoms.now n) }
+    ensures lacks { result ≡ None → AreWhole J.code.cells past.new atoms.now → ⊥ }
 {
     let mut sum: u64 = 0;
     for i in 0..atoms.len() {
@@ -67,17 +70,20 @@ fn count_atoms<J: Run>(atoms: &[LoggedAtom<J>], past: &Past<Asked, J>) -> Option
     Some(sum)
 }
 
-/// How many asks the store and these atoms were asked, if each was asked all that a past has seen of it.
+/// How many asks the store and these atoms were asked, if each was asked all that a past has seen of it. None only where they don't agree with what
+/// the past then has seen.
 fn count_asked<J: Run>(
     store: &LoggedStore<J>,
     atoms: &[LoggedAtom<J>],
-    past: &Past<Asked, J>,
+    past: &mut Past<Asked, J>,
 ) -> Option<u64>
-    requires store { IsPrefix store.now.log.log past.now }
-    requires atoms { AtomsSeen (length atoms.now) atoms.now past.now }
-    ensures store { IfSome result (λ n. store.now.store ≡ store_of J.code.cells (length J.code.threads) (shared_by J.code.cells past.now)) }
-    ensures atoms { IfSome result (λ n. AtomsLeft J.code.cells past.now (length atoms.now) atoms.now (sum_to (length atoms.now) (asked_at J.code.cells past.now atoms.now))) }
-    ensures count { IfSome result (λ n. n ≡ length (events_of 0 past.now) + sum_to (length atoms.now) (asked_at J.code.cells past.now atoms.now)) }
+    requires store { IsPrefix store.now.log.log past.old }
+    requires atoms { AtomsSeen (length atoms.now) atoms.now past.old }
+    ensures seen { IfSome result (λ n. past.new ≡ past.old) }
+    ensures store { IfSome result (λ n. store.now.store ≡ store_of J.code.cells (length J.code.threads) (shared_by J.code.cells past.old)) }
+    ensures atoms { IfSome result (λ n. AtomsLeft J.code.cells past.old (length atoms.now) atoms.now (sum_to (length atoms.now) (asked_at J.code.cells past.old atoms.now))) }
+    ensures count { IfSome result (λ n. n ≡ length (events_of 0 past.old) + sum_to (length atoms.now) (asked_at J.code.cells past.old atoms.now)) }
+    ensures lacks { result ≡ None → IsWhole 0 past.new store.now.log.log store.now.broken → AreWhole J.code.cells past.new atoms.now → length (events_of 0 past.new) + sum_to (length atoms.now) (asked_at J.code.cells past.new atoms.now) < 2 ^ 64 → ⊥ }
 {
     let of_store = store.whole(past)?;
     let of_atoms = count_atoms(atoms, past)?;
@@ -86,7 +92,8 @@ fn count_asked<J: Run>(
 
 /// Whether an actor has this number, and asks nothing.
 fn is_placed<J: Run>(actor: &LoggedActor<'_, J>, number: usize) -> bool
-    ensures { IsTrue result → IsSettled J.code J.limit number actor.now.past actor.now }
+    ensures settled { IsTrue result → IsSettled J.code J.limit number actor.now.past actor.now }
+    ensures differs { IsFalse result → IsPlaced number actor.now → ⊥ }
 {
     if usize::from(actor.number()) != number {
         return false;
@@ -96,7 +103,8 @@ fn is_placed<J: Run>(actor: &LoggedActor<'_, J>, number: usize) -> bool
 
 /// How many asks these actors made, if each is at the place of its number, and asks nothing.
 fn count_actors<J: Run>(actors: &[LoggedActor<'_, J>]) -> Option<u64>
-    ensures { IfSome result (λ n. ActorsFollow J.code J.limit (length actors.now) actors.now n) }
+    ensures follow { IfSome result (λ n. ActorsFollow J.code J.limit (length actors.now) actors.now n) }
+    ensures differs { result ≡ None → ArePlaced actors.now → ⊥ }
 {
     let mut sum: u64 = 0;
     for i in 0..actors.len() {
@@ -116,15 +124,19 @@ fn are_back<J: Run>(
     actors: &[LoggedActor<'_, J>],
     past: &mut Past<Asked, J>,
 ) -> bool
-    ensures { IsTrue result → AreBack J.code J.limit past.new store.now atoms.now actors.now }
+    ensures back { IsTrue result → AreBack J.code J.limit past.new store.now atoms.now actors.now }
+    ensures differs { IsFalse result → Agree J.code.cells past.new store.now atoms.now actors.now → ⊥ }
 {
     show_actors(actors, past);
     show_atoms(atoms, past);
     store.show(past);
-    match (count_asked(store, atoms, past), count_actors(actors)) {
-        (Some(asked), Some(made)) => asked == made,
-        _ => false,
-    }
+    let Some(asked) = count_asked(store, atoms, past) else {
+        return false;
+    };
+    let Some(made) = count_actors(actors) else {
+        return false;
+    };
+    asked == made
 }
 
 /// The atoms without their logs.
@@ -148,6 +160,7 @@ fn join_parts<J: Run>(
     ensures state { IfOk result (λ s. s ≡ state_of code.now.cells store.store (map book_of atoms.items)) }
     ensures parts { IfOk result (λ s. ArePartsOf code.now.cells store.store (map book_of atoms.items)) }
     ensures refusals { IfErr result (λ e. (e ≡ JournalMismatch) ⊎ (e ≡ Memory)) }
+    ensures apart { IfErr result (λ e. e ≡ JournalMismatch → ArePartsOf code.now.cells store.store (map book_of atoms.items) → ⊥) }
 {
     let books = match into_books(alloc, atoms) {
         Ok(books) => books,
@@ -240,7 +253,7 @@ fn report_back<J: Run>(
 /// Whether there is an actor for each thread and each of these agents.
 fn is_one_each(code: &Verified, agents: &[CellId], actors: usize) -> bool
     requires { agents.now ≡ agents_of code.now }
-    ensures { IsTrue result → actors ≡ actors_of code.now }
+    ensures { IsTrue result ↔ (actors ≡ actors_of code.now) }
 {
     let threads = code.code().threads().len();
     actors >= threads && actors - threads == agents.len()
@@ -263,6 +276,7 @@ fn report_run<J: Run>(
     ensures of { IfOk result (λ g. IsStateOf code.now g.shared) }
     ensures report { IfOk result (λ g. IsRunReport code.now J.limit g.shared g.report) }
     ensures refusals { IfErr result (λ e. (e ≡ JournalMismatch) ⊎ (e ≡ Memory)) }
+    ensures apart { IfErr result (λ e. e ≡ JournalMismatch → ArePartsOf code.now.cells store.store (map book_of atoms.items) → ⊥) }
 {
     // Laws and steps that the proof uses; they do nothing when they run.
     settled_is_run();
@@ -290,8 +304,8 @@ fn report_run<J: Run>(
 /// history leaves, and the report is that of a run by turns: each actor is where its code comes to, and each program that the code follows explains it.
 ///
 /// # Errors
-/// `JournalMismatch` where one of them is missing or isn't at its place, a log or an actor is broken, or the numbers differ; `Memory` where there was no
-/// memory for the state or the report.
+/// `JournalMismatch` only where one of them is missing or isn't at its place, a log or an actor is broken, the history has asks that a log lacks, or the
+/// numbers differ; the past then has seen all that was compared. `Memory` where there was no memory for the state or the report.
 pub fn settle<J: Run>(
     alloc: Global,
     code: &Verified,
@@ -299,7 +313,7 @@ pub fn settle<J: Run>(
     store: LoggedStore<J>,
     atoms: Vec<LoggedAtom<J>>,
     actors: Vec<LoggedActor<'_, J>>,
-    past: Past<Asked, J>,
+    past: &mut Past<Asked, J>,
 ) -> Result<Gathered, RunError>
     requires code { code.now ≡ J.code }
     requires agents { agents.now ≡ agents_of code.now }
@@ -307,17 +321,15 @@ pub fn settle<J: Run>(
     ensures of { IfOk result (λ g. IsStateOf code.now g.shared) }
     ensures report { IfOk result (λ g. IsRunReport code.now J.limit g.shared g.report) }
     ensures refusals { IfErr result (λ e. (e ≡ JournalMismatch) ⊎ (e ≡ Memory)) }
+    ensures differs { IfErr result (λ e. e ≡ JournalMismatch → IsAllBack code.now past.new store atoms.items actors.entry.items → ⊥) }
 {
-    let mut past = past;
     if is_one_each(code, agents, actors.len())
-        && are_back(&store, atoms.as_slice(), actors.as_slice(), &mut past)
+        && are_back(&store, atoms.as_slice(), actors.as_slice(), past)
     {
-        drop(past);
         return report_run(alloc, code, agents, store, atoms, actors);
     }
     drop(store);
     drop(atoms);
     drop(actors);
-    drop(past);
     Err(RunError::JournalMismatch)
 }

@@ -5,7 +5,7 @@ ghost use mathlib.Core.List.{IsPrefix};
 ghost use Rattle.txs_world_protocol.specs.SeenEvent.{home};
 ghost use Rattle.txs_world_book.specs.Book as book;
 ghost use Rattle.txs_world_book.specs.Served.{cells_of};
-ghost use Rattle.txs_history.specs.History.{events_of, locks_in, IsWithin};
+ghost use Rattle.txs_history.specs.History.{events_of, locks_in, HasOthers, IsWithin};
 ghost use Rattle.txs_history.specs.declared.log.Entry.TheVariants as entry;
 ghost use Rattle.txs_theorem_runs.specs.Shared.{atom_of, has_atom};
 ghost use Rattle.txs_theorem_history.specs.History.{asked_by, shared_by};
@@ -82,7 +82,7 @@ impl<J: Run> LoggedAtom<J> {
     /// which there was no memory isn't served, and not in the history.
     ///
     /// None where the actor may not ask this of the atom, or behind 2^62 asks; then all is as it was. None, too, where the history has
-    /// asks of the atom that weren't served here, which no code adds. Then it is broken, and serves no more.
+    /// asks of the atom that weren't served here, which no code adds. Then it is broken, and serves no more, and the past has seen those.
     pub fn serve<X, M: StandsFor<X, Asked>>(
         &mut self,
         past: &mut Past<Asked, J>,
@@ -93,9 +93,9 @@ impl<J: Run> LoggedAtom<J> {
         requires about { M.event about.now ≡ asked_by actor ask }
         ensures served { IfSome result (λ v. WasServed J.code.cells (length J.code.threads) (home J.code.cells self.old.atom.cell) actor ask past.old past.new v) }
         ensures cell { self.new.atom.cell ≡ self.old.atom.cell }
-        ensures unseen { result ≡ None → past.new ≡ past.old }
-        ensures refused { result ≡ None → self.new.broken ≡ false → (self.new ≡ self.old) × MayNot J.code.cells (length J.code.threads) (home J.code.cells self.old.atom.cell) actor ask self.old.log.log }
-        ensures broken { self.old.broken ≡ true → (result ≡ None) × (self.new ≡ self.old) }
+        ensures refused { result ≡ None → self.new.broken ≡ false → (self.new ≡ self.old) × (past.new ≡ past.old) × MayNot J.code.cells (length J.code.threads) (home J.code.cells self.old.atom.cell) actor ask self.old.log.log }
+        ensures broken { self.old.broken ≡ true → (result ≡ None) × (self.new ≡ self.old) × (past.new ≡ past.old) }
+        ensures breaks { self.new.broken ≡ true → self.old.broken ≡ false → (result ≡ None) × (self.new.log ≡ self.old.log) × HasOthers (home J.code.cells self.old.atom.cell) self.old.log.log past.old past.new }
     {
         if self.broken || self.log.len() >= MOST_ASKS {
             drop(ask);
@@ -122,11 +122,15 @@ impl<J: Run> LoggedAtom<J> {
 
     /// How many asks it has, if the past, which has seen them, has no others under its lock, and it isn't broken. Then it is the atom
     /// after all that the past has seen.
-    pub fn whole(&self, past: &Past<Asked, J>) -> Option<u64>
-        requires seen { IsPrefix self.now.log.log past.now }
-        ensures all { IfSome result (λ n. events_of (home J.code.cells self.now.atom.cell) past.now ≡ events_of (home J.code.cells self.now.atom.cell) self.now.log.log) }
-        ensures count { IfSome result (λ n. n ≡ length (events_of (home J.code.cells self.now.atom.cell) past.now)) }
-        ensures atom { IfSome result (λ n. self.now.atom ≡ atom_of J.code.cells self.now.atom.cell ((shared_by J.code.cells past.now).books (home J.code.cells self.now.atom.cell))) }
+    ///
+    /// None where it is broken, or where the history has others, which the past then has seen.
+    pub fn whole(&self, past: &mut Past<Asked, J>) -> Option<u64>
+        requires seen { IsPrefix self.now.log.log past.old }
+        ensures seen { IfSome result (λ n. past.new ≡ past.old) }
+        ensures all { IfSome result (λ n. events_of (home J.code.cells self.now.atom.cell) past.old ≡ events_of (home J.code.cells self.now.atom.cell) self.now.log.log) }
+        ensures count { IfSome result (λ n. n ≡ length (events_of (home J.code.cells self.now.atom.cell) past.old)) }
+        ensures atom { IfSome result (λ n. self.now.atom ≡ atom_of J.code.cells self.now.atom.cell ((shared_by J.code.cells past.old).books (home J.code.cells self.now.atom.cell))) }
+        ensures lacks { result ≡ None → self.now.broken ≡ false → HasOthers (home J.code.cells self.now.atom.cell) self.now.log.log past.old past.new }
     {
         if self.broken || !self.log.is_whole(past) {
             return None;

@@ -1,7 +1,7 @@
 //! What an ask comes to, and its place in the log.
 
 ghost use Rattle.std.specs.Prelude.{◌≡◌, ◌<◌, ◌≤◌, ◌^◌, length, IsTrue, IsFalse};
-ghost use Rattle.txs_history.specs.History.{events_of};
+ghost use Rattle.txs_history.specs.History.{events_of, HasOthers};
 ghost use Rattle.txs_value_data.specs.Limits.{most_events};
 ghost use Rattle.txs_history_store.specs.Logged.{is_memory, WasNoted};
 
@@ -41,7 +41,7 @@ fn is_memory(reply: &Reply) -> bool
 
 /// Adds the ask that is lent to a log, behind all that a past has seen, which then has seen it. Where the reply is that there was no memory
 /// nothing was served, so nothing is added. Then it is only asked whether the log has all asks under its number that the past may have
-/// seen. False where it doesn't; all is as it was.
+/// seen. False only where the history has others, which the past then has seen; nothing is added.
 pub(crate) fn note<X, M: StandsFor<X, Asked>, J: Naming>(
     log: &mut Log<Asked, J>,
     past: &mut Past<Asked, J>,
@@ -51,12 +51,16 @@ pub(crate) fn note<X, M: StandsFor<X, Asked>, J: Naming>(
     requires room { length (events_of log.old.key log.old.log) < 2 ^ 62 }
     ensures key { log.new.key ≡ log.old.key }
     ensures noted { IsTrue result → WasNoted (is_memory reply.now) log.old.key log.old.log past.old log.new.log past.new (M.event about.now) }
-    ensures failed { IsFalse result → (log.new ≡ log.old) × (past.new ≡ past.old) }
+    ensures failed { IsFalse result → (log.new ≡ log.old) × HasOthers log.old.key log.old.log past.old past.new }
 {
     if !is_memory(reply) {
         return log.push::<X, M>(past, about);
     }
     let mut seen = past.again();
     seen.learn(log);
-    log.is_whole(&seen)
+    if log.is_whole(&mut seen) {
+        return true;
+    }
+    *past = seen;
+    false
 }

@@ -2,7 +2,7 @@
 
 ghost use Rattle.std.specs.Prelude.{◌≡◌, ◌<◌, ◌^◌, ◌∷◌, [], length, true, false, None, IfSome};
 ghost use mathlib.Core.List.{IsPrefix};
-ghost use Rattle.txs_history.specs.History.{events_of, locks_in, IsWithin};
+ghost use Rattle.txs_history.specs.History.{events_of, locks_in, HasOthers, IsWithin};
 ghost use Rattle.txs_history.specs.declared.log.Entry.TheVariants as entry;
 ghost use Rattle.txs_theorem_runs.specs.Shared.{store_of, untouched};
 ghost use Rattle.txs_theorem_history.specs.History.{asked_by, shared_by};
@@ -77,7 +77,7 @@ impl<J: Run> LoggedStore<J> {
     /// which there was no memory isn't served, and not in the history.
     ///
     /// None where the actor may not ask this of the store, or behind 2^62 asks; then all is as it was. None, too, where the history has
-    /// asks of the store that weren't served here, which no code adds. Then it is broken, and serves no more.
+    /// asks of the store that weren't served here, which no code adds. Then it is broken, and serves no more, and the past has seen those.
     pub fn serve<X, M: StandsFor<X, Asked>>(
         &mut self,
         past: &mut Past<Asked, J>,
@@ -87,9 +87,9 @@ impl<J: Run> LoggedStore<J> {
     ) -> Option<Served>
         requires about { M.event about.now ≡ asked_by actor ask }
         ensures served { IfSome result (λ v. WasServed J.code.cells (length J.code.threads) 0 actor ask past.old past.new v) }
-        ensures unseen { result ≡ None → past.new ≡ past.old }
-        ensures refused { result ≡ None → self.new.broken ≡ false → (self.new ≡ self.old) × MayNot J.code.cells (length J.code.threads) 0 actor ask self.old.log.log }
-        ensures broken { self.old.broken ≡ true → (result ≡ None) × (self.new ≡ self.old) }
+        ensures refused { result ≡ None → self.new.broken ≡ false → (self.new ≡ self.old) × (past.new ≡ past.old) × MayNot J.code.cells (length J.code.threads) 0 actor ask self.old.log.log }
+        ensures broken { self.old.broken ≡ true → (result ≡ None) × (self.new ≡ self.old) × (past.new ≡ past.old) }
+        ensures breaks { self.new.broken ≡ true → self.old.broken ≡ false → (result ≡ None) × (self.new.log ≡ self.old.log) × HasOthers 0 self.old.log.log past.old past.new }
     {
         if self.broken || self.log.len() >= MOST_ASKS {
             drop(ask);
@@ -116,11 +116,15 @@ impl<J: Run> LoggedStore<J> {
 
     /// How many asks it has, if the past, which has seen them, has no others under its lock, and it isn't broken. Then it is the store
     /// after all that the past has seen.
-    pub fn whole(&self, past: &Past<Asked, J>) -> Option<u64>
-        requires seen { IsPrefix self.now.log.log past.now }
-        ensures all { IfSome result (λ n. events_of 0 past.now ≡ events_of 0 self.now.log.log) }
-        ensures count { IfSome result (λ n. n ≡ length (events_of 0 past.now)) }
-        ensures store { IfSome result (λ n. self.now.store ≡ store_of J.code.cells (length J.code.threads) (shared_by J.code.cells past.now)) }
+    ///
+    /// None where it is broken, or where the history has others, which the past then has seen.
+    pub fn whole(&self, past: &mut Past<Asked, J>) -> Option<u64>
+        requires seen { IsPrefix self.now.log.log past.old }
+        ensures seen { IfSome result (λ n. past.new ≡ past.old) }
+        ensures all { IfSome result (λ n. events_of 0 past.old ≡ events_of 0 self.now.log.log) }
+        ensures count { IfSome result (λ n. n ≡ length (events_of 0 past.old)) }
+        ensures store { IfSome result (λ n. self.now.store ≡ store_of J.code.cells (length J.code.threads) (shared_by J.code.cells past.old)) }
+        ensures lacks { result ≡ None → self.now.broken ≡ false → HasOthers 0 self.now.log.log past.old past.new }
     {
         if self.broken || !self.log.is_whole(past) {
             return None;

@@ -11,7 +11,7 @@ use std::fmt::{self, Debug, Display, Formatter, Write};
 /// Why there is no report of a run by workers.
 #[derive(Clone, Copy, PartialEq, Eq)]
 pub enum RunError {
-    /// What the actors did doesn't agree with the books.
+    /// What the actors did is no run by turns, which no run that ends is known to give.
     JournalMismatch,
     /// There were to be no workers, or over 64, or one couldn't be started.
     NoThread,

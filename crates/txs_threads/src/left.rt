@@ -157,7 +157,16 @@ pub(crate) fn settle_left<J: Run>(
         }
     };
     run_rounds(&mut store, &mut atoms, all.as_mut_slice());
-    let gathered = settle(alloc, code, agents, store, atoms.into_atoms(), all, past)?;
+    let mut past = past;
+    let gathered = settle(
+        alloc,
+        code,
+        agents,
+        store,
+        atoms.into_atoms(),
+        all,
+        &mut past,
+    )?;
     if is_whole(&gathered, agents) {
         return Ok(gathered);
     }

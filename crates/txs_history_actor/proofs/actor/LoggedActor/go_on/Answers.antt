@@ -1,10 +1,10 @@
-use Rattle.std.proofs.Common.{ℕ, List, Option, length, sym, ap, subst, ◌∙◌, ◌≡◌, None}
+use Rattle.std.proofs.Common.{List, Option, sym, ap, subst, ◌∙◌, ◌≡◌, None}
 use Rattle.txs_world_protocol.specs.declared.ask.Ask.{Ask}
 use Rattle.txs_world_protocol.specs.declared.event.Place.{Place}
 use Rattle.txs_code_meaning.specs.PlainCode.{PlainCode}
 use Rattle.txs_machine_actor.specs.PlainActor.{PlainActor, Lives, MayAnswerIf, answered, unanswered}
-use Rattle.txs_history_actor.specs.Actor.{IsFollowing, IsInStep, IsServed, noted}
-use Rattle.txs_history_actor.proofs.On.{answer_limit}
+use Rattle.txs_history_actor.specs.Actor.{IsFollowing, IsInStep, IsServed, PlainLogged}
+use Rattle.txs_history_actor.proofs.On.{answer_same}
 use Rattle.txs_history_actor.proofs.Sent.{hands_sent}
 use Rattle.txs_history_actor.proofs.Taking.{may_take, taken_follows}
 use Rattle.txs_history_actor.proofs.actor.LoggedActor.go_on.Goals as goal
@@ -38,8 +38,21 @@ invariant_of-self-2 g c =
       c.self.invariant.0,
       c.self.invariant.1,
       record {
-        limit_is = ap (λ (b : PlainActor). b.limit) c.answer.ensures.answered ∙ answer_limit p.actor s.ask v.reply s.waiting.waits may ∙ c.self.invariant.2.limit_is;
+        limit_is = ap (λ (b : PlainActor). b.limit) c.answer.ensures.answered ∙ (answer_same p.actor s.ask v.reply s.waiting.waits may).0 ∙ c.self.invariant.2.limit_is;
         in_step = subst (λ (b : PlainActor). IsFollowing code b c.note.new.trace.items m h) (sym c.answer.ensures.answered)
-            (subst (λ (tr : List Place). IsFollowing code (answered p.actor v.reply) tr m h) (sym (c.note.ensures c.if-not-note.false)) f);
+            (subst (λ (tr : List Place). IsFollowing code (answered p.actor v.reply) tr m h) (sym (c.note.ensures.noted c.if-not-note.false)) f);
       },
     )
+
+pub returns-clause-number : goal.returns-clause-number
+returns-clause-number g c =
+    let p = c.self.inside.player in
+    let code = g.J.Run.code in
+    let v = c.in-Answered.served in
+    let s : IsServed code p.actor c.in-Answered.lock v p.trace.items c.self.inside.asks c.self.inside.past =
+    subst (IsInStep code p.actor p.trace.items c.self.inside.asks c.self.inside.past) (sym c.replace.ensures.value ∙ c.in-Answered.is) c.self.invariant.2.in_step in
+    let may = may_take code p.actor c.in-Answered.lock v p.trace.items c.self.inside.asks c.self.inside.past s in
+    ap (λ (b : PlainActor). b.number) c.answer.ensures.answered ∙ (answer_same p.actor s.ask v.reply s.waiting.waits may).1 ∙ ap (λ (x : PlainLogged). x.player.actor.number) c.self.view_is
+
+pub returns-clause-broken : goal.returns-clause-broken
+returns-clause-broken g c is = absurd (c.after_reply-next.ensures is)

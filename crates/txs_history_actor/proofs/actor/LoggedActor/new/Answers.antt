@@ -1,4 +1,4 @@
-use Rattle.std.proofs.Common.{List, subst}
+use Rattle.std.proofs.Common.{subst}
 use Rattle.txs_code_meaning.specs.PlainCode.{PlainCode}
 use Rattle.txs_history_actor.specs.Actor.{IsFollowing}
 use Rattle.txs_history_actor.proofs.Turning.{new_following}

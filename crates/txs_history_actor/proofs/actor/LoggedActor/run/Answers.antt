@@ -1,12 +1,12 @@
-use Rattle.std.proofs.Common.{List, Option, sym, subst, ◌∙◌}
+use Rattle.std.proofs.Common.{List, Option, ap, sym, subst, ◌∙◌}
 use Rattle.txs_world_protocol.specs.declared.ask.Ask.{Ask}
 use Rattle.txs_world_protocol.specs.declared.ask.Reply.TheVariants as reply
 use Rattle.txs_world_protocol.specs.declared.event.Place.{Place}
 use Rattle.txs_machine_actor.specs.PlainActor.{MayAnswerIf}
 use Rattle.txs_machine_actor.specs.declared.outcome.Turn.{Turn}
-use Rattle.txs_history_actor.specs.Actor.{IsFollowing, IsInStep, IsWaiting}
+use Rattle.txs_history_actor.specs.Actor.{IsFollowing, IsInStep, IsWaiting, PlainLogged}
 use Rattle.txs_history_actor.specs.declared.step.Step.{Step}
-use Rattle.txs_history_actor.proofs.Running.{ran, ran_limit, refused_may, stopped_so}
+use Rattle.txs_history_actor.proofs.Running.{ran, ran_limit, ran_number, refused_may, stopped_so}
 use Rattle.txs_history_actor.proofs.Turning.{IsTurned}
 use Rattle.txs_history_actor.proofs.actor.LoggedActor.run.Goals as goal
 
@@ -90,3 +90,23 @@ invariant_of-self-in-Asks g c =
         in_step = subst (λ (st : Step). IsInStep own c.answer.new.self c.has_room.new.trace.items m h st) (sym c.in-Runs.is) (subst (λ (l : List Place). IsFollowing own c.answer.new.self l m h) (sym c.has_room.ensures.same) s.0);
       },
     )
+
+pub returns-then-has_room-clause-number : goal.returns-then-has_room-clause-number
+returns-then-has_room-clause-number g c = ran_number c.actors_run.ensures c.self.inside.code.now g.J.Run.code c.self.invariant.0 c.args.budget c.self.inside.player.actor c.run.new.self c.run.new.turn c.self.inside.player.trace.items c.self.inside.asks c.self.inside.past c.self.inside.step c.in-Runs.is c.run.ensures.turns c.run.ensures.says c.run.ensures.lives c.self.invariant.2.in_step ∙ ap (λ (x : PlainLogged). x.player.actor.number) c.self.view_is
+
+pub returns-in-Went-clause-number : goal.returns-in-Went-clause-number
+returns-in-Went-clause-number g c = ran_number c.actors_run.ensures c.self.inside.code.now g.J.Run.code c.self.invariant.0 c.args.budget c.self.inside.player.actor c.run.new.self c.run.new.turn c.self.inside.player.trace.items c.self.inside.asks c.self.inside.past c.self.inside.step c.in-Runs.is c.run.ensures.turns c.run.ensures.says c.run.ensures.lives c.self.invariant.2.in_step ∙ ap (λ (x : PlainLogged). x.player.actor.number) c.self.view_is
+
+pub returns-in-Ended-clause-number : goal.returns-in-Ended-clause-number
+returns-in-Ended-clause-number g c = ran_number c.actors_run.ensures c.self.inside.code.now g.J.Run.code c.self.invariant.0 c.args.budget c.self.inside.player.actor c.run.new.self c.run.new.turn c.self.inside.player.trace.items c.self.inside.asks c.self.inside.past c.self.inside.step c.in-Runs.is c.run.ensures.turns c.run.ensures.says c.run.ensures.lives c.self.invariant.2.in_step ∙ ap (λ (x : PlainLogged). x.player.actor.number) c.self.view_is
+
+pub returns-else-has_room-clause-number : goal.returns-else-has_room-clause-number
+returns-else-has_room-clause-number g c =
+    let tr = c.self.inside.player.trace.items in
+    let own = g.J.Run.code in
+    let m = c.self.inside.asks in
+    let h = c.self.inside.past in
+    let t = ran c.actors_run.ensures c.self.inside.code.now g.J.Run.code c.self.invariant.0 c.args.budget c.self.inside.player.actor c.run.new.self c.run.new.turn c.self.inside.player.trace.items c.self.inside.asks c.self.inside.past c.self.inside.step c.in-Runs.is c.run.ensures.turns c.run.ensures.says c.run.ensures.lives c.self.invariant.2.in_step in
+    let w : IsWaiting own c.run.new.self c.in-Asks.ask tr m h = subst (λ (r : Turn). IsTurned own r c.run.new.self tr m h) c.in-Asks.is t in
+    let s = stopped_so c.actors_run.ensures c.self.inside.code.now own c.self.invariant.0 c.run.new.self c.answer.new.self c.in-Asks.ask tr m h w (c.has_room.ensures.adds c.if-has_room.false) c.answer.ensures.answered c.answer.ensures.lives c.answer.ensures.free in
+    s.2 ∙ ran_number c.actors_run.ensures c.self.inside.code.now g.J.Run.code c.self.invariant.0 c.args.budget c.self.inside.player.actor c.run.new.self c.run.new.turn c.self.inside.player.trace.items c.self.inside.asks c.self.inside.past c.self.inside.step c.in-Runs.is c.run.ensures.turns c.run.ensures.says c.run.ensures.lives c.self.invariant.2.in_step ∙ ap (λ (x : PlainLogged). x.player.actor.number) c.self.view_is

@@ -15,6 +15,7 @@ returns-in_err-served-clause-refused g c =
     let r = c.serve_atom.ensures.refused c.in_err-served.was in
     λ none works. (
       ap (λ (x : PlainAtom). plain x c.self.inside.log c.self.inside.broken) r.0 ∙ c.self.view_is,
+      refl,
       subst (λ (p : PlainLoggedAtom). MayNot g.J.Run.code.cells (length g.J.Run.code.threads) (home g.J.Run.code.cells p.atom.cell) c.args.actor c.args.ask p.log.log) c.self.view_is
           (atom_refuses g.J.Run.code c.self.inside.actors c.self.inside.atom c.self.inside.log c.self.inside.broken c.args.actor c.args.ask c.if-self.false c.self.invariant r.1),
     )

@@ -14,6 +14,7 @@ returns-in_err-served-clause-refused g c =
     let r = c.serve_store.ensures.refused c.in_err-served.was in
     λ none works. (
       ap (λ (x : PlainStore). plain x c.self.inside.log c.self.inside.broken) r.0 ∙ c.self.view_is,
+      refl,
       subst (λ (p : PlainLoggedStore). MayNot g.J.Run.code.cells (length g.J.Run.code.threads) 0 c.args.actor c.args.ask p.log.log) c.self.view_is
           (store_refuses g.J.Run.code c.self.inside.store c.self.inside.log c.self.inside.broken c.args.actor c.args.ask c.if-self.false c.self.invariant r.1),
     )
