@@ -1,5 +1,6 @@
 -- What holds of an actor that has seen a history: it follows the history by its code, and is where the run's actor is.
-use Rattle.std.specs.Prelude.{◌≡◌, ◌<◌, ℕ, suc, Bool, true, false, List, [], ◌∷◌, ◌++◌, length, map, Option, Some, None, if◌then◌else◌}
+use Rattle.std.specs.Prelude.{◌≡◌, ◌<◌, ◌≤◌, ℕ, suc, Bool, true, false, List, [], ◌∷◌, ◌++◌, length, map, Option, Some, None, if◌then◌else◌, vec_capacity, vec_len}
+use Rattle.txs_world_protocol.specs.Ask.{may_add_event}
 use Rattle.txs_world_protocol.specs.declared.ask.Ask.{Ask}
 use Rattle.txs_world_protocol.specs.declared.ask.Ask.TheVariants.{Begin}
 use Rattle.txs_world_protocol.specs.declared.event.Place.{Place}
@@ -105,7 +106,15 @@ IsInStep code a tr n h (step.Asks q) = IsWaiting code a q tr n h
 IsInStep code a tr n h (step.Answered book v) = IsServed code a book v tr n h
 IsInStep code a tr n h step.Broken = Unit {0}
 
+-- Of so many places that are noted, and so many for which there is room: an ask that may add an event has room for its place, and so has an answer with an event. The number of a lock fits that of a book.
+abbrev pub HasRoom : (noted room : ℕ) → Step → Type 0
+HasRoom n room step.Runs = Unit {0}
+HasRoom n room (step.Asks q) = may_add_event q ≡ true → n < room
+HasRoom n room (step.Answered lock v) = (lock ≤ 65536) × (v.added ≡ true → n < room)
+HasRoom n room step.Broken = Unit {0}
+
 -- it was made for this code and so many steps
 pub record IsLogged (code : PlainCode) (limit : ℕ) (p : PlainLogged) : Type 0 where
   pub limit_is : p.player.actor.limit ≡ limit
   pub in_step : IsInStep code p.player.actor p.player.trace.items p.asks p.past p.step
+  pub room : HasRoom (vec_len p.player.trace) (vec_capacity p.player.trace) p.step

@@ -1,6 +1,6 @@
 //! An actor with what it has seen of the history.
 
-ghost use Rattle.std.specs.Prelude.{◌≡◌, ◌<◌, ℕ, length, true, false, ◌++◌, ◌∷◌, [], None, Some, IfSome, IsTrue, IsFalse};
+ghost use Rattle.std.specs.Prelude.{◌≡◌, ◌<◌, ◌≤◌, ℕ, length, true, false, ◌++◌, ◌∷◌, [], None, Some, IfSome, IsTrue, IsFalse, vec_capacity, vec_len};
 ghost use mathlib.Core.List.{IsPrefix};
 ghost use Rattle.txs_world_protocol.specs.Ask.{may_add_event};
 ghost use Rattle.txs_machine_actor.specs.PlainActor.{Lives};
@@ -174,6 +174,7 @@ impl<'a, J: Run> LoggedActor<'a, J> {
 fn has_room(trace: &mut Vec<Place>, ask: &Ask) -> bool
     ensures same { trace.new.items ≡ trace.old.items }
     ensures adds { result ≡ false → may_add_event ask.now ≡ true }
+    ensures room { IsTrue result → may_add_event ask.now ≡ true → vec_len trace.new < vec_capacity trace.new }
 {
     if !ask.may_add_event() {
         return true;
@@ -289,29 +290,29 @@ impl<'a, J: Run> LoggedActor<'a, J> {
     }
 }
 
-/// Notes the place of an event, if one was added: whether it is noted. One that wasn't added needs no note.
-fn note(trace: &mut Vec<Place>, lock: u64, at: u32, added: bool) -> bool
-    ensures noted { IsTrue result → trace.new.items ≡ noted added lock at trace.old.items }
-    ensures added { IsFalse result → IsTrue added }
+/// Notes the place of an event, if one was added.
+fn note(trace: &mut Vec<Place>, lock: u64, at: u32, added: bool)
+    requires room { added ≡ true → vec_len trace.old < vec_capacity trace.old }
+    requires few { lock ≤ 65536 }
+    ensures { trace.new.items ≡ noted added lock at trace.old.items }
 {
-    if !added {
-        return true;
+    if added {
+        trace.push_reserved(Place {
+            book: lock as u32,
+            at,
+        });
     }
-    let Ok(book) = u32::try_from(lock) else {
-        return false;
-    };
-    trace.push(Place { book, at }).is_ok()
 }
 
 impl<'a, J: Run> LoggedActor<'a, J> {
-    /// It takes the answer to its ask, and notes the place of the event that was added. One that has no answer, is handed an action that
-    /// no code sends, or has no room for the place does no more.
+    /// It takes the answer to its ask, and notes the place of the event that was added. One that has no answer, or is handed an action that
+    /// no code sends, does no more.
     pub fn go_on(&mut self) -> AfterReply
         ensures number { self.new.player.actor.number ≡ self.old.player.actor.number }
         ensures past { self.new.past ≡ self.old.past }
         ensures asks { self.new.asks ≡ self.old.asks }
         ensures goes { (result ≡ after.Broken → ⊥) → self.new.step ≡ step.Runs }
-        ensures broken { result ≡ after.Broken → (lock : ℕ) (v : Served) → self.old.step ≡ step.Answered lock v → HandsOutSent J.code v.reply → v.added ≡ false → ⊥ }
+        ensures broken { result ≡ after.Broken → (lock : ℕ) (v : Served) → self.old.step ≡ step.Answered lock v → HandsOutSent J.code v.reply → ⊥ }
     {
         // A law that the proof uses; it does nothing when it runs.
         actors_run();
@@ -319,12 +320,11 @@ impl<'a, J: Run> LoggedActor<'a, J> {
             return AfterReply::Broken;
         };
         let Served { reply, at, added } = served;
-        if !hands_out(self.code, self.callees, &reply)
-            || !note(&mut self.player.trace, lock, at, added)
-        {
+        if !hands_out(self.code, self.callees, &reply) {
             drop(reply);
             return AfterReply::Broken;
         }
+        note(&mut self.player.trace, lock, at, added);
         let next = after_reply(&reply);
         self.player.actor.answer(self.code, reply);
         self.step = Step::Runs;

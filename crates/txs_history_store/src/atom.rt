@@ -1,6 +1,6 @@
 //! An atom with the log of what it was asked.
 
-ghost use Rattle.std.specs.Prelude.{◌≡◌, ◌<◌, ◌^◌, ◌∷◌, [], length, true, false, None, IfSome};
+ghost use Rattle.std.specs.Prelude.{◌≡◌, ◌<◌, ◌≤◌, ◌^◌, ◌∷◌, [], length, true, false, None, IfSome};
 ghost use mathlib.Core.List.{IsPrefix};
 ghost use Rattle.txs_world_protocol.specs.SeenEvent.{home};
 ghost use Rattle.txs_world_book.specs.Book as book;
@@ -57,6 +57,11 @@ fn serve_atom(atom: &mut AtomBook, actors: usize, actor: u16, ask: Ask) -> Optio
     let added = (at as usize) < atom.events().len();
     Some(Served { reply, at, added })
 }
+
+/// A step of proofs, which does nothing when it runs: the number of a cell fits 16 bits.
+fn fits(number: u16)
+    ensures { number < 65536 }
+{}
 
 impl<J: Run> LoggedAtom<J> {
     /// An atom of a run as it opens, for so many actors, with the log of its lock.
@@ -138,10 +143,13 @@ impl<J: Run> LoggedAtom<J> {
         Some(self.log.len())
     }
 
-    /// The number of its lock.
+    /// The number of its lock, of at most 65,536.
     pub fn lock(&self) -> u64
-        ensures { result ≡ home J.code.cells self.now.atom.cell }
+        ensures number { result ≡ home J.code.cells self.now.atom.cell }
+        ensures few { result ≤ 65536 }
     {
+        // A step of the proof, which does nothing when it runs.
+        fits(self.atom.cell().number);
         self.log.key()
     }
 

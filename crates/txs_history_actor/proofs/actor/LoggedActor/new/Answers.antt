@@ -14,5 +14,6 @@ invariant_of-result g c =
       record {
         limit_is = c.requires.new.limited;
         in_step = subst (λ (d : PlainCode). IsFollowing d a c.new.result.items 0 c.args.past) c.requires.code f;
+        room = tt;
       },
     )

@@ -1,10 +1,10 @@
-use Rattle.std.proofs.Common.{List, Option, ap, sym, subst, ◌∙◌}
+use Rattle.std.proofs.Common.{List, Option, ap, sym, subst, ◌∙◌, vec_capacity, vec_len}
 use Rattle.txs_world_protocol.specs.declared.ask.Ask.{Ask}
 use Rattle.txs_world_protocol.specs.declared.ask.Reply.TheVariants as reply
 use Rattle.txs_world_protocol.specs.declared.event.Place.{Place}
 use Rattle.txs_machine_actor.specs.PlainActor.{MayAnswerIf}
 use Rattle.txs_machine_actor.specs.declared.outcome.Turn.{Turn}
-use Rattle.txs_history_actor.specs.Actor.{IsFollowing, IsInStep, IsWaiting, PlainLogged}
+use Rattle.txs_history_actor.specs.Actor.{HasRoom, IsFollowing, IsInStep, IsWaiting, PlainLogged}
 use Rattle.txs_history_actor.specs.declared.step.Step.{Step}
 use Rattle.txs_history_actor.proofs.Running.{ran, ran_limit, ran_number, refused_may, stopped_so}
 use Rattle.txs_history_actor.proofs.Turning.{IsTurned}
@@ -24,6 +24,7 @@ invariant_of-self g c =
       record {
         limit_is = n ∙ c.self.invariant.2.limit_is;
         in_step = subst (λ (s : Step). IsInStep own c.run.new.self tr m h s) (sym c.in-Runs.is) (subst (λ (r : Turn). IsTurned own r c.run.new.self tr m h) c.in-Went.is t);
+        room = subst (HasRoom (vec_len c.self.inside.player.trace) (vec_capacity c.self.inside.player.trace)) (sym c.in-Runs.is) tt;
       },
     )
 
@@ -41,6 +42,7 @@ invariant_of-self-in-Ended g c =
       record {
         limit_is = n ∙ c.self.invariant.2.limit_is;
         in_step = subst (λ (s : Step). IsInStep own c.run.new.self tr m h s) (sym c.in-Runs.is) (subst (λ (r : Turn). IsTurned own r c.run.new.self tr m h) c.in-Ended.is t);
+        room = subst (HasRoom (vec_len c.self.inside.player.trace) (vec_capacity c.self.inside.player.trace)) (sym c.in-Runs.is) tt;
       },
     )
 
@@ -58,6 +60,7 @@ invariant_of-self-then-has_room g c =
       record {
         limit_is = n ∙ c.self.invariant.2.limit_is;
         in_step = subst (λ (l : List Place). IsWaiting own c.run.new.self c.in-Asks.ask l m h) (sym c.has_room.ensures.same) (subst (λ (r : Turn). IsTurned own r c.run.new.self tr m h) c.in-Asks.is t);
+        room = c.has_room.ensures.room c.if-has_room.true;
       },
     )
 
@@ -88,6 +91,7 @@ invariant_of-self-in-Asks g c =
       record {
         limit_is = s.1 ∙ n ∙ c.self.invariant.2.limit_is;
         in_step = subst (λ (st : Step). IsInStep own c.answer.new.self c.has_room.new.trace.items m h st) (sym c.in-Runs.is) (subst (λ (l : List Place). IsFollowing own c.answer.new.self l m h) (sym c.has_room.ensures.same) s.0);
+        room = subst (HasRoom (vec_len c.has_room.new.trace) (vec_capacity c.has_room.new.trace)) (sym c.in-Runs.is) tt;
       },
     )
 
