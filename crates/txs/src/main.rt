@@ -12,7 +12,8 @@ use std::process::ExitCode;
 use std::sync::Wait;
 use std::thread::Threads;
 use std::{env, fs, io};
-use txs_audit::{AuditError, Verdict, audit};
+use txs_audit::audit;
+use txs_audit_answer::{AuditError, Terms, Verdict};
 use txs_cli_args::parse_words;
 use txs_cli_report::told::{DONE, SPENT, UNUSABLE};
 use txs_cli_report::write_told;
@@ -121,11 +122,11 @@ fn explain_part(rt: &HostRuntime, request: &Request, name: &str) {
 /// Does what the request asks for on its file or on standard input, over this writer.
 fn play_on<
     T: Threads + Wait + Sync,
-    A: Fn(Global, &Program, &Report, u32, usize) -> Result<Verdict, AuditError>,
+    A: Fn(Global, &Program, &Report, Terms, usize) -> Result<Verdict, AuditError>,
     W: Write,
 >(rt: &HostRuntime, threads: &T, auditor: &A, request: &Request, writer: &mut W) -> u8
-    requires audit { (a : _) (p : _) (r : _) (n : _) (w : _) → A.pre auditor.now a p r n w }
-    requires right { (a : _) (p : _) (r : _) (n : _) (w : _) (v : _) → A.post auditor.now a p r n w v → IsRight p.now r.now n v }
+    requires audit { (a : _) (p : _) (r : _) (w : _) (n : _) → A.pre auditor.now a p r w n }
+    requires right { (a : _) (p : _) (r : _) (w : _) (n : _) (v : _) → A.post auditor.now a p r w n v → IsRight p.now r.now w v }
 {
     let alloc = rt.alloc();
     let mut faults = rt.stderr();
@@ -213,10 +214,10 @@ fn complain(rt: &HostRuntime, line: &[u8], status: u8) -> u8 {
 /// Does what a request asks for whose code goes to a file. That is written where all went well, and else left as it is.
 fn build_to<
     T: Threads + Wait + Sync,
-    A: Fn(Global, &Program, &Report, u32, usize) -> Result<Verdict, AuditError>,
+    A: Fn(Global, &Program, &Report, Terms, usize) -> Result<Verdict, AuditError>,
 >(rt: &HostRuntime, threads: &T, auditor: &A, request: &Request, out: &str) -> u8
-    requires audit { (a : _) (p : _) (r : _) (n : _) (w : _) → A.pre auditor.now a p r n w }
-    requires right { (a : _) (p : _) (r : _) (n : _) (w : _) (v : _) → A.post auditor.now a p r n w v → IsRight p.now r.now n v }
+    requires audit { (a : _) (p : _) (r : _) (w : _) (n : _) → A.pre auditor.now a p r w n }
+    requires right { (a : _) (p : _) (r : _) (w : _) (n : _) (v : _) → A.post auditor.now a p r w n v → IsRight p.now r.now w v }
 {
     if covers_source(rt, request, out) {
         return complain(
@@ -247,10 +248,10 @@ fn build_to<
 /// Does what the request asks for.
 fn play_all<
     T: Threads + Wait + Sync,
-    A: Fn(Global, &Program, &Report, u32, usize) -> Result<Verdict, AuditError>,
+    A: Fn(Global, &Program, &Report, Terms, usize) -> Result<Verdict, AuditError>,
 >(rt: &HostRuntime, threads: &T, auditor: &A, request: &Request) -> u8
-    requires audit { (a : _) (p : _) (r : _) (n : _) (w : _) → A.pre auditor.now a p r n w }
-    requires right { (a : _) (p : _) (r : _) (n : _) (w : _) (v : _) → A.post auditor.now a p r n w v → IsRight p.now r.now n v }
+    requires audit { (a : _) (p : _) (r : _) (w : _) (n : _) → A.pre auditor.now a p r w n }
+    requires right { (a : _) (p : _) (r : _) (w : _) (n : _) (v : _) → A.post auditor.now a p r w n v → IsRight p.now r.now w v }
 {
     match request {
         Request::Build { out, .. } => build_to(rt, threads, auditor, request, out.as_str()),
@@ -258,22 +259,30 @@ fn play_all<
     }
 }
 
-/// Has a report audited by so many workers, which are started with this handle.
+/// Has a report audited by so many workers, which are started with this handle, by what its run was to do.
 fn audit_by<T: Threads + Wait + Sync>(
     threads: &T,
     alloc: Global,
     program: &Program,
     report: &Report,
-    turns: u32,
+    terms: Terms,
     workers: usize,
 ) -> Result<Verdict, AuditError>
     requires sync { IsSync T.row }
-    ensures { IsRight program.now report.now turns result }
+    ensures { IsRight program.now report.now terms result }
 {
     let Ok(workers) = u16::try_from(workers) else {
         return Err(AuditError::NoThread);
     };
-    audit(threads, alloc, program, report, workers, turns)
+    audit(
+        threads,
+        alloc,
+        program,
+        report,
+        terms,
+        workers,
+        terms.turns(),
+    )
 }
 
 /// Does what the request asks for; where that is an audit, its workers are started with this handle.
@@ -281,13 +290,13 @@ fn play_audited<T: Threads + Wait + Sync>(rt: &HostRuntime, threads: &T, request
     play_all(
         rt,
         threads,
-        &|alloc: Global, program: &Program, report: &Report, turns: u32, workers: usize| -> Result<
+        &|alloc: Global, program: &Program, report: &Report, terms: Terms, workers: usize| -> Result<
             Verdict,
             AuditError,
         >
             requires sync { IsSync T.row }
-            ensures { IsRight program.now report.now turns result }
-        { audit_by(threads, alloc, program, report, turns, workers) },
+            ensures { IsRight program.now report.now terms result }
+        { audit_by(threads, alloc, program, report, terms, workers) },
         request,
     )
 }

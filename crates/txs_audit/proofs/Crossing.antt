@@ -23,6 +23,7 @@ use Rattle.txs_value_cell.proofs.form.PutForm.TheSendSync as put_sent
 use Rattle.txs_value_cell.proofs.form.UpdateForm.TheSendSync as update_sent
 use Rattle.txs_value_cell.specs.contracts.action.Action as action_is
 use Rattle.txs_value_cell.specs.contracts.cell.CellDefinition as cell_definition_is
+use Rattle.txs_world_protocol.proofs.event.Cause.TheSendSync as cause_sent
 use Rattle.txs_world_protocol.proofs.event.Outcome.TheSendSync as outcome_sent
 use Rattle.txs_world_protocol.proofs.event.Place.TheSendSync as place_sent
 use Rattle.txs_world_protocol.specs.contracts.event.Event as event_is
@@ -89,7 +90,7 @@ action_sync : IsSync action_is.the_row
 action_sync = recorded_sync (action_is.the_field).row _ _ (action_is.the_type).to_one action_field_sync
 
 event_kind_field_sync : IsSync (event_kind_is.the_field).row
-event_kind_field_sync = enum_sync (E.shape event_kind_is.the_type) ((cell_id_sent.the_field_sync, tt), ((plain_sync _ _ _ _ _, (plain_sync _ _ _ _ _, ((search (value_sync, vec.the_sync, listed.the_sync, cell_id_sent.the_sync, crosses, sendable) depth 60 fits 20000), ((search (action_sync, listed.the_sync, crosses, sendable) depth 60 fits 20000), tt)))), ((plain_sync _ _ _ _ _, (cell_id_sent.the_field_sync, (plain_sync _ _ _ _ _, tt))), ((plain_sync _ _ _ _ _, (plain_sync _ _ _ _ _, tt)), ((plain_sync _ _ _ _ _, (plain_sync _ _ _ _ _, (cell_id_sent.the_field_sync, tt))), ((action_field_sync, tt), ((cell_id_sent.the_field_sync, tt), ((cell_id_sent.the_field_sync, (plain_sync _ _ _ _ _, ((search (value_sync, fault_sent.the_sync, crosses, sendable) depth 60 fits 20000), ((search (action_sync, listed.the_sync, crosses, sendable) depth 60 fits 20000), tt)))), ((value_field_sync, tt), ((plain_sync _ _ _ _ _, tt), tt))))))))))
+event_kind_field_sync = enum_sync (E.shape event_kind_is.the_type) ((cell_id_sent.the_field_sync, tt), ((plain_sync _ _ _ _ _, (plain_sync _ _ _ _ _, ((search (value_sync, vec.the_sync, listed.the_sync, cell_id_sent.the_sync, crosses, sendable) depth 60 fits 20000), ((search (action_sync, listed.the_sync, crosses, sendable) depth 60 fits 20000), tt)))), ((plain_sync _ _ _ _ _, (cell_id_sent.the_field_sync, (cause_sent.the_field_sync, tt))), ((plain_sync _ _ _ _ _, (plain_sync _ _ _ _ _, tt)), ((plain_sync _ _ _ _ _, (plain_sync _ _ _ _ _, (cell_id_sent.the_field_sync, tt))), ((action_field_sync, tt), ((cell_id_sent.the_field_sync, tt), ((cell_id_sent.the_field_sync, (plain_sync _ _ _ _ _, ((search (value_sync, fault_sent.the_sync, crosses, sendable) depth 60 fits 20000), ((search (action_sync, listed.the_sync, crosses, sendable) depth 60 fits 20000), tt)))), ((value_field_sync, tt), ((plain_sync _ _ _ _ _, tt), tt))))))))))
 
 event_field_sync : IsSync (event_is.the_field).row
 event_field_sync = struct_sync (S.shape event_is.the_type) (plain_sync _ _ _ _ _, ((search (event_kind_field_sync, crosses, sendable) depth 60 fits 20000), tt))

@@ -10,10 +10,11 @@
 pub mod auditing;
 mod joining;
 mod judging;
+mod order;
 mod parts;
 pub mod pieces;
 mod verdict;
 mod workers;
 
 pub use auditing::{audit, audit_gated};
-pub use txs_audit_answer::{AuditError, Verdict};
+pub use txs_audit_answer::{AuditError, Terms, Verdict};

@@ -1,6 +1,30 @@
 //! What an audit answers.
 
+ghost use Rattle.std.specs.Prelude.{◌≡◌};
+ghost use Rattle.txs_audit_answer.specs.Answered.{audit_turns};
+
 use std::alloc::{AllocError, AllocFailed};
+
+/// What a run was to do.
+#[derive(Clone, Copy)]
+pub struct Terms {
+    /// Whether it was to go on up to its end, as every run of the program does.
+    pub finishes: bool,
+    /// How many steps each actor may make.
+    pub steps: u64,
+}
+
+impl Terms {
+    /// How many turns an audit allows each loop: as many as an actor may make steps, or as a `u32` says at most.
+    pub fn turns(self) -> u32
+        ensures { result ≡ audit_turns self.steps }
+    {
+        if self.steps > u32::MAX as u64 {
+            return u32::MAX;
+        }
+        self.steps as u32
+    }
+}
 
 /// What an audit answers of a report. The event is an index in the actor's trace.
 #[derive(Clone, Copy, PartialEq, Eq)]

@@ -37,7 +37,7 @@ entered_grows b c xs g = record { more = g.more ++ xs; sent = ap (λ l. l ++ xs)
 grows : (goes : Bool) (k n : ℕ) (d : EventKind) (b : PlainInbox) → Grows b (inbox_changed goes k n d b)
 grows goes k n (Read c) b = same_grows b
 grows goes k n (Commit at view ws sends) b = record { more = sent_to k sends; sent = refl }
-grows goes k n (Retry since c commute) b = same_grows b
+grows goes k n (Retry since c cause) b = same_grows b
 grows goes k n (Fail at view) b = same_grows b
 grows goes k n (Refused at view g) b = same_grows b
 grows goes k n (Send x) b = record { more = sent_to k (x ∷ []); sent = refl }
@@ -80,7 +80,7 @@ entered_keeps n b c xs (got f g) = got f g
 keeps : (cells : List StoreCell) (done : List Event) (a k n : ℕ) (d : EventKind) (b : PlainInbox) → is_legal_kind cells done a d ≡ true → IsInbox (mail_after cells done k) b → Keeps n b (inbox_changed (goes_on (nth cells k)) k n d b)
 keeps cells done a k n (Read c) b l h = kept refl refl
 keeps cells done a k n (Commit at view ws sends) b l h = kept refl refl
-keeps cells done a k n (Retry since c commute) b l h = kept refl refl
+keeps cells done a k n (Retry since c cause) b l h = kept refl refl
 keeps cells done a k n (Fail at view) b l h = kept refl refl
 keeps cells done a k n (Refused at view g) b l h = kept refl refl
 keeps cells done a k n (Send x) b l h = kept refl refl

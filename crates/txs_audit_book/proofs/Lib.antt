@@ -3,6 +3,7 @@ pub mod Earlier
 pub mod Found
 pub mod Histories
 pub mod Mailing
+pub mod Pasts
 pub mod Reading
 pub mod Stepping
 pub mod Swapping

@@ -84,7 +84,7 @@ act_stands cells done a g number new sends h =
 pub inbox_more : (cells : List StoreCell) (done : List Event) (a k n : ℕ) (d : EventKind) (b : PlainInbox) → is_legal_kind cells done a d ≡ true → IsInbox (mail_after cells done k) b → IsInbox (mail_changed (goes_on (nth cells k)) k d (mail_after cells done k)) (inbox_changed (goes_on (nth cells k)) k n d b)
 inbox_more cells done a k n (Read c) b l h = h
 inbox_more cells done a k n (Commit at view ws sends) b l h = inbox_entered (mail_after cells done k) b (sent_to k sends) h
-inbox_more cells done a k n (Retry since c commute) b l h = h
+inbox_more cells done a k n (Retry since c cause) b l h = h
 inbox_more cells done a k n (Fail at view) b l h = h
 inbox_more cells done a k n (Refused at view g) b l h = h
 inbox_more cells done a k n (Send x) b l h = inbox_entered (mail_after cells done k) b (sent_to k (x ∷ [])) h
@@ -139,7 +139,7 @@ entered_at bs (x ∷ xs) k lt =
 pub put_many : (cells : List StoreCell) (n : ℕ) (d : EventKind) (bs : List PlainInbox) → length (mail_put cells n d bs) ≡ length bs
 put_many cells n (Read c) bs = refl
 put_many cells n (Commit at view ws sends) bs = entered_many bs sends
-put_many cells n (Retry since c commute) bs = refl
+put_many cells n (Retry since c cause) bs = refl
 put_many cells n (Fail at view) bs = refl
 put_many cells n (Refused at view g) bs = refl
 put_many cells n (Send x) bs = entered_many bs (x ∷ [])
@@ -152,7 +152,7 @@ put_many cells n (Broke at) bs = refl
 pub put_moves : (cells : List StoreCell) (n : ℕ) (d : EventKind) (bs : List PlainInbox) (k : ℕ) → k < length bs → get_or (mail_put cells n d bs) k no_inbox ≡ inbox_changed (goes_on (nth cells k)) k n d (get_or bs k no_inbox)
 put_moves cells n (Read c) bs k lt = refl
 put_moves cells n (Commit at view ws sends) bs k lt = entered_at bs sends k lt
-put_moves cells n (Retry since c commute) bs k lt = refl
+put_moves cells n (Retry since c cause) bs k lt = refl
 put_moves cells n (Fail at view) bs k lt = refl
 put_moves cells n (Refused at view g) bs k lt = refl
 put_moves cells n (Send x) bs k lt = entered_at bs (x ∷ []) k lt

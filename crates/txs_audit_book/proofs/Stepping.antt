@@ -76,7 +76,7 @@ state_apart g (Err f) = tt
 pub legal_below : (cells : List StoreCell) (done : List Event) (a n : ℕ) (d : EventKind) → n ≡ length cells → is_legal_kind cells done a d ≡ true → all_below n (writes_of d) ≡ true
 legal_below cells done a n (Read c) e h = refl
 legal_below cells done a n (Commit at view ws sends) e h = refs_below cells n 0 ws e (both (are_refs cells 0 (cells_in ws)) _ h).0
-legal_below cells done a n (Retry since c commute) e h = refl
+legal_below cells done a n (Retry since c cause) e h = refl
 legal_below cells done a n (Fail at view) e h = refl
 legal_below cells done a n (Refused at view g) e h = refl
 legal_below cells done a n (Send x) e h = refl
@@ -88,7 +88,7 @@ legal_below cells done a n (Broke at) e h = refl
 legal_apart : (cells : List StoreCell) (done : List Event) (a : ℕ) (d : EventKind) → is_legal_kind cells done a d ≡ true → Apart (writes_of d)
 legal_apart cells done a (Read c) h = tt
 legal_apart cells done a (Commit at view ws sends) h = refs_apart cells 0 ws (both (are_refs cells 0 (cells_in ws)) _ h).0
-legal_apart cells done a (Retry since c commute) h = tt
+legal_apart cells done a (Retry since c cause) h = tt
 legal_apart cells done a (Fail at view) h = tt
 legal_apart cells done a (Refused at view g) h = tt
 legal_apart cells done a (Send x) h = tt
@@ -101,7 +101,7 @@ pub may_put : (cells : List StoreCell) (histories : List (List (ℕ × Value))) 
 may_put cells histories bs views tries done a (Read c) g h = tt
 may_put cells histories bs views tries done a (Commit at view ws sends) g h =
     sends_below cells (length bs) sends g.as_many (both (are_sends cells sends) _ (both (are_refs cells 0 (cells_in ws)) _ h).1).0
-may_put cells histories bs views tries done a (Retry since c commute) g h = tt
+may_put cells histories bs views tries done a (Retry since c cause) g h = tt
 may_put cells histories bs views tries done a (Fail at view) g h = tt
 may_put cells histories bs views tries done a (Refused at view agent) g h = tt
 may_put cells histories bs views tries done a (Send x) g h =

@@ -64,7 +64,7 @@ swaps_more : (h : List (ℕ × Value)) (done : List Event) (a : ℕ) (d : EventK
     → SwapsAre (swaps_put (suc (length done)) d h) (done ++ event_of a d ∷ []) × (latest 0 (swaps_put (suc (length done)) d h) ≤ suc (length done)) × Ascend 0 (swaps_put (suc (length done)) d h)
 swaps_more h done a (Read c) are le asc = (are_same h done (event_of a (Read c)) are le asc refl, omega (arith, le), asc)
 swaps_more h done a (Commit at view ws sends) are le asc = (are_same h done (event_of a (Commit at view ws sends)) are le asc refl, omega (arith, le), asc)
-swaps_more h done a (Retry since c commute) are le asc = (are_same h done (event_of a (Retry since c commute)) are le asc refl, omega (arith, le), asc)
+swaps_more h done a (Retry since c cause) are le asc = (are_same h done (event_of a (Retry since c cause)) are le asc refl, omega (arith, le), asc)
 swaps_more h done a (Fail at view) are le asc = (are_same h done (event_of a (Fail at view)) are le asc refl, omega (arith, le), asc)
 swaps_more h done a (Refused at view g) are le asc = (are_same h done (event_of a (Refused at view g)) are le asc refl, omega (arith, le), asc)
 swaps_more h done a (Send x) are le asc = (are_same h done (event_of a (Send x)) are le asc refl, omega (arith, le), asc)

@@ -69,7 +69,7 @@ all_sent_below n (x ∷ xs) = nat_lt x.agent.number n && all_sent_below n xs
 abbrev pub inbox_changed : Bool → ℕ → ℕ → EventKind → PlainInbox → PlainInbox
 inbox_changed goes k n (Read c) b = b
 inbox_changed goes k n (Commit at view ws sends) b = entered (sent_to k sends) b
-inbox_changed goes k n (Retry since c commute) b = b
+inbox_changed goes k n (Retry since c cause) b = b
 inbox_changed goes k n (Fail at view) b = b
 inbox_changed goes k n (Refused at view g) b = b
 inbox_changed goes k n (Send x) b = entered (sent_to k (x ∷ [])) b
@@ -88,7 +88,7 @@ pub record InboxesMove (cells : List StoreCell) (n : ℕ) (d : EventKind) (old n
 abbrev pub mail_put : List StoreCell → ℕ → EventKind → List PlainInbox → List PlainInbox
 mail_put cells n (Read c) bs = bs
 mail_put cells n (Commit at view ws sends) bs = entered_all bs sends
-mail_put cells n (Retry since c commute) bs = bs
+mail_put cells n (Retry since c cause) bs = bs
 mail_put cells n (Fail at view) bs = bs
 mail_put cells n (Refused at view g) bs = bs
 mail_put cells n (Send x) bs = entered_all bs (x ∷ [])
@@ -101,7 +101,7 @@ mail_put cells n (Broke at) bs = bs
 abbrev pub MayPut : List StoreCell → List PlainInbox → EventKind → Type 0
 MayPut cells bs (Read c) = Unit {0}
 MayPut cells bs (Commit at view ws sends) = all_sent_below (length bs) sends ≡ true
-MayPut cells bs (Retry since c commute) = Unit {0}
+MayPut cells bs (Retry since c cause) = Unit {0}
 MayPut cells bs (Fail at view) = Unit {0}
 MayPut cells bs (Refused at view g) = Unit {0}
 MayPut cells bs (Send x) = all_sent_below (length bs) (x ∷ []) ≡ true

@@ -19,7 +19,7 @@ use Rattle.txs_audit_book.specs.declared.replay.Gone.TheVariants.{Through, UpTo}
 abbrev pub swaps_put : ℕ → EventKind → List (ℕ × Value) → List (ℕ × Value)
 swaps_put n (Read c) h = h
 swaps_put n (Commit at view ws sends) h = h
-swaps_put n (Retry since c commute) h = h
+swaps_put n (Retry since c cause) h = h
 swaps_put n (Fail at view) h = h
 swaps_put n (Refused at view g) h = h
 swaps_put n (Send x) h = h

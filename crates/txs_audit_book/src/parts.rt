@@ -2,7 +2,7 @@
 
 ghost use Rattle.std.specs.Prelude.{◌≡◌, ◌<◌, ◌&&◌, ◌==◌, ◌++◌, ◌∷◌, [], nat_lt, not, suc, length, false, true, IfOk, OnOk};
 ghost use Rattle.txs_value_data.specs.Limits.{most_events};
-ghost use Rattle.txs_world_book.specs.Book.{actor_of, actors, makes, may_name, may_end, may_send, has_ref, has_agent, are_sends, are_refs, cells_in, first_failed, is_failed, is_there, mail_after, waits, written};
+ghost use Rattle.txs_world_book.specs.Book.{actor_of, actors, makes, is_outdated, may_name, may_end, may_rerun, may_send, has_ref, has_agent, are_sends, are_refs, cells_in, first_failed, is_failed, is_there, mail_after, waits, written};
 ghost use Rattle.txs_world_book.specs.Served.{cells_of, event_of};
 ghost use Rattle.txs_world_protocol.specs.declared.event.EventKind.TheVariants as event;
 ghost use Rattle.txs_audit_book.specs.Gone.{GoneParts, plain_inboxes};
@@ -12,7 +12,7 @@ ghost use Rattle.txs_audit_book.specs.Tests.{store_test};
 
 use crate::inbox::{Inbox, act_at, open_inboxes, send_all, send_one};
 use crate::stands::{is_no_redo, mark};
-use crate::values::{open_histories, put_values};
+use crate::values::{index_in, open_histories, put_values};
 use std::alloc::{AllocError, Global};
 use txs_tree_eval_transaction::History;
 use txs_value_base::Fault;
@@ -21,7 +21,10 @@ use txs_value_data::{CellId, Listed, Value};
 use txs_world_book::{
     Cells, StoreCell, are_sends, are_written, has_agent, has_readable, has_ref, may_send, stand_of,
 };
-use txs_world_protocol::{Event, EventKind};
+use txs_world_protocol::{Cause, Event, EventKind};
+
+/// How many values of a cell a store keeps: the newest, and up to ten older ones.
+const MOST_VERSIONS: u32 = 11;
 
 /// The cells, how many threads there are, the values that each cell has had, what is known of agents, and where actors stand.
 #[derive(Drop)]
@@ -149,6 +152,25 @@ impl Parts {
         since < self.histories[usize::from(cell.number)].latest()
     }
 
+    /// Whether the store no longer keeps the value that the ref had at index `since`: the ref was written more than ten times from
+    /// there on. Each round goes back by a write.
+    fn is_outdated(&self, done: &[Event], cell: CellId, since: u32) -> bool
+        requires gone { GoneParts self.now done.now }
+        requires there { has_ref self.now.cells cell ≡ true }
+        ensures { result ≡ is_outdated cell.number since done.now }
+    {
+        let history = &self.histories[usize::from(cell.number)];
+        let mut place = done.len() as u32;
+        for _ in 0..MOST_VERSIONS {
+            let index = index_in(history, place);
+            if index <= since {
+                return false;
+            }
+            place = index - 1;
+        }
+        true
+    }
+
     /// Whether a commit may stand here.
     fn may_commit(
         &self,
@@ -172,18 +194,30 @@ impl Parts {
         self.may_end(done, actor, at, view) && self.none_failed(done, sends.as_slice())
     }
 
+    /// Whether the actor may have had to run again for this.
+    fn may_rerun(&self, done: &[Event], actor: u16, since: u32, cell: CellId, cause: Cause) -> bool
+        requires gone { GoneParts self.now done.now }
+        requires there { has_ref self.now.cells cell ≡ true }
+        ensures { result ≡ may_rerun done.now actor since cell cause }
+    {
+        match cause {
+            Cause::Outdated => {
+                self.may_try(done, actor, since) && self.is_outdated(done, cell, since)
+            }
+            Cause::Held => self.may_try(done, actor, since),
+            Cause::Commuted { at } => self.may_end(done, actor, at, since),
+        }
+    }
+
     /// Whether a retry may stand here.
-    fn may_retry(&self, done: &[Event], actor: u16, since: u32, cell: CellId, commute: bool) -> bool
+    fn may_retry(&self, done: &[Event], actor: u16, since: u32, cell: CellId, cause: Cause) -> bool
         requires { GoneParts self.now done.now }
-        ensures { result ≡ is_legal_kind self.now.cells done.now actor (event.Retry since cell commute) }
+        ensures { result ≡ is_legal_kind self.now.cells done.now actor (event.Retry since cell cause) }
     {
         if !has_ref(self.cells.as_slice(), cell) {
             return false;
         }
-        if commute {
-            return self.may_view(done, actor, since) && self.is_written(done, cell, since);
-        }
-        self.may_try(done, actor, since) && self.is_written(done, cell, since)
+        self.may_rerun(done, actor, since, cell, cause) && self.is_written(done, cell, since)
     }
 
     /// Whether the agent's next action waits, and is its so many-th.
@@ -245,11 +279,9 @@ impl Parts {
                 writes,
                 sends,
             } => self.may_commit(done, actor, *at, *view, writes, sends),
-            EventKind::Retry {
-                since,
-                cell,
-                commute,
-            } => self.may_retry(done, actor, *since, *cell, *commute),
+            EventKind::Retry { since, cell, cause } => self.may_retry(
+                done, actor, *since, *cell, *cause,
+            ),
             EventKind::Fail { at, view } => self.may_end(done, actor, *at, *view),
             EventKind::Refused { at, view, agent } => {
                 has_agent(cells, *agent)

@@ -4,12 +4,11 @@ ghost use Rattle.std.specs.Prelude.{◌≡◌, ◌≤◌, ◌<◌, length, take,
 ghost use Rattle.txs_world_book.specs.Served.{cells_of};
 ghost use Rattle.txs_tree_eval_transaction.specs.Views.{held};
 ghost use Rattle.txs_audit_book.specs.Replayed.{WentThrough, WorldsAre, IsRun, newest_there, failure_there, value_there, mail_there};
-ghost use Rattle.txs_audit_book.specs.Gone.{index_in};
-ghost use Rattle.txs_tree_eval_transaction.specs.Pasts.{entry_at};
 ghost use Rattle.txs_value_base.specs.Places.{nth};
 ghost use Rattle.txs_world_book.specs.Book.{is_there, mail_after, written};
 
 use crate::parts::{Parts, open_parts, put};
+use crate::values::index_in;
 use std::alloc::{AllocError, Global};
 use std::marker::Model;
 use txs_tree_eval_transaction::History;
@@ -58,16 +57,6 @@ fn value_in(history: &History, place: u32) -> Option<&Value>
     match history.at(place) {
         Some(item) => Some(&item.1),
         None => None,
-    }
-}
-
-/// The index from which on a cell has its value at this one.
-fn index_in(history: &History, place: u32) -> u32
-    ensures { result ≡ index_in (entry_at history.now place) }
-{
-    match history.at(place) {
-        Some(item) => item.0,
-        None => 0,
     }
 }
 

@@ -1,19 +1,29 @@
 //! Where each actor stands in a book.
 
 ghost use Rattle.std.specs.Prelude.{◌≡◌, ◌<◌, false, length, OnOk};
-ghost use Rattle.txs_world_book.specs.Book.{counts};
+ghost use Rattle.txs_world_book.specs.Book.{is_again, counts};
 ghost use Rattle.txs_world_book.specs.Stands.{Marked, StandAsBefore};
 
 use std::alloc::AllocError;
-use txs_world_protocol::EventKind;
+use txs_world_protocol::{Cause, EventKind};
 
 /// Whether an event isn't a commute phase to be made again.
 pub(crate) fn is_no_redo(kind: &EventKind) -> bool
     ensures { result ≡ counts false kind.now }
 {
     match kind {
-        EventKind::Retry { commute, .. } => !*commute,
+        EventKind::Retry { cause, .. } => !is_again(*cause),
         _ => true,
+    }
+}
+
+/// Whether the commutes alone are made again.
+fn is_again(cause: Cause) -> bool
+    ensures { result ≡ is_again cause }
+{
+    match cause {
+        Cause::Outdated | Cause::Held => false,
+        Cause::Commuted { .. } => true,
     }
 }
 

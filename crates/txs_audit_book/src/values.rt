@@ -4,7 +4,8 @@ ghost use Rattle.std.specs.Prelude.{◌≡◌, ◌≤◌, ◌<◌, ◌∷◌, []
 ghost use Rattle.std.proofs.Common.{get_or};
 ghost use Rattle.txs_world_book.specs.Book.{state_of, writes_of};
 ghost use Rattle.txs_world_book.specs.declared.cell.StoreCell.{StoreCell as PlainCell};
-ghost use Rattle.txs_tree_eval_transaction.specs.Pasts.{latest};
+ghost use Rattle.txs_tree_eval_transaction.specs.Pasts.{entry_at, latest};
+ghost use Rattle.txs_audit_book.specs.Gone.{index_in};
 ghost use Rattle.txs_audit_book.specs.Moves.{with_value, written_all, all_below, AllWithin, HistoriesMove};
 
 use std::alloc::{AllocError, Global};
@@ -100,5 +101,15 @@ pub(crate) fn put_values(
         EventKind::Commit { writes, .. } => write_all(histories, writes.as_slice(), events),
         EventKind::Act { agent, new, .. } => put_state(histories, *agent, new, events),
         _ => Ok(()),
+    }
+}
+
+/// The index from which on a cell has its value at this one.
+pub(crate) fn index_in(history: &History, place: u32) -> u32
+    ensures { result ≡ index_in (entry_at history.now place) }
+{
+    match history.at(place) {
+        Some(item) => item.0,
+        None => 0,
     }
 }

@@ -30,7 +30,8 @@ use Rattle.txs_theorem_serial.specs.Whole.{is_act, is_act_kind}
 use Rattle.txs_theorem_audit.proofs.Agreeing.{sized_of}
 use Rattle.txs_theorem_audit.proofs.Findings.{and_fine, check_fine, not_there, not_true}
 use Rattle.txs_theorem_audit.proofs.Listing.{there_is, within}
-use Rattle.txs_theorem_audit.specs.Audited.{Fine, books_of, book_or_none, check}
+use Rattle.txs_theorem_audit.specs.Audited.{Fine, books_of, check}
+use Rattle.txs_theorem_order.specs.Order.{book_or_none}
 use Rattle.txs_theorem_audit.specs.Verdict.{atoms_from, book_found, is_legal_kind, is_legal_swap}
 use Rattle.txs_audit_book.specs.Replayed.{IsLegalBook, IsRun, value_there}
 use Rattle.txs_audit_book.specs.Swapped.{atom_test}
@@ -156,7 +157,7 @@ last_state b g lt k all v is =
 not_act : (front : List Event) (c : CellId) (a : ℕ) (d : EventKind) → is_legal_swap c front a d ≡ true → is_act_kind d ≡ false
 not_act front c a (Read d) h = refl
 not_act front c a (Commit at view ws sends) h = refl
-not_act front c a (Retry since d commute) h = refl
+not_act front c a (Retry since d cause) h = refl
 not_act front c a (Fail at view) h = refl
 not_act front c a (Refused at view g) h = refl
 not_act front c a (Send x) h = refl

@@ -18,7 +18,8 @@ use Rattle.txs_world_protocol.specs.declared.event.Place as event
 use Rattle.txs_tree_eval.specs.declared.transaction.TxMeaning.{TxMeaning}
 use Rattle.txs_tree_meaning.specs.View.{program_of}
 use Rattle.txs_theorem_runs.specs.Told.{Place}
-use Rattle.txs_theorem_audit.specs.Audited.{Fine, Off, and_then, book_or_none, books_of, check, place_of}
+use Rattle.txs_theorem_audit.specs.Audited.{Fine, Off, and_then, books_of, check, place_of}
+use Rattle.txs_theorem_order.specs.Order.{book_or_none}
 use Rattle.txs_theorem_audit.specs.Verdict.{atoms_from, is_commit, is_end}
 use Rattle.txs_theorem_audit_eval.specs.Evaluated.{calm_at_by, calm_by, calm_found_by, covered_all_by, covered_if_by, state_of, with_first}
 use Rattle.txs_theorem_serial.specs.Serial.{is_covered}

@@ -1,6 +1,8 @@
 pub mod Acting
 pub mod ActionFound
 pub mod Bookwise
+pub mod Bounded
+pub mod Ending
 pub mod Judging
 pub mod Locating
 pub mod Looking

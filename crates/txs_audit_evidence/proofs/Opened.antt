@@ -14,7 +14,8 @@ use Rattle.txs_world_book.specs.Served.{cells_of}
 use Rattle.txs_world_protocol.specs.Ask.{same_value}
 use Rattle.txs_world_protocol.specs.declared.event.Event.{Event}
 use Rattle.txs_world_protocol.specs.declared.report.Report.{Report}
-use Rattle.txs_theorem_audit.specs.Audited.{book_or_none, books_of, report_as}
+use Rattle.txs_theorem_audit.specs.Audited.{books_of, report_as}
+use Rattle.txs_theorem_order.specs.Order.{book_or_none}
 use Rattle.txs_theorem_audit.specs.Verdict.{atoms_from, fits_sizes, is_value}
 use Rattle.txs_theorem_audit.proofs.Listing.{within}
 use Rattle.txs_theorem_serial.proofs.Together.{agents_many}

@@ -106,7 +106,7 @@ no_entry (p ∷ ps) (suc k) le = no_entry ps k (omega (arith, le))
 kind_nothing : (p : PlainProgram) (r : PlainReport) (n a k : ℕ) (q : Place) (since : List Place) (d : EventKind) → is_act_kind d ≡ false → (kind_finding p r n a since k q d ≡ Fine) × (kind_serial p r n q since d ≡ true)
 kind_nothing p r n a k q since (Read c) h = (refl, refl)
 kind_nothing p r n a k q since (Commit at view ws sends) h = (refl, refl)
-kind_nothing p r n a k q since (Retry from c commute) h = (refl, refl)
+kind_nothing p r n a k q since (Retry from c cause) h = (refl, refl)
 kind_nothing p r n a k q since (Fail at view) h = (refl, refl)
 kind_nothing p r n a k q since (Refused at view g) h = (refl, refl)
 kind_nothing p r n a k q since (Send x) h = (refl, refl)
@@ -123,7 +123,7 @@ nothing_found p r n a k q since (Some e) h = kind_nothing p r n a k q since e.ki
 kind_silent : (p : PlainProgram) (r : PlainReport) (n : ℕ) (q : Place) (since : List Place) (d : EventKind) (go : List Place → List ℕ) → is_act_kind d ≡ false → kind_prints p r n q since d go ≡ go (since ++ q ∷ [])
 kind_silent p r n q since (Read c) go h = refl
 kind_silent p r n q since (Commit at view ws sends) go h = refl
-kind_silent p r n q since (Retry from c commute) go h = refl
+kind_silent p r n q since (Retry from c cause) go h = refl
 kind_silent p r n q since (Fail at view) go h = refl
 kind_silent p r n q since (Refused at view g) go h = refl
 kind_silent p r n q since (Send x) go h = refl

@@ -86,7 +86,7 @@ module _ (cells : List StoreCell) (threads k : ℕ) (none : length cells ≤ k) 
   faultless_after : (goes : Bool) (done : List Event) (a : ℕ) (d : EventKind) (m : Mail) → is_legal_kind cells done a d ≡ true → (mail_changed goes k d m).fault ≡ m.fault
   faultless_after goes done a (Read c) m h = refl
   faultless_after goes done a (Commit at view ws sends) m h = refl
-  faultless_after goes done a (Retry since c commute) m h = refl
+  faultless_after goes done a (Retry since c cause) m h = refl
   faultless_after goes done a (Fail at view) m h = refl
   faultless_after goes done a (Refused at view g) m h = refl
   faultless_after goes done a (Send x) m h = refl
@@ -124,7 +124,7 @@ faultless cells threads book h k j none = faultless_from cells threads k none (g
 swap_no_end : (cell : CellId) (done : List Event) (a : ℕ) (d : EventKind) → is_legal_swap cell done a d ≡ true → is_end d ≡ false
 swap_no_end cell done a (Read c) h = refl
 swap_no_end cell done a (Commit at view ws sends) h = absurd (false≢true h)
-swap_no_end cell done a (Retry since c commute) h = refl
+swap_no_end cell done a (Retry since c cause) h = refl
 swap_no_end cell done a (Fail at view) h = refl
 swap_no_end cell done a (Refused at view g) h = absurd (false≢true h)
 swap_no_end cell done a (Send x) h = refl

@@ -20,11 +20,13 @@ ghost use Rattle.txs_audit_evidence.specs.Acted.{HasAct, IsAct, NamesAct, Prints
 ghost use Rattle.txs_audit_evidence.specs.Named.{plain_entry, plain_trace};
 
 use crate::books::Books;
+use crate::bounds::{first_bound, is_short, next_bound, wants_turns};
 use crate::numbers::agents_of;
 use crate::transactions::{Found, first_failed, transactions_found};
 use std::alloc::{AllocError, Global};
 use txs_audit_piece::ends::{begins, is_stopped};
 use txs_audit_piece::{Finding, Stretch, act_ends, action_end, still_ends};
+use txs_theorem_audit::{action_stays, rest_stays};
 use txs_theorem_audit_eval::{
     act_is_answered, action_is_answered, calm_is_answered, covered_is_answered, still_is_answered,
 };
@@ -251,34 +253,93 @@ fn judge_act<'b>(
     })
 }
 
-/// What is found of this action on this state by its act, on the part of the trace that is the action's.
-fn acted(
+/// What is found of this action on this state by its act, on the part of the trace that is the action's, where its events are these.
+fn acted<'b>(
     alloc: Global,
-    books: &Books<'_>,
+    books: &'b Books<'_>,
     turns: u32,
     stretch: Stretch,
     since: &[Place],
     action: &Action,
     state: &Value,
     act: Act<'_>,
+    seen: &'b [Seen<'b>],
 ) -> Result<Found, AllocError>
     requires sent { is_sent_call (known (functions_of books.now.program.functions)) action.now.callee (suc (length action.now.args)) ≡ true }
     requires fits { stretch.first + length since.now < 2 ^ 64 }
+    requires events { seen_events seen.now ≡ seen_of books.now.program.cells (books_of books.now.report) (plain_trace since.now) }
     ensures finding { IfOk result (λ f. as_found f.finding ≡ acted (program_of books.now.program) books.now.report turns stretch.actor stretch.first stretch.index (take act.entry.at books.now.report.book) action.now state.now (plain_trace since.now) act.entry.new.now act.entry.sends.now) }
     ensures serial { IfOk result (λ f. as_found f.finding ≡ Fine → f.serial ≡ covered_since (program_of books.now.program) books.now.report turns action.now state.now (plain_trace since.now)) }
 {
-    let seen = books.see_all(alloc, since)?;
-    let events = seen.as_slice();
-    let meaning = answered(alloc, books, turns, action, state, events)?;
+    let meaning = answered(alloc, books, turns, action, state, seen)?;
     let its = Stretch {
         actor: stretch.actor,
         first: stretch.first,
-        events: events.len(),
+        events: seen.len(),
         index: stretch.index,
     };
     judge_act(
-        alloc, books, turns, its, since, action, state, act, events, &meaning,
+        alloc, books, turns, its, since, action, state, act, seen, &meaning,
     )
+}
+
+/// What is found of an act, on the part of the trace since the act before it, where its events are these and each loop makes at most so many turns.
+fn ran_with<'b>(
+    alloc: Global,
+    books: &'b Books<'_>,
+    turns: u32,
+    stretch: Stretch,
+    since: &[Place],
+    act: Act<'_>,
+    seen: &'b [Seen<'b>],
+) -> Result<Found, AllocError>
+    requires there { HasAct books.now act }
+    requires fits { stretch.first + length since.now < 2 ^ 64 }
+    requires events { seen_events seen.now ≡ seen_of books.now.program.cells (books_of books.now.report) (plain_trace since.now) }
+    ensures finding { IfOk result (λ f. as_found f.finding ≡ action_found (program_of books.now.program) books.now.report turns stretch.actor stretch.first stretch.index (take act.entry.at books.now.report.book) act.entry.agent (plain_trace since.now) act.entry.new.now act.entry.sends.now (next_action (cells_of books.now.program.cells) (take act.entry.at books.now.report.book) act.entry.agent)) }
+    ensures serial { IfOk result (λ f. as_found f.finding ≡ Fine → f.serial ≡ action_covered (program_of books.now.program) books.now.report turns (take act.entry.at books.now.report.book) act.entry.agent (plain_trace since.now) (next_action (cells_of books.now.program.cells) (take act.entry.at books.now.report.book) act.entry.agent)) }
+{
+    let Some(action) = action_of(books, act) else {
+        return Ok(off(stretch.actor, stretch.index));
+    };
+    let Some(state) = state_of(books, act) else {
+        return Ok(off(stretch.actor, stretch.index));
+    };
+    if !is_sent(books, action) {
+        return Ok(off(stretch.actor, stretch.index));
+    }
+    acted(
+        alloc, books, turns, stretch, since, action, state, act, seen,
+    )
+}
+
+/// The same where each loop makes at most `turns` turns: with few turns first, and with more only where these don't suffice.
+fn ran_within<'b>(
+    alloc: Global,
+    books: &'b Books<'_>,
+    turns: u32,
+    stretch: Stretch,
+    since: &[Place],
+    act: Act<'_>,
+    seen: &'b [Seen<'b>],
+) -> Result<Found, AllocError>
+    requires there { HasAct books.now act }
+    requires fits { stretch.first + length since.now < 2 ^ 64 }
+    requires events { seen_events seen.now ≡ seen_of books.now.program.cells (books_of books.now.report) (plain_trace since.now) }
+    ensures finding { IfOk result (λ f. as_found f.finding ≡ action_found (program_of books.now.program) books.now.report turns stretch.actor stretch.first stretch.index (take act.entry.at books.now.report.book) act.entry.agent (plain_trace since.now) act.entry.new.now act.entry.sends.now (next_action (cells_of books.now.program.cells) (take act.entry.at books.now.report.book) act.entry.agent)) }
+    ensures serial { IfOk result (λ f. as_found f.finding ≡ Fine → f.serial ≡ action_covered (program_of books.now.program) books.now.report turns (take act.entry.at books.now.report.book) act.entry.agent (plain_trace since.now) (next_action (cells_of books.now.program.cells) (take act.entry.at books.now.report.book) act.entry.agent)) }
+{
+    // A law and a step of the proof, which do nothing when they run.
+    action_stays();
+    books.program().is_sound();
+    let mut bound = first_bound(turns);
+    loop {
+        let found = ran_with(alloc, books, bound, stretch, since, act, seen)?;
+        if !is_short(found.finding, bound, turns) {
+            return Ok(found);
+        }
+        bound = next_bound(bound, turns);
+    }
 }
 
 /// What is found of an act, on the part of the trace since the act before it.
@@ -295,20 +356,12 @@ fn ran_found(
     ensures finding { IfOk result (λ f. as_found f.finding ≡ action_found (program_of books.now.program) books.now.report turns stretch.actor stretch.first stretch.index (take act.entry.at books.now.report.book) act.entry.agent (plain_trace since.now) act.entry.new.now act.entry.sends.now (next_action (cells_of books.now.program.cells) (take act.entry.at books.now.report.book) act.entry.agent)) }
     ensures serial { IfOk result (λ f. as_found f.finding ≡ Fine → f.serial ≡ action_covered (program_of books.now.program) books.now.report turns (take act.entry.at books.now.report.book) act.entry.agent (plain_trace since.now) (next_action (cells_of books.now.program.cells) (take act.entry.at books.now.report.book) act.entry.agent)) }
 {
-    let Some(action) = action_of(books, act) else {
-        return Ok(off(stretch.actor, stretch.index));
-    };
-    let Some(state) = state_of(books, act) else {
-        return Ok(off(stretch.actor, stretch.index));
-    };
-    if !is_sent(books, action) {
-        return Ok(off(stretch.actor, stretch.index));
-    }
-    acted(alloc, books, turns, stretch, since, action, state, act)
+    let seen = books.see_all(alloc, since)?;
+    ran_within(alloc, books, turns, stretch, since, act, seen.as_slice())
 }
 
 /// The actor of the agent with this number among the agents: the threads come first.
-fn actor_of(books: &Books<'_>, agent: u16) -> u16
+pub(crate) fn actor_of(books: &Books<'_>, agent: u16) -> u16
     requires { agent < length books.now.report.agents }
     ensures { result ≡ length (program_of books.now.program).threads + agent }
 {
@@ -427,6 +480,31 @@ fn printed_of(alloc: Global, meaning: ActionMeaning) -> Listed<u8>
     }
 }
 
+/// What this action prints on this state and these events: with few turns first, and with more only where these don't suffice.
+fn prints_within<'b>(
+    alloc: Global,
+    books: &'b Books<'_>,
+    turns: u32,
+    action: &Action,
+    state: &Value,
+    seen: &'b [Seen<'b>],
+) -> Result<Listed<u8>, AllocError>
+    requires { is_sent_call (known (functions_of books.now.program.functions)) action.now.callee (suc (length action.now.args)) ≡ true }
+    ensures { IfOk result (λ o. o ≡ printed_by (means_on (program_of books.now.program) turns action.now state.now (seen_events seen.now))) }
+{
+    // Laws that the proof uses; they do nothing when they run.
+    action_is_answered();
+    books.program().is_sound();
+    let mut bound = first_bound(turns);
+    loop {
+        let meaning = answered(alloc, books, bound, action, state, seen)?;
+        if !wants_turns(&meaning.needs, bound, turns) {
+            return Ok(printed_of(alloc, meaning));
+        }
+        bound = next_bound(bound, turns);
+    }
+}
+
 /// What this action prints on this state and the events of this part of a trace.
 fn action_prints(
     alloc: Global,
@@ -439,12 +517,8 @@ fn action_prints(
     requires { is_sent_call (known (functions_of books.now.program.functions)) action.now.callee (suc (length action.now.args)) ≡ true }
     ensures { IfOk result (λ o. o ≡ printed_by (means_on (program_of books.now.program) turns action.now state.now (seen_of books.now.program.cells (books_of books.now.report) (plain_trace since.now)))) }
 {
-    // Laws that the proof uses; they do nothing when they run.
-    action_is_answered();
-    books.program().is_sound();
     let seen = books.see_all(alloc, since)?;
-    let meaning = answered(alloc, books, turns, action, state, seen.as_slice())?;
-    Ok(printed_of(alloc, meaning))
+    prints_within(alloc, books, turns, action, state, seen.as_slice())
 }
 
 /// What an action prints that is over with this act.
@@ -606,49 +680,51 @@ fn judge_wait<'b>(
     })
 }
 
-/// What is found of this action on this state, which isn't over and has printed this.
-fn waited(
+/// What is found of this action on this state, which isn't over and has printed this, where its events are these.
+fn waited<'b>(
     alloc: Global,
-    books: &Books<'_>,
+    books: &'b Books<'_>,
     turns: u32,
     stretch: Stretch,
     since: &[Place],
     action: &Action,
     state: &Value,
     out: &[u8],
+    seen: &'b [Seen<'b>],
 ) -> Result<Found, AllocError>
     requires sent { is_sent_call (known (functions_of books.now.program.functions)) action.now.callee (suc (length action.now.args)) ≡ true }
     requires fits { stretch.first + length since.now < 2 ^ 64 }
+    requires events { seen_events seen.now ≡ seen_of books.now.program.cells (books_of books.now.report) (plain_trace since.now) }
     ensures finding { IfOk result (λ f. as_found f.finding ≡ waited (program_of books.now.program) books.now.report turns stretch.actor stretch.first stretch.index action.now state.now (plain_trace since.now) out.now) }
     ensures serial { IfOk result (λ f. as_found f.finding ≡ Fine → f.serial ≡ covered_since (program_of books.now.program) books.now.report turns action.now state.now (plain_trace since.now)) }
 {
-    let seen = books.see_all(alloc, since)?;
-    let events = seen.as_slice();
-    let meaning = answered(alloc, books, turns, action, state, events)?;
+    let meaning = answered(alloc, books, turns, action, state, seen)?;
     let its = Stretch {
         actor: stretch.actor,
         first: stretch.first,
-        events: events.len(),
+        events: seen.len(),
         index: stretch.index,
     };
     judge_wait(
-        alloc, books, turns, its, since, action, state, out, events, &meaning,
+        alloc, books, turns, its, since, action, state, out, seen, &meaning,
     )
 }
 
 /// What is found of what an agent's actor did behind its last act, and has printed since: the first action that waits for the agent
 /// means that.
-fn still_found(
+fn still_found<'b>(
     alloc: Global,
-    books: &Books<'_>,
+    books: &'b Books<'_>,
     turns: u32,
     stretch: Stretch,
     since: &[Place],
     agent: CellId,
     out: &[u8],
+    seen: &'b [Seen<'b>],
 ) -> Result<Found, AllocError>
     requires there { agent.number < length books.now.program.cells }
     requires fits { stretch.first + length since.now < 2 ^ 64 }
+    requires events { seen_events seen.now ≡ seen_of books.now.program.cells (books_of books.now.report) (plain_trace since.now) }
     ensures finding { IfOk result (λ f. as_found f.finding ≡ still_found (program_of books.now.program) books.now.report turns stretch.actor stretch.first stretch.index agent (plain_trace since.now) out.now (next_action (cells_of books.now.program.cells) books.now.report.book agent)) }
     ensures serial { IfOk result (λ f. as_found f.finding ≡ Fine → f.serial ≡ action_covered (program_of books.now.program) books.now.report turns books.now.report.book agent (plain_trace since.now) (next_action (cells_of books.now.program.cells) books.now.report.book agent)) }
 {
@@ -663,11 +739,66 @@ fn still_found(
     if !is_sent(books, action) {
         return Ok(off(stretch.actor, stretch.first));
     }
-    waited(alloc, books, turns, stretch, since, action, state, out)
+    waited(
+        alloc, books, turns, stretch, since, action, state, out, seen,
+    )
 }
 
-/// What is found of what an agent's actor did from this index of its trace on, behind its last act, and has printed since: nothing, or what
-/// the first action that waits means.
+/// What is found of what an agent's actor did behind its last act, and has printed since, where its events are these and each loop makes at
+/// most so many turns: nothing, or what the first action that waits means.
+fn rest_with<'b>(
+    alloc: Global,
+    books: &'b Books<'_>,
+    turns: u32,
+    stretch: Stretch,
+    since: &[Place],
+    agent: CellId,
+    out: &[u8],
+    seen: &'b [Seen<'b>],
+) -> Result<Found, AllocError>
+    requires there { agent.number < length books.now.program.cells }
+    requires fits { stretch.first + length since.now < 2 ^ 64 }
+    requires events { seen_events seen.now ≡ seen_of books.now.program.cells (books_of books.now.report) (plain_trace since.now) }
+    ensures finding { IfOk result (λ f. as_found f.finding ≡ rest_found (program_of books.now.program) books.now.report turns stretch.actor stretch.first stretch.index agent (plain_trace since.now) out.now) }
+    ensures serial { IfOk result (λ f. as_found f.finding ≡ Fine → f.serial ≡ action_covered (program_of books.now.program) books.now.report turns books.now.report.book agent (plain_trace since.now) (next_action (cells_of books.now.program.cells) books.now.report.book agent)) }
+{
+    if is_nothing(since, out) {
+        return Ok(fine());
+    }
+    still_found(alloc, books, turns, stretch, since, agent, out, seen)
+}
+
+/// The same where each loop makes at most `turns` turns: with few turns first, and with more only where these don't suffice.
+fn rest_within<'b>(
+    alloc: Global,
+    books: &'b Books<'_>,
+    turns: u32,
+    stretch: Stretch,
+    since: &[Place],
+    agent: CellId,
+    out: &[u8],
+    seen: &'b [Seen<'b>],
+) -> Result<Found, AllocError>
+    requires there { agent.number < length books.now.program.cells }
+    requires fits { stretch.first + length since.now < 2 ^ 64 }
+    requires events { seen_events seen.now ≡ seen_of books.now.program.cells (books_of books.now.report) (plain_trace since.now) }
+    ensures finding { IfOk result (λ f. as_found f.finding ≡ rest_found (program_of books.now.program) books.now.report turns stretch.actor stretch.first stretch.index agent (plain_trace since.now) out.now) }
+    ensures serial { IfOk result (λ f. as_found f.finding ≡ Fine → f.serial ≡ action_covered (program_of books.now.program) books.now.report turns books.now.report.book agent (plain_trace since.now) (next_action (cells_of books.now.program.cells) books.now.report.book agent)) }
+{
+    // A law and a step of the proof, which do nothing when they run.
+    rest_stays();
+    books.program().is_sound();
+    let mut bound = first_bound(turns);
+    loop {
+        let found = rest_with(alloc, books, bound, stretch, since, agent, out, seen)?;
+        if !is_short(found.finding, bound, turns) {
+            return Ok(found);
+        }
+        bound = next_bound(bound, turns);
+    }
+}
+
+/// What is found of what an agent's actor did from this index of its trace on, behind its last act, and has printed since.
 fn rest_found(
     alloc: Global,
     books: &Books<'_>,
@@ -684,16 +815,15 @@ fn rest_found(
     ensures serial { IfOk result (λ f. as_found f.finding ≡ Fine → f.serial ≡ action_covered (program_of books.now.program) books.now.report turns books.now.report.book agent (drop from (plain_trace trace.now)) (next_action (cells_of books.now.program.cells) books.now.report.book agent)) }
 {
     let (_, since) = trace.split_at(from);
-    if is_nothing(since, out) {
-        return Ok(fine());
-    }
     let stretch = Stretch {
         actor,
         first: from,
         events: 0,
         index: trace.len(),
     };
-    still_found(alloc, books, turns, stretch, since, agent, out)
+    let seen = books.see_all(alloc, since)?;
+    let events = seen.as_slice();
+    rest_within(alloc, books, turns, stretch, since, agent, out, events)
 }
 
 /// What is found of the end of an agent with this entry, whose actor began at this index what comes behind its last act: it was stopped

@@ -1,12 +1,15 @@
 //! A report's books gone through, and what an audit finds of its pieces by them: each thread, each action of an agent, and the
 //! end of each agent. `open_books` finds what the books of the store and of atoms give an audit, and where that is nothing, gives
-//! them to look up. `thread_found`, `act_found` and `agent_end` answer exactly what an audit finds of a piece.
+//! them to look up. `ends_off` answers exactly what an audit finds of how actors ended, and `thread_found`, `act_found` and `agent_end` what it finds of
+//! a piece.
 #![tactic(auto)]
 
 pub mod acts;
 pub mod books;
+mod bounds;
+pub mod ends;
 mod left;
-mod naming;
+pub mod naming;
 mod numbers;
 pub mod opening;
 pub mod seeing;
@@ -14,4 +17,5 @@ pub mod threads;
 pub mod transactions;
 
 pub use books::Books;
+pub use ends::ends_off;
 pub use opening::open_books;

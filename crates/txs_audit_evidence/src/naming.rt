@@ -40,14 +40,22 @@ fn entry_of<'a>(report: &'a Report, actor: u16) -> Option<&'a ActorReport>
     report.agents.get(actor - threads)
 }
 
+/// Which entry of an actor's trace names the event at this index of a book: the trace's length where none does, and 0 where there is no such
+/// actor.
+pub fn index_of(report: &Report, book: u32, actor: u16, at: usize) -> usize
+    ensures { result ≡ index_if book at (entry_of (report_as report.now) actor) }
+{
+    match entry_of(report, actor) {
+        Some(ran) => index_in(book, at, ran.trace.as_slice()),
+        None => 0,
+    }
+}
+
 /// Off at the event at this index of a book.
 pub(crate) fn off_at(report: &Report, book: u32, actor: u16, at: usize) -> Finding
     ensures { as_found result ≡ Off actor (index_if book at (entry_of (report_as report.now) actor)) }
 {
-    match entry_of(report, actor) {
-        Some(ran) => Finding::Off(actor, index_in(book, at, ran.trace.as_slice())),
-        None => Finding::Off(actor, 0),
-    }
+    Finding::Off(actor, index_of(report, book, actor, at))
 }
 
 /// How many events the first actor's trace has.

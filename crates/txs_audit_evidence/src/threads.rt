@@ -14,9 +14,11 @@ ghost use Rattle.txs_theorem_audit.specs.Verdict.{thread_found};
 ghost use Rattle.txs_audit_piece.specs.Judged.{as_found};
 
 use crate::books::Books;
+use crate::bounds::{first_bound, is_short, next_bound};
 use crate::transactions::{Found, transactions_found};
 use std::alloc::{AllocError, Global};
 use txs_audit_piece::{Finding, end_found};
+use txs_theorem_audit::thread_stays;
 use txs_theorem_audit_eval::{calm_is_answered, covered_is_answered, noted_are_answered};
 use txs_tree_eval::{Seen, ThreadMeaning, eval_thread};
 use txs_world_protocol::ActorReport;
@@ -58,6 +60,55 @@ fn judge<'b>(
     })
 }
 
+/// What is found of the thread with this number and entry, where its events with their worlds are these and each loop makes at most so many
+/// turns.
+fn thread_with<'b>(
+    alloc: Global,
+    books: &'b Books<'_>,
+    thread: u16,
+    bound: u32,
+    ran: &ActorReport,
+    seen: &'b [Seen<'b>],
+) -> Result<Found, AllocError>
+    requires here { nth books.now.report.threads thread ≡ Some (ran_as ran.now) }
+    requires events { seen_events seen.now ≡ events_of (program_of books.now.program) books.now.report (ran_as ran.now) }
+    ensures finding { IfOk result (λ f. as_found f.finding ≡ piece_finding (program_of books.now.program) books.now.report bound (OfThread thread)) }
+    ensures serial { IfOk result (λ f. as_found f.finding ≡ Fine → f.serial ≡ piece_serial (program_of books.now.program) books.now.report bound (OfThread thread)) }
+{
+    books.are_legal();
+    let number = usize::from(thread);
+    let meaning = eval_thread(alloc, books.program(), number, seen, bound)?;
+    judge(alloc, books, thread, bound, ran, seen, &meaning)
+}
+
+/// The same where each loop makes at most `turns` turns. The thread is evaluated with few turns first, and with more only where these don't
+/// suffice.
+fn thread_within<'b>(
+    alloc: Global,
+    books: &'b Books<'_>,
+    thread: u16,
+    turns: u32,
+    ran: &ActorReport,
+    seen: &'b [Seen<'b>],
+) -> Result<Found, AllocError>
+    requires here { nth books.now.report.threads thread ≡ Some (ran_as ran.now) }
+    requires events { seen_events seen.now ≡ events_of (program_of books.now.program) books.now.report (ran_as ran.now) }
+    ensures finding { IfOk result (λ f. as_found f.finding ≡ piece_finding (program_of books.now.program) books.now.report turns (OfThread thread)) }
+    ensures serial { IfOk result (λ f. as_found f.finding ≡ Fine → f.serial ≡ piece_serial (program_of books.now.program) books.now.report turns (OfThread thread)) }
+{
+    // A law and a step of the proof, which do nothing when they run.
+    thread_stays();
+    books.program().is_sound();
+    let mut bound = first_bound(turns);
+    loop {
+        let found = thread_with(alloc, books, thread, bound, ran, seen)?;
+        if !is_short(found.finding, bound, turns) {
+            return Ok(found);
+        }
+        bound = next_bound(bound, turns);
+    }
+}
+
 /// What an audit finds of the thread with this number, where each loop makes at most `turns` turns; and where that is nothing,
 /// whether each of its commits is covered. Nothing is found of a number that no thread has.
 ///
@@ -72,16 +123,12 @@ pub fn thread_found(
     ensures finding { IfOk result (λ f. as_found f.finding ≡ piece_finding (program_of books.now.program) books.now.report turns (OfThread thread)) }
     ensures serial { IfOk result (λ f. as_found f.finding ≡ Fine → f.serial ≡ piece_serial (program_of books.now.program) books.now.report turns (OfThread thread)) }
 {
-    books.are_legal();
-    let number = usize::from(thread);
-    let Some(ran) = books.report().threads.get(number) else {
+    let Some(ran) = books.report().threads.get(usize::from(thread)) else {
         return Ok(Found {
             finding: Finding::Fine,
             serial: true,
         });
     };
     let seen = books.see_all(alloc, ran.trace.as_slice())?;
-    let events = seen.as_slice();
-    let meaning = eval_thread(alloc, books.program(), number, events, turns)?;
-    judge(alloc, books, thread, turns, ran, events, &meaning)
+    thread_within(alloc, books, thread, turns, ran, seen.as_slice())
 }

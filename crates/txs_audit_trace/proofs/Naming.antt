@@ -3,7 +3,8 @@ use Rattle.std.proofs.Common.{◌≡◌, ◌≢◌, ◌≤◌, ◌<◌, ◌+◌,
 use Rattle.std.specs.Prelude.{IfOk}
 use Rattle.std.proofs.lemmas.Bool.{false≢true, ltb-true}
 use Rattle.std.proofs.lemmas.Bool.Decides.{nat_tests}
-use Rattle.txs_theorem_audit.specs.Audited.{PlainReport, book_or_none, books_of}
+use Rattle.txs_theorem_audit.specs.Audited.{PlainReport, books_of}
+use Rattle.txs_theorem_order.specs.Order.{book_or_none}
 use Rattle.txs_theorem_audit.specs.Verdict.{begins, same_numbers, names_all}
 use Rattle.txs_theorem_runs.specs.Told.{Place, places_in, places_by}
 use Rattle.std.proofs.lemmas.List.{get_or-set_same, get_or-set_other, length-set, get_or_read}

@@ -14,8 +14,9 @@ use Rattle.txs_cli.specs.CodeTold.{BytesScheduleTell}
 use Rattle.txs_cli.specs.CodeWorkersTold.{StreamWorkedCodeTells}
 use Rattle.txs_cli.specs.WorkersTold.{StreamWorkedTells}
 use Rattle.txs_cli.specs.Telling.{explained_as, PlaysTell, RequestTells, TurnsOfInputTell, TurnsTell, WorkOfInputTells, WorkTells, WorkedRequestTells, audit_workers, wrong_use}
-use Rattle.txs_cli.specs.Audited.{audit_turns}
+use Rattle.txs_audit_answer.specs.Answered.{finishing}
 use Rattle.txs_audit_answer.specs.declared.verdict.AuditError.{AuditError}
+use Rattle.txs_audit_answer.specs.declared.verdict.Terms.{Terms}
 use Rattle.txs_cli_report.proofs.Fronts.{some_always}
 use Rattle.txs_tree_meaning.specs.View.{Parts}
 use Rattle.txs_world_protocol.specs.declared.report.Report.{Report}
@@ -40,20 +41,20 @@ pub run_told : (known : Option (List ℕ)) (writes : Told → Type 0) (request :
 run_told known writes request input workers options is h = subst (λ (r : Request). IfSome known (λ bytes. (t : Told) × RequestTells bytes r t × writes t)) (sym is) h
 
 -- what is told of a run by workers is what is told for the request for it
-pub worked_told : (failed : PlainCode → ℕ → ℕ → RunError → Type 0) (unaudited : Parts → Report → ℕ → ℕ → AuditError → Type 0) (known : Option (List ℕ)) (writes : Told → Type 0) (request : Request) (input : Input) (workers : ℕ) (options : RunOptions)
+pub worked_told : (failed : PlainCode → ℕ → ℕ → RunError → Type 0) (unaudited : Parts → Report → Terms → ℕ → AuditError → Type 0) (known : Option (List ℕ)) (writes : Told → Type 0) (request : Request) (input : Input) (workers : ℕ) (options : RunOptions)
     → request ≡ Run input workers options
-    → IfSome known (λ bytes. (t : Told) × WorkTells (λ code. failed code workers options.steps) (λ p r e. unaudited p r (audit_turns options.steps) workers e) options.audit bytes input options t × writes t)
+    → IfSome known (λ bytes. (t : Told) × WorkTells (λ code. failed code workers options.steps) (λ p r e. unaudited p r (finishing options.steps) workers e) options.audit bytes input options t × writes t)
     → IfSome known (λ bytes. (t : Told) × WorkedRequestTells failed unaudited bytes request t × writes t)
 worked_told failed unaudited known writes request input workers options is h = subst (λ (r : Request). IfSome known (λ bytes. (t : Told) × WorkedRequestTells failed unaudited bytes r t × writes t)) (sym is) h
 
 -- what is told of a run by a schedule is what is told for the request for it, also with one who audits
-pub played_told : (failed : PlainCode → ℕ → ℕ → RunError → Type 0) (unaudited : Parts → Report → ℕ → ℕ → AuditError → Type 0) (known : Option (List ℕ)) (writes : Told → Type 0) (request : Request) (input : Input) (plays : String Global) (options : RunOptions) (text : List ℕ)
+pub played_told : (failed : PlainCode → ℕ → ℕ → RunError → Type 0) (unaudited : Parts → Report → Terms → ℕ → AuditError → Type 0) (known : Option (List ℕ)) (writes : Told → Type 0) (request : Request) (input : Input) (plays : String Global) (options : RunOptions) (text : List ℕ)
     → request ≡ Schedule input plays options → text ≡ string_bytes plays
-    → IfSome known (λ bytes. (t : Told) × PlaysTell (λ p r e. unaudited p r (audit_turns options.steps) audit_workers e) options.audit bytes input text options t × writes t)
+    → IfSome known (λ bytes. (t : Told) × PlaysTell (λ p r e. unaudited p r (finishing options.steps) audit_workers e) options.audit bytes input text options t × writes t)
     → IfSome known (λ bytes. (t : Told) × WorkedRequestTells failed unaudited bytes request t × writes t)
 played_told failed unaudited known writes request input plays options text is said h =
     subst (λ (r : Request). IfSome known (λ bytes. (t : Told) × WorkedRequestTells failed unaudited bytes r t × writes t)) (sym is)
-    (subst (λ (l : List ℕ). IfSome known (λ bytes. (t : Told) × PlaysTell (λ p r e. unaudited p r (audit_turns options.steps) audit_workers e) options.audit bytes input l options t × writes t)) said h)
+    (subst (λ (l : List ℕ). IfSome known (λ bytes. (t : Told) × PlaysTell (λ p r e. unaudited p r (finishing options.steps) audit_workers e) options.audit bytes input l options t × writes t)) said h)
 
 -- ---- what is told where something is asked for, or isn't
 

@@ -1,7 +1,8 @@
 -- What the program tells of a script whose run is audited.
-use Rattle.std.specs.Prelude.{◌≡◌, ◌^◌, ℕ, nat_lt, true, false, List, [], ◌∷◌, ◌++◌, codes, if◌then◌else◌, Option}
+use Rattle.std.specs.Prelude.{◌≡◌, ℕ, true, false, List, [], ◌∷◌, ◌++◌, codes, Option}
 use Rattle.std.specs.declared.result.Result.TheVariants.{Ok}
 use Rattle.txs_cli_audit.specs.Audit.{AuditTells}
+use Rattle.txs_audit_answer.specs.Answered.{audit_turns, finishing, terms_as}
 use Rattle.txs_audit_answer.specs.declared.verdict.AuditError.{AuditError}
 use Rattle.txs_cli_plays.specs.Plays.{plays_in}
 use Rattle.txs_cli_report.specs.Lines.{Script}
@@ -24,10 +25,6 @@ use Rattle.txs_world_shared.specs.SharedState.{PlainShared, shared_of}
 use Rattle.txs_cli.specs.RunTold.{FailureTells}
 use Rattle.txs_cli.specs.Runner.{IsWorked}
 
--- how many turns an audit allows each loop: as many as an actor may make steps, but no more than a number of 32 bits says
-abbrev pub audit_turns : ℕ → ℕ
-audit_turns steps = if nat_lt steps (2 ^ 32) then steps else 4294967295
-
 -- A report of a run that leaves this state, and that has these entries: with the state's books, and the values and faults that it leaves.
 pub record IsRunReport (s : PlainShared) (entries : Entries) (r : Report) : Type 0 where
   pub threads : r.threads ≡ entries.threads
@@ -37,14 +34,14 @@ pub record IsRunReport (s : PlainShared) (entries : Entries) (r : Report) : Type
   pub failed : r.failed.items ≡ faults_of s
 
 -- What is told of a run of a program's code, which leaves this state and has these entries, and of the audit of its report: what the report tells, and
--- behind it the verdict on the report, or that who audits had no answer, which may be for such reasons.
+-- behind it the verdict on the report of a run that was to go on up to its end, or that who audits had no answer, which may be for such reasons.
 pub record AuditedRunTells (unaudited : Report → AuditError → Type 0) (parts : Parts) (code : PlainCode) (script : Script) (o : RunOptions) (shared : PlainShared) (entries : Entries) (t : Told) : Type 0 where
   pub worked : IsWorked code o.steps shared entries
   pub ran : Told
   pub told : ReportTells code script shared entries o.cells o.events ran
   pub report : Report
   pub of : IsRunReport shared entries report
-  pub audited : AuditTells (unaudited report) script (verdict (program_of parts) (report_as report) (audit_turns o.steps)) ran t
+  pub audited : AuditTells (unaudited report) script (verdict (program_of parts) (terms_as (finishing o.steps)) (report_as report) (audit_turns o.steps)) ran t
 
 -- A way to run code: what is so of a run in it, in which each actor makes so many steps at most, and what is told of code in place of a run.
 pub record Way : Type 1 where

@@ -6,11 +6,13 @@ use Rattle.txs_machine.specs.declared.run_error.RunError.{RunError}
 use Rattle.txs_cli_report.specs.Lines.{Script}
 use Rattle.txs_cli_report.specs.Told.{Told, Tells, ScheduleTells, front}
 use Rattle.txs_cli_report.specs.Told as wanted
-use Rattle.txs_cli.specs.Audited.{by_workers, ScheduleAuditedTells, StreamAuditedTells, audit_turns}
+use Rattle.txs_cli.specs.Audited.{by_workers, ScheduleAuditedTells, StreamAuditedTells}
+use Rattle.txs_audit_answer.specs.Answered.{finishing}
 use Rattle.txs_cli.specs.CodeWorkersTold.{StreamWorkedCodeTells}
 use Rattle.txs_cli.specs.WorkersTold.{StreamWorkedTells}
 use Rattle.txs_cli.specs.CodeTold.{Listed, BytesTell, BytesScheduleTell}
 use Rattle.txs_audit_answer.specs.declared.verdict.AuditError.{AuditError}
+use Rattle.txs_audit_answer.specs.declared.verdict.Terms.{Terms}
 use Rattle.txs_tree_meaning.specs.View.{Parts}
 use Rattle.txs_world_protocol.specs.declared.report.Report.{Report}
 use Rattle.txs_cli_request.specs.declared.request.Input.{Input}
@@ -95,14 +97,14 @@ PlaysTell unaudited false bytes input plays o t = TurnsOfInputTell input.code by
 
 -- What is told for a request where what runs scripts and code, and who audits, are handed in: of a script or of code that workers are to run what is told of
 -- their run, of a script whose report is to be audited what is told of its run and of the audit, and else what is told for the request. What runs them may have
--- failed so, of that code, with the request's workers and steps; and who audits may have had no answer so, with so many turns and workers.
-abbrev pub WorkedRequestTells : (PlainCode → ℕ → ℕ → RunError → Type 0) → (Parts → Report → ℕ → ℕ → AuditError → Type 0) → List ℕ → Request → Told → Type 0
+-- failed so, of that code, with the request's workers and steps; and who audits may have had no answer so, of a run that was to do this, with so many workers.
+abbrev pub WorkedRequestTells : (PlainCode → ℕ → ℕ → RunError → Type 0) → (Parts → Report → Terms → ℕ → AuditError → Type 0) → List ℕ → Request → Told → Type 0
 WorkedRequestTells failed unaudited bytes (Check input) t = RequestTells bytes (Check input) t
 WorkedRequestTells failed unaudited bytes (asked.List input) t = RequestTells bytes (asked.List input) t
 WorkedRequestTells failed unaudited bytes (Build input out) t = RequestTells bytes (Build input out) t
 WorkedRequestTells failed unaudited bytes (Run input workers options) t =
-    WorkTells (λ code. failed code workers options.steps) (λ p r e. unaudited p r (audit_turns options.steps) workers e) options.audit bytes input options t
+    WorkTells (λ code. failed code workers options.steps) (λ p r e. unaudited p r (finishing options.steps) workers e) options.audit bytes input options t
 WorkedRequestTells failed unaudited bytes (Schedule input plays options) t =
-    PlaysTell (λ p r e. unaudited p r (audit_turns options.steps) audit_workers e) options.audit bytes input (string_bytes plays) options t
+    PlaysTell (λ p r e. unaudited p r (finishing options.steps) audit_workers e) options.audit bytes input (string_bytes plays) options t
 WorkedRequestTells failed unaudited bytes (Shown text) t = RequestTells bytes (Shown text) t
 WorkedRequestTells failed unaudited bytes (Faulty text) t = RequestTells bytes (Faulty text) t

@@ -1,7 +1,8 @@
 //! Reads a script that is to run and to be audited, and writes what is told of it.
 
 ghost use Rattle.std.specs.Prelude.{IfSome};
-ghost use Rattle.txs_cli.specs.Audited.{by_plays, by_workers, ScheduleAuditedTells, StreamAuditedTells, audit_turns};
+ghost use Rattle.txs_audit_answer.specs.Answered.{finishing};
+ghost use Rattle.txs_cli.specs.Audited.{by_plays, by_workers, ScheduleAuditedTells, StreamAuditedTells};
 ghost use Rattle.txs_cli.specs.Runner.{HasFailed, IsRunnable, RunsLawfully};
 ghost use Rattle.txs_cli_audit.specs.Audit.{HasNoAnswer, IsRight};
 ghost use Rattle.txs_cli_report.specs.Lent.{text_in};
@@ -13,7 +14,7 @@ use crate::script::Working;
 use crate::workers_play::unread;
 use std::alloc::Global;
 use std::io::{Read, Write};
-use txs_audit_answer::{AuditError, Verdict};
+use txs_audit_answer::{AuditError, Terms, Verdict};
 use txs_cli_plays::{ListError, read_plays};
 use txs_cli_report::explain::Script;
 use txs_cli_report::schedule::refuse_list;
@@ -29,7 +30,7 @@ use txs_world_shared::SharedState;
 /// Runs the reader's script by workers and has its report audited, and writes what is told of both, as `play_workers` does.
 pub(crate) fn work_stream<
     X: Fn(Global, &Verified, usize, u64) -> Result<(SharedState, Entries), RunError>,
-    A: Fn(Global, &Program, &Report, u32, usize) -> Result<Verdict, AuditError>,
+    A: Fn(Global, &Program, &Report, Terms, usize) -> Result<Verdict, AuditError>,
     R: Read,
     W: Write,
     F: Write,
@@ -45,10 +46,10 @@ pub(crate) fn work_stream<
 ) -> u8
     requires call { (a : _) (code : _) (n : _) (steps : _) → IsRunnable code.now → X.pre runner.now a code n steps }
     requires ran { (a : _) (code : _) (n : _) (steps : _) (r : _) → X.post runner.now a code n steps r → RunsLawfully code.now steps r }
-    requires audit { (a : _) (p : _) (r : _) (n : _) (w : _) → A.pre auditor.now a p r n w }
-    requires right { (a : _) (p : _) (r : _) (n : _) (w : _) (v : _) → A.post auditor.now a p r n w v → IsRight p.now r.now n v }
+    requires audit { (a : _) (p : _) (r : _) (w : _) (n : _) → A.pre auditor.now a p r w n }
+    requires right { (a : _) (p : _) (r : _) (w : _) (n : _) (v : _) → A.post auditor.now a p r w n v → IsRight p.now r.now w v }
     ensures { IfSome (R.remaining reader.old) (λ input. (t : PlainTold) × StreamAuditedTells (by_workers (λ code. HasFailed (X.post runner.now) code working.workers working.options.steps))
-        (λ p r e. HasNoAnswer (A.post auditor.now) p r (audit_turns working.options.steps) working.workers e) (record { text = front input; file = text_in file.entry }) working.options t
+        (λ p r e. HasNoAnswer (A.post auditor.now) p r (finishing working.options.steps) working.workers e) (record { text = front input; file = text_in file.entry }) working.options t
         × Written (W.contents writer.old) (W.contents writer.new) (F.contents faults.old) (F.contents faults.new) t result) }
 {
     match read_bytes(alloc, reader) {
@@ -63,7 +64,7 @@ pub(crate) fn work_stream<
 
 /// Runs the reader's script by these plays and then in rounds and has its report audited, and writes what is told of both.
 fn play_stream<
-    A: Fn(Global, &Program, &Report, u32, usize) -> Result<Verdict, AuditError>,
+    A: Fn(Global, &Program, &Report, Terms, usize) -> Result<Verdict, AuditError>,
     R: Read,
     W: Write,
     F: Write,
@@ -78,10 +79,10 @@ fn play_stream<
     writer: &mut W,
     faults: &mut F,
 ) -> u8
-    requires audit { (a : _) (p : _) (r : _) (n : _) (w : _) → A.pre auditor.now a p r n w }
-    requires right { (a : _) (p : _) (r : _) (n : _) (w : _) (v : _) → A.post auditor.now a p r n w v → IsRight p.now r.now n v }
+    requires audit { (a : _) (p : _) (r : _) (w : _) (n : _) → A.pre auditor.now a p r w n }
+    requires right { (a : _) (p : _) (r : _) (w : _) (n : _) (v : _) → A.post auditor.now a p r w n v → IsRight p.now r.now w v }
     ensures { IfSome (R.remaining reader.old) (λ input. (t : PlainTold) × StreamAuditedTells (by_plays (spread plays.now) (text_in file.entry))
-        (λ p r e. HasNoAnswer (A.post auditor.now) p r (audit_turns working.options.steps) working.workers e) (record { text = front input; file = text_in file.entry }) working.options t
+        (λ p r e. HasNoAnswer (A.post auditor.now) p r (finishing working.options.steps) working.workers e) (record { text = front input; file = text_in file.entry }) working.options t
         × Written (W.contents writer.old) (W.contents writer.new) (F.contents faults.old) (F.contents faults.new) t result) }
 {
     match read_bytes(alloc, reader) {
@@ -97,7 +98,7 @@ fn play_stream<
 /// Runs the reader's script by a list of plays and then in rounds and has its report audited, and writes what is told of both. A list that isn't
 /// one is told of before anything is read, with status 2.
 pub(crate) fn schedule_stream<
-    A: Fn(Global, &Program, &Report, u32, usize) -> Result<Verdict, AuditError>,
+    A: Fn(Global, &Program, &Report, Terms, usize) -> Result<Verdict, AuditError>,
     R: Read,
     W: Write,
     F: Write,
@@ -111,10 +112,10 @@ pub(crate) fn schedule_stream<
     writer: &mut W,
     faults: &mut F,
 ) -> u8
-    requires audit { (a : _) (p : _) (r : _) (n : _) (w : _) → A.pre auditor.now a p r n w }
-    requires right { (a : _) (p : _) (r : _) (n : _) (w : _) (v : _) → A.post auditor.now a p r n w v → IsRight p.now r.now n v }
+    requires audit { (a : _) (p : _) (r : _) (w : _) (n : _) → A.pre auditor.now a p r w n }
+    requires right { (a : _) (p : _) (r : _) (w : _) (n : _) (v : _) → A.post auditor.now a p r w n v → IsRight p.now r.now w v }
     ensures { IfSome (R.remaining reader.old) (λ input. (t : PlainTold) × ScheduleAuditedTells turns.now
-        (λ p r e. HasNoAnswer (A.post auditor.now) p r (audit_turns working.options.steps) working.workers e) (record { text = front input; file = text_in file.entry }) working.options t
+        (λ p r e. HasNoAnswer (A.post auditor.now) p r (finishing working.options.steps) working.workers e) (record { text = front input; file = text_in file.entry }) working.options t
         × Written (W.contents writer.old) (W.contents writer.new) (F.contents faults.old) (F.contents faults.new) t result) }
 {
     match read_plays(alloc, turns) {

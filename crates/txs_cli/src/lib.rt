@@ -20,7 +20,7 @@ pub mod workers;
 mod workers_play;
 
 pub use program::{play, play_words};
-pub use txs_audit_answer::{AuditError, Verdict};
+pub use txs_audit_answer::{AuditError, Terms, Verdict};
 pub use txs_cli_args::parse_words;
 pub use txs_cli_request::{Input, Request, RunOptions};
 pub use workers::play_with;

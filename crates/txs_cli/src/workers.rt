@@ -1,7 +1,7 @@
 //! The program, over any streams, with what runs scripts and code handed in.
 
 ghost use Rattle.std.specs.Prelude.{IfSome};
-ghost use Rattle.txs_cli.specs.Audited.{audit_turns};
+ghost use Rattle.txs_audit_answer.specs.Answered.{finishing};
 ghost use Rattle.txs_cli.specs.Runner.{HasFailed, IsRunnable, RunsLawfully};
 ghost use Rattle.txs_cli.specs.Telling.{PlaysTell, TurnsAuditTells, WorkAuditTells, WorkOfInputTells, WorkTells, WorkedRequestTells, audit_workers};
 ghost use Rattle.txs_cli_audit.specs.Audit.{HasNoAnswer, IsRight};
@@ -14,7 +14,7 @@ use crate::script::Working;
 use crate::workers_play::play_workers;
 use std::alloc::Global;
 use std::io::{Read, Write};
-use txs_audit_answer::{AuditError, Verdict};
+use txs_audit_answer::{AuditError, Terms, Verdict};
 use txs_cli_request::{Input, Request, RunOptions};
 use txs_code_meaning::Verified;
 use txs_machine::{Entries, RunError};
@@ -55,7 +55,7 @@ fn work<
 /// Runs the reader's script by workers and has its report audited; code in its byte form can't be audited.
 fn work_and_audit<
     X: Fn(Global, &Verified, usize, u64) -> Result<(SharedState, Entries), RunError>,
-    A: Fn(Global, &Program, &Report, u32, usize) -> Result<Verdict, AuditError>,
+    A: Fn(Global, &Program, &Report, Terms, usize) -> Result<Verdict, AuditError>,
     R: Read,
     W: Write,
     F: Write,
@@ -71,9 +71,9 @@ fn work_and_audit<
 ) -> u8
     requires call { (a : _) (code : _) (n : _) (steps : _) → IsRunnable code.now → X.pre runner.now a code n steps }
     requires ran { (a : _) (code : _) (n : _) (steps : _) (r : _) → X.post runner.now a code n steps r → RunsLawfully code.now steps r }
-    requires audit { (a : _) (p : _) (r : _) (n : _) (w : _) → A.pre auditor.now a p r n w }
-    requires right { (a : _) (p : _) (r : _) (n : _) (w : _) (v : _) → A.post auditor.now a p r n w v → IsRight p.now r.now n v }
-    ensures { IfSome (R.remaining reader.old) (λ bytes. (t : Told) × WorkAuditTells (λ code. HasFailed (X.post runner.now) code working.workers working.options.steps) (λ p r e. HasNoAnswer (A.post auditor.now) p r (audit_turns working.options.steps) working.workers e) input.now.code bytes input.now working.options t
+    requires audit { (a : _) (p : _) (r : _) (w : _) (n : _) → A.pre auditor.now a p r w n }
+    requires right { (a : _) (p : _) (r : _) (w : _) (n : _) (v : _) → A.post auditor.now a p r w n v → IsRight p.now r.now w v }
+    ensures { IfSome (R.remaining reader.old) (λ bytes. (t : Told) × WorkAuditTells (λ code. HasFailed (X.post runner.now) code working.workers working.options.steps) (λ p r e. HasNoAnswer (A.post auditor.now) p r (finishing working.options.steps) working.workers e) input.now.code bytes input.now working.options t
         × Written (W.contents writer.old) (W.contents writer.new) (F.contents faults.old) (F.contents faults.new) t result) }
 {
     if input.code {
@@ -87,7 +87,7 @@ fn work_and_audit<
 
 /// Runs the reader's script by a schedule and has its report audited; code in its byte form can't be audited.
 fn schedule_and_audit<
-    A: Fn(Global, &Program, &Report, u32, usize) -> Result<Verdict, AuditError>,
+    A: Fn(Global, &Program, &Report, Terms, usize) -> Result<Verdict, AuditError>,
     R: Read,
     W: Write,
     F: Write,
@@ -101,9 +101,9 @@ fn schedule_and_audit<
     writer: &mut W,
     faults: &mut F,
 ) -> u8
-    requires audit { (a : _) (p : _) (r : _) (n : _) (w : _) → A.pre auditor.now a p r n w }
-    requires right { (a : _) (p : _) (r : _) (n : _) (w : _) (v : _) → A.post auditor.now a p r n w v → IsRight p.now r.now n v }
-    ensures { IfSome (R.remaining reader.old) (λ bytes. (t : Told) × TurnsAuditTells (λ p r e. HasNoAnswer (A.post auditor.now) p r (audit_turns working.options.steps) working.workers e) input.now.code bytes input.now plays.now working.options t
+    requires audit { (a : _) (p : _) (r : _) (w : _) (n : _) → A.pre auditor.now a p r w n }
+    requires right { (a : _) (p : _) (r : _) (w : _) (n : _) (v : _) → A.post auditor.now a p r w n v → IsRight p.now r.now w v }
+    ensures { IfSome (R.remaining reader.old) (λ bytes. (t : Told) × TurnsAuditTells (λ p r e. HasNoAnswer (A.post auditor.now) p r (finishing working.options.steps) working.workers e) input.now.code bytes input.now plays.now working.options t
         × Written (W.contents writer.old) (W.contents writer.new) (F.contents faults.old) (F.contents faults.new) t result) }
 {
     if input.code {
@@ -116,7 +116,7 @@ fn schedule_and_audit<
 /// Runs the input by workers, with an audit where one is asked for.
 fn work_all<
     X: Fn(Global, &Verified, usize, u64) -> Result<(SharedState, Entries), RunError>,
-    A: Fn(Global, &Program, &Report, u32, usize) -> Result<Verdict, AuditError>,
+    A: Fn(Global, &Program, &Report, Terms, usize) -> Result<Verdict, AuditError>,
     R: Read,
     W: Write,
     F: Write,
@@ -132,9 +132,9 @@ fn work_all<
 ) -> u8
     requires call { (a : _) (code : _) (n : _) (steps : _) → IsRunnable code.now → X.pre runner.now a code n steps }
     requires ran { (a : _) (code : _) (n : _) (steps : _) (r : _) → X.post runner.now a code n steps r → RunsLawfully code.now steps r }
-    requires audit { (a : _) (p : _) (r : _) (n : _) (w : _) → A.pre auditor.now a p r n w }
-    requires right { (a : _) (p : _) (r : _) (n : _) (w : _) (v : _) → A.post auditor.now a p r n w v → IsRight p.now r.now n v }
-    ensures { IfSome (R.remaining reader.old) (λ bytes. (t : Told) × WorkTells (λ code. HasFailed (X.post runner.now) code working.workers working.options.steps) (λ p r e. HasNoAnswer (A.post auditor.now) p r (audit_turns working.options.steps) working.workers e) working.options.audit bytes input.now working.options t
+    requires audit { (a : _) (p : _) (r : _) (w : _) (n : _) → A.pre auditor.now a p r w n }
+    requires right { (a : _) (p : _) (r : _) (w : _) (n : _) (v : _) → A.post auditor.now a p r w n v → IsRight p.now r.now w v }
+    ensures { IfSome (R.remaining reader.old) (λ bytes. (t : Told) × WorkTells (λ code. HasFailed (X.post runner.now) code working.workers working.options.steps) (λ p r e. HasNoAnswer (A.post auditor.now) p r (finishing working.options.steps) working.workers e) working.options.audit bytes input.now working.options t
         × Written (W.contents writer.old) (W.contents writer.new) (F.contents faults.old) (F.contents faults.new) t result) }
 {
     if working.options.audit {
@@ -147,7 +147,7 @@ fn work_all<
 
 /// Runs the input by a schedule, with an audit where one is asked for.
 fn schedule_all<
-    A: Fn(Global, &Program, &Report, u32, usize) -> Result<Verdict, AuditError>,
+    A: Fn(Global, &Program, &Report, Terms, usize) -> Result<Verdict, AuditError>,
     R: Read,
     W: Write,
     F: Write,
@@ -161,9 +161,9 @@ fn schedule_all<
     writer: &mut W,
     faults: &mut F,
 ) -> u8
-    requires audit { (a : _) (p : _) (r : _) (n : _) (w : _) → A.pre auditor.now a p r n w }
-    requires right { (a : _) (p : _) (r : _) (n : _) (w : _) (v : _) → A.post auditor.now a p r n w v → IsRight p.now r.now n v }
-    ensures { IfSome (R.remaining reader.old) (λ bytes. (t : Told) × PlaysTell (λ p r e. HasNoAnswer (A.post auditor.now) p r (audit_turns options.steps) audit_workers e) options.audit bytes input.now plays.now options t
+    requires audit { (a : _) (p : _) (r : _) (w : _) (n : _) → A.pre auditor.now a p r w n }
+    requires right { (a : _) (p : _) (r : _) (w : _) (n : _) (v : _) → A.post auditor.now a p r w n v → IsRight p.now r.now w v }
+    ensures { IfSome (R.remaining reader.old) (λ bytes. (t : Told) × PlaysTell (λ p r e. HasNoAnswer (A.post auditor.now) p r (finishing options.steps) audit_workers e) options.audit bytes input.now plays.now options t
         × Written (W.contents writer.old) (W.contents writer.new) (F.contents faults.old) (F.contents faults.new) t result) }
 {
     if options.audit {
@@ -182,7 +182,7 @@ fn schedule_all<
 /// an audit, it is made by this auditor: with as many workers as the run has, else four.
 pub fn play_with<
     X: Fn(Global, &Verified, usize, u64) -> Result<(SharedState, Entries), RunError>,
-    A: Fn(Global, &Program, &Report, u32, usize) -> Result<Verdict, AuditError>,
+    A: Fn(Global, &Program, &Report, Terms, usize) -> Result<Verdict, AuditError>,
     R: Read,
     W: Write,
     F: Write,
@@ -197,8 +197,8 @@ pub fn play_with<
 ) -> u8
     requires call { (a : _) (code : _) (n : _) (steps : _) → IsRunnable code.now → X.pre runner.now a code n steps }
     requires ran { (a : _) (code : _) (n : _) (steps : _) (r : _) → X.post runner.now a code n steps r → RunsLawfully code.now steps r }
-    requires audit { (a : _) (p : _) (r : _) (n : _) (w : _) → A.pre auditor.now a p r n w }
-    requires right { (a : _) (p : _) (r : _) (n : _) (w : _) (v : _) → A.post auditor.now a p r n w v → IsRight p.now r.now n v }
+    requires audit { (a : _) (p : _) (r : _) (w : _) (n : _) → A.pre auditor.now a p r w n }
+    requires right { (a : _) (p : _) (r : _) (w : _) (n : _) (v : _) → A.post auditor.now a p r w n v → IsRight p.now r.now w v }
     ensures { IfSome (R.remaining reader.old) (λ input. (t : Told) × WorkedRequestTells (HasFailed (X.post runner.now)) (HasNoAnswer (A.post auditor.now)) input request.now t
         × Written (W.contents writer.old) (W.contents writer.new) (F.contents faults.old) (F.contents faults.new) t result) }
 {

@@ -3,7 +3,8 @@ use Rattle.std.specs.Prelude.{◌≡◌, ℕ, max, true, false, List, [], ◌++�
 use Rattle.std.specs.Borrow.{Bor}
 use Rattle.std.proofs.Common.{Global, Result}
 use Rattle.std.specs.declared.result.Result.TheVariants.{Err}
-use Rattle.txs_audit_answer.specs.Answered.{as_verdict}
+use Rattle.txs_audit_answer.specs.Answered.{as_verdict, audit_turns, terms_as}
+use Rattle.txs_audit_answer.specs.declared.verdict.Terms.{Terms}
 use Rattle.txs_audit_answer.specs.declared.verdict.Verdict as answered
 use Rattle.txs_audit_answer.specs.declared.verdict.AuditError.{AuditError}
 use Rattle.txs_audit_answer.specs.declared.verdict.AuditError.TheVariants.{NoThread, Memory}
@@ -15,13 +16,13 @@ use Rattle.txs_tree_meaning.specs.View.{Parts, program_of}
 use Rattle.txs_value_base.specs.declared.fault.Span.{Span}
 use Rattle.txs_world_protocol.specs.declared.report.Report.{Report}
 
--- an answer, where there is one, is the verdict on this report, where each loop makes so many turns at most
-abbrev pub IsRight : Parts → Report → ℕ → Result answered.Verdict AuditError → Type 0
-IsRight p r n v = IfOk v (λ a. as_verdict a ≡ verdict (program_of p) (report_as r) n)
+-- an answer, where there is one, is the verdict on this report of a run that was to do this, where each loop makes as many turns at most as its steps allow
+abbrev pub IsRight : Parts → Report → Terms → Result answered.Verdict AuditError → Type 0
+IsRight p r w v = IfOk v (λ a. as_verdict a ≡ verdict (program_of p) (terms_as w) (report_as r) (audit_turns w.steps))
 
--- who audits, answering so, has had no answer for this reason to this report of this program, with so many turns and workers
-abbrev pub HasNoAnswer : (Global → Bor Parts → Bor Report → ℕ → ℕ → Result answered.Verdict AuditError → Type 0) → Parts → Report → ℕ → ℕ → AuditError → Type 0
-HasNoAnswer answers p r turns workers e = (alloc : Global) × (program : Bor Parts) × (report : Bor Report) × (program.now ≡ p) × (report.now ≡ r) × answers alloc program report turns workers (Err e)
+-- who audits, answering so, has had no answer for this reason to this report of this program, whose run was to do this, with so many workers
+abbrev pub HasNoAnswer : (Global → Bor Parts → Bor Report → Terms → ℕ → Result answered.Verdict AuditError → Type 0) → Parts → Report → Terms → ℕ → AuditError → Type 0
+HasNoAnswer answers p r w workers e = (alloc : Global) × (program : Bor Parts) × (report : Bor Report) × (program.now ≡ p) × (report.now ≡ r) × answers alloc program report w workers (Err e)
 
 -- ---- the line and the status
 

@@ -1,7 +1,7 @@
 //! Adds what is told of an audit to what is told of its run.
 
 ghost use Rattle.std.specs.Prelude.{◌≡◌, ◌++◌, codes, decimal, OnOk};
-ghost use Rattle.txs_audit_answer.specs.Answered.{as_verdict};
+ghost use Rattle.txs_audit_answer.specs.Answered.{as_verdict, audit_turns, terms_as};
 ghost use Rattle.txs_cli_audit.specs.Audit.{AnswerTells, AuditTells, HasNoAnswer, IsRight, NoAnswerTells, at_event, audit_line, audit_status, no_answer_line};
 ghost use Rattle.txs_cli_report.specs.Lent.{lines_of, script_of};
 ghost use Rattle.txs_theorem_audit.specs.Audited.{report_as};
@@ -10,7 +10,7 @@ ghost use Rattle.txs_tree_meaning.specs.View.{program_of};
 
 use crate::explain::{Audited, explain};
 use std::alloc::{AllocError, Global};
-use txs_audit_answer::{AuditError, Verdict};
+use txs_audit_answer::{AuditError, Terms, Verdict};
 use txs_cli_plays::write_number;
 use txs_cli_report::explain::Script;
 use txs_cli_report::told::{DONE, SPENT, Told};
@@ -86,23 +86,23 @@ fn add_no_answer(failure: AuditError, told: &mut Told) -> Result<(), AllocError>
     told.errors.extend_from_slice(line_of(failure))
 }
 
-/// Has the report audited against the program, with so many turns for each loop and so many workers, and adds what is told of that to what is
+/// Has the report audited against the program, by so many workers and by what the run was to do, and adds what is told of that to what is
 /// told of the run: the verdict, or why there is none. Where there was no memory nothing is said of what is told.
-pub fn add_audit<A: Fn(Global, &Program, &Report, u32, usize) -> Result<Verdict, AuditError>>(
+pub fn add_audit<A: Fn(Global, &Program, &Report, Terms, usize) -> Result<Verdict, AuditError>>(
     alloc: Global,
     auditor: &A,
     script: Script<'_>,
     audited: Audited<'_>,
-    turns: u32,
+    terms: Terms,
     workers: usize,
     told: &mut Told,
 ) -> Result<(), AllocError>
-    requires call { (a : _) (p : _) (r : _) (n : _) (w : _) → A.pre auditor.now a p r n w }
-    requires right { (a : _) (p : _) (r : _) (n : _) (w : _) (v : _) → A.post auditor.now a p r n w v → IsRight p.now r.now n v }
+    requires call { (a : _) (p : _) (r : _) (w : _) (n : _) → A.pre auditor.now a p r w n }
+    requires right { (a : _) (p : _) (r : _) (w : _) (n : _) (v : _) → A.post auditor.now a p r w n v → IsRight p.now r.now w v }
     ensures threads { told.new.threads ≡ told.old.threads }
-    ensures told { OnOk result (AuditTells (HasNoAnswer (A.post auditor.now) audited.entry.program.now audited.entry.report.now turns workers) (script_of script.entry) (verdict (program_of audited.entry.program.now) (report_as audited.entry.report.now) turns) (lines_of told.old) (lines_of told.new)) }
+    ensures told { OnOk result (AuditTells (HasNoAnswer (A.post auditor.now) audited.entry.program.now audited.entry.report.now terms workers) (script_of script.entry) (verdict (program_of audited.entry.program.now) (terms_as terms) (report_as audited.entry.report.now) (audit_turns terms.steps)) (lines_of told.old) (lines_of told.new)) }
 {
-    match auditor(alloc, audited.program, audited.report, turns, workers) {
+    match auditor(alloc, audited.program, audited.report, terms, workers) {
         Ok(answer) => add_answer(alloc, script, audited, answer, told),
         Err(failure) => add_no_answer(failure, told),
     }

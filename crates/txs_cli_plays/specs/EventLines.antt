@@ -8,7 +8,7 @@ use Rattle.txs_world_protocol.specs.declared.event.EventKind.TheVariants.{Read, 
 abbrev pub event_name : EventKind → List ℕ
 event_name (Read cell) = codes "read"
 event_name (Commit at view writes sends) = codes "commit"
-event_name (Retry since cell commute) = codes "retry"
+event_name (Retry since cell cause) = codes "retry"
 event_name (Fail at view) = codes "fail"
 event_name (Refused at view agent) = codes "refused"
 event_name (Send action) = codes "send"

@@ -1,8 +1,9 @@
 -- What a thread on its events makes of the forms on cells is alike, where callees are and the transactions' bodies mean the same.
 use Rattle.std.proofs.Common.{◌≡◌, ℕ, zero, suc, Bool, true, false, ◌&&◌, ◌==◌, List, [], ◌∷◌, ◌++◌, map, if◌then◌else◌, Option, Some, None, refl, sym, ap, ◌∙◌, subst}
-use Rattle.txs_frame.specs.Frame.{sends_of_commit}
+use Rattle.txs_frame.specs.Frame.{has_number, commuted, sends_of_commit}
 use Rattle.txs_world_protocol.specs.Ask.{same_writes, same_cell, same_value, same_action, same_actions}
 use Rattle.txs_world_protocol.specs.SeenEvent.{SeenEvent, home}
+use Rattle.txs_world_protocol.specs.declared.event.Cause.TheVariants as cause
 use Rattle.txs_world_protocol.specs.declared.event.EventKind.{EventKind}
 use Rattle.txs_world_protocol.specs.declared.event.EventKind.TheVariants.{Read, Commit, Retry, Fail, Refused, Send as Sent, SendRefused, Act, Swap as Swapped, Broke}
 use Rattle.txs_value_cell.specs.Cells.{World, Validators, validators_of, validator_at}
@@ -26,7 +27,7 @@ use Rattle.txs_value_data.specs.declared.value.CellId.{CellId}
 use Rattle.txs_value_data.specs.declared.value.Value.{Value}
 use Rattle.txs_value_data.specs.declared.value.Value.TheVariants.{Cell}
 use Rattle.txs_tree_meaning.specs.Meaning.{Completion, Completes, Recurs, Faults, Retries, Waits, OutOfTurns, Invalid, bind, allowed, Applies}
-use Rattle.txs_tree_meaning.specs.Thread.{TxRun, ThreadState, with_tx, holding, sends_or_holds, uneaten, eats, meant, reads, resets, faulted, faultless, swaps, sends, over, Transacting, run_of, ends_tx, is_retry, eats_tx, Surroundings, accepts, thread_look, thread_put, thread_update, outside_form, on_events}
+use Rattle.txs_tree_meaning.specs.Thread.{TxRun, ThreadState, with_tx, holding, sends_or_holds, uneaten, eats, meant, reads, resets, faulted, faultless, swaps, sends, over, Transacting, run_of, ends_tx, is_retry, is_held, again, eats_tx, Surroundings, accepts, thread_look, thread_put, thread_update, outside_form, on_events}
 use Rattle.txs_tree_meaning.specs.Transaction.{TxState, on_cell, tx_meaning, final_writes}
 use Rattle.txs_tree_meaning.specs.Tree.{Mark, Tree, PlainFunction}
 use Rattle.txs_opt.specs.Observed.{observed, observed_run, observed_end}
@@ -88,7 +89,7 @@ module _ (loose : Type 0) where
   uneaten_like es Invalid (OutOfTurns t) h = h
 
   eats_from : (book : ℕ) (go go1 : SeenEvent → ThreadState → Completion ThreadState Value) → ((e : SeenEvent) → PartsLike ThreadState K (go e) (go1 e)) → (es : List SeenEvent) → PartsLike ThreadState K (eats book go es) (eats book go1 es)
-  eats_from book go go1 h [] s t r = r
+  eats_from book go go1 h [] s t r = ap {A = ThreadState} (λ u. record u { asks = Some book }) r
   eats_from book go go1 h (e ∷ es) s t r = test (e.book == book)
     where
       test : (b : Bool) → Like K (if b then uneaten (e ∷ es) (go e (record s { todo = es })) else Invalid) (if b then uneaten (e ∷ es) (go1 e (record t { todo = es })) else Invalid)
@@ -101,7 +102,7 @@ module _ (loose : Type 0) where
   reads_like : (c : CellId) (e : EventKind) (C : World) → PartsLike ThreadState K (reads c e C) (reads c e C)
   reads_like c (Read d) C s t r = meant_like (same_cell c d) (C c.number) s t r
   reads_like c (Commit at view ws sent) C s t r = tt
-  reads_like c (Retry since d commute) C s t r = tt
+  reads_like c (Retry since d cause) C s t r = tt
   reads_like c (Fail at view) C s t r = tt
   reads_like c (Refused at view agent) C s t r = tt
   reads_like c (Sent a) C s t r = tt
@@ -113,7 +114,7 @@ module _ (loose : Type 0) where
   resets_like : (v : Value) (e : EventKind) → PartsLike ThreadState K (resets v e) (resets v e)
   resets_like v (Read d) s t r = tt
   resets_like v (Commit at view ws sent) s t r = tt
-  resets_like v (Retry since d commute) s t r = tt
+  resets_like v (Retry since d cause) s t r = tt
   resets_like v (Fail at view) s t r = tt
   resets_like v (Refused at view agent) s t r = tt
   resets_like v (Sent a) s t r = tt
@@ -167,7 +168,7 @@ module _ (loose : Type 0) where
   swaps_like : (c : CellId) (f g : Value → ThreadState → Completion ThreadState Value) → ((v : Value) → PartsLike ThreadState K (f v) (g v)) → (e : EventKind) (R C : World) → PartsLike ThreadState K (swaps c f e R C) (swaps c g e R C)
   swaps_like c f g h (Read d) R C s t r = tt
   swaps_like c f g h (Commit at view ws sent) R C s t r = tt
-  swaps_like c f g h (Retry since d commute) R C s t r = tt
+  swaps_like c f g h (Retry since d cause) R C s t r = tt
   swaps_like c f g h (Fail at view) R C s t r = tt
   swaps_like c f g h (Refused at view agent) R C s t r = tt
   swaps_like c f g h (Sent a) R C s t r = tt
@@ -179,7 +180,7 @@ module _ (loose : Type 0) where
   sends_like : (a : Action) (span : Span) (e : EventKind) → PartsLike ThreadState K (sends a span e) (sends a span e)
   sends_like a span (Read d) s t r = tt
   sends_like a span (Commit at view ws sent) s t r = tt
-  sends_like a span (Retry since d commute) s t r = tt
+  sends_like a span (Retry since d cause) s t r = tt
   sends_like a span (Fail at view) s t r = tt
   sends_like a span (Refused at view agent) s t r = tt
   sends_like a span (Sent b) s t r = meant_like (same_action a b) (Cell a.agent) s t r
@@ -245,7 +246,7 @@ module _ (loose : Type 0) where
         (final_like ThreadState K May f g h va valid m.span x.done C fine s t r)
         (λ ws s1 t1 r1. landed_like (same_writes ws writes) x.done.sends sent v (run_of First v x) (run_of Second v x) refl s1 t1 r1))
         (λ x. tt)
-    ends_like (Retry since d commute) R Q C s t r = tt
+    ends_like (Retry since d cause) R Q C s t r = tt
     ends_like (Fail at view) R Q C s t r =
         over_like May (on R) (on1 R) s t r (same R) (λ v x. faulted (final_writes f va m.span x.done Q s) (λ e t1. Faults e t1)) (λ v x. faulted (final_writes g va m.span x.done Q t) (λ e t1. Faults e t1)) (λ x. Faults x s) (λ x. Faults x t)
         (λ v x fine. faulted_like (final_writes f va m.span x.done Q s) (final_writes g va m.span x.done Q t) (λ e t1. Faults e t1) (λ e t1. Faults e t1) (final_like ThreadState K May f g h va valid m.span x.done Q fine s t r) (λ e s1 t1 r1. (refl, r1)))
@@ -262,15 +263,22 @@ module _ (loose : Type 0) where
     ends_like (Swapped new) R Q C s t r = tt
     ends_like (Broke at) R Q C s t r = tt
 
+    -- a try that had to run again, and what follows
+    again_like : (e : EventKind) (R : World) (s t : ThreadState) → observed s ≡ observed t → (p q : Completion ThreadState Value) → Like K p q → Like K (again First e R s p) (again Second e R t q)
+    again_like (Retry since c cause.Outdated) R s t r p q like = like
+    again_like (Retry since c cause.Held) R s t r p q like = over_like May (on R) (on1 R) s t r (same R) _ _ (λ x. Invalid) (λ x. Invalid) (λ v x fine. allowed_like (is_held x.done c.number) p q like) (λ x. tt)
+    again_like (Retry since c (cause.Commuted at)) R s t r p q like = over_like May (on R) (on1 R) s t r (same R) _ _ (λ x. Invalid) (λ x. Invalid) (λ v x fine. allowed_like (has_number (commuted x.done) c.number) p q like) (λ x. tt)
+    again_like _ R s t r p q like = tt
+
     eats_tx_from : (n : ℕ) (es : List SeenEvent) → PartsLike ThreadState K (eats_tx n First f es) (eats_tx n Second g es)
     eats_tx_from zero es s t r = (refl, todo_same es s t r)
-    eats_tx_from (suc n) [] s t r = todo_same [] s t r
+    eats_tx_from (suc n) [] s t r = ap {A = ThreadState} (λ u. record u { todo = []; asks = Some 0 }) r
     eats_tx_from (suc n) (e ∷ es) s t r = test (e.book == 0) (is_retry e.kind) (eats_tx_from n es s t r)
       where
         test : (b c : Bool) → Like K (eats_tx n First f es s) (eats_tx n Second g es t) →
-            Like K (if b then (if c then eats_tx n First f es s else uneaten (e ∷ es) (ends_tx First f e.kind e.R e.Q e.C (record s { todo = es }))) else Invalid)
-            (if b then (if c then eats_tx n Second g es t else uneaten (e ∷ es) (ends_tx Second g e.kind e.R e.Q e.C (record t { todo = es }))) else Invalid)
-        test true true next = next
+            Like K (if b then (if c then again First e.kind e.R (record s { todo = e ∷ es }) (eats_tx n First f es s) else uneaten (e ∷ es) (ends_tx First f e.kind e.R e.Q e.C (record s { todo = es }))) else Invalid)
+            (if b then (if c then again Second e.kind e.R (record t { todo = e ∷ es }) (eats_tx n Second g es t) else uneaten (e ∷ es) (ends_tx Second g e.kind e.R e.Q e.C (record t { todo = es }))) else Invalid)
+        test true true next = again_like e.kind e.R (record s { todo = e ∷ es }) (record t { todo = e ∷ es }) (todo_same (e ∷ es) s t r) (eats_tx n First f es s) (eats_tx n Second g es t) next
         test true false next =
             uneaten_like (e ∷ es) (ends_tx First f e.kind e.R e.Q e.C (record s { todo = es })) (ends_tx Second g e.kind e.R e.Q e.C (record t { todo = es }))
             (ends_like e.kind e.R e.Q e.C (record s { todo = es }) (record t { todo = es }) (todo_same es s t r))

@@ -79,7 +79,7 @@ thread_folded p n es =
     let fs = folded_functions p.functions in
     let x = around p n in
     let y = around (folded_source p) n in
-    let start : ThreadState = record { todo = es; printed = []; held = None; txs = [] } in
+    let start : ThreadState = record { todo = es; printed = []; held = None; txs = []; asks = None } in
     let fxs : ℕ → Effects ThreadState = on_events x in
     let gxs : ℕ → Effects ThreadState = on_events y in
     let d = length p.functions in

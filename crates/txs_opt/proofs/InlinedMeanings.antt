@@ -139,7 +139,7 @@ thread_inlined weight p q budget left m es under valid low =
     let own = under_inlined weight p fs [] budget tt under in
     let x = around q m in
     let y = around (inlined_source budget left q) m in
-    let start : ThreadState = record { todo = es; printed = []; held = None; txs = [] } in
+    let start : ThreadState = record { todo = es; printed = []; held = None; txs = []; asks = None } in
     let fxs : ℕ → Effects ThreadState = on_events x in
     let gxs : ℕ → Effects ThreadState = on_events y in
     let d = length fs in

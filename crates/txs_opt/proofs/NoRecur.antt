@@ -2,9 +2,10 @@
 use Rattle.std.proofs.Common.{ℕ, zero, suc, Bool, true, false, ◌||◌, ◌&&◌, ◌==◌, List, [], ◌∷◌, Result, Option, Some, None, if◌then◌else◌}
 use Rattle.txs_world_protocol.specs.Ask.{same_writes, same_cell, same_value, same_action, same_actions}
 use Rattle.txs_world_protocol.specs.SeenEvent.{SeenEvent, home}
+use Rattle.txs_world_protocol.specs.declared.event.Cause.TheVariants as cause
 use Rattle.txs_world_protocol.specs.declared.event.EventKind.{EventKind}
 use Rattle.txs_world_protocol.specs.declared.event.EventKind.TheVariants.{Read, Commit, Retry, Fail, Refused, Send as Sent, SendRefused, Act, Swap as Swapped, Broke}
-use Rattle.txs_frame.specs.Frame.{PlainTxFrame, set_ref, commute_ref, sends_of_commit}
+use Rattle.txs_frame.specs.Frame.{PlainTxFrame, has_number, commuted, set_ref, commute_ref, sends_of_commit}
 use Rattle.txs_value_cell.specs.Cells.{World, validators_of}
 use Rattle.txs_value_cell.specs.Forms.{rule, cell_of, may_stand}
 use Rattle.txs_value_cell.specs.declared.action.Action.{Action}
@@ -27,7 +28,7 @@ use Rattle.txs_value_data.specs.declared.value.Value.{Value}
 use Rattle.txs_value_data.specs.declared.value.Value.TheVariants.{Cell}
 use Rattle.txs_tree_meaning.specs.Meaning.{Completion, Completes, Recurs, Faults, Retries, Waits, OutOfTurns, Invalid, bind, result_of, allowed, Applies}
 use Rattle.txs_tree_meaning.specs.Pure.{no_effects}
-use Rattle.txs_tree_meaning.specs.Thread.{ThreadState, with_tx, holding, sends_or_holds, uneaten, eats, meant, reads, resets, faulted, faultless, swaps, sends, over, Transacting, run_of, ends_tx, is_retry, eats_tx, Surroundings, accepts, thread_look, thread_put, thread_update, on_events}
+use Rattle.txs_tree_meaning.specs.Thread.{ThreadState, with_tx, holding, sends_or_holds, uneaten, eats, meant, reads, resets, faulted, faultless, swaps, sends, over, Transacting, run_of, ends_tx, is_retry, is_held, again, eats_tx, Surroundings, accepts, thread_look, thread_put, thread_update, on_events}
 use Rattle.txs_tree_meaning.specs.Transaction.{TxState, taken, done_as, on_cell, current, tx_look, tx_put, tx_update, in_transaction, tx_meaning, final_writes}
 use Rattle.txs_tree_meaning.specs.Tree.{Mark}
 use Rattle.txs_opt.proofs.Recurring.{IsEnd, FormsEnd, CalleesEnd, bind_end}
@@ -104,7 +105,7 @@ meant_end false v t = tt
 reads_end : (c : CellId) (e : EventKind) (C : World) (t : ThreadState) → IsEnd (reads c e C t)
 reads_end c (Read d) C t = meant_end (same_cell c d) (C c.number) t
 reads_end c (Commit at view ws sent) C t = tt
-reads_end c (Retry since d commute) C t = tt
+reads_end c (Retry since d cause) C t = tt
 reads_end c (Fail at view) C t = tt
 reads_end c (Refused at view agent) C t = tt
 reads_end c (Sent a) C t = tt
@@ -116,7 +117,7 @@ reads_end c (Broke at) C t = tt
 resets_end : (v : Value) (e : EventKind) (t : ThreadState) → IsEnd (resets v e t)
 resets_end v (Read d) t = tt
 resets_end v (Commit at view ws sent) t = tt
-resets_end v (Retry since d commute) t = tt
+resets_end v (Retry since d cause) t = tt
 resets_end v (Fail at view) t = tt
 resets_end v (Refused at view agent) t = tt
 resets_end v (Sent a) t = tt
@@ -155,7 +156,7 @@ over_end t Invalid go broke h j = tt
 swaps_end : (c : CellId) (f : Value → ThreadState → Completion ThreadState Value) (e : EventKind) (R C : World) (t : ThreadState) → IsEnd (swaps c f e R C t)
 swaps_end c f (Read d) R C t = tt
 swaps_end c f (Commit at view ws sent) R C t = tt
-swaps_end c f (Retry since d commute) R C t = tt
+swaps_end c f (Retry since d cause) R C t = tt
 swaps_end c f (Fail at view) R C t = tt
 swaps_end c f (Refused at view agent) R C t = tt
 swaps_end c f (Sent a) R C t = tt
@@ -167,7 +168,7 @@ swaps_end c f (Broke at) R C t = faulted_end (f (R c.number) t) (λ g t1. Faults
 sends_end : (a : Action) (span : Span) (e : EventKind) (t : ThreadState) → IsEnd (sends a span e t)
 sends_end a span (Read d) t = tt
 sends_end a span (Commit at view ws sent) t = tt
-sends_end a span (Retry since d commute) t = tt
+sends_end a span (Retry since d cause) t = tt
 sends_end a span (Fail at view) t = tt
 sends_end a span (Refused at view agent) t = tt
 sends_end a span (Sent b) t = meant_end (same_action a b) (Cell a.agent) t
@@ -190,7 +191,7 @@ ends_end d f (Commit at view writes sent) R Q C t =
     over_end t (d.on R) (λ v x. faultless (final_writes f d.validators d.mark.span x.done C t) (λ ws t1. meant (same_writes ws writes && same_actions (sends_of_commit t1.held x.done.sends) sent) v (holding x.done.sends (with_tx (run_of d v x) t1)))) (λ g. Invalid)
     (λ v x. faultless_end (final_writes f d.validators d.mark.span x.done C t) (λ ws t1. meant (same_writes ws writes && same_actions (sends_of_commit t1.held x.done.sends) sent) v (holding x.done.sends (with_tx (run_of d v x) t1))) (λ ws t1. meant_end (same_writes ws writes && same_actions (sends_of_commit t1.held x.done.sends) sent) v (holding x.done.sends (with_tx (run_of d v x) t1))))
     (λ g. tt)
-ends_end d f (Retry since c commute) R Q C t = tt
+ends_end d f (Retry since c cause) R Q C t = tt
 ends_end d f (Fail at view) R Q C t =
     over_end t (d.on R) (λ v x. faulted (final_writes f d.validators d.mark.span x.done Q t) (λ g t1. Faults g t1)) (λ g. Faults g t) (λ v x. faulted_end (final_writes f d.validators d.mark.span x.done Q t) (λ g t1. Faults g t1) (λ g t1. tt)) (λ g. tt)
 ends_end d f (Refused at view agent) R Q C t =
@@ -202,19 +203,26 @@ ends_end d f (Act number g new sends) R Q C t = tt
 ends_end d f (Swapped new) R Q C t = tt
 ends_end d f (Broke at) R Q C t = tt
 
+allowed_end : (b : Bool) (x : Completion ThreadState Value) → IsEnd x → IsEnd (allowed b x)
+allowed_end true x h = h
+allowed_end false x h = tt
+
+-- a try that had to run again, and what follows
+again_end : (d : Transacting) (e : EventKind) (R : World) (t : ThreadState) (next : Completion ThreadState Value) → IsEnd next → IsEnd (again d e R t next)
+again_end d (Retry since c cause.Outdated) R t next h = h
+again_end d (Retry since c cause.Held) R t next h = over_end t (d.on R) (λ v x. allowed (is_held x.done c.number) next) (λ g. Invalid) (λ v x. allowed_end (is_held x.done c.number) next h) (λ g. tt)
+again_end d (Retry since c (cause.Commuted at)) R t next h = over_end t (d.on R) (λ v x. allowed (has_number (commuted x.done) c.number) next) (λ g. Invalid) (λ v x. allowed_end (has_number (commuted x.done) c.number) next h) (λ g. tt)
+again_end d _ R t next h = tt
+
 eats_tx_end : (n : ℕ) (d : Transacting) (f : Applies ThreadState) (es : List SeenEvent) (t : ThreadState) → IsEnd (eats_tx n d f es t)
 eats_tx_end zero d f es t = tt
 eats_tx_end (suc n) d f [] t = tt
 eats_tx_end (suc n) d f (e ∷ es) t = test (e.book == 0) (is_retry e.kind) (eats_tx_end n d f es t)
   where
-    test : (b c : Bool) → IsEnd (eats_tx n d f es t) → IsEnd (if b then (if c then eats_tx n d f es t else uneaten (e ∷ es) (ends_tx d f e.kind e.R e.Q e.C (record t { todo = es }))) else Invalid)
-    test true true next = next
+    test : (b c : Bool) → IsEnd (eats_tx n d f es t) → IsEnd (if b then (if c then again d e.kind e.R (record t { todo = e ∷ es }) (eats_tx n d f es t) else uneaten (e ∷ es) (ends_tx d f e.kind e.R e.Q e.C (record t { todo = es }))) else Invalid)
+    test true true next = again_end d e.kind e.R (record t { todo = e ∷ es }) (eats_tx n d f es t) next
     test true false next = uneaten_end (e ∷ es) (ends_tx d f e.kind e.R e.Q e.C (record t { todo = es })) (ends_end d f e.kind e.R e.Q e.C (record t { todo = es }))
     test false c next = tt
-
-allowed_end : (b : Bool) (x : Completion ThreadState Value) → IsEnd x → IsEnd (allowed b x)
-allowed_end true x h = h
-allowed_end false x h = tt
 
 look_on : (x : Surroundings) (form : LookForm) (c : CellId) (t : ThreadState) → IsEnd (thread_look x form c t)
 look_on x Deref c t = eats_end (home x.cells c) (λ e t1. reads c e.kind e.C t1) (λ e t1. reads_end c e.kind e.C t1) t.todo t

@@ -1,7 +1,9 @@
 -- What is told for a request where what runs code may have failed so, is told where it may have failed in more ways.
 use Rattle.std.proofs.Common.{ℕ, Bool, true, false, List}
 use Rattle.txs_audit_answer.specs.declared.verdict.AuditError.{AuditError}
-use Rattle.txs_cli.specs.Audited.{AuditedTells, StreamAuditedTells, audit_turns, by_workers}
+use Rattle.txs_audit_answer.specs.declared.verdict.Terms.{Terms}
+use Rattle.txs_cli.specs.Audited.{AuditedTells, StreamAuditedTells, by_workers}
+use Rattle.txs_audit_answer.specs.Answered.{finishing}
 use Rattle.txs_cli.specs.Audited as audited
 use Rattle.txs_cli.specs.CodeWorkersTold.{StreamWorkedCodeTells, WorkedCodeTells}
 use Rattle.txs_cli.specs.CodeWorkersTold as code
@@ -69,13 +71,13 @@ module _ (f g : PlainCode → RunError → Type 0) (more : (d : PlainCode) (e : 
 
 -- ---- of a request
 
-pub told_weaker : (f g : PlainCode → ℕ → ℕ → RunError → Type 0) (unaudited : Parts → Report → ℕ → ℕ → AuditError → Type 0) → ((d : PlainCode) (workers steps : ℕ) (e : RunError) → f d workers steps e → g d workers steps e)
+pub told_weaker : (f g : PlainCode → ℕ → ℕ → RunError → Type 0) (unaudited : Parts → Report → Terms → ℕ → AuditError → Type 0) → ((d : PlainCode) (workers steps : ℕ) (e : RunError) → f d workers steps e → g d workers steps e)
     → (bytes : List ℕ) (request : Request) (t : Told) → WorkedRequestTells f unaudited bytes request t → WorkedRequestTells g unaudited bytes request t
 told_weaker f g unaudited more bytes (asked.Check input) t h = h
 told_weaker f g unaudited more bytes (asked.List input) t h = h
 told_weaker f g unaudited more bytes (asked.Build input out) t h = h
 told_weaker f g unaudited more bytes (asked.Run input workers options) t h =
-    work_weaker (λ d. f d workers options.steps) (λ d. g d workers options.steps) (λ d e. more d workers options.steps e) (λ p r e. unaudited p r (audit_turns options.steps) workers e) options.audit bytes input options t h
+    work_weaker (λ d. f d workers options.steps) (λ d. g d workers options.steps) (λ d e. more d workers options.steps e) (λ p r e. unaudited p r (finishing options.steps) workers e) options.audit bytes input options t h
 told_weaker f g unaudited more bytes (asked.Schedule input plays options) t h = h
 told_weaker f g unaudited more bytes (asked.Shown text) t h = h
 told_weaker f g unaudited more bytes (asked.Faulty text) t h = h

@@ -12,7 +12,7 @@ use std::alloc::Global;
 use std::io::{Read, Write};
 use std::sync::Wait;
 use std::thread::Threads;
-use txs_audit_answer::{AuditError, Verdict};
+use txs_audit_answer::{AuditError, Terms, Verdict};
 use txs_cli::play_with;
 use txs_cli_request::Request;
 use txs_code_meaning::Verified;
@@ -25,7 +25,7 @@ use txs_world_shared::SharedState;
 /// Does what the request asks for, as `play_with` does; where that is a run by workers, `run_threads` makes it, with this handle and an open gate.
 pub fn play_by_workers<
     T: Threads + Wait + Sync,
-    A: Fn(Global, &Program, &Report, u32, usize) -> Result<Verdict, AuditError>,
+    A: Fn(Global, &Program, &Report, Terms, usize) -> Result<Verdict, AuditError>,
     R: Read,
     W: Write,
     F: Write,
@@ -38,8 +38,8 @@ pub fn play_by_workers<
     writer: &mut W,
     faults: &mut F,
 ) -> u8
-    requires audit { (a : _) (p : _) (r : _) (n : _) (w : _) → A.pre auditor.now a p r n w }
-    requires right { (a : _) (p : _) (r : _) (n : _) (w : _) (v : _) → A.post auditor.now a p r n w v → IsRight p.now r.now n v }
+    requires audit { (a : _) (p : _) (r : _) (w : _) (n : _) → A.pre auditor.now a p r w n }
+    requires right { (a : _) (p : _) (r : _) (w : _) (n : _) (v : _) → A.post auditor.now a p r w n v → IsRight p.now r.now w v }
     ensures { IfSome (R.remaining reader.old) (λ input. (t : Told) × WorkedRequestTells (HasFailed Runs) (HasNoAnswer (A.post auditor.now)) input request.now t
         × Written (W.contents writer.old) (W.contents writer.new) (F.contents faults.old) (F.contents faults.new) t result) }
 {

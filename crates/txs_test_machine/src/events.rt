@@ -10,7 +10,7 @@ use txs_tree_eval::{
 };
 use txs_tree_meaning::{NodeKind, Program};
 use txs_value_data::{CellId, CellKind, Listed, Value, write_text};
-use txs_world_protocol::{EventKind, Outcome};
+use txs_world_protocol::{Cause, EventKind, Outcome};
 
 /// A word of digits as a number.
 pub fn number_of(word: &str) -> i64 {
@@ -75,9 +75,14 @@ fn writes_of(alloc: Global, values: &str) -> Listed<(CellId, Value)> {
     Listed::from_vec(writes)
 }
 
+/// A retry of this cell for this cause, since it was written at this place or later.
+fn retry(since: u32, cell: CellId, cause: Cause) -> EventKind {
+    EventKind::Retry { since, cell, cause }
+}
+
 /// The kind of an event by its name, the places where it began and viewed last, and what stands behind `=`: the values of a commit or a
-/// swap, or the number of the agent that refused. It is of this cell, which is defined first, unless it says of which; where it is a `redo`,
-/// the commutes alone have to run again.
+/// swap, or the number of the agent that refused. It is of this cell, which is defined first, unless it says of which. A retry has the name
+/// of its cause: `outdated`, `held`, or `commuted` where the commutes alone have to run again.
 fn kind_of(alloc: Global, cell: CellId, event: &str) -> EventKind {
     let (told, new) = event.split_once(" = ").unwrap_or((event, ""));
     let mut words = told.split_whitespace();
@@ -86,16 +91,9 @@ fn kind_of(alloc: Global, cell: CellId, event: &str) -> EventKind {
     let view = next_place(&mut words);
     match name {
         "read" => EventKind::Read { cell },
-        "retry" => EventKind::Retry {
-            since: at,
-            cell,
-            commute: false,
-        },
-        "redo" => EventKind::Retry {
-            since: view,
-            cell,
-            commute: true,
-        },
+        "outdated" => retry(at, cell, Cause::Outdated),
+        "held" => retry(at, cell, Cause::Held),
+        "commuted" => retry(view, cell, Cause::Commuted { at }),
         "commit" => EventKind::Commit {
             at,
             view,
@@ -290,19 +288,22 @@ fn holds(alloc: Global, row: &str) -> bool {
 /// - `action`, and what its first function means as an action, as `acting.rt` says;
 /// - `pure`, where its callees are told as the table of `checks.rt` says; or `gives`, where they give what `trees.rt` says.
 ///
-/// First transactions, then such that commute, and give what they computed where they began: a commute is made again on the newest value;
+/// First transactions, which run again for what they set or ensured, and for a value that is no longer kept. Then such that commute, and give
+/// what they computed where they began: a commute is made again on the newest value;
 /// another commits between view and commit, and the commute alone runs again; each is made on the newest value of its ref, but what is set
 /// keeps its own; the first fault is that of the ref that is defined first, and on the values that were viewed.
 ///
 /// Then swaps and sends: a transaction that holds a send to an agent that has failed is refused, also where its commutes ran again. Then
-/// turns that don't suffice: the event of a transaction or a swap stays to come. Then validators: of a commit, of what is set in the end
+/// turns that don't suffice: the event of a transaction or a swap stays to come, and so does a retry for what the body held, which it doesn't
+/// come to. Then validators: of a commit, of what is set in the end
 /// alone, of a reset behind a swap, of a swap, one behind the function that resets, and of what a commute writes; a refused value isn't
 /// committed. Then events that aren't those of the script's first thread: a commuted ref gets what was computed where the transaction began; a ref that was
 /// set is commuted again; a ref that was commuted isn't written; a transaction is refused whose commute faults on what was viewed; a swap
-/// stands where a read has to.
+/// stands where a read has to. And retries without their cause: for a ref that was only read, or commuted and neither set nor ensured; a redo
+/// for a ref that was set; a right one, and then such a redo; one for a ref that was set before the body faulted.
 ///
 /// Then actions: one holds what it sends, also in its transaction, whose commit sends nothing; what a try held that ran again is dropped; one
-/// that isn't over, or faults, has no sends; and no send is an event of an action.
+/// that isn't over, or faults, has no sends; a redo has no cause where nothing was commuted; and no send is an event of an action.
 const ROWS: &str = "\
 (def r (ref 0)) (future (println (dosync (alter r inc))))
 0
@@ -311,13 +312,23 @@ commit 0 0 0 = 1
 1
 #(def r (ref 0)) (future (println (dosync (alter r inc))))
 0 5
-retry 0 0 1;commit 1 1 1 = 6
+held 0 0 1;commit 1 1 1 = 6
 2 done
 6
 #(def r (ref 0)) (future (println (dosync (alter r inc))))
 0 5
-retry 0 0 1
+held 0 0 1
 1 event
+#(def r (ref 0)) (future (println (dosync (ensure r))))
+0 5
+held 0 0 1;commit 1 1 1
+2 done
+5
+#(def r (ref 0)) (future (println (dosync @r)))
+0 5
+outdated 0 0 1;commit 1 1 1
+2 done
+5
 #(def r (ref 1)) (future (dosync (alter r + 10) (commute r * 2)))
 1
 commit 0 0 0 = 22
@@ -337,12 +348,12 @@ commit 0 1 1 = 2
 1
 #(def c (ref 0)) (future (println (dosync (commute c inc))))
 0 1 1
-redo 0 0 1;commit 0 2 2 = 2
+commuted 0 0 1;commit 0 2 2 = 2
 2 done
 1
 #(def c (ref 0)) (future (println (dosync (commute c inc))))
 0 1
-redo 0 0 1
+commuted 0 0 1
 1 event
 #(def a (ref 1)) (def b (ref 10)) (def c (ref 100)) (future (println (dosync (commute c + 1) (alter b inc) (commute a + 2) (commute b * 3) (commute c * 2))))
 1 5;10 10;100 200
@@ -384,13 +395,18 @@ refused 0 0 0 = 0
 7
 #(def c (ref 0)) (def g (agent 10)) (future (println 7) (dosync (commute c inc) (send g quot 0)))
 0 5 5 5;10
-redo 0 0 1;refused 0 2 3 = 1
+commuted 0 0 1;refused 0 2 3 = 1
 2 AgentFailed 55..95
 7
 #(def r (ref 0)) (future (println 7) (dosync (ref-set r (loop [i 0] (recur i)))))
 0
-retry 0 0 0;commit 0 0 0 = 5
+outdated 0 0 0;commit 0 0 0 = 5
 1 turns
+7
+#(def r (ref 0)) (future (println 7) (dosync (ref-set r (loop [i 0] (recur i)))))
+0
+held 0 0 0;commit 0 0 0 = 5
+0 turns
 7
 #(def a (atom 0)) (defn spin [x] (recur x)) (future (println 7) (swap! a spin))
 0
@@ -431,7 +447,7 @@ commit 0 0 0 = 0
 0 wrong
 #(def c (ref 0)) (future (println (dosync (commute c inc))))
 0 1 1
-redo 0 0 1;commit 0 2 2 = 1
+commuted 0 0 1;commit 0 2 2 = 1
 1 wrong
 #(def a (ref 1)) (def b (ref 10)) (def c (ref 100)) (future (println (dosync (commute c + 1) (alter b inc) (commute a + 2) (commute b * 3) (commute c * 2))))
 1 5;10 10;100 200
@@ -451,6 +467,27 @@ swap 0 0 0 = 4;swap 1 1 1 = 9
 1 wrong
 7
 4
+#(def r (ref 0)) (future (println (dosync @r)))
+0 5
+held 0 0 1;commit 1 1 1
+0 wrong
+#(def c (ref 0)) (future (println (dosync (commute c inc))))
+0 1
+held 0 0 1;commit 1 1 1 = 2
+0 wrong
+#(def r (ref 0)) (future (println (dosync (alter r inc) (commute r inc))))
+0 5
+commuted 0 0 1;commit 0 1 1 = 7
+0 wrong
+#(def r (ref 0)) (future (println (dosync (alter r inc))))
+0 5 7
+held 0 0 1;commuted 1 1 2;commit 1 2 2 = 8
+1 wrong
+#(def r (ref 0)) (future (println 7) (dosync (ref-set r 1) (quot 1 0)))
+0 5
+held 0 0 1;fail 1 1 1
+0 wrong
+7
 #(def r (ref 0)) (def h (agent 0)) (defn work [s] (println s) (dosync (alter r inc) (send h + 7)) (send h inc) (inc s))
 action
 5
@@ -462,14 +499,20 @@ commit 0 0 0 = 1
 action
 5
 0 5
-retry 0 0 1;commit 1 1 1 = 6
+held 0 0 1;commit 1 1 1 = 6
 2 6 1
 #(def r (ref 0)) (def h (agent 0)) (defn work [s] (dosync (send h + @r) (alter r inc)) (inc s))
 action
 5
 0 5
-retry 0 0 1
+outdated 0 0 1
 1 event 0
+#(def r (ref 0)) (def h (agent 0)) (defn work [s] (dosync (send h + @r) (alter r inc)) (inc s))
+action
+5
+0 5
+commuted 0 0 1;commit 0 1 1 = 6
+0 wrong 0
 #(def r (ref 0)) (def h (agent 0)) (defn work [s] (println 7) (send h inc) (dosync (alter r inc)) (quot 1 s))
 action
 0
@@ -531,19 +574,19 @@ fn rows_hold(rt: HostRuntime) {
 }
 
 /// Rows that have these events so many times between their front and their back: after so many retries there is no further one, and after so
-/// many retries and commutes that ran again.
+/// many that ran again, in turn as a whole and in their commutes alone.
 const LAST: &[(&str, &str, u32, &str)] = &[
     (
         "(def r (ref 0)) (future (dosync (alter r inc)))\n0\n",
-        "retry 0 0 0;",
+        "held 0 0 0;",
         9_999,
-        "retry 0 0 0\n10000 RetryLimit 24..46\n",
+        "held 0 0 0\n10000 RetryLimit 24..46\n",
     ),
     (
         "(def r (ref 0)) (future (dosync (commute r -)))\n0\n",
-        "retry 0 0 0;redo 0 0 0;",
+        "outdated 0 0 0;commuted 0 0 0;",
         4_999,
-        "retry 0 0 0;redo 0 0 0\n10000 RetryLimit 24..46\n",
+        "outdated 0 0 0;commuted 0 0 0\n10000 RetryLimit 24..46\n",
     ),
 ];
 

@@ -5,5 +5,7 @@ mod acting;
 mod answers;
 mod at_once;
 mod case;
+mod causes;
 mod changes;
 mod differing;
+mod forged;

@@ -4,7 +4,7 @@ ghost use Rattle.txs_cli_audit.specs.Audit.{IsRight};
 use std::alloc::Global;
 use std::sync::Wait;
 use std::thread::Threads;
-use txs_audit_answer::{AuditError, Verdict};
+use txs_audit_answer::{AuditError, Terms, Verdict};
 use txs_cli_request::{Input, Request, RunOptions};
 use txs_program::play_by_workers;
 use txs_tree_meaning::Program;
@@ -23,11 +23,11 @@ fn written<T: Threads + Wait + Sync>(
     play_by_workers(
         threads,
         alloc,
-        &|_alloc: Global, program: &Program, report: &Report, turns: u32, _workers: usize| -> Result<
+        &|_alloc: Global, program: &Program, report: &Report, terms: Terms, _workers: usize| -> Result<
             Verdict,
             AuditError,
         >
-            ensures { IsRight program.now report.now turns result }
+            ensures { IsRight program.now report.now terms result }
         { Err(AuditError::NoThread) },
         request,
         &mut reader,

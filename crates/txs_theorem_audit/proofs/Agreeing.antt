@@ -28,7 +28,7 @@ use Rattle.txs_world_protocol.specs.declared.event.EventKind.TheVariants.{Read, 
 use Rattle.txs_world_protocol.specs.declared.event.Outcome.{Outcome}
 use Rattle.txs_world_protocol.specs.declared.event.Outcome.TheVariants.{Done, Failed, StepsSpent, JournalFull, Memory}
 use Rattle.txs_world_book.specs.Atom.{LegalAtomKind, atom_after}
-use Rattle.txs_world_book.specs.Book.{Each, Legal, LegalKind, Untouched, has_ref, has_agent, are_refs, are_sends, cells_in, may_end, may_name, first_failed, is_failed, is_there, is_empty, mail_after, waits, makes, newest, opening, written, actors, may_send}
+use Rattle.txs_world_book.specs.Book.{Each, Legal, LegalKind, Untouched, has_ref, has_agent, are_refs, are_sends, cells_in, may_end, may_rerun, first_failed, is_failed, is_there, is_empty, mail_after, waits, makes, newest, opening, written, actors, may_send}
 use Rattle.txs_world_book.specs.Served.{cells_of}
 use Rattle.txs_world_book.specs.declared.cell.StoreCell.{StoreCell}
 use Rattle.txs_world.specs.Store.{next_action}
@@ -55,14 +55,17 @@ use Rattle.txs_value_apply.specs.Core.{takes}
 use Rattle.txs_value_base.specs.declared.fault.FaultKind.TheVariants.{AgentFailed}
 use Rattle.txs_value_base.specs.declared.fault.Span.{Span}
 use Rattle.txs_value_data.specs.declared.value.Value.TheVariants.{Nil}
-use Rattle.txs_theorem_audit.specs.Audited.{PlainActorReport, PlainReport, book_or_none, books_of, entry_of, Finding, Fine, Off, Short, and_then, check}
+use Rattle.txs_theorem_order.specs.Taken.{NoneIsOrdered, NamedOnACycle}
+use Rattle.txs_theorem_audit.specs.Audited.{PlainActorReport, PlainReport, books_of, entry_of, Finding, Fine, Off, Short, and_then, check}
 use Rattle.txs_theorem_audit.specs.Explained.{Sized, Begins, Stopped, EndsAs, events_of, meaning_of, AtomExplained, AgentExplained}
 use Rattle.txs_theorem_audit.specs.Laws.{AgreesIsExplained}
-use Rattle.txs_theorem_audit.specs.Verdict.{atoms_from, fits_sizes, begins, same_numbers, runs_right, names_all, in_books, trace_found, traces_found, is_legal_kind, is_legal_swap, book_found, has_values, same_failure, has_failed, store_found, atom_found, atoms_found, is_value, length_if, index_if, is_untouched, is_first_failed, is_calm, is_end, with_run, calm_at, calm_found, is_stopped, is_done, has_faulted, least_printed, printed_part, end_found, noted_by, thread_found, threads_found, acts_found, agents_found, are_serial, found, printed_by, but_last, action_after, is_sent_known, is_sent_call, sends_if, held_by, noted_in, is_booked, act_ends, action_found, action_prints, least_of, part_printed, still_ends, still_found, rest_found, agent_end, kind_found, event_found, agents_serial}
-use Rattle.txs_theorem_audit.proofs.Findings.{answer_fine, and_fine, check_fine, off_fine, short_fine, not_true, none_there, not_there, empty, same_numbers_sound, begins_sound, nth_beyond}
+use Rattle.txs_theorem_audit.specs.Verdict.{atoms_from, fits_sizes, begins, same_numbers, runs_right, names_all, in_books, trace_found, traces_found, is_legal_kind, is_legal_swap, book_found, has_values, same_failure, has_failed, store_found, atom_found, atoms_found, ends_found, order_found, is_value, length_if, index_if, is_untouched, is_first_failed, is_calm, is_end, with_run, calm_at, calm_found, is_stopped, is_done, has_faulted, least_printed, printed_part, end_found, noted_by, thread_found, threads_found, acts_found, agents_found, are_serial, found, printed_by, but_last, action_after, is_sent_known, is_sent_call, sends_if, held_by, noted_in, is_booked, act_ends, action_found, action_prints, least_of, part_printed, still_ends, still_found, rest_found, agent_end, kind_found, event_found, agents_serial}
+use Rattle.txs_theorem_audit.proofs.Findings.{answer_fine, and_fine, check_fine, off_fine, short_fine, not_true, none_there, not_there, empty, same_numbers_sound, begins_sound}
 use Rattle.txs_theorem_audit.proofs.Beginning.{action_cut}
+use Rattle.txs_theorem_audit.proofs.Ends.{ends_truly}
+use Rattle.txs_theorem_audit.proofs.Timed.{in_order}
 use Rattle.txs_theorem_audit.proofs.Waiting.{HasEatenUp, eaten_up, waits_front}
-use Rattle.txs_theorem_audit.proofs.Listing.{behind, atom_listed, among}
+use Rattle.txs_theorem_audit.proofs.Listing.{behind, atom_listed, among, no_book}
 
 -- ---- traces
 
@@ -87,10 +90,6 @@ outside_books count n (p ∷ ps) h le =
     test : (b : Bool) → (p.book == n) ≡ b → p.book < count → places_in n ps ≡ [] → (if b then p.at ∷ places_in n ps else places_in n ps) ≡ []
     test true e below rest = let same = eqb-true p.book n e in absurd (omega (arith, same, below, le))
     test false e below rest = rest
-
-no_book : (r : PlainReport) (n : ℕ) → suc (length r.atom_books) ≤ n → books_of r n ≡ []
-no_book r zero le = absurd (omega (arith, le))
-no_book r (suc n) le = ap book_or_none (nth_beyond r.atom_books n (omega (arith, le)))
 
 trace_holds : (r : PlainReport) (a : ℕ) (trace : List Place) → trace_found (books_of r) (suc (length r.atom_books)) a trace ≡ Fine → TraceHolds (books_of r) a trace
 trace_holds r a trace h n =
@@ -122,9 +121,9 @@ legal_of cells done a (Commit at view ws sends) h =
     let y = both (are_sends cells sends) (may_end done a at view && not (is_there (first_failed cells done sends))) x.1 in
     let z = both (may_end done a at view) (not (is_there (first_failed cells done sends))) y.1 in
     (x.0, y.0, z.0, none_there (first_failed cells done sends) z.1)
-legal_of cells done a (Retry since c commute) h =
-    let x = both (has_ref cells c) (may_name commute done a since && written c.number since done) h in
-    let y = both (may_name commute done a since) (written c.number since done) x.1 in
+legal_of cells done a (Retry since c cause) h =
+    let x = both (has_ref cells c) (may_rerun done a since c cause && written c.number since done) h in
+    let y = both (may_rerun done a since c cause) (written c.number since done) x.1 in
     (x.0, y.0, y.1)
 legal_of cells done a (Fail at view) h = h
 legal_of cells done a (Refused at view g) h =
@@ -152,7 +151,7 @@ legal_of cells done a (Broke at) h = absurd (false≢true h)
 legal_swap : (cell : CellId) (done : List Event) (a : ℕ) (d : EventKind) → is_legal_swap cell done a d ≡ true → LegalAtomKind cell done a d
 legal_swap cell done a (Read c) h = same_cell-sound c cell h
 legal_swap cell done a (Commit at view ws sends) h = absurd (false≢true h)
-legal_swap cell done a (Retry since c commute) h = absurd (false≢true h)
+legal_swap cell done a (Retry since c cause) h = absurd (false≢true h)
 legal_swap cell done a (Fail at view) h = absurd (false≢true h)
 legal_swap cell done a (Refused at view g) h = absurd (false≢true h)
 legal_swap cell done a (Send x) h = absurd (false≢true h)
@@ -448,7 +447,7 @@ module _ (functions : List PlainFunction) (held : Option (List Action)) (n : ℕ
       let f = and_fine (check test a i) (found_on (suc i) ps xs) u in
       let y = both (is_untouched done at x.state.done.sets) (is_untouched done at x.state.done.ensures) (check_fine test a i f.0) in
       ((untouched_of done at x.state.done.sets y.0, untouched_of done at x.state.done.ensures y.1), next xs r.1 f.1)
-  calm_step i p ps (Retry since c commute) R Q C next xs r u = next xs r u
+  calm_step i p ps (Retry since c cause) R Q C next xs r u = next xs r u
   calm_step i p ps (Fail at view) R Q C next xs r u = next xs r u
   calm_step i p ps (Refused at view g) R Q C next [] r u = absurd r
   calm_step i p ps (Refused at view g) R Q C next (x ∷ xs) r u =
@@ -567,10 +566,10 @@ two_checks a i k todo b h =
     (empty todo (check_fine (length todo == 0) a i x.0), check_fine b a k x.1)
 
 module _ (cells : List StoreCell) (done : List Event) (span : Span) (a i k : ℕ) (m : List SeenEvent → Completion ThreadState Value) (es : List SeenEvent) (new : Result Value Fault) (sends : List Action) where
-  abbrev ends_found : Completion ThreadState Value → Finding
-  ends_found c = act_ends cells done span a i k m es new sends c
+  abbrev act_found : Completion ThreadState Value → Finding
+  act_found c = act_ends cells done span a i k m es new sends c
 
-  act_hands : (c : Completion ThreadState Value) → ((v : Value) (t : ThreadState) → c ≡ Completes v t → begin_of t.held ≡ Some []) → ends_found c ≡ Fine → HandsIn cells done span new sends c
+  act_hands : (c : Completion ThreadState Value) → ((v : Value) (t : ThreadState) → c ≡ Completes v t → begin_of t.held ≡ Some []) → act_found c ≡ Fine → HandsIn cells done span new sends c
   act_hands (Completes v t) holds h =
       let x = two_checks a (i + (length es - length t.todo)) k t.todo (is_booked (first_failed cells done (held_by t)) span v (held_by t) new sends) h in
       record { result = Ok v; held = held_by t; handed = (t, refl, x.0, refl, some_held t.held (holds v t refl)); booked = booked_of (first_failed cells done (held_by t)) span v (held_by t) new sends x.1 }
@@ -584,7 +583,7 @@ module _ (cells : List StoreCell) (done : List Event) (span : Span) (a i k : ℕ
   act_hands (OutOfTurns t) holds h = short_fine a (i + (length es - length t.todo)) h
   act_hands Invalid holds h = off_fine a (i + right_events m [] es) h
 
-  act_ended : (c : Completion ThreadState Value) → ends_found c ≡ Fine → HasEnded c
+  act_ended : (c : Completion ThreadState Value) → act_found c ≡ Fine → HasEnded c
   act_ended (Completes v t) h =
       let x = two_checks a (i + (length es - length t.todo)) k t.todo (is_booked (first_failed cells done (held_by t)) span v (held_by t) new sends) h in
       record { right = refl; eaten = λ fs vs held n l g. runs_whole fs vs held n l t.todo t.txs g x.0 }
@@ -908,7 +907,7 @@ module _ (p : PlainProgram) (r : PlainReport) (n a : ℕ) (sound : Sound p) (mar
         (y.0, prints ++ y.1, y.2 ∙ append_assoc outs prints y.1, d.0 ∷ y.3, (d.1, prints, y.1, refl, d.3, y.4), (d.2, y.5))
     kind_means (Read c) next f = next (since ++ q ∷ []) outs with_it f
     kind_means (Commit at view ws sends) next f = next (since ++ q ∷ []) outs with_it f
-    kind_means (Retry from c commute) next f = next (since ++ q ∷ []) outs with_it f
+    kind_means (Retry from c cause) next f = next (since ++ q ∷ []) outs with_it f
     kind_means (Fail at view) next f = next (since ++ q ∷ []) outs with_it f
     kind_means (Refused at view h) next f = next (since ++ q ∷ []) outs with_it f
     kind_means (Send x) next f = next (since ++ q ∷ []) outs with_it f
@@ -965,20 +964,24 @@ sized_of p r h =
       failed = eqb-true (length r.failed) agents w.1;
     }
 
-pub agrees_is_explained : AgreesIsExplained
-agrees_is_explained p r n serial sound marks h =
-    let all = (answer_fine (found p r n) (are_serial p r n p.threads r.threads && agents_serial p r n (agents_from 0 p.cells) r.agents) serial h).0 in
+pub agrees_is_explained : NoneIsOrdered → NamedOnACycle → AgreesIsExplained
+agrees_is_explained ordered cycle p w r n serial sound marks h =
+    let all = (answer_fine (found p w r n) (are_serial p r n p.threads r.threads && agents_serial p r n (agents_from 0 p.cells) r.agents) serial h).0 in
     let sizes = check (fits_sizes p r) 0 0 in
     let traces = traces_found (books_of r) (suc (length r.atom_books)) 0 (r.threads ++ r.agents) in
     let store = store_found p r in
     let atoms = atoms_found p r (atoms_from 0 p.cells) in
     let threads = threads_found p r n 0 p.threads r.threads in
     let agents = agents_found p r n (length p.threads) (agents_from 0 p.cells) r.agents in
-    let x = and_fine sizes (and_then traces (and_then store (and_then atoms (and_then threads agents)))) all in
-    let y = and_fine traces (and_then store (and_then atoms (and_then threads agents))) x.1 in
-    let z = and_fine store (and_then atoms (and_then threads agents)) y.1 in
-    let w = and_fine atoms (and_then threads agents) z.1 in
-    let v = and_fine threads agents w.1 in
+    let order = and_then (order_found p r) (and_then threads agents) in
+    let ends = and_then (ends_found p w r) order in
+    let x = and_fine sizes (and_then traces (and_then store (and_then atoms ends))) all in
+    let y = and_fine traces (and_then store (and_then atoms ends)) x.1 in
+    let z = and_fine store (and_then atoms ends) y.1 in
+    let u = and_fine atoms ends z.1 in
+    let e = and_fine (ends_found p w r) order u.1 in
+    let o = and_fine (order_found p r) (and_then threads agents) e.1 in
+    let v = and_fine threads agents o.1 in
     let sized = sized_of p r (check_fine (fits_sizes p r) 0 0 x.0) in
     let traced : (a : ℕ) (ran : PlainActorReport) → nth (r.threads ++ r.agents) a ≡ Some ran → TraceHolds (books_of r) a ran.trace =
     λ a ran there. (let q : 0 + a ≡ a = omega arith in subst (λ b. TraceHolds (books_of r) b ran.trace) q (traces_hold r 0 (r.threads ++ r.agents) y.0 a ran there)) in
@@ -989,7 +992,9 @@ agrees_is_explained p r n serial sound marks h =
       legal = legal;
       values = λ k d there kind. (let q : 0 + k ≡ k = omega arith in subst (λ j. nth r.cells k ≡ Some (newest (opening (cells_of p.cells)) r.book j)) q (values_are p.cells r 0 p.cells r.cells (store_left p r z.0).0 k d there kind));
       failures = λ i g there. failures_are (cells_of p.cells) r.book (agents_from 0 p.cells) r.failed (store_left p r z.0).1 i g there;
-      atoms = λ c has. (let l = atom_listed p.cells c has in atoms_mean p r (atoms_from 0 p.cells) w.0 l.0 c l.1);
+      atoms = λ c has. (let l = atom_listed p.cells c has in atoms_mean p r (atoms_from 0 p.cells) u.0 l.0 c l.1);
+      ends = ends_truly p w r sized.agents e.0;
+      ordered = in_order p r ordered cycle o.0;
       threads = λ a t ran there here.
           (let f = each_fine p r n 0 p.threads r.threads v.0 a t ran there here in
           let parts = thread_parts p r sound marks n f.0 a t ran there f.1 in

@@ -3,6 +3,7 @@ use Rattle.std.proofs.Common.{◌≡◌, ℕ, zero, suc, Bool, true, false, ◌&
 use Rattle.std.proofs.lemmas.Bool.{false≢true}
 use Rattle.txs_world_protocol.specs.Ask.{Writes, buffered, with_write, same_value, same_cell, same_writes, same_action, same_actions}
 use Rattle.txs_world_protocol.specs.SeenEvent.{SeenEvent, home}
+use Rattle.txs_world_protocol.specs.declared.event.Cause.TheVariants as cause
 use Rattle.txs_world_protocol.specs.declared.event.EventKind.{EventKind}
 use Rattle.txs_world_protocol.specs.declared.event.EventKind.TheVariants as event
 use Rattle.txs_value_cell.specs.Cells.{World, Validators, validators_of, validator_at}
@@ -15,7 +16,7 @@ use Rattle.txs_value_cell.specs.declared.form.PutForm.{PutForm}
 use Rattle.txs_value_cell.specs.declared.form.PutForm.TheVariants.{RefSet, Reset}
 use Rattle.txs_value_cell.specs.declared.form.UpdateForm.{UpdateForm}
 use Rattle.txs_value_cell.specs.declared.form.UpdateForm.TheVariants.{Alter, Commute, Swap}
-use Rattle.txs_frame.specs.Frame.{PlainTxFrame, commuted, phase_work, set_writes, sends_of_commit}
+use Rattle.txs_frame.specs.Frame.{PlainTxFrame, has_number, commuted, phase_work, set_writes, sends_of_commit}
 use Rattle.txs_frame.specs.declared.frame.Commute.{Commute as CommuteOf}
 use Rattle.txs_value_base.specs.Places.{fault_at}
 use Rattle.txs_value_base.specs.declared.fault.Fault.{Fault}
@@ -31,7 +32,7 @@ use Rattle.txs_value_data.specs.declared.value.Value.TheVariants.{Nil, Cell}
 use Rattle.txs_tree_meaning.specs.Known.{known}
 use Rattle.txs_tree_meaning.specs.Meaning.{Completion, Completes, Recurs, Faults, Retries, Waits, OutOfTurns, Invalid, bind, allowed, result_of, Applies, apply, eval, call_at}
 use Rattle.txs_tree_meaning.specs.Sound.{in_thread, SoundFunctions, SoundSource}
-use Rattle.txs_tree_meaning.specs.Thread.{ThreadState, from_events, applies_in, action_meaning, holding, with_tx, uneaten, eats, meant, reads, resets, faulted, faultless, swaps, sends, sends_or_holds, over, Transacting, run_of, ends_tx, is_retry, eats_tx, Surroundings, thread_look, thread_put, thread_update, on_events, around, thread_meaning, accepts}
+use Rattle.txs_tree_meaning.specs.Thread.{ThreadState, from_events, applies_in, action_meaning, holding, with_tx, uneaten, eats, meant, reads, resets, faulted, faultless, swaps, sends, sends_or_holds, over, Transacting, run_of, ends_tx, is_retry, is_held, again, eats_tx, Surroundings, thread_look, thread_put, thread_update, on_events, around, thread_meaning, accepts}
 use Rattle.txs_tree_meaning.specs.Transaction.{TxState, value_or, valued, merged, redone, if_accepted, commute_writes, final_writes, tx_meaning}
 use Rattle.txs_tree_meaning.specs.Tree.{Const, ThreadSource}
 use Rattle.txs_theorem_threads.proofs.Accepted.{validated_related, if_accepted_related}
@@ -122,6 +123,17 @@ module _ (fs : List SeenEvent) where
   over_cut s (OutOfTurns z) f g a b h j = refl
   over_cut s Invalid f g a b h j = refl
 
+  allowed_cut : (b : Bool) (x y : Completion ThreadState Value) → Related k x y → Related k (allowed b x) (allowed b y)
+  allowed_cut true x y h = h
+  allowed_cut false x y h = refl
+
+  -- a try that had to run again, and what follows
+  again_cut : (d : Transacting) (e : EventKind) (R : World) (s : ThreadState) (p q : Completion ThreadState Value) → Related k p q → Related k (again d e R s p) (again d e R (longer s) q)
+  again_cut d (event.Retry since c cause.Outdated) R s p q h = h
+  again_cut d (event.Retry since c cause.Held) R s p q h = over_cut s (d.on R) _ _ (λ e. Invalid) (λ e. Invalid) (λ v z. allowed_cut (is_held z.done c.number) p q h) (λ e. refl)
+  again_cut d (event.Retry since c (cause.Commuted at)) R s p q h = over_cut s (d.on R) _ _ (λ e. Invalid) (λ e. Invalid) (λ v z. allowed_cut (has_number (commuted z.done) c.number) p q h) (λ e. refl)
+  again_cut d _ R s p q h = refl
+
   uneaten_cut : (e : SeenEvent) (es : List SeenEvent) (x y : Completion ThreadState Value) → Related k x y → Related k (uneaten (e ∷ es) x) (uneaten (e ∷ es ++ fs) y)
   uneaten_cut e es (Completes a s) (Completes b t) h = h
   uneaten_cut e es (Completes a s) _ h = absurd h
@@ -169,13 +181,13 @@ module _ (fs : List SeenEvent) where
       eats_tx_cut (suc n) [] s = tt
       eats_tx_cut (suc n) (e ∷ es) s = of_book (e.book == 0) (is_retry e.kind) (eats_tx_cut n es s)
         where
-          of_book : (own again : Bool) → Related k (eats_tx n d f es s) (eats_tx n d g (es ++ fs) (longer s))
-              → Related k (if own then (if again then eats_tx n d f es s else uneaten (e ∷ es) (ends_tx d f e.kind e.R e.Q e.C (record s { todo = es }))) else Invalid)
-              (if own then (if again then eats_tx n d g (es ++ fs) (longer s) else uneaten (e ∷ es ++ fs) (ends_tx d g e.kind e.R e.Q e.C (record s { todo = es ++ fs }))) else Invalid)
-          of_book true true rest = rest
+          of_book : (own retry : Bool) → Related k (eats_tx n d f es s) (eats_tx n d g (es ++ fs) (longer s))
+              → Related k (if own then (if retry then again d e.kind e.R (record s { todo = e ∷ es }) (eats_tx n d f es s) else uneaten (e ∷ es) (ends_tx d f e.kind e.R e.Q e.C (record s { todo = es }))) else Invalid)
+              (if own then (if retry then again d e.kind e.R (record s { todo = e ∷ es ++ fs }) (eats_tx n d g (es ++ fs) (longer s)) else uneaten (e ∷ es ++ fs) (ends_tx d g e.kind e.R e.Q e.C (record s { todo = es ++ fs }))) else Invalid)
+          of_book true true rest = again_cut d e.kind e.R (record s { todo = e ∷ es }) (eats_tx n d f es s) (eats_tx n d g (es ++ fs) (longer s)) rest
           of_book true false rest =
               uneaten_cut e es (ends_tx d f e.kind e.R e.Q e.C (record s { todo = es })) (ends_tx d g e.kind e.R e.Q e.C (record s { todo = es ++ fs })) (ends_cut e.kind e.R e.Q e.C (record s { todo = es }))
-          of_book false again rest = refl
+          of_book false retry rest = refl
 
   -- ---- forms outside
 
@@ -212,10 +224,6 @@ module _ (fs : List SeenEvent) where
   sends_cut_or_held : (o : Option (List Action)) (a : Action) (span : Span) (s : ThreadState) → Related k (sends_or_holds o a span s) (sends_or_holds o a span (longer s))
   sends_cut_or_held None a span s = eats_cut 0 (λ e t1. sends a span e.kind t1) (λ e t1. sends a span e.kind t1) (λ e t1. sends_cut a span e.kind t1) s.todo s
   sends_cut_or_held (Some held) a span s = (refl, refl)
-
-  allowed_cut : (b : Bool) (x y : Completion ThreadState Value) → Related k x y → Related k (allowed b x) (allowed b y)
-  allowed_cut true x y h = h
-  allowed_cut false x y h = refl
 
   on_cut : (r : Result CellId FaultKind) (span : Span) (f g : CellId → ThreadState → Completion ThreadState Value) (s : ThreadState) → ((c : CellId) → Related k (f c s) (g c (longer s))) → Related k (bind (result_of r span s) f) (bind (result_of r span (longer s)) g)
   on_cut (Ok c) span f g s h = h c
@@ -293,8 +301,8 @@ module _ (fs : List SeenEvent) where
         let d = length p.functions in
         let w = pure_callees (known p.functions) in
         let cf = call_at (on_events x) n p.functions d in
-        let s0 : ThreadState = record { todo = es; printed = []; held = None; txs = [] } in
-        let t0 : ThreadState = record { todo = es ++ fs; printed = []; held = None; txs = [] } in
+        let s0 : ThreadState = record { todo = es; printed = []; held = None; txs = []; asks = None } in
+        let t0 : ThreadState = record { todo = es ++ fs; printed = []; held = None; txs = []; asks = None } in
         closed_related ThreadState ThreadState k (eval (on_events x d) cf n false p.main [] s0) (eval (on_events x d) cf n false p.main [] t0)
         (eval_related ThreadState ThreadState k (on_events x d) (on_events x d) cf cf n n (λ i. Unit {0}) w (inl refl) (events_cut d)
         (calls_related ThreadState ThreadState k (on_events x) (on_events x) n n p.functions (λ i. Unit {0}) w (inl refl) events_cut (function_callees p.functions sound.functions) d)

@@ -24,7 +24,7 @@ use Rattle.txs_world_protocol.specs.declared.event.EventKind.TheVariants.{Read, 
 use Rattle.txs_world_protocol.specs.declared.event.Outcome.{Outcome}
 use Rattle.txs_world_protocol.specs.declared.event.Outcome.TheVariants.{Done, Failed, StepsSpent, JournalFull, Memory}
 use Rattle.txs_world_book.specs.Atom.{LegalAtomKind, atom_after}
-use Rattle.txs_world_book.specs.Book.{Each, LegalKind, Untouched, has_ref, has_agent, are_refs, are_sends, cells_in, may_end, may_name, first_failed, is_failed, is_there, is_empty, mail_after, waits, makes, newest, opening, written, actors, may_send}
+use Rattle.txs_world_book.specs.Book.{Each, LegalKind, Untouched, has_ref, has_agent, are_refs, are_sends, cells_in, may_end, may_rerun, first_failed, is_failed, is_there, is_empty, mail_after, waits, makes, newest, opening, written, actors, may_send}
 use Rattle.txs_world_book.specs.Served.{cells_of}
 use Rattle.txs_world_book.specs.declared.cell.StoreCell.{StoreCell}
 use Rattle.txs_tree_meaning.specs.Known.{Known, known}
@@ -48,32 +48,21 @@ use Rattle.txs_value_base.specs.declared.fault.FaultKind.TheVariants.{AgentFaile
 use Rattle.txs_value_base.specs.declared.fault.Span.{Span}
 use Rattle.txs_value_data.specs.declared.value.Value.TheVariants.{Nil}
 use Rattle.txs_world.specs.Store.{next_action}
-use Rattle.txs_theorem_audit.specs.Audited.{PlainActorReport, PlainReport, book_or_none, books_of, entry_of, Verdict, Agrees, Differs, Undecided, Finding, Fine, Off, Short, and_then, check, answer}
+use Rattle.txs_theorem_order.specs.Taken.{SomeIsNotOrdered}
+use Rattle.txs_theorem_audit.specs.Audited.{PlainActorReport, PlainReport, PlainTerms, books_of, entry_of, Verdict, Agrees, Differs, Undecided, Finding, Fine, Off, Short, and_then, check, answer}
 use Rattle.txs_theorem_audit.specs.Explained.{Sized, Begins, Stopped, EndsAs, events_of, meaning_of, ThreadExplained, AtomExplained, AgentExplained, IsExplained}
 use Rattle.txs_theorem_audit.specs.Laws.{DiffersIsNotExplained}
-use Rattle.txs_theorem_audit.specs.Verdict.{agents_serial, atoms_from, fits_sizes, begins, same_numbers, runs_right, names_all, in_books, trace_found, traces_found, is_legal_kind, is_legal_swap, book_found, has_values, same_failure, has_failed, store_found, atom_found, atoms_found, is_value, length_if, index_if, printed_by, but_last, is_untouched, is_first_failed, is_calm, is_end, with_run, calm_at, calm_found, is_stopped, is_done, has_faulted, least_printed, printed_part, end_found, noted_by, thread_found, threads_found, acts_found, agents_found, are_serial, found, action_after, is_sent_known, is_sent_call, sends_if, held_by, noted_in, is_booked, act_ends, action_found, action_prints, least_of, part_printed, still_ends, still_found, rest_found, agent_end, kind_found, event_found}
+use Rattle.txs_theorem_audit.specs.Verdict.{agents_serial, atoms_from, fits_sizes, begins, same_numbers, runs_right, names_all, in_books, trace_found, traces_found, is_legal_kind, is_legal_swap, book_found, has_values, same_failure, has_failed, store_found, atom_found, atoms_found, ends_found, order_found, is_value, length_if, index_if, printed_by, but_last, is_untouched, is_first_failed, is_calm, is_end, with_run, calm_at, calm_found, is_stopped, is_done, has_faulted, least_printed, printed_part, end_found, noted_by, thread_found, threads_found, acts_found, agents_found, are_serial, found, action_after, is_sent_known, is_sent_call, sends_if, held_by, noted_in, is_booked, act_ends, action_found, action_prints, least_of, part_printed, still_ends, still_found, rest_found, agent_end, kind_found, event_found}
 use Rattle.txs_theorem_audit.proofs.Agreeing.{sound_thread, IsNamed, AreNamed, named_both, named_part, seen_both, seen_last, but_last_of, least_last}
 use Rattle.txs_theorem_audit.proofs.Beginning.{k, cut, action_cut}
-use Rattle.txs_theorem_audit.proofs.Findings.{nth_beyond, and_fine, short_fine}
-use Rattle.txs_theorem_audit.proofs.Listing.{listed_atom}
+use Rattle.txs_theorem_audit.proofs.Findings.{and_fine, short_fine, NotOff, and_not, check_not, and_true, not_false, equal}
+use Rattle.txs_theorem_audit.proofs.Listing.{listed_atom, no_book}
+use Rattle.txs_theorem_audit.proofs.Ends.{ends_not_off}
+use Rattle.txs_theorem_audit.proofs.Timed.{order_not_off}
 use Rattle.txs_theorem_audit.proofs.Waiting.{HasEatenUp, eaten_up, ends_up, waits_front}
 use Rattle.txs_theorem_audit.proofs.Onward.{Onward, From, Step, none_later, thread_leads, action_leads}
 
 -- ---- findings
-
-abbrev NotOff : Finding → Type 0
-NotOff Fine = Unit {0}
-NotOff (Off a i) = ⊥
-NotOff (Short a i) = Unit {0}
-
-and_not : (f g : Finding) → NotOff f → NotOff g → NotOff (and_then f g)
-and_not Fine g h k = k
-and_not (Off a i) g h k = absurd h
-and_not (Short a i) g h k = tt
-
-check_not : (b : Bool) (a i : ℕ) → b ≡ true → NotOff (check b a i)
-check_not true a i h = tt
-check_not false a i h = absurd (false≢true h)
 
 abbrev DoesDiffer : Verdict → Type 0
 DoesDiffer (Agrees s) = ⊥
@@ -86,20 +75,6 @@ answer_not (Off b j) s a i h n = n
 answer_not (Short b j) s a i h n = subst DoesDiffer (sym h) tt
 
 -- ---- truth values and lists
-
-and_true : (a b : Bool) → a ≡ true → b ≡ true → (a && b) ≡ true
-and_true a b h g = ap (λ c. c && b) h ∙ g
-
-not_false : (b : Bool) → b ≡ false → not b ≡ true
-not_false true h = absurd (false≢true (sym h))
-not_false false h = refl
-
-or_left : (a b : Bool) → a ≡ true → (a || b) ≡ true
-or_left true b h = refl
-or_left false b h = absurd (false≢true h)
-
-equal : (n : ℕ) → (n == n) ≡ true
-equal n = eq-eqb n n refl
 
 some_one : {A : Type 0} (a b : A) → Some a ≡ Some b → a ≡ b
 some_one a b h = ap (λ o. or_else a o) h
@@ -122,7 +97,7 @@ begins_front : (xs ys : List ℕ) → begins xs (xs ++ ys) ≡ true
 begins_front [] ys = refl
 begins_front (x ∷ xs) ys = and_true (x == x) (begins xs (xs ++ ys)) (equal x) (begins_front xs ys)
 
-begins_true : (whole part : List ℕ) → Begins whole part → begins part whole ≡ true
+pub begins_true : (whole part : List ℕ) → Begins whole part → begins part whole ≡ true
 begins_true whole part h = subst (λ l. begins part l ≡ true) (sym h.1) (begins_front part h.0)
 
 cell_itself : (c : CellId) → same_cell c c ≡ true
@@ -147,10 +122,6 @@ sizes_true p r h =
 -- ---- traces
 
 module _ (r : PlainReport) (a : ℕ) where
-  no_book : (n : ℕ) → suc (length r.atom_books) ≤ n → books_of r n ≡ []
-  no_book zero le = absurd (omega (arith, le))
-  no_book (suc n) le = ap book_or_none (nth_beyond r.atom_books n (omega (arith, le)))
-
   names_true : (trace : List Place) → TraceHolds (books_of r) a trace → (count : ℕ) → names_all (books_of r) a trace count ≡ true
   names_true trace h zero = refl
   names_true trace h (suc n) = and_true (same_numbers (places_in n trace) (places_by a 0 (books_of r n))) (names_all (books_of r) a trace n) (same_true (places_in n trace) (places_by a 0 (books_of r n)) (h n)) (names_true trace h n)
@@ -175,7 +146,7 @@ module _ (r : PlainReport) (a : ℕ) where
   trace_not trace h =
       let count = suc (length r.atom_books) in
       check_not (in_books count trace && names_all (books_of r) a trace count) a (runs_right (books_of r) a [] trace)
-      (and_true (in_books count trace) (names_all (books_of r) a trace count) (in_true count trace (λ n le. h n ∙ ap (places_by a 0) (no_book n le))) (names_true trace h count))
+      (and_true (in_books count trace) (names_all (books_of r) a trace count) (in_true count trace (λ n le. h n ∙ ap (places_by a 0) (no_book r n le))) (names_true trace h count))
 
 traces_not : (r : PlainReport) (a : ℕ) (rans : List PlainActorReport) → ((i : ℕ) (ran : PlainActorReport) → nth rans i ≡ Some ran → TraceHolds (books_of r) (a + i) ran.trace) → NotOff (traces_found (books_of r) (suc (length r.atom_books)) a rans)
 traces_not r a [] h = tt
@@ -190,7 +161,7 @@ legal_true : (cells : List StoreCell) (done : List Event) (a : ℕ) (d : EventKi
 legal_true cells done a (Read c) h = h
 legal_true cells done a (Commit at view ws sends) h =
     and_true (are_refs cells 0 (cells_in ws)) _ h.0 (and_true (are_sends cells sends) _ h.1 (and_true (may_end done a at view) _ h.2 (ap (λ o. not (is_there o)) h.3)))
-legal_true cells done a (Retry since c commute) h = and_true (has_ref cells c) _ h.0 (and_true (may_name commute done a since) (written c.number since done) h.1 h.2)
+legal_true cells done a (Retry since c cause) h = and_true (has_ref cells c) _ h.0 (and_true (may_rerun done a since c cause) (written c.number since done) h.1 h.2)
 legal_true cells done a (Fail at view) h = h
 legal_true cells done a (Refused at view g) h = and_true (has_agent cells g) _ h.0 (and_true (may_end done a at view) (is_failed cells done g) h.1 h.2)
 legal_true cells done a (Send x) h = and_true (has_agent cells x.agent) (not (is_failed cells done x.agent)) h.0 (not_false (is_failed cells done x.agent) h.1)
@@ -207,7 +178,7 @@ legal_true cells done a (Broke at) h = absurd h
 swap_true : (cell : CellId) (done : List Event) (a : ℕ) (d : EventKind) → LegalAtomKind cell done a d → is_legal_swap cell done a d ≡ true
 swap_true cell done a (Read c) h = subst (λ x. same_cell c x ≡ true) h (cell_itself c)
 swap_true cell done a (Commit at view ws sends) h = absurd h
-swap_true cell done a (Retry since c commute) h = absurd h
+swap_true cell done a (Retry since c cause) h = absurd h
 swap_true cell done a (Fail at view) h = absurd h
 swap_true cell done a (Refused at view g) h = absurd h
 swap_true cell done a (Send x) h = absurd h
@@ -256,8 +227,8 @@ failed_true cells book (g ∷ gs) (f ∷ fs) many h =
     let is : f ≡ (mail_after cells book g.number).fault = some_one f (mail_after cells book g.number).fault (h 0 g refl) in
     and_true (same_failure (mail_after cells book g.number).fault f) (has_failed cells book gs fs) (subst (λ o. same_failure o f ≡ true) is (failure_itself f)) (failed_true cells book gs fs fewer (λ i c there. h (suc i) c there))
 
-store_not : (p : PlainProgram) (r : PlainReport) → IsExplained p r → NotOff (store_found p r)
-store_not p r x =
+store_not : (p : PlainProgram) (w : PlainTerms) (r : PlainReport) → IsExplained p w r → NotOff (store_found p r)
+store_not p w r x =
     let cells = cells_of p.cells in
     let test : List Event → Event → Bool = λ done e. makes cells (length p.threads) e.actor e.kind && is_legal_kind cells done e.actor e.kind in
     let index : ℕ → ℕ → ℕ = λ a j. index_if 0 j (entry_of r a) in
@@ -337,7 +308,7 @@ module _ (cells : List CellDefinition) (books : ℕ → List Event) (a : ℕ) wh
       let here : calm ≡ true = and_true (is_untouched done at z.state.done.sets) (is_untouched done at z.state.done.ensures) (untouched_true done at z.state.done.sets u.0.0) (untouched_true done at z.state.done.ensures u.0.1) in
       and_not (check (is_calm (cells_of cells) done (Commit at view ws sends) x) a i) (found_on (suc i) ps xs)
       (check_not (is_calm (cells_of cells) done (Commit at view ws sends) x) a i (ap (λ y. is_calm (cells_of cells) done (Commit at view ws sends) y) f.0 ∙ here)) (next xs zs u.1 f.1)
-  calm_step i q ps (Retry since c commute) next xs zs u f = next xs zs u f
+  calm_step i q ps (Retry since c cause) next xs zs u f = next xs zs u f
   calm_step i q ps (Fail at view) next xs zs u f = next xs zs u f
   calm_step i q ps (Refused at view g) next [] zs u f = tt
   calm_step i q ps (Refused at view g) next (x ∷ xs) [] u f = absurd u
@@ -486,7 +457,7 @@ up_right Invalid h = absurd h
 
 -- ---- what was printed before the last event
 
-last_of : (e : SeenEvent) (es : List SeenEvent) → (f : SeenEvent) × (e ∷ es ≡ but_last (e ∷ es) ++ f ∷ [])
+pub last_of : (e : SeenEvent) (es : List SeenEvent) → (f : SeenEvent) × (e ∷ es ≡ but_last (e ∷ es) ++ f ∷ [])
 last_of e [] = (e, refl)
 last_of e (d ∷ es) = let r = last_of d es in (r.0, ap (λ l. e ∷ l) r.1)
 
@@ -666,10 +637,10 @@ module _ (p : PlainProgram) (sound : Sound p) (x : Action) (v : Value) (fits : S
   meant_by n es = action_meaning p.cells p.functions n x v es
 
   -- the action as a source that has no body
-  abbrev source : ThreadSource
+  abbrev pub source : ThreadSource
   source = record { functions = p.functions; cells = p.cells; main = Const Nil (record { span = x.span; wanted = false }) }
 
-  source_sound : SoundSource source
+  pub source_sound : SoundSource source
   source_sound = record { functions = sound.functions; cells = sound.cells; main = tt }
 
   steps : (n m : ℕ) (es : List SeenEvent) → n ≤ m → Step None Any (meant_by n es) (meant_by m es)
@@ -703,30 +674,30 @@ booked_true (Some g) span v held new sends h =
     and_true (same_new (Err (fault_at AgentFailed span)) new) (is_empty sends) (subst (λ w. same_new (Err (fault_at AgentFailed span)) w ≡ true) (sym h.0) (new_itself (Err (fault_at AgentFailed span)))) (ap is_empty h.1)
 
 -- nothing is left
-left_none : (l : List SeenEvent) → l ≡ [] → (length l == 0) ≡ true
+pub left_none : (l : List SeenEvent) → l ≡ [] → (length l == 0) ≡ true
 left_none l e = ap (λ x. length x == 0) e
 
 module _ (cells : List StoreCell) (done : List Event) (span : Span) (a i k : ℕ) (m : List SeenEvent → Completion ThreadState Value) (es : List SeenEvent) (new : Result Value Fault) (sends : List Action) where
-  abbrev ends_found : Completion ThreadState Value → Finding
-  ends_found c = act_ends cells done span a i k m es new sends c
+  abbrev act_found : Completion ThreadState Value → Finding
+  act_found c = act_ends cells done span a i k m es new sends c
 
   checks_not : (todo : List SeenEvent) (b : Bool) (j : ℕ) → todo ≡ [] → b ≡ true → NotOff (and_then (check (length todo == 0) a j) (check b a k))
   checks_not todo b j e h = and_not (check (length todo == 0) a j) (check b a k) (check_not (length todo == 0) a j (left_none todo e)) (check_not b a k h)
 
   -- what is handed in is what the act has
-  handed_not : (result : Result Value Fault) (held : List Action) (out : List ℕ) (c : Completion ThreadState Value) → IsHandedIn result held out c → IsBooked (first_failed cells done held) span result held new sends → NotOff (ends_found c) × (printed_by c ≡ out)
+  handed_not : (result : Result Value Fault) (held : List Action) (out : List ℕ) (c : Completion ThreadState Value) → IsHandedIn result held out c → IsBooked (first_failed cells done held) span result held new sends → NotOff (act_found c) × (printed_by c ≡ out)
   handed_not (Ok v) held out c h b =
       let t = h.0 in
       let same : held_by t ≡ held = ap sends_if h.4 in
       let booked : is_booked (first_failed cells done (held_by t)) span v (held_by t) new sends ≡ true = subst (λ l. is_booked (first_failed cells done l) span v l new sends ≡ true) (sym same) (booked_true (first_failed cells done held) span v held new sends b) in (
-        subst (λ d. NotOff (ends_found d)) (sym h.1) (checks_not t.todo (is_booked (first_failed cells done (held_by t)) span v (held_by t) new sends) (i + (length es - length t.todo)) h.2 booked),
+        subst (λ d. NotOff (act_found d)) (sym h.1) (checks_not t.todo (is_booked (first_failed cells done (held_by t)) span v (held_by t) new sends) (i + (length es - length t.todo)) h.2 booked),
         ap printed_by h.1 ∙ h.3,
       )
   handed_not (Err f) held out c h b =
       let t = h.0 in
       let none : IsBooked (first_failed cells done []) span (Err f) [] new sends = subst (λ l. IsBooked (first_failed cells done l) span (Err f) l new sends) h.4 b in
       let booked : (same_new (Err f) new && is_empty sends) ≡ true = and_true (same_new (Err f) new) (is_empty sends) (subst (λ w. same_new (Err f) w ≡ true) (sym none.0) (new_itself (Err f))) (ap is_empty none.1) in (
-        subst (λ d. NotOff (ends_found d)) (sym h.1) (checks_not t.todo (same_new (Err f) new && is_empty sends) (i + (length es - length t.todo)) h.2 booked),
+        subst (λ d. NotOff (act_found d)) (sym h.1) (checks_not t.todo (same_new (Err f) new && is_empty sends) (i + (length es - length t.todo)) h.2 booked),
         ap printed_by h.1 ∙ h.3,
       )
 
@@ -921,7 +892,7 @@ module _ (p : PlainProgram) (r : PlainReport) (sound : Sound p) (n a : ℕ) (g :
         and_then_not act (acts_found p r n a (suc k) g [] (outs ++ action_prints p r n done g since o) qs ran) here behind
     kind_not k q qs next named (Read c) since outs out ds front e m = next (since ++ q ∷ []) outs out ds (named_both (books_of r) since (q ∷ []) front (named, tt)) e m
     kind_not k q qs next named (Commit at view ws sends) since outs out ds front e m = next (since ++ q ∷ []) outs out ds (named_both (books_of r) since (q ∷ []) front (named, tt)) e m
-    kind_not k q qs next named (Retry from c commute) since outs out ds front e m = next (since ++ q ∷ []) outs out ds (named_both (books_of r) since (q ∷ []) front (named, tt)) e m
+    kind_not k q qs next named (Retry from c cause) since outs out ds front e m = next (since ++ q ∷ []) outs out ds (named_both (books_of r) since (q ∷ []) front (named, tt)) e m
     kind_not k q qs next named (Fail at view) since outs out ds front e m = next (since ++ q ∷ []) outs out ds (named_both (books_of r) since (q ∷ []) front (named, tt)) e m
     kind_not k q qs next named (Refused at view h) since outs out ds front e m = next (since ++ q ∷ []) outs out ds (named_both (books_of r) since (q ∷ []) front (named, tt)) e m
     kind_not k q qs next named (Send x) since outs out ds front e m = next (since ++ q ∷ []) outs out ds (named_both (books_of r) since (q ∷ []) front (named, tt)) e m
@@ -949,21 +920,25 @@ agents_not p r sound n a (g ∷ gs) (ran ∷ rans) h =
 
 -- ---- all
 
-found_not : (p : PlainProgram) (r : PlainReport) → Sound p → IsExplained p r → (n : ℕ) → NotOff (found p r n)
-found_not p r sound x n =
+found_not : SomeIsNotOrdered → (p : PlainProgram) (w : PlainTerms) (r : PlainReport) → Sound p → IsExplained p w r → (n : ℕ) → NotOff (found p w r n)
+found_not unordered p w r sound x n =
     let sizes = check (fits_sizes p r) 0 0 in
     let traces = traces_found (books_of r) (suc (length r.atom_books)) 0 (r.threads ++ r.agents) in
     let store = store_found p r in
     let atoms = atoms_found p r (atoms_from 0 p.cells) in
     let threads = threads_found p r n 0 p.threads r.threads in
     let agents = agents_found p r n (length p.threads) (agents_from 0 p.cells) r.agents in
-    and_not sizes (and_then traces (and_then store (and_then atoms (and_then threads agents)))) (check_not (fits_sizes p r) 0 0 (sizes_true p r x.sized))
-    (and_not traces (and_then store (and_then atoms (and_then threads agents)))
+    let order = and_then (order_found p r) (and_then threads agents) in
+    let ends = and_then (ends_found p w r) order in
+    and_not sizes (and_then traces (and_then store (and_then atoms ends))) (check_not (fits_sizes p r) 0 0 (sizes_true p r x.sized))
+    (and_not traces (and_then store (and_then atoms ends))
     (traces_not r 0 (r.threads ++ r.agents) (λ a ran there. (let z : a ≡ 0 + a = omega arith in subst (λ b. TraceHolds (books_of r) b ran.trace) z (x.traced a ran there))))
-    (and_not store (and_then atoms (and_then threads agents)) (store_not p r x)
-    (and_not atoms (and_then threads agents) (atoms_not p r (atoms_from 0 p.cells) (λ i c there. x.atoms c (listed_atom p.cells i c there)))
+    (and_not store (and_then atoms ends) (store_not p w r x)
+    (and_not atoms ends (atoms_not p r (atoms_from 0 p.cells) (λ i c there. x.atoms c (listed_atom p.cells i c there)))
+    (and_not (ends_found p w r) order (ends_not_off p w r x.ends)
+    (and_not (order_found p r) (and_then threads agents) (order_not_off p r unordered x.ordered)
     (and_not threads agents (threads_not p r n 0 p.threads r.threads (λ b i t ran there here. thread_not p r sound n b i t ran there (x.threads i t ran there here)))
-    (agents_not p r sound n (length p.threads) (agents_from 0 p.cells) r.agents x.agents)))))
+    (agents_not p r sound n (length p.threads) (agents_from 0 p.cells) r.agents x.agents)))))))
 
-pub differs_is_not_explained : DiffersIsNotExplained
-differs_is_not_explained p r n a i sound h x = answer_not (found p r n) (are_serial p r n p.threads r.threads && agents_serial p r n (agents_from 0 p.cells) r.agents) a i h (found_not p r sound x n)
+pub differs_is_not_explained : SomeIsNotOrdered → DiffersIsNotExplained
+differs_is_not_explained unordered p w r n a i sound h x = answer_not (found p w r n) (are_serial p r n p.threads r.threads && agents_serial p r n (agents_from 0 p.cells) r.agents) a i h (found_not unordered p w r sound x n)

@@ -1,7 +1,7 @@
 -- What findings say, and tests of lists.
-use Rattle.std.proofs.Common.{◌≡◌, ◌≤◌, ℕ, zero, suc, ◌==◌, Bool, true, false, List, [], ◌∷◌, ◌++◌, length, Option, Some, None, refl, sym, ap, ◌∙◌, subst, arith}
+use Rattle.std.proofs.Common.{◌≡◌, ◌≤◌, ℕ, zero, suc, ◌==◌, ◌&&◌, ◌||◌, Bool, true, false, List, [], ◌∷◌, ◌++◌, length, Option, Some, None, refl, sym, ap, ◌∙◌, subst, arith}
 use Rattle.std.specs.Prelude.{not}
-use Rattle.std.proofs.lemmas.Bool.{eqb-true, false≢true}
+use Rattle.std.proofs.lemmas.Bool.{eqb-true, eq-eqb, false≢true}
 use Rattle.txs_value_base.specs.Places.{nth}
 use Rattle.txs_tree_meaning.proofs.Callable.{both}
 use Rattle.txs_world_book.specs.Book.{is_there}
@@ -46,6 +46,21 @@ off_fine a i h = absurd (subst IsFine (sym h) tt)
 pub short_fine : {A : Type 0} (a i : ℕ) → Short a i ≡ Fine → A
 short_fine a i h = absurd (subst IsFine (sym h) tt)
 
+-- what isn't off
+abbrev pub NotOff : Finding → Type 0
+NotOff Fine = Unit {0}
+NotOff (Off a i) = ⊥
+NotOff (Short a i) = Unit {0}
+
+pub and_not : (f g : Finding) → NotOff f → NotOff g → NotOff (and_then f g)
+and_not Fine g h k = k
+and_not (Off a i) g h k = absurd h
+and_not (Short a i) g h k = tt
+
+pub check_not : (b : Bool) (a i : ℕ) → b ≡ true → NotOff (check b a i)
+check_not true a i h = tt
+check_not false a i h = absurd (false≢true h)
+
 -- ---- truth values
 
 pub true_false : true ≡ false → ⊥
@@ -58,6 +73,20 @@ not_true false h = refl
 pub none_there : {A : Type 0} (o : Option A) → not (is_there o) ≡ true → o ≡ None
 none_there None h = refl
 none_there (Some a) h = absurd (false≢true h)
+
+pub and_true : (a b : Bool) → a ≡ true → b ≡ true → (a && b) ≡ true
+and_true a b h g = ap (λ c. c && b) h ∙ g
+
+pub not_false : (b : Bool) → b ≡ false → not b ≡ true
+not_false true h = absurd (false≢true (sym h))
+not_false false h = refl
+
+pub or_left : (a b : Bool) → a ≡ true → (a || b) ≡ true
+or_left true b h = refl
+or_left false b h = absurd (false≢true h)
+
+pub equal : (n : ℕ) → (n == n) ≡ true
+equal n = eq-eqb n n refl
 
 -- ---- lists
 

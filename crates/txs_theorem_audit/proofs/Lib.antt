@@ -1,6 +1,7 @@
 pub mod Agreeing
 pub mod Beginning
 pub mod Differing
+pub mod Ends
 pub mod Findings
 pub mod Listing
 pub mod NotSerial
@@ -8,5 +9,9 @@ pub mod Onward
 pub mod Ordered
 pub mod Owning
 pub mod Piecing
+pub mod Resuming
 pub mod Serial
+pub mod Settling
+pub mod Staying
+pub mod Timed
 pub mod Waiting

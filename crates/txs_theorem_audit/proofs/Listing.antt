@@ -1,5 +1,5 @@
--- Atoms and agents by number and by cell, and the events that a trace names.
-use Rattle.std.proofs.Common.{◌≡◌, ◌<◌, ℕ, zero, suc, ◌+◌, ◌==◌, ◌&&◌, ◌||◌, Bool, true, false, List, [], ◌∷◌, ◌++◌, length, take, Some, refl, sym, ap, ◌∙◌, subst, arith, if◌then◌else◌}
+-- Books, atoms and agents by number and by cell, and the events that a trace names.
+use Rattle.std.proofs.Common.{◌≡◌, ◌<◌, ◌≤◌, ℕ, zero, suc, ◌+◌, ◌==◌, ◌&&◌, ◌||◌, Bool, true, false, List, [], ◌∷◌, ◌++◌, length, take, Some, refl, sym, ap, ◌∙◌, subst, arith, if◌then◌else◌}
 use Rattle.std.proofs.lemmas.Bool.{eq-eqb, false≢true}
 use Rattle.std.proofs.lemmas.List.{append-nil}
 use Rattle.txs_value_base.specs.Places.{nth}
@@ -16,8 +16,10 @@ use Rattle.txs_world_book.specs.Book.{Each, agents_below, has_agent, has_cell, i
 use Rattle.txs_world_book.specs.Served.{cells_of}
 use Rattle.txs_theorem_runs.specs.Shared.{is_atom, has_atom}
 use Rattle.txs_theorem_runs.specs.Told.{places_by}
+use Rattle.txs_theorem_order.specs.Order.{book_or_none}
+use Rattle.txs_theorem_audit.specs.Audited.{PlainReport, books_of}
 use Rattle.txs_theorem_audit.specs.Verdict.{atoms_from}
-use Rattle.txs_theorem_audit.proofs.Findings.{not_there}
+use Rattle.txs_theorem_audit.proofs.Findings.{not_there, nth_beyond}
 
 -- ---- members of lists
 
@@ -39,6 +41,13 @@ in_front (y ∷ xs) ys (suc i) x h = in_front xs ys i x h
 pub behind : {A : Type 0} (xs ys : List A) (i : ℕ) → nth (xs ++ ys) (length xs + i) ≡ nth ys i
 behind [] ys i = let z : 0 + i ≡ i = omega arith in ap (nth ys) z
 behind (x ∷ xs) ys i = let e : suc (length xs) + i ≡ suc (length xs + i) = omega arith in ap (nth (x ∷ xs ++ ys)) e ∙ behind xs ys i
+
+-- ---- books
+
+-- the books behind the last atom's are empty
+pub no_book : (r : PlainReport) (n : ℕ) → suc (length r.atom_books) ≤ n → books_of r n ≡ []
+no_book r zero le = absurd (omega (arith, le))
+no_book r (suc n) le = ap book_or_none (nth_beyond r.atom_books n (omega (arith, le)))
 
 -- ---- events with those before them
 

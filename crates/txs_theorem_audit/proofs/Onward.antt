@@ -5,6 +5,7 @@ use Rattle.std.proofs.lemmas.Bool.{eq-eqb, false≢true}
 use Rattle.std.proofs.lemmas.List.{append_assoc, append-nil}
 use Rattle.txs_world_protocol.specs.Ask.{Writes, with_write, same_value, same_cell, same_writes, same_action, same_actions}
 use Rattle.txs_world_protocol.specs.SeenEvent.{SeenEvent, home}
+use Rattle.txs_world_protocol.specs.declared.event.Cause.TheVariants as cause
 use Rattle.txs_world_protocol.specs.declared.event.EventKind.{EventKind}
 use Rattle.txs_world_protocol.specs.declared.event.EventKind.TheVariants as event
 use Rattle.txs_value_cell.specs.Cells.{World, validators_of, validator_at}
@@ -17,7 +18,7 @@ use Rattle.txs_value_cell.specs.declared.form.PutForm.{PutForm}
 use Rattle.txs_value_cell.specs.declared.form.PutForm.TheVariants.{RefSet, Reset}
 use Rattle.txs_value_cell.specs.declared.form.UpdateForm.{UpdateForm}
 use Rattle.txs_value_cell.specs.declared.form.UpdateForm.TheVariants.{Alter, Commute, Swap}
-use Rattle.txs_frame.specs.Frame.{PlainTxFrame, with_cell, is_commuted, set_ref, commute_ref, set_writes, commuted, phase_work, sends_of_commit}
+use Rattle.txs_frame.specs.Frame.{PlainTxFrame, has_number, with_cell, is_commuted, set_ref, commute_ref, set_writes, commuted, phase_work, sends_of_commit}
 use Rattle.txs_value_apply.specs.Core.{core, vector_of}
 use Rattle.txs_value_apply.specs.Truth.{choose}
 use Rattle.txs_value_base.specs.Places.{nth, fault_at}
@@ -33,10 +34,10 @@ use Rattle.txs_value_data.specs.declared.value.CellId.{CellId}
 use Rattle.txs_value_data.specs.declared.value.Value.{Value}
 use Rattle.txs_value_data.specs.declared.value.Value.TheVariants.{Nil, Truth, Int, Key, Text, Vector, Cell}
 use Rattle.txs_tree_meaning.specs.Known.{Known, is_pure, known_of, known}
-use Rattle.txs_tree_meaning.specs.Meaning.{Completion, Completes, Recurs, Faults, Retries, Waits, OutOfTurns, Invalid, bind, again, closed, give, result_of, Applies, turns, apply, eval, eval_all, eval_let, eval_do, call_at}
+use Rattle.txs_tree_meaning.specs.Meaning.{Completion, Completes, Recurs, Faults, Retries, Waits, OutOfTurns, Invalid, bind, again, closed, give, result_of, Applies, turns, apply, eval, eval_all, eval_let, eval_do, call_at, allowed}
 use Rattle.txs_tree_meaning.specs.Pure.{no_effects, nowhere}
 use Rattle.txs_tree_meaning.specs.Sound.{MayStand, MayCall, in_thread, in_dosync, SoundTree, SoundAll, SoundLet, SoundDo, SoundCallee, SoundFunctions, SoundSource, SoundSent}
-use Rattle.txs_tree_meaning.specs.Thread.{TxRun, ThreadState, with_tx, holding, uneaten, eats, meant, reads, resets, faulted, faultless, swaps, sends, sends_or_holds, over, Transacting, run_of, ends_tx, is_retry, eats_tx, thread_look, thread_put, thread_update, on_events, around, thread_meaning, from_events, applies_in, action_meaning, accepts}
+use Rattle.txs_tree_meaning.specs.Thread.{TxRun, ThreadState, with_tx, holding, uneaten, eats, meant, reads, resets, faulted, faultless, swaps, sends, sends_or_holds, over, Transacting, run_of, ends_tx, is_retry, is_held, again as tried, eats_tx, thread_look, thread_put, thread_update, on_events, around, thread_meaning, from_events, applies_in, action_meaning, accepts}
 use Rattle.txs_tree_meaning.specs.Transaction.{TxState, own, current, noted, done_as, tx_look, tx_put, tx_update, in_transaction, tx_start, tx_meaning, valued, merged, judged, validated, if_accepted, commute_writes, final_writes}
 use Rattle.txs_tree_meaning.specs.Tree.{Mark, Tree, Const, Local, If, Do, Let, Loop, Recur, Core, Call, VectorOf, Println, Dosync, Look, Put, Update, Send, Trees, none, more, count, PlainFunction, ThreadSource}
 use Rattle.txs_tree_meaning.proofs.Callable.{nth-take, function_at}
@@ -53,20 +54,31 @@ use Rattle.txs_theorem_threads.specs.RepliesFit.{Halt, Going, Stopped, Short, Re
 
 -- ---- states of a thread
 
--- a state that comes later: more was printed, events were eaten, transactions were noted
-pub record Onward (s t : ThreadState) : Type 0 where
+-- a state that comes later: more was printed, events were eaten, and transactions were noted, at most k more than events were eaten
+pub record Within (k : ℕ) (s t : ThreadState) : Type 0 where
   pub more : List ℕ
   pub gone : List SeenEvent
   pub runs : List TxRun
   pub prints : t.printed ≡ s.printed ++ more
   pub eats : s.todo ≡ gone ++ t.todo
   pub notes : t.txs ≡ s.txs ++ runs
+  pub few : length runs ≤ k + length gone
 
-stays : (s t : ThreadState) → t.printed ≡ s.printed → s.todo ≡ t.todo → t.txs ≡ s.txs → Onward s t
-stays s t p e n = record { more = []; gone = []; runs = []; prints = p ∙ sym (append-nil s.printed); eats = e; notes = n ∙ sym (append-nil s.txs) }
+-- no more transactions than events
+abbrev pub Onward : ThreadState → ThreadState → Type 0
+Onward s t = Within 0 s t
 
-same : (s : ThreadState) → Onward s s
+none_noted : (k : ℕ) → 0 ≤ k + 0
+none_noted k = omega arith
+
+pub stays : (s t : ThreadState) → t.printed ≡ s.printed → s.todo ≡ t.todo → t.txs ≡ s.txs → Onward s t
+stays s t p e n = record { more = []; gone = []; runs = []; prints = p ∙ sym (append-nil s.printed); eats = e; notes = n ∙ sym (append-nil s.txs); few = none_noted 0 }
+
+pub same : (s : ThreadState) → Onward s s
 same s = stays s s refl refl refl
+
+still : (s : ThreadState) → Within 1 s s
+still s = record { more = []; gone = []; runs = []; prints = sym (append-nil s.printed); eats = refl; notes = sym (append-nil s.txs); few = none_noted 1 }
 
 pub further : (s t u : ThreadState) → Onward s t → Onward t u → Onward s u
 further s t u g h = record {
@@ -76,6 +88,19 @@ further s t u g h = record {
   prints = h.prints ∙ ap (λ l. l ++ h.more) g.prints ∙ append_assoc s.printed g.more h.more;
   eats = g.eats ∙ ap (λ l. g.gone ++ l) h.eats ∙ sym (append_assoc g.gone h.gone u.todo);
   notes = h.notes ∙ ap (λ l. l ++ h.runs) g.notes ∙ append_assoc s.txs g.runs h.runs;
+  few = omega (arith, length-append g.gone h.gone, length-append g.runs h.runs, g.few, h.few);
+}
+
+-- an event is eaten, and with it one transaction may be noted
+eaten : (e : SeenEvent) (b s u : ThreadState) → b.todo ≡ e ∷ s.todo → s.printed ≡ b.printed → s.txs ≡ b.txs → Within 1 s u → Onward b u
+eaten e b s u here p n k = record {
+  more = k.more;
+  gone = e ∷ k.gone;
+  runs = k.runs;
+  prints = k.prints ∙ ap (λ l. l ++ k.more) p;
+  eats = here ∙ ap (λ l. e ∷ l) k.eats;
+  notes = k.notes ∙ ap (λ l. l ++ k.runs) n;
+  few = omega (arith, k.few);
 }
 
 none_behind : (xs ys : List SeenEvent) → xs ++ ys ≡ [] → ys ≡ []
@@ -119,10 +144,10 @@ abbrev pub Leads : {A : Type 0} → Option ℕ → (A → Type 0) → ThreadStat
 Leads tail P s x y = From tail P s y × Step tail P x y
 
 -- so many values
-abbrev Many : ℕ → List Value → Type 0
+abbrev pub Many : ℕ → List Value → Type 0
 Many n vs = length vs ≡ n
 
-onward_from : {A : Type 0} (tail : Option ℕ) (P : A → Type 0) (s t : ThreadState) (y : Completion ThreadState A) → Onward s t → From tail P t y → From tail P s y
+pub onward_from : {A : Type 0} (tail : Option ℕ) (P : A → Type 0) (s t : ThreadState) (y : Completion ThreadState A) → Onward s t → From tail P t y → From tail P s y
 onward_from tail P s t (Completes a u) g h = (h.0, further s t u g h.1)
 onward_from tail P s t (Recurs vs u) g h = (h.0, further s t u g h.1)
 onward_from tail P s t (Faults f u) g h = further s t u g h
@@ -131,7 +156,7 @@ onward_from tail P s t (Waits u) g h = further s t u g h
 onward_from tail P s t (OutOfTurns u) g h = further s t u g h
 onward_from tail P s t Invalid g h = λ e. h (none_later s t g e)
 
-bind_from : {A B : Type 0} (tail : Option ℕ) (P : A → Type 0) (Q : B → Type 0) (y : Completion ThreadState A) (g : A → ThreadState → Completion ThreadState B) (s : ThreadState) → From None P s y → ((a : A) (u : ThreadState) → P a → From tail Q u (g a u)) → From tail Q s (bind y g)
+pub bind_from : {A B : Type 0} (tail : Option ℕ) (P : A → Type 0) (Q : B → Type 0) (y : Completion ThreadState A) (g : A → ThreadState → Completion ThreadState B) (s : ThreadState) → From None P s y → ((a : A) (u : ThreadState) → P a → From tail Q u (g a u)) → From tail Q s (bind y g)
 bind_from tail P Q (Completes a u) g s h each = onward_from tail Q s u (g a u) h.1 (each a u h.0)
 bind_from tail P Q (Recurs vs u) g s h each = absurd (none_some (length vs) h.0)
 bind_from tail P Q (Faults f u) g s h each = h
@@ -152,7 +177,7 @@ bind_step tail P Q Invalid y k g s h each = ap (λ z. bind z g) h.1
 bind_leads : {A B : Type 0} (tail : Option ℕ) (P : A → Type 0) (Q : B → Type 0) (x y : Completion ThreadState A) (k g : A → ThreadState → Completion ThreadState B) (s : ThreadState) → Leads None P s x y → ((a : A) (t : ThreadState) → P a → Leads tail Q t (k a t) (g a t)) → Leads tail Q s (bind x k) (bind y g)
 bind_leads tail P Q x y k g s h each = (bind_from tail P Q y g s h.0 (λ a u p. (each a u p).0), bind_step tail P Q x y k g s h each)
 
-again_from : (tail : Option ℕ) (d : ℕ) (y : Completion ThreadState Value) (g : List Value → ThreadState → Completion ThreadState Value) (s : ThreadState) → From (Some d) Any s y → ((ws : List Value) (u : ThreadState) → length ws ≡ d → From tail Any u (g ws u)) → From tail Any s (again y g)
+pub again_from : (tail : Option ℕ) (d : ℕ) (y : Completion ThreadState Value) (g : List Value → ThreadState → Completion ThreadState Value) (s : ThreadState) → From (Some d) Any s y → ((ws : List Value) (u : ThreadState) → length ws ≡ d → From tail Any u (g ws u)) → From tail Any s (again y g)
 again_from tail d (Completes a u) g s h each = h
 again_from tail d (Recurs ws u) g s h each = onward_from tail Any s u (g ws u) h.1 (each ws u (sym (some_same d (length ws) h.0)))
 again_from tail d (Faults f u) g s h each = h
@@ -175,7 +200,7 @@ again_step tail d Invalid y k g s h each = ap (λ z. again z g) h.1
 again_leads : (tail : Option ℕ) (d : ℕ) (x y : Completion ThreadState Value) (k g : List Value → ThreadState → Completion ThreadState Value) (s : ThreadState) → Leads (Some d) Any s x y → ((ws : List Value) (t : ThreadState) → length ws ≡ d → Leads tail Any t (k ws t) (g ws t)) → Leads tail Any s (again x k) (again y g)
 again_leads tail d x y k g s h each = (again_from tail d y g s h.0 (λ ws u l. (each ws u l).0), again_step tail d x y k g s h each)
 
-closed_from : (y : Completion ThreadState Value) (s : ThreadState) → From None Any s y → From None Any s (closed y)
+pub closed_from : (y : Completion ThreadState Value) (s : ThreadState) → From None Any s y → From None Any s (closed y)
 closed_from (Completes a u) s h = h
 closed_from (Recurs vs u) s h = absurd (none_some (length vs) h.0)
 closed_from (Faults f u) s h = h
@@ -193,7 +218,7 @@ closed_step (Waits t) y h = ap closed h
 closed_step (OutOfTurns t) y h = closed_from y t h
 closed_step Invalid y h = ap closed h
 
-loose_from : (tail : Option ℕ) (y : Completion ThreadState Value) (s : ThreadState) → From None Any s y → From tail Any s y
+pub loose_from : (tail : Option ℕ) (y : Completion ThreadState Value) (s : ThreadState) → From None Any s y → From tail Any s y
 loose_from tail (Completes a u) s h = h
 loose_from tail (Recurs vs u) s h = absurd (none_some (length vs) h.0)
 loose_from tail (Faults f u) s h = h
@@ -215,7 +240,7 @@ loose_step tail Invalid y h = h
 loose : (tail : Option ℕ) (x y : Completion ThreadState Value) (s : ThreadState) → Leads None Any s x y → Leads tail Any s x y
 loose tail x y s h = (loose_from tail y s h.0, loose_step tail x y h.1)
 
-turns_from : (tail : Option ℕ) (n d : ℕ) (g : List Value → ThreadState → Completion ThreadState Value) → ((vs : List Value) (s : ThreadState) → length vs ≡ d → From (Some d) Any s (g vs s)) → (vs : List Value) (s : ThreadState) → length vs ≡ d → From tail Any s (turns n d g vs s)
+pub turns_from : (tail : Option ℕ) (n d : ℕ) (g : List Value → ThreadState → Completion ThreadState Value) → ((vs : List Value) (s : ThreadState) → length vs ≡ d → From (Some d) Any s (g vs s)) → (vs : List Value) (s : ThreadState) → length vs ≡ d → From tail Any s (turns n d g vs s)
 turns_from tail zero d g each vs s e = same s
 turns_from tail (suc n) d g each vs s e =
     subst (λ b. From tail Any s (if b then again (g vs s) (turns n d g) else Invalid)) (sym (eq-eqb (length vs) d e)) (again_from tail d (g vs s) (turns n d g) s (each vs s e) (λ ws u l. turns_from tail n d g each ws u l))
@@ -239,11 +264,11 @@ local_leads tail [] i s lt = absurd (omega (arith, lt))
 local_leads tail (v ∷ env) zero s lt = ((tt, same s), refl)
 local_leads tail (v ∷ env) (suc i) s lt = local_leads tail env i s (omega (arith, lt))
 
-result_leads : (tail : Option ℕ) (r : Result Value FaultKind) (span : Span) (s : ThreadState) → Leads {A = Value} tail Any s (result_of r span s) (result_of r span s)
+pub result_leads : (tail : Option ℕ) (r : Result Value FaultKind) (span : Span) (s : ThreadState) → Leads {A = Value} tail Any s (result_of r span s) (result_of r span s)
 result_leads tail (Ok v) span s = ((tt, same s), refl)
 result_leads tail (Err k) span s = (same s, refl)
 
-choose_leads : (tail : Option ℕ) (v : Value) (x y z w : Completion ThreadState Value) (s : ThreadState) → Leads tail Any s x z → Leads tail Any s y w → Leads tail Any s (choose v x y) (choose v z w)
+pub choose_leads : (tail : Option ℕ) (v : Value) (x y z w : Completion ThreadState Value) (s : ThreadState) → Leads tail Any s x z → Leads tail Any s y w → Leads tail Any s (choose v x y) (choose v z w)
 choose_leads tail Nil x y z w s h k = k
 choose_leads tail (Truth false) x y z w s h k = k
 choose_leads tail (Truth true) x y z w s h k = h
@@ -262,11 +287,11 @@ on_leads (Err e) span k g s h = (same s, refl)
 
 -- Where it comes to at an event that is being eaten: a later state; where turns don't suffice, the state that it had.
 abbrev Inside : {A : Type 0} → ThreadState → Completion ThreadState A → Type 0
-Inside s (Completes a t) = Onward s t
+Inside s (Completes a t) = Within 1 s t
 Inside s (Recurs vs t) = ⊥
-Inside s (Faults f t) = Onward s t
+Inside s (Faults f t) = Within 1 s t
 Inside s (Retries t) = ⊥
-Inside s (Waits t) = Onward s t
+Inside s (Waits t) = Within 1 s t
 Inside s (OutOfTurns t) = t ≡ s
 Inside s Invalid = Unit {0}
 
@@ -282,7 +307,7 @@ InStep s Invalid y = y ≡ Invalid
 abbrev At : ThreadState → Completion ThreadState Value → Completion ThreadState Value → Type 0
 At s x y = Inside s y × InStep s x y
 
-at_itself : (s : ThreadState) (x : Completion ThreadState Value) → Inside s x → At s x x
+pub at_itself : (s : ThreadState) (x : Completion ThreadState Value) → Inside s x → At s x x
 at_itself s (Completes a t) h = (h, refl)
 at_itself s (Recurs vs t) h = absurd h
 at_itself s (Faults f t) h = (h, refl)
@@ -295,15 +320,15 @@ module _ (tail : Option ℕ) (e : SeenEvent) (es : List SeenEvent) where
   uneaten_from : (b s : ThreadState) → b.todo ≡ e ∷ es → s.todo ≡ es → s.printed ≡ b.printed → s.txs ≡ b.txs → (y : Completion ThreadState Value) → Inside s y → From tail Any b (uneaten (e ∷ es) y)
   uneaten_from b s here left p n y h = go y h
     where
-      on : Onward b s
-      on = record { more = []; gone = e ∷ []; runs = []; prints = p ∙ sym (append-nil b.printed); eats = here ∙ ap (λ l. e ∷ l) (sym left); notes = n ∙ sym (append-nil b.txs) }
+      on : (u : ThreadState) → Within 1 s u → Onward b u
+      on u k = eaten e b s u (here ∙ ap (λ l. e ∷ l) (sym left)) p n k
 
       go : (z : Completion ThreadState Value) → Inside s z → From tail Any b (uneaten (e ∷ es) z)
-      go (Completes a u) k = (tt, further b s u on k)
+      go (Completes a u) k = (tt, on u k)
       go (Recurs vs u) k = absurd k
-      go (Faults f u) k = further b s u on k
+      go (Faults f u) k = on u k
       go (Retries u) k = absurd k
-      go (Waits u) k = further b s u on k
+      go (Waits u) k = on u k
       go (OutOfTurns u) k = stays b (record u { todo = e ∷ es }) (ap (λ (z : ThreadState). z.printed) k ∙ p) here (ap (λ (z : ThreadState). z.txs) k ∙ n)
       go Invalid k = λ q. some_event e es (sym here ∙ q)
 
@@ -319,32 +344,32 @@ module _ (tail : Option ℕ) (e : SeenEvent) (es : List SeenEvent) where
   uneaten_leads : (b s : ThreadState) → b.todo ≡ e ∷ es → s.todo ≡ es → s.printed ≡ b.printed → s.txs ≡ b.txs → (x y : Completion ThreadState Value) → At s x y → Leads tail Any b (uneaten (e ∷ es) x) (uneaten (e ∷ es) y)
   uneaten_leads b s here left p n x y h = (uneaten_from b s here left p n y h.0, uneaten_step s left x y h.0 h.1)
 
-eats_leads : (book : ℕ) (k g : SeenEvent → ThreadState → Completion ThreadState Value) → ((e : SeenEvent) (t : ThreadState) → At t (k e t) (g e t)) → (l : List SeenEvent) (t : ThreadState) → t.todo ≡ l → Leads None Any t (eats book k l t) (eats book g l t)
-eats_leads book k g each [] t here = (same t, refl)
+pub eats_leads : (book : ℕ) (k g : SeenEvent → ThreadState → Completion ThreadState Value) → ((e : SeenEvent) (t : ThreadState) → At t (k e t) (g e t)) → (l : List SeenEvent) (t : ThreadState) → t.todo ≡ l → Leads None Any t (eats book k l t) (eats book g l t)
+eats_leads book k g each [] t here = (stays t (record t { asks = Some book }) refl refl refl, refl)
 eats_leads book k g each (e ∷ es) t here = of_book (e.book == book)
   where
     of_book : (b : Bool) → Leads None Any t (if b then uneaten (e ∷ es) (k e (record t { todo = es })) else Invalid) (if b then uneaten (e ∷ es) (g e (record t { todo = es })) else Invalid)
     of_book true = uneaten_leads None e es t (record t { todo = es }) here refl refl refl (k e (record t { todo = es })) (g e (record t { todo = es })) (each e (record t { todo = es }))
     of_book false = (λ q. some_event e es (sym here ∙ q), refl)
 
-meant_inside : (b : Bool) (v : Value) (s t : ThreadState) → Onward s t → Inside s (meant b v t)
+meant_inside : (b : Bool) (v : Value) (s t : ThreadState) → Within 1 s t → Inside s (meant b v t)
 meant_inside true v s t g = g
 meant_inside false v s t g = tt
 
-reads_inside : (c : CellId) (k : EventKind) (C : World) (t : ThreadState) → Inside t (reads c k C t)
-reads_inside c (event.Read d) C t = meant_inside (same_cell c d) (C c.number) t t (same t)
+pub reads_inside : (c : CellId) (k : EventKind) (C : World) (t : ThreadState) → Inside t (reads c k C t)
+reads_inside c (event.Read d) C t = meant_inside (same_cell c d) (C c.number) t t (still t)
 reads_inside c _ C t = tt
 
-resets_inside : (v : Value) (k : EventKind) (t : ThreadState) → Inside t (resets v k t)
-resets_inside v (event.Swap new) t = meant_inside (same_value v new) v t t (same t)
+pub resets_inside : (v : Value) (k : EventKind) (t : ThreadState) → Inside t (resets v k t)
+resets_inside v (event.Swap new) t = meant_inside (same_value v new) v t t (still t)
 resets_inside v _ t = tt
 
-sends_inside : (a : Action) (span : Span) (k : EventKind) (t : ThreadState) → Inside t (sends a span k t)
-sends_inside a span (event.Send b) t = meant_inside (same_action a b) (Cell a.agent) t t (same t)
+pub sends_inside : (a : Action) (span : Span) (k : EventKind) (t : ThreadState) → Inside t (sends a span k t)
+sends_inside a span (event.Send b) t = meant_inside (same_action a b) (Cell a.agent) t t (still t)
 sends_inside a span (event.SendRefused g) t = test (same_cell a.agent g)
   where
     test : (b : Bool) → Inside {A = Value} t (if b then Faults (fault_at AgentFailed span) t else Invalid)
-    test true = same t
+    test true = still t
     test false = tt
 sends_inside a span _ t = tt
 
@@ -363,16 +388,16 @@ faultless_inside s go each (Completes a u) = each a
 faultless_inside s go each (Recurs vs u) = tt
 faultless_inside s go each (Faults f u) = tt
 faultless_inside s go each (Retries u) = tt
-faultless_inside s go each (Waits u) = same s
+faultless_inside s go each (Waits u) = still s
 faultless_inside s go each (OutOfTurns u) = refl
 faultless_inside s go each Invalid = tt
 
 faulted_inside : {A : Type 0} (s : ThreadState) (q : Completion (Unit {0}) A) → Inside s (faulted (carried s q) (λ g t. Faults g t))
 faulted_inside s (Completes a u) = tt
 faulted_inside s (Recurs vs u) = tt
-faulted_inside s (Faults f u) = same s
+faulted_inside s (Faults f u) = still s
 faulted_inside s (Retries u) = tt
-faulted_inside s (Waits u) = same s
+faulted_inside s (Waits u) = still s
 faulted_inside s (OutOfTurns u) = refl
 faulted_inside s Invalid = tt
 
@@ -381,12 +406,12 @@ both_pure : {A : Type 0} (t : ThreadState) (x y : Completion ThreadState A) (l r
 both_pure t x y l r F e f h = subst (λ z. At t (F z) (F y)) (sym e) (subst (λ z. At t (F (carried t l)) (F z)) (sym f) h)
 
 -- a swap, whose callee is pure
-swaps_at : (c : CellId) (k g : Value → ThreadState → Completion ThreadState Value) (l r : Value → Completion (Unit {0}) Value) → ((v : Value) (t : ThreadState) → k v t ≡ carried t (l v)) → ((v : Value) (t : ThreadState) → g v t ≡ carried t (r v)) → ((v : Value) → Related (same_link (Unit {0})) (l v) (r v))
+pub swaps_at : (c : CellId) (k g : Value → ThreadState → Completion ThreadState Value) (l r : Value → Completion (Unit {0}) Value) → ((v : Value) (t : ThreadState) → k v t ≡ carried t (l v)) → ((v : Value) (t : ThreadState) → g v t ≡ carried t (r v)) → ((v : Value) → Related (same_link (Unit {0})) (l v) (r v))
     → (d : EventKind) (R C : World) (t : ThreadState) → At t (swaps c k d R C t) (swaps c g d R C t)
 swaps_at c k g l r left right alike (event.Swap new) R C t =
     let go : Value → ThreadState → Completion ThreadState Value = λ v t1. meant (same_value v new) v t1 in
     let v = C c.number in
-    both_pure t (k v t) (g v t) (l v) (r v) (λ z. faultless z go) (left v t) (right v t) (pure_at t (λ q. faultless (carried t q) go) (l v) (r v) (alike v) (λ u. refl) (faultless_inside t go (λ w. meant_inside (same_value w new) w t t (same t))))
+    both_pure t (k v t) (g v t) (l v) (r v) (λ z. faultless z go) (left v t) (right v t) (pure_at t (λ q. faultless (carried t q) go) (l v) (r v) (alike v) (λ u. refl) (faultless_inside t go (λ w. meant_inside (same_value w new) w t t (still t))))
 swaps_at c k g l r left right alike (event.Broke at) R C t =
     let v = R c.number in
     both_pure t (k v t) (g v t) (l v) (r v) (λ z. faulted z (λ e t1. Faults e t1)) (left v t) (right v t) (pure_at t (λ q. faulted (carried t q) (λ e t1. Faults e t1)) (l v) (r v) (alike v) (λ u. refl) (faulted_inside t))
@@ -587,15 +612,44 @@ over_step t Invalid y h F G broke each b = ap (λ c. over t c G broke) h
 over_at : (t : ThreadState) (x y : Completion TxState Value) → TxStep x y → (F G : Value → TxState → Completion ThreadState Value) (broke : Fault → Completion ThreadState Value) → ((v : Value) (z : TxState) → y ≡ Completes v z → At t (F v z) (G v z)) → ((g : Fault) → Inside t (broke g)) → At t (over t x F broke) (over t y G broke)
 over_at t x y h F G broke each b = (over_inside t y G broke (λ v z e. (each v z e).0) b, over_step t x y h F G broke (λ v z e. (each v z e).1) b)
 
-noted_on : (t : ThreadState) (x : TxRun) → Onward t (with_tx x t)
-noted_on t x = record { more = []; gone = []; runs = x ∷ []; prints = sym (append-nil t.printed); eats = refl; notes = refl }
+-- a transaction's meaning on a try that had to run again, and what follows, where an event is to come
+over_from : (t : ThreadState) (y : Completion TxState Value) (G : Value → TxState → Completion ThreadState Value) → ((v : Value) (z : TxState) → From None Any t (G v z)) → (t.todo ≡ [] → ⊥) → From None Any t (over t y G (λ g. Invalid))
+over_from t (Completes v z) G each some = each v z
+over_from t (Recurs vs z) G each some = some
+over_from t (Faults g z) G each some = some
+over_from t (Retries z) G each some = some
+over_from t (Waits z) G each some = some
+over_from t (OutOfTurns z) G each some = same t
+over_from t Invalid G each some = some
+
+over_goes : (t : ThreadState) (x y : Completion TxState Value) → TxStep x y → (F G : Value → TxState → Completion ThreadState Value) → ((v : Value) (z : TxState) → Leads None Any t (F v z) (G v z)) → (t.todo ≡ [] → ⊥) → Step None Any (over t x F (λ g. Invalid)) (over t y G (λ g. Invalid))
+over_goes t (Completes v z) y h F G each some = subst (λ c. Step None Any (F v z) (over t c G (λ g. Invalid))) (sym h) (each v z).1
+over_goes t (Recurs vs z) y h F G each some = ap (λ c. over t c G (λ g. Invalid)) h
+over_goes t (Faults g z) y h F G each some = ap (λ c. over t c G (λ g. Invalid)) h
+over_goes t (Retries z) y h F G each some = ap (λ c. over t c G (λ g. Invalid)) h
+over_goes t (Waits z) y h F G each some = ap (λ c. over t c G (λ g. Invalid)) h
+over_goes t (OutOfTurns z) y h F G each some = over_from t y G (λ v z. (each v z).0) some
+over_goes t Invalid y h F G each some = ap (λ c. over t c G (λ g. Invalid)) h
+
+over_leads : (t : ThreadState) (x y : Completion TxState Value) → TxStep x y → (F G : Value → TxState → Completion ThreadState Value) → ((v : Value) (z : TxState) → Leads None Any t (F v z) (G v z)) → (t.todo ≡ [] → ⊥) → Leads None Any t (over t x F (λ g. Invalid)) (over t y G (λ g. Invalid))
+over_leads t x y h F G each some = (over_from t y G (λ v z. (each v z).0) some, over_goes t x y h F G each some)
+
+allowed_leads : (b : Bool) (t : ThreadState) (x y : Completion ThreadState Value) → Leads None Any t x y → (t.todo ≡ [] → ⊥) → Leads None Any t (allowed b x) (allowed b y)
+allowed_leads true t x y h some = h
+allowed_leads false t x y h some = (some, refl)
+
+one_noted : 1 ≤ 1 + 0
+one_noted = omega arith
+
+noted_on : (t : ThreadState) (x : TxRun) → Within 1 t (with_tx x t)
+noted_on t x = record { more = []; gone = []; runs = x ∷ []; prints = sym (append-nil t.printed); eats = refl; notes = refl; few = one_noted }
 
 -- what an action holds counts for nothing here
-held_on : (t : ThreadState) (x : TxRun) (sends : List Action) → Onward t (holding sends (with_tx x t))
-held_on t x sends = record { more = []; gone = []; runs = x ∷ []; prints = sym (append-nil t.printed); eats = refl; notes = refl }
+held_on : (t : ThreadState) (x : TxRun) (sends : List Action) → Within 1 t (holding sends (with_tx x t))
+held_on t x sends = record { more = []; gone = []; runs = x ∷ []; prints = sym (append-nil t.printed); eats = refl; notes = refl; few = one_noted }
 
 -- a callee that is sound among the first functions is pure
-before_pure : (ks : List Known) (b : ℕ) (c : Callee) (n : ℕ) → SoundCallee (take b ks) c n → IsPure ks c
+pub before_pure : (ks : List Known) (b : ℕ) (c : Callee) (n : ℕ) → SoundCallee (take b ks) c n → IsPure ks c
 before_pure ks b (CoreOp op) n h = tt
 before_pure ks b (Function f) n h = ap is_pure (nth-take b ks f h.function h.found).1 ∙ h.pure
 
@@ -689,7 +743,7 @@ module _ (p : ThreadSource) (sound : SoundSource p) (nl nr : ℕ) (le : nl ≤ n
     writes_in g w C s = final_writes g (validators_of p.cells) m.span w C s
 
     -- the final writes leave the state as it was
-    finals : (n : ℕ) (w : PlainTxFrame) → AllCommutes (IsPure ks) w.commutes → (C : World) (t : ThreadState) → writes_in (f n) w C t ≡ carried t (writes_in (q n) w C tt)
+    pub finals : (n : ℕ) (w : PlainTxFrame) → AllCommutes (IsPure ks) w.commutes → (C : World) (t : ThreadState) → writes_in (f n) w C t ≡ carried t (writes_in (q n) w C tt)
     finals n w suits C t =
         (final_carried (IsPure ks) t (f n) (q n) (λ c us pure. callee_carried (on_events (around p n)) n true p.functions sound.functions b m.span c us t pure) (validators_of p.cells) (validators_pure ks p.cells sound.cells) m.span w suits C).0
 
@@ -708,7 +762,7 @@ module _ (p : ThreadSource) (sound : SoundSource p) (nl nr : ℕ) (le : nl ≤ n
     on_step : (R : World) → TxStep ((tx nl).on R) ((tx nr).on R)
     on_step R = tx_step p.functions sound.functions ((tx nl).on R) ((tx nr).on R) (tx_related p.functions sound.functions nl nr le b e env kept R)
 
-    suits_of : (R : World) (v : Value) (z : TxState) → (tx nr).on R ≡ Completes v z → AllCommutes (IsPure ks) z.done.commutes
+    pub suits_of : (R : World) (v : Value) (z : TxState) → (tx nr).on R ≡ Completes v z → AllCommutes (IsPure ks) z.done.commutes
     suits_of R v z h = suited p.functions sound.functions nr b e env kept R v z h
 
     ends_at : (k : EventKind) (R Q C : World) (t : ThreadState) → At t (ends_tx (tx nl) (f nl) k R Q C t) (ends_tx (tx nr) (f nr) k R Q C t)
@@ -718,16 +772,23 @@ module _ (p : ThreadSource) (sound : SoundSource p) (nl nr : ℕ) (le : nl ≤ n
         (faultless_inside t (λ ws t1. meant (same_writes ws writes && same_actions (sends_of_commit t1.held z.done.sends) sent) v (holding z.done.sends (with_tx (run_of (tx nr) v z) t1))) (λ ws. meant_inside (same_writes ws writes && same_actions (sends_of_commit t.held z.done.sends) sent) v t (holding z.done.sends (with_tx (run_of (tx nr) v z) t)) (held_on t (run_of (tx nr) v z) z.done.sends)))) (λ g. tt)
     ends_at (event.Fail at view) R Q C t =
         over_at t ((tx nl).on R) ((tx nr).on R) (on_step R) _ _ (λ g. Faults g t)
-        (λ v z h. finals_at z.done (suits_of R v z h) Q t (λ y. faulted y (λ g t1. Faults g t1)) (λ u. refl) (faulted_inside t)) (λ g. same t)
+        (λ v z h. finals_at z.done (suits_of R v z h) Q t (λ y. faulted y (λ g t1. Faults g t1)) (λ u. refl) (faulted_inside t)) (λ g. still t)
     ends_at (event.Refused at view agent) R Q C t =
         over_at t ((tx nl).on R) ((tx nr).on R) (on_step R) _ _ (λ g. Invalid)
         (λ v z h. finals_at z.done (suits_of R v z h) Q t (λ y. faultless y (λ ws t1. Faults (fault_at AgentFailed m.span) (with_tx (run_of (tx nr) v z) t1))) (λ u. refl)
         (faultless_inside t (λ ws t1. Faults (fault_at AgentFailed m.span) (with_tx (run_of (tx nr) v z) t1)) (λ ws. noted_on t (run_of (tx nr) v z)))) (λ g. tt)
     ends_at _ R Q C t = (tt, refl)
 
-    eats_tx_leads : (k : ℕ) (l : List SeenEvent) (t : ThreadState) → Leads None Any (record t { todo = l }) (eats_tx k (tx nl) (f nl) l t) (eats_tx k (tx nr) (f nr) l t)
+    -- a try that had to run again, and what follows, where an event is to come
+    tried_leads : (k : EventKind) (R : World) (t : ThreadState) (x y : Completion ThreadState Value) → Leads None Any t x y → (t.todo ≡ [] → ⊥) → Leads None Any t (tried (tx nl) k R t x) (tried (tx nr) k R t y)
+    tried_leads (event.Retry since c cause.Outdated) R t x y h some = h
+    tried_leads (event.Retry since c cause.Held) R t x y h some = over_leads t ((tx nl).on R) ((tx nr).on R) (on_step R) _ _ (λ v z. allowed_leads (is_held z.done c.number) t x y h some) some
+    tried_leads (event.Retry since c (cause.Commuted at)) R t x y h some = over_leads t ((tx nl).on R) ((tx nr).on R) (on_step R) _ _ (λ v z. allowed_leads (has_number (commuted z.done) c.number) t x y h some) some
+    tried_leads _ R t x y h some = (some, refl)
+
+    pub eats_tx_leads : (k : ℕ) (l : List SeenEvent) (t : ThreadState) → Leads None Any (record t { todo = l }) (eats_tx k (tx nl) (f nl) l t) (eats_tx k (tx nr) (f nr) l t)
     eats_tx_leads zero l t = (same (record t { todo = l }), refl)
-    eats_tx_leads (suc k) [] t = (same (record t { todo = [] }), refl)
+    eats_tx_leads (suc k) [] t = (stays (record t { todo = [] }) (record t { todo = []; asks = Some 0 }) refl refl refl, refl)
     eats_tx_leads (suc k) (d ∷ ds) t = of_book (d.book == 0) (is_retry d.kind) (eats_tx_leads k ds t)
       where
         base : ThreadState
@@ -737,15 +798,16 @@ module _ (p : ThreadSource) (sound : SoundSource p) (nl nr : ℕ) (le : nl ≤ n
         behind = record t { todo = ds }
 
         next : Onward base behind
-        next = record { more = []; gone = d ∷ []; runs = []; prints = sym (append-nil t.printed); eats = refl; notes = sym (append-nil t.txs) }
+        next = eaten d base behind behind refl refl refl (still behind)
 
-        of_book : (own again : Bool) → Leads None Any behind (eats_tx k (tx nl) (f nl) ds t) (eats_tx k (tx nr) (f nr) ds t)
-            → Leads None Any base (if own then (if again then eats_tx k (tx nl) (f nl) ds t else uneaten (d ∷ ds) (ends_tx (tx nl) (f nl) d.kind d.R d.Q d.C behind)) else Invalid)
-            (if own then (if again then eats_tx k (tx nr) (f nr) ds t else uneaten (d ∷ ds) (ends_tx (tx nr) (f nr) d.kind d.R d.Q d.C behind)) else Invalid)
-        of_book true true rest = (onward_from None Any base behind (eats_tx k (tx nr) (f nr) ds t) next rest.0, rest.1)
+        of_book : (own retry : Bool) → Leads None Any behind (eats_tx k (tx nl) (f nl) ds t) (eats_tx k (tx nr) (f nr) ds t)
+            → Leads None Any base (if own then (if retry then tried (tx nl) d.kind d.R base (eats_tx k (tx nl) (f nl) ds t) else uneaten (d ∷ ds) (ends_tx (tx nl) (f nl) d.kind d.R d.Q d.C behind)) else Invalid)
+            (if own then (if retry then tried (tx nr) d.kind d.R base (eats_tx k (tx nr) (f nr) ds t) else uneaten (d ∷ ds) (ends_tx (tx nr) (f nr) d.kind d.R d.Q d.C behind)) else Invalid)
+        of_book true true rest =
+            tried_leads d.kind d.R base (eats_tx k (tx nl) (f nl) ds t) (eats_tx k (tx nr) (f nr) ds t) (onward_from None Any base behind (eats_tx k (tx nr) (f nr) ds t) next rest.0, rest.1) (λ h. some_event d ds h)
         of_book true false rest =
             uneaten_leads None d ds base behind refl refl refl refl (ends_tx (tx nl) (f nl) d.kind d.R d.Q d.C behind) (ends_tx (tx nr) (f nr) d.kind d.R d.Q d.C behind) (ends_at d.kind d.R d.Q d.C behind)
-        of_book false again rest = (λ h. some_event d ds h, refl)
+        of_book false retry rest = (λ h. some_event d ds h, refl)
 
     dosync_leads : (t : ThreadState) → Leads None Any t (eats_tx (suc reruns) (tx nl) (f nl) t.todo t) (eats_tx (suc reruns) (tx nr) (f nr) t.todo t)
     dosync_leads t =
@@ -764,7 +826,7 @@ module _ (p : ThreadSource) (sound : SoundSource p) (nl nr : ℕ) (le : nl ≤ n
     abbrev quiet : ℕ → Span → Applies (Unit {0})
     quiet n span = quietly n p.functions b span
 
-    is_pure_one : (c : CellId) → OfValidator (IsPure ks) (validator c)
+    pub is_pure_one : (c : CellId) → OfValidator (IsPure ks) (validator c)
     is_pure_one c = validator_such (IsPure ks) (validators_of p.cells) c.number (validators_pure ks p.cells sound.cells)
 
     answers : (n : ℕ) (span : Span) (c : CellId) (w : Value) → IsProper (validated (quiet n span) (validator c) span w tt)
@@ -774,17 +836,17 @@ module _ (p : ThreadSource) (sound : SoundSource p) (nl nr : ℕ) (le : nl ≤ n
         each None h = tt
         each (Some f) h = proper n span f (w ∷ []) h
 
-    validates_so : (n : ℕ) (span : Span) (c : CellId) (w : Value) (t : ThreadState) → validated (apply (call n b false) span) (validator c) span w t ≡ carried t (validated (quiet n span) (validator c) span w tt)
+    pub validates_so : (n : ℕ) (span : Span) (c : CellId) (w : Value) (t : ThreadState) → validated (apply (call n b false) span) (validator c) span w t ≡ carried t (validated (quiet n span) (validator c) span w tt)
     validates_so n span c w t =
         (validated_carried (IsPure ks) t (apply (call n b false) span) (quiet n span) (λ c1 us pu. callee_carried (on_events (around p n)) n false p.functions sound.functions b span c1 us t pu) (validator c) (is_pure_one c) span w).0
 
-    looks_lead : (form : LookForm) (m : Mark) (v : Value) (t : ThreadState) → MayStand in_thread (rule (form_of.Look form)).stands → Leads None Any t ((on_events (around p nl) b).look form false m v t) ((on_events (around p nr) b).look form false m v t)
+    pub looks_lead : (form : LookForm) (m : Mark) (v : Value) (t : ThreadState) → MayStand in_thread (rule (form_of.Look form)).stands → Leads None Any t ((on_events (around p nl) b).look form false m v t) ((on_events (around p nr) b).look form false m v t)
     looks_lead Deref m v t h =
         on_leads (cell_of (rule (form_of.Look Deref)) false v) m.span (thread_look (around p nl) Deref) (thread_look (around p nr) Deref) t
         (λ c. eats_leads (home p.cells c) (λ e t1. reads c e.kind e.C t1) (λ e t1. reads c e.kind e.C t1) (λ e t1. at_itself t1 (reads c e.kind e.C t1) (reads_inside c e.kind e.C t1)) t.todo t refl)
     looks_lead Ensure m v t h = absurd h
 
-    puts_lead : (form : PutForm) (m : Mark) (v w : Value) (t : ThreadState) → MayStand in_thread (rule (form_of.Put form)).stands
+    pub puts_lead : (form : PutForm) (m : Mark) (v w : Value) (t : ThreadState) → MayStand in_thread (rule (form_of.Put form)).stands
         → Leads None Any t ((on_events (around p nl) b).put form false m v w (apply (call nl b false) m.span) t) ((on_events (around p nr) b).put form false m v w (apply (call nr b false) m.span) t)
     puts_lead RefSet m v w t h = absurd h
     puts_lead Reset m v w t h =
@@ -807,17 +869,17 @@ module _ (p : ThreadSource) (sound : SoundSource p) (nl nr : ℕ) (le : nl ≤ n
     abbrev quietly_made : ℕ → Span → CellId → Callee → List Value → Value → Completion (Unit {0}) Value
     quietly_made n span c callee vs = λ u. bind (quiet n span callee (u ∷ vs) tt) (λ w s1. validated (quiet n span) (validator c) span w s1)
 
-    made_so : (n : ℕ) (span : Span) (c : CellId) (callee : Callee) → IsPure ks callee → (vs : List Value) (u : Value) (t2 : ThreadState) → made n span c callee vs u t2 ≡ carried t2 (quietly_made n span c callee vs u)
+    pub made_so : (n : ℕ) (span : Span) (c : CellId) (callee : Callee) → IsPure ks callee → (vs : List Value) (u : Value) (t2 : ThreadState) → made n span c callee vs u t2 ≡ carried t2 (quietly_made n span c callee vs u)
     made_so n span c callee free vs u t2 =
         (made_carried (IsPure ks) t2 (apply (call n b false) span) (quiet n span) (λ c1 us pu. callee_carried (on_events (around p n)) n false p.functions sound.functions b span c1 us t2 pu) (validator c) (is_pure_one c) span callee (u ∷ vs) free).0
 
-    made_alike : (span : Span) (c : CellId) (callee : Callee) (vs : List Value) (u : Value) → Related (same_link (Unit {0})) (quietly_made nl span c callee vs u) (quietly_made nr span c callee vs u)
+    pub made_alike : (span : Span) (c : CellId) (callee : Callee) (vs : List Value) (u : Value) → Related (same_link (Unit {0})) (quietly_made nl span c callee vs u) (quietly_made nr span c callee vs u)
     made_alike span c callee vs u =
         bind_related (Unit {0}) (Unit {0}) (same_link (Unit {0})) (quiet nl span callee (u ∷ vs) tt) (quiet nr span callee (u ∷ vs) tt) (λ w s1. validated (quiet nl span) (validator c) span w s1) (λ w s1. validated (quiet nr span) (validator c) span w s1)
         (pure_more p.functions sound.functions nl nr le b span callee (u ∷ vs) tt tt refl)
         (λ w s1 t1 r1. validated_related (Unit {0}) (Unit {0}) (same_link (Unit {0})) (quiet nl span) (quiet nr span) (pure_more p.functions sound.functions nl nr le b span) (validator c) span w s1 t1 r1)
 
-    updates_lead : (form : UpdateForm) (m : Mark) (v : Value) (callee : Callee) → IsPure ks callee → (vs : List Value) (t : ThreadState) → MayStand in_thread (rule (form_of.Update form)).stands
+    pub updates_lead : (form : UpdateForm) (m : Mark) (v : Value) (callee : Callee) → IsPure ks callee → (vs : List Value) (t : ThreadState) → MayStand in_thread (rule (form_of.Update form)).stands
         → Leads None Any t ((on_events (around p nl) b).update form false m v callee vs (apply (call nl b false) m.span) t) ((on_events (around p nr) b).update form false m v callee vs (apply (call nr b false) m.span) t)
     updates_lead Alter m v callee free vs t h = absurd h
     updates_lead Commute m v callee free vs t h = absurd h
@@ -826,7 +888,7 @@ module _ (p : ThreadSource) (sound : SoundSource p) (nl nr : ℕ) (le : nl ≤ n
         (λ c. eats_leads (home p.cells c) (λ e t1. swaps c (made nl m.span c callee vs) e.kind e.R e.C t1) (λ e t1. swaps c (made nr m.span c callee vs) e.kind e.R e.C t1)
         (λ e t1. swaps_at c (made nl m.span c callee vs) (made nr m.span c callee vs) (quietly_made nl m.span c callee vs) (quietly_made nr m.span c callee vs) (made_so nl m.span c callee free vs) (made_so nr m.span c callee free vs) (made_alike m.span c callee vs) e.kind e.R e.C t1) t.todo t refl)
 
-    sent_leads : (m : Mark) (v : Value) (callee : Callee) (vs : List Value) (t : ThreadState) → Leads None Any t ((on_events (around p nl) b).send false m v callee vs t) ((on_events (around p nr) b).send false m v callee vs t)
+    pub sent_leads : (m : Mark) (v : Value) (callee : Callee) (vs : List Value) (t : ThreadState) → Leads None Any t ((on_events (around p nl) b).send false m v callee vs t) ((on_events (around p nr) b).send false m v callee vs t)
     sent_leads m v callee vs t =
         on_leads (cell_of (rule form_of.Send) false v) m.span (λ c t1. sends_or_holds t1.held (record { agent = c; callee = callee; args = vs; span = m.span }) m.span t1) (λ c t1. sends_or_holds t1.held (record { agent = c; callee = callee; args = vs; span = m.span }) m.span t1) t (λ c. send_at c t.held)
       where
@@ -836,8 +898,8 @@ module _ (p : ThreadSource) (sound : SoundSource p) (nl nr : ℕ) (le : nl ≤ n
             eats_leads 0 (λ e t2. sends a m.span e.kind t2) (λ e t2. sends a m.span e.kind t2) (λ e t2. at_itself t2 (sends a m.span e.kind t2) (sends_inside a m.span e.kind t2)) t.todo t refl
         send_at c (Some held) = ((tt, stays t _ refl refl refl), refl)
 
-    prints_lead : (tail : Option ℕ) (vs : List Value) (t : ThreadState) → Leads tail Any t ((on_events (around p nl) b).print false vs t) ((on_events (around p nr) b).print false vs t)
-    prints_lead tail vs t = ((tt, record { more = printed_line vs; gone = []; runs = []; prints = refl; eats = refl; notes = sym (append-nil t.txs) }), refl)
+    pub prints_lead : (tail : Option ℕ) (vs : List Value) (t : ThreadState) → Leads tail Any t ((on_events (around p nl) b).print false vs t) ((on_events (around p nr) b).print false vs t)
+    prints_lead tail vs t = ((tt, record { more = printed_line vs; gone = []; runs = []; prints = refl; eats = refl; notes = sym (append-nil t.txs); few = none_noted 0 }), refl)
 
     abbrev on : ℕ → Tree → List Value → ThreadState → Completion ThreadState Value
     on n e env t = eval (on_events (around p n) b) (call n b) n false e env t
@@ -851,11 +913,11 @@ module _ (p : ThreadSource) (sound : SoundSource p) (nl nr : ℕ) (le : nl ≤ n
     abbrev dos : ℕ → Trees → List Value → ThreadState → Completion ThreadState Value
     dos n es env t = eval_do (on_events (around p n) b) (call n b) n false es env t
 
-    kept_in : (e : Tree) (d : ℕ) → SoundTree js in_dosync d None e → Keeps (pure_callees ks) true e
+    pub kept_in : (e : Tree) (d : ℕ) → SoundTree js in_dosync d None e → Keeps (pure_callees ks) true e
     kept_in e d h = keeps_in js (pure_callees ks) (λ z i. Unit {0}) tt pure (λ z i form at k. tt) (λ z i g n at k. tt) e in_dosync true d None tt h
 
     mutual
-      tree_leads : (e : Tree) (d : ℕ) (tail : Option ℕ) → SoundTree js in_thread d tail e → (env : List Value) → length env ≡ d → (s : ThreadState) → Leads tail Any s (on nl e env s) (on nr e env s)
+      pub tree_leads : (e : Tree) (d : ℕ) (tail : Option ℕ) → SoundTree js in_thread d tail e → (env : List Value) → length env ≡ d → (s : ThreadState) → Leads tail Any s (on nl e env s) (on nr e env s)
       tree_leads (Const v m) d tail h env l s = value_leads tail Any v s tt
       tree_leads (Local i m) d tail h env l s = local_leads tail env i s (subst (λ k. i < k) (sym l) h)
       tree_leads (If c x y m) d tail h env l s =
@@ -906,20 +968,20 @@ module _ (p : ThreadSource) (sound : SoundSource p) (nl nr : ℕ) (le : nl ≤ n
           (λ v t a. bind_leads tail (Many (count args)) Any (all nl args env t) (all nr args env t) (λ vs u. (on_events (around p nl) b).send false m v callee vs u) (λ vs u. (on_events (around p nr) b).send false m v callee vs u) t (all_lead args d h.2 env l t)
           (λ vs u a1. loose tail ((on_events (around p nl) b).send false m v callee vs u) ((on_events (around p nr) b).send false m v callee vs u) u (sent_leads m v callee vs u)))
 
-      all_lead : (es : Trees) (d : ℕ) → SoundAll js in_thread d es → (env : List Value) → length env ≡ d → (s : ThreadState) → Leads None (Many (count es)) s (all nl es env s) (all nr es env s)
+      pub all_lead : (es : Trees) (d : ℕ) → SoundAll js in_thread d es → (env : List Value) → length env ≡ d → (s : ThreadState) → Leads None (Many (count es)) s (all nl es env s) (all nr es env s)
       all_lead none d h env l s = value_leads None (Many 0) [] s refl
       all_lead (more e rest) d h env l s =
           bind_leads None Any (Many (suc (count rest))) (on nl e env s) (on nr e env s) (λ v t. bind (all nl rest env t) (λ vs u. Completes (v ∷ vs) u)) (λ v t. bind (all nr rest env t) (λ vs u. Completes (v ∷ vs) u)) s (tree_leads e d None h.0 env l s)
           (λ v t a. bind_leads None (Many (count rest)) (Many (suc (count rest))) (all nl rest env t) (all nr rest env t) (λ vs u. Completes (v ∷ vs) u) (λ vs u. Completes (v ∷ vs) u) t (all_lead rest d h.1 env l t) (λ vs u a1. value_leads None (Many (suc (count rest))) (v ∷ vs) u (ap suc a1)))
 
-      let_leads : (es : Trees) (d : ℕ) → SoundLet js in_thread d es → (env : List Value) → length env ≡ d → (s : ThreadState) → Leads None (Many (count es)) s (lets nl es env s) (lets nr es env s)
+      pub let_leads : (es : Trees) (d : ℕ) → SoundLet js in_thread d es → (env : List Value) → length env ≡ d → (s : ThreadState) → Leads None (Many (count es)) s (lets nl es env s) (lets nr es env s)
       let_leads none d h env l s = value_leads None (Many 0) [] s refl
       let_leads (more e rest) d h env l s =
           bind_leads None Any (Many (suc (count rest))) (on nl e env s) (on nr e env s) (λ v t. bind (lets nl rest (env ++ v ∷ []) t) (λ vs u. Completes (v ∷ vs) u)) (λ v t. bind (lets nr rest (env ++ v ∷ []) t) (λ vs u. Completes (v ∷ vs) u)) s (tree_leads e d None h.0 env l s)
           (λ v t a. bind_leads None (Many (count rest)) (Many (suc (count rest))) (lets nl rest (env ++ v ∷ []) t) (lets nr rest (env ++ v ∷ []) t) (λ vs u. Completes (v ∷ vs) u) (λ vs u. Completes (v ∷ vs) u) t
           (let_leads rest (d + 1) h.1 (env ++ v ∷ []) (omega (arith, length-append env (v ∷ []), l)) t) (λ vs u a1. value_leads None (Many (suc (count rest))) (v ∷ vs) u (ap suc a1)))
 
-      do_leads : (es : Trees) (d : ℕ) (tail : Option ℕ) → SoundDo js in_thread d tail es → (env : List Value) → length env ≡ d → (s : ThreadState) → Leads tail Any s (dos nl es env s) (dos nr es env s)
+      pub do_leads : (es : Trees) (d : ℕ) (tail : Option ℕ) → SoundDo js in_thread d tail es → (env : List Value) → length env ≡ d → (s : ThreadState) → Leads tail Any s (dos nl es env s) (dos nr es env s)
       do_leads none d tail h env l s = absurd h
       do_leads (more e none) d tail h env l s = tree_leads e d tail h env l s
       do_leads (more e (more x rest)) d tail h env l s =
@@ -931,7 +993,7 @@ module _ (p : ThreadSource) (sound : SoundSource p) (nl nr : ℕ) (le : nl ≤ n
   some_known k l e = cc
 
   -- calls of the first functions
-  abbrev CallsBefore : ℕ → ℕ → Type 0
+  abbrev pub CallsBefore : ℕ → ℕ → Type 0
   CallsBefore b g = (i : ℕ) (k : Known) → i < g → nth ks i ≡ Some k → MayCall in_thread k → (vs : List Value) → k.parameters ≡ length vs → (s : ThreadState) → Leads None Any s (call nl b false i vs s) (call nr b false i vs s)
 
   abbrev pures_in_all : ℕ
@@ -948,7 +1010,7 @@ module _ (p : ThreadSource) (sound : SoundSource p) (nl nr : ℕ) (le : nl ≤ n
       (subst (λ z. Leads None Any s (carried s (q nl)) z) (sym (so nr)) (pure_leads (q nl) (q nr) (proper nl) (proper nr) (pure_more p.functions sound.functions nl nr le b nowhere (Function i) vs tt tt refl) s))
 
   -- another function before one counts there
-  one_less : (g i : ℕ) (k : Known) → i < g → nth ks i ≡ Some k → k.pure ≡ false → others ks i < others ks g
+  pub one_less : (g i : ℕ) (k : Known) → i < g → nth ks i ≡ Some k → k.pure ≡ false → others ks i < others ks g
   one_less g i k l e pure = other_before ks i g l (known_there ks i k e) (ap is_pure e ∙ pure)
 
   -- a call one deeper
@@ -969,7 +1031,7 @@ module _ (p : ThreadSource) (sound : SoundSource p) (nl nr : ℕ) (le : nl ≤ n
       vs s (sym a ∙ ap (λ (x : Known). x.parameters) (sym known_so)))
 
   -- of the functions before one, those that aren't pure call one another, and then pure ones
-  calls_counted : (b g : ℕ) → pures_in_all + others ks g ≤ b → b ≤ length p.functions → CallsBefore b g
+  pub calls_counted : (b g : ℕ) → pures_in_all + others ks g ≤ b → b ≤ length p.functions → CallsBefore b g
   calls_counted zero g enough most i k l e z vs a s = by k.pure refl
     where
       by : (x : Bool) → k.pure ≡ x → Leads None Any s (call nl zero false i vs s) (call nr zero false i vs s)
@@ -989,7 +1051,7 @@ module _ (p : ThreadSource) (sound : SoundSource p) (nl nr : ℕ) (le : nl ≤ n
 
   -- before any event
   abbrev pub start : List SeenEvent → ThreadState
-  start es = record { todo = es; printed = []; held = None; txs = [] }
+  start es = record { todo = es; printed = []; held = None; txs = []; asks = None }
 
   pub thread_leads : (es : List SeenEvent) → Leads None Any (start es) (thread_meaning p nl es) (thread_meaning p nr es)
   thread_leads es =
@@ -1004,10 +1066,10 @@ module _ (p : ThreadSource) (sound : SoundSource p) (nl nr : ℕ) (le : nl ≤ n
   abbrev depth : ℕ
   depth = length p.functions
 
-  calls_so : (i : ℕ) (k : Known) → nth ks i ≡ Some k → MayCall in_thread k → (vs : List Value) → k.parameters ≡ length vs → (s : ThreadState) → Leads None Any s (call nl depth false i vs s) (call nr depth false i vs s)
+  pub calls_so : (i : ℕ) (k : Known) → nth ks i ≡ Some k → MayCall in_thread k → (vs : List Value) → k.parameters ≡ length vs → (s : ThreadState) → Leads None Any s (call nl depth false i vs s) (call nr depth false i vs s)
   calls_so i k q z vs a s = let found = there p.functions i k q in calls_all i k (nth_below p.functions i found.0 found.1) q z vs a s
 
-  proper_so : (n : ℕ) (span : Span) (c : Callee) (vs : List Value) → SoundCallee ks c (length vs) → IsProper (quietly n p.functions depth span c vs tt)
+  pub proper_so : (n : ℕ) (span : Span) (c : Callee) (vs : List Value) → SoundCallee ks c (length vs) → IsProper (quietly n p.functions depth span c vs tt)
   proper_so n span c vs h = shallow_proper p.functions sound.functions n depth pures_fit (omega arith) span c vs h
 
   -- a callee that may be sent
@@ -1023,7 +1085,7 @@ module _ (p : ThreadSource) (sound : SoundSource p) (nl nr : ℕ) (le : nl ≤ n
   accepts_proper n span g w = answers depth ks (sound_pure ks) calls_so proper_so n span g w
 
   -- a state, where the agent's validator accepts it
-  accepts_lead : (span : Span) (g : CellId) (w : Value) (t : ThreadState) → Leads None Any t (accepts (around p nl) (applies_in (around p nl) span) g span w t) (accepts (around p nr) (applies_in (around p nr) span) g span w t)
+  pub accepts_lead : (span : Span) (g : CellId) (w : Value) (t : ThreadState) → Leads None Any t (accepts (around p nl) (applies_in (around p nl) span) g span w t) (accepts (around p nr) (applies_in (around p nr) span) g span w t)
   accepts_lead span g w t =
       let o = validator_at (validators_of p.cells) g.number in
       let q : ℕ → Applies (Unit {0}) = λ n. quietly n p.functions depth span in

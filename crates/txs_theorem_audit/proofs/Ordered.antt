@@ -32,10 +32,10 @@ use Rattle.txs_theorem_threads.specs.FollowsAgent.{SoundAction}
 use Rattle.txs_theorem_threads.specs.RepliesFit.{HasEatenAll}
 use Rattle.txs_theorem_runs.specs.Agents.{ActionDid, EventMeans, OfEvent, ActsInTurn, meaning_after}
 use Rattle.txs_theorem_serial.proofs.Turned.{runs_did, handed_eaten, acts_turned}
-use Rattle.txs_theorem_audit.specs.Audited.{PlainActorReport, PlainReport, books_of, Agrees, Finding, Fine, and_then, check}
+use Rattle.txs_theorem_audit.specs.Audited.{PlainActorReport, PlainReport, PlainTerms, books_of, Agrees, Finding, Fine, and_then, check}
 use Rattle.txs_theorem_audit.specs.Explained.{meaning_of, ThreadExplained, AgentExplained}
 use Rattle.txs_theorem_audit.specs.Laws.{OwnRuns, AllCovered, SerialIsOneByOne}
-use Rattle.txs_theorem_audit.specs.Verdict.{atoms_from, fits_sizes, traces_found, store_found, atoms_found, threads_found, agents_found, is_end, is_commit, covered_if, covered_all, are_serial, found, verdict, action_after, agents_serial, action_covered, kind_covered, event_covered, acts_covered}
+use Rattle.txs_theorem_audit.specs.Verdict.{atoms_from, fits_sizes, traces_found, store_found, atoms_found, ends_found, order_found, threads_found, agents_found, is_end, is_commit, covered_if, covered_all, are_serial, found, verdict, action_after, agents_serial, action_covered, kind_covered, event_covered, acts_covered}
 use Rattle.txs_theorem_audit.proofs.Agreeing.{traces_hold, store_legal, thread_parts, each_fine, sized_of, trace_named, EachTurns, acts_mean, agents_fine}
 use Rattle.txs_theorem_audit.proofs.Findings.{answer_fine, and_fine, check_fine, not_there}
 use Rattle.txs_theorem_audit.proofs.Listing.{there_is, within, in_front, behind}
@@ -63,7 +63,7 @@ module _ (functions : List PlainFunction) (held : Option (List Action)) (n : ℕ
   covered_step p ps e (Commit at view ws sends) k R Q C next (x ∷ xs) r u =
       let y = covered_one e (λ ys. covered_all books ps ys) x xs (ap is_end k) u in
       (sym (ap (λ b. not b || is_covered x.state) (ap is_commit k)) ∙ y.0, next xs r.1 y.1)
-  covered_step p ps e (Retry since c commute) k R Q C next xs r u = next xs r (covered_none e (λ ys. covered_all books ps ys) xs (ap is_end k) u)
+  covered_step p ps e (Retry since c cause) k R Q C next xs r u = next xs r (covered_none e (λ ys. covered_all books ps ys) xs (ap is_end k) u)
   covered_step p ps e (Fail at view) k R Q C next xs r u = next xs r (covered_none e (λ ys. covered_all books ps ys) xs (ap is_end k) u)
   covered_step p ps e (Refused at view g) k R Q C next [] r u = absurd r
   covered_step p ps e (Refused at view g) k R Q C next (x ∷ xs) r u = (tt, next xs r.1 (covered_one e (λ ys. covered_all books ps ys) x xs (ap is_end k) u).1)
@@ -154,7 +154,7 @@ module _ (p : PlainProgram) (r : PlainReport) (n : ℕ) (sound : Sound p) (marks
         said_both all_covered (books_of r) since (without qs) d.txs (all_txs ds) (one_covered done d x.action since m.1 x.sound eats x.noted m.0 few.0 (subst (λ o. action_covered p r n done g since o ≡ true) x.next z.0)) (next [] m.2 ds m.5 few.1 z.1)
     kind_covers (Read c) since out ds m few h = joined since out ds m few h
     kind_covers (Commit at view ws sends) since out ds m few h = joined since out ds m few h
-    kind_covers (Retry from c commute) since out ds m few h = joined since out ds m few h
+    kind_covers (Retry from c cause) since out ds m few h = joined since out ds m few h
     kind_covers (Fail at view) since out ds m few h = joined since out ds m few h
     kind_covers (Refused at view f) since out ds m few h = joined since out ds m few h
     kind_covers (Send x) since out ds m few h = joined since out ds m few h
@@ -183,7 +183,7 @@ runs_at p r n None o = []
 runs_at p r n (Some t) None = []
 runs_at p r n (Some t) (Some ran) = txs_of (meaning_of p r t ran n)
 
-module _ (p : PlainProgram) (r : PlainReport) (n : ℕ) (sound : Sound p) (marks : MarkedProgram p) (agrees : verdict p r n ≡ Agrees true) where
+module _ (p : PlainProgram) (w : PlainTerms) (r : PlainReport) (n : ℕ) (sound : Sound p) (marks : MarkedProgram p) (agrees : verdict p w r n ≡ Agrees true) where
   abbrev traces : Finding
   traces = traces_found (books_of r) (suc (length r.atom_books)) 0 (r.threads ++ r.agents)
 
@@ -196,23 +196,29 @@ module _ (p : PlainProgram) (r : PlainReport) (n : ℕ) (sound : Sound p) (marks
   abbrev atoms : Finding
   atoms = atoms_found p r (atoms_from 0 p.cells)
 
-  all_fine : (found p r n ≡ Fine) × ((are_serial p r n p.threads r.threads && agents_serial p r n (agents_from 0 p.cells) r.agents) ≡ true)
-  all_fine = answer_fine (found p r n) (are_serial p r n p.threads r.threads && agents_serial p r n (agents_from 0 p.cells) r.agents) true agrees
+  -- the tests behind the books
+  abbrev last : Finding
+  last = and_then (ends_found p w r) (and_then (order_found p r) (and_then threads agents))
+
+  all_fine : (found p w r n ≡ Fine) × ((are_serial p r n p.threads r.threads && agents_serial p r n (agents_from 0 p.cells) r.agents) ≡ true)
+  all_fine = answer_fine (found p w r n) (are_serial p r n p.threads r.threads && agents_serial p r n (agents_from 0 p.cells) r.agents) true agrees
 
   all_serial : (are_serial p r n p.threads r.threads ≡ true) × (agents_serial p r n (agents_from 0 p.cells) r.agents ≡ true)
   all_serial = both (are_serial p r n p.threads r.threads) (agents_serial p r n (agents_from 0 p.cells) r.agents) all_fine.1
 
-  both_sized : (check (fits_sizes p r) 0 0 ≡ Fine) × (and_then traces (and_then (store_found p r) (and_then atoms (and_then threads agents))) ≡ Fine)
-  both_sized = and_fine (check (fits_sizes p r) 0 0) (and_then traces (and_then (store_found p r) (and_then atoms (and_then threads agents)))) all_fine.0
+  both_sized : (check (fits_sizes p r) 0 0 ≡ Fine) × (and_then traces (and_then (store_found p r) (and_then atoms last)) ≡ Fine)
+  both_sized = and_fine (check (fits_sizes p r) 0 0) (and_then traces (and_then (store_found p r) (and_then atoms last))) all_fine.0
 
-  both_traced : (traces ≡ Fine) × (and_then (store_found p r) (and_then atoms (and_then threads agents)) ≡ Fine)
-  both_traced = and_fine traces (and_then (store_found p r) (and_then atoms (and_then threads agents))) both_sized.1
+  both_traced : (traces ≡ Fine) × (and_then (store_found p r) (and_then atoms last) ≡ Fine)
+  both_traced = and_fine traces (and_then (store_found p r) (and_then atoms last)) both_sized.1
 
-  both_stored : (store_found p r ≡ Fine) × (and_then atoms (and_then threads agents) ≡ Fine)
-  both_stored = and_fine (store_found p r) (and_then atoms (and_then threads agents)) both_traced.1
+  both_stored : (store_found p r ≡ Fine) × (and_then atoms last ≡ Fine)
+  both_stored = and_fine (store_found p r) (and_then atoms last) both_traced.1
 
   both_last : (threads ≡ Fine) × (agents ≡ Fine)
-  both_last = and_fine threads agents (and_fine atoms (and_then threads agents) both_stored.1).1
+  both_last =
+      and_fine threads agents
+      (and_fine (order_found p r) (and_then threads agents) (and_fine (ends_found p w r) (and_then (order_found p r) (and_then threads agents)) (and_fine atoms last both_stored.1).1).1).1
 
   abbrev gs : List CellId
   gs = agents_from 0 p.cells
@@ -377,4 +383,4 @@ module _ (p : PlainProgram) (r : PlainReport) (n : ℕ) (sound : Sound p) (marks
   in_order = runs_are_serial p.functions p.cells (length p.threads) (books_of r) (λ a. n) trace runs sound.functions marks.functions (store_legal p r both_stored.0) did acted others
 
 pub serial_is_one_by_one : SerialIsOneByOne
-serial_is_one_by_one p r n sound marks agrees = (runs p r n sound marks agrees, own p r n sound marks agrees, covered p r n sound marks agrees, in_order p r n sound marks agrees)
+serial_is_one_by_one p w r n sound marks agrees = (runs p w r n sound marks agrees, own p w r n sound marks agrees, covered p w r n sound marks agrees, in_order p w r n sound marks agrees)

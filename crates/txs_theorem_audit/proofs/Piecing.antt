@@ -20,7 +20,7 @@ use Rattle.txs_theorem_serial.specs.Whole.{is_act, is_act_kind}
 use Rattle.txs_theorem_audit.specs.Audited.{PlainActorReport, PlainReport, books_of, Finding, Fine, Off, Short, and_then, check, answer}
 use Rattle.txs_theorem_audit.specs.Explained.{meaning_of}
 use Rattle.txs_theorem_audit.specs.Pieces.{Piece, OfAct, OfEnd, thread_finding, thread_serial, kind_finding, act_finding, part_of, act_finding_at, act_finding_in, kind_prints, prints_at, acts_print, end_finding, piece_finding, kind_serial, event_serial, serial_at, end_serial, act_serial, piece_serial, pieces_finding, pieces_serial, thread_pieces, act_pieces, agent_pieces, pieces_of, HalvesAreWhole, PiecesAreAll}
-use Rattle.txs_theorem_audit.specs.Verdict.{atoms_from, traces_found, store_found, atoms_found, thread_found, threads_found, action_found, action_prints, agent_end, kind_found, event_found, acts_found, agents_found, covered_all, are_serial, action_covered, kind_covered, event_covered, acts_covered, agents_serial}
+use Rattle.txs_theorem_audit.specs.Verdict.{atoms_from, traces_found, store_found, atoms_found, ends_found, order_found, thread_found, threads_found, action_found, action_prints, agent_end, kind_found, event_found, acts_found, agents_found, covered_all, are_serial, action_covered, kind_covered, event_covered, acts_covered, agents_serial}
 use Rattle.txs_theorem_audit.proofs.Agreeing.{sized_of}
 use Rattle.txs_theorem_audit.proofs.Owning.{own_act}
 
@@ -216,7 +216,7 @@ module _ (p : PlainProgram) (r : PlainReport) (n : ℕ) where
           )
       by_kind e there (Read c) is h1 = joined h1
       by_kind e there (Commit at1 view ws sends) is h1 = joined h1
-      by_kind e there (Retry from c commute) is h1 = joined h1
+      by_kind e there (Retry from c cause) is h1 = joined h1
       by_kind e there (Fail at1 view) is h1 = joined h1
       by_kind e there (Refused at1 view h) is h1 = joined h1
       by_kind e there (Send x) is h1 = joined h1
@@ -268,7 +268,7 @@ from_first : {A : Type 0} (xs : List A) (i : ℕ) → nth xs (0 + i) ≡ nth xs 
 from_first xs i = let w : 0 + i ≡ i = omega arith in ap (nth xs) w
 
 pub pieces_are_all : PiecesAreAll
-pieces_are_all p r n sizes traces store atoms =
+pieces_are_all p w r n sizes traces store atoms ends order =
     let sized = sized_of p r sizes in
     let gs = agents_from 0 p.cells in
     let threads = threads_whole p r n 0 p.threads r.threads sized.threads (from_first p.threads) (from_first r.threads) in
@@ -277,15 +277,20 @@ pieces_are_all p r n sizes traces store atoms =
     let found_agents = agents.0 ∙ ap (λ a. agents_found p r n a gs r.agents) z in
     let ours = thread_pieces 0 r.threads in
     let theirs = agent_pieces (books_of r) 0 r.agents in
-    let last : Finding = and_then (threads_found p r n 0 p.threads r.threads) (agents_found p r n (length p.threads) gs r.agents) in
-    let whole : pieces_finding p r n (pieces_of r) ≡ last = found_both p r n ours theirs ∙ ap (λ f. and_then f (pieces_finding p r n theirs)) threads.0 ∙ ap (and_then (threads_found p r n 0 p.threads r.threads)) found_agents in
+    let tail : Finding = and_then (threads_found p r n 0 p.threads r.threads) (agents_found p r n (length p.threads) gs r.agents) in
+    let whole : pieces_finding p r n (pieces_of r) ≡ tail = found_both p r n ours theirs ∙ ap (λ f. and_then f (pieces_finding p r n theirs)) threads.0 ∙ ap (and_then (threads_found p r n 0 p.threads r.threads)) found_agents in
     let s = are_serial p r n p.threads r.threads && agents_serial p r n gs r.agents in
     let serial : pieces_serial p r n (pieces_of r) ≡ s = serial_both p r n ours theirs ∙ ap (λ b. b && pieces_serial p r n theirs) threads.1 ∙ ap (λ b. are_serial p r n p.threads r.threads && b) agents.1 in
     let tr : Finding = traces_found (books_of r) (suc (length r.atom_books)) 0 (r.threads ++ r.agents) in
     let st : Finding = store_found p r in
     let at : Finding = atoms_found p r (atoms_from 0 p.cells) in
+    let fin : Finding = ends_found p w r in
+    let ord : Finding = order_found p r in
+    let last : Finding = and_then fin (and_then ord tail) in
     ap (λ b. answer (and_then (check b 0 0) (and_then tr (and_then st (and_then at last)))) s) sizes
     ∙ ap (λ f. answer (and_then f (and_then st (and_then at last))) s) traces
     ∙ ap (λ f. answer (and_then f (and_then at last)) s) store
     ∙ ap (λ f. answer (and_then f last) s) atoms
-    ∙ sym (ap (λ f. answer f (pieces_serial p r n (pieces_of r))) whole ∙ ap (answer last) serial)
+    ∙ ap (λ f. answer (and_then f (and_then ord tail)) s) ends
+    ∙ ap (λ f. answer (and_then f tail) s) order
+    ∙ sym (ap (λ f. answer f (pieces_serial p r n (pieces_of r))) whole ∙ ap (answer tail) serial)

@@ -43,7 +43,7 @@ module _ (functions : List PlainFunction) (validators : Validators) (n : ℕ) (e
   runs_up Invalid h k = absurd h
 
 pub explained_is_serial : ExplainedIsSerial
-explained_is_serial p r sound marks x a t ran there here =
+explained_is_serial p w r sound marks x a t ran there here =
     let e = x.threads a t ran there here in
     let s = source_of p t in
     let m = meaning_of p r t ran e.turns in
@@ -66,7 +66,7 @@ did_at functions cells books (x ∷ xs) zero d h there =
 did_at functions cells books (x ∷ xs) (suc j) d h there = did_at functions cells books xs j d h.2 there
 
 pub explained_actions_are_serial : ExplainedActionsAreSerial
-explained_actions_are_serial p r sound marks x i g ran there here j d at =
+explained_actions_are_serial p w r sound marks x i g ran there here j d at =
     let e = x.agents i g ran there here in
     let turned = acts_turned p.cells p.functions (books_of r) g sound.functions sound.cells marks.functions ran.trace [] ran.printed e.did e.acts in
     let one = did_at p.functions p.cells (books_of r) e.did j d turned.1 at in

@@ -1,5 +1,5 @@
 -- A report as plain data, and what an audit may answer.
-use Rattle.std.specs.Prelude.{ℕ, zero, suc, Bool, true, false, List, [], ◌∷◌, map, Option, Some, None}
+use Rattle.std.specs.Prelude.{ℕ, zero, suc, Bool, true, false, List, [], ◌∷◌, map, Option, Some}
 use Rattle.txs_value_base.specs.Places.{nth}
 use Rattle.txs_value_base.specs.declared.fault.Fault.{Fault}
 use Rattle.txs_value_data.specs.declared.value.Value.{Value}
@@ -9,10 +9,17 @@ use Rattle.txs_world_protocol.specs.declared.event.Place as event
 use Rattle.txs_world_protocol.specs.declared.report.ActorReport.{ActorReport}
 use Rattle.txs_world_protocol.specs.declared.report.Report.{Report}
 use Rattle.txs_theorem_runs.specs.Told.{Place}
+use Rattle.txs_theorem_order.specs.Order.{books_in}
 
--- what a report says of one actor: how it ended if it has, what it printed, and where its events are, in order
+-- What a run was to do: whether it was to go on up to its end, and how many steps an actor may make.
+pub record PlainTerms : Type 0 where
+  pub finishes : Bool
+  pub limit : ℕ
+
+-- what a report says of one actor: how it ended if it has, how many steps it made, what it printed, and where its events are, in order
 pub record PlainActorReport : Type 0 where
   pub outcome : Option Outcome
+  pub steps : ℕ
   pub printed : List ℕ
   pub trace : List Place
 
@@ -32,9 +39,9 @@ pub record PlainReport : Type 0 where
 abbrev pub place_of : event.Place → Place
 place_of p = record { book = p.book; at = p.at }
 
--- an entry as plain data; how many steps the actor made isn't audited
+-- an entry as plain data
 abbrev pub ran_as : ActorReport → PlainActorReport
-ran_as x = record { outcome = x.outcome; printed = x.printed.items; trace = map place_of x.trace.items }
+ran_as x = record { outcome = x.outcome; steps = x.steps; printed = x.printed.items; trace = map place_of x.trace.items }
 
 -- a report as plain data
 abbrev pub report_as : Report → PlainReport
@@ -49,15 +56,9 @@ report_as r = record {
 
 -- ---- the books and the entries by number
 
--- the events that there are, none where there is no list
-abbrev pub book_or_none : Option (List Event) → List Event
-book_or_none None = []
-book_or_none (Some es) = es
-
 -- the books by number: 0 is the store's, n the n-th atom's
 abbrev pub books_of : PlainReport → ℕ → List Event
-books_of r zero = r.book
-books_of r (suc n) = book_or_none (nth r.atom_books n)
+books_of r = books_in r.book r.atom_books
 
 -- a member of a list, or else of the list behind it
 abbrev pub nth_behind : {A : Type 0} → List A → List A → ℕ → Option A

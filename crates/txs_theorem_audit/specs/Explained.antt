@@ -4,6 +4,7 @@ use Rattle.txs_value_base.specs.Places.{nth}
 use Rattle.txs_value_cell.specs.Agents.{agents_from}
 use Rattle.txs_value_cell.specs.Forms.{same_kind}
 use Rattle.txs_value_cell.specs.declared.cell.CellDefinition.{CellDefinition}
+use Rattle.txs_value_data.specs.Limits.{most_events}
 use Rattle.txs_value_data.specs.declared.value.CellId.{CellId}
 use Rattle.txs_value_data.specs.declared.value.CellKind.TheVariants.{Atom}
 use Rattle.txs_value_data.specs.declared.value.Value.{Value}
@@ -13,6 +14,7 @@ use Rattle.txs_world_protocol.specs.declared.event.Outcome.TheVariants.{Done, Fa
 use Rattle.txs_world_book.specs.Atom.{LegalAtom, atom_after}
 use Rattle.txs_world_book.specs.Book.{Legal, actors, newest, opening, mail_after}
 use Rattle.txs_world_book.specs.Served.{cells_of}
+use Rattle.txs_world.specs.Store.{next_action}
 use Rattle.txs_tree_meaning.specs.Meaning.{Completion, Completes, Faults}
 use Rattle.txs_tree_meaning.specs.Thread.{ThreadState, thread_meaning}
 use Rattle.txs_tree_meaning.specs.Tree.{PlainProgram, PlainThread}
@@ -24,8 +26,9 @@ use Rattle.txs_theorem_runs.specs.Explains.{AreActors}
 use Rattle.txs_theorem_runs.specs.Shared.{has_atom}
 use Rattle.txs_theorem_runs.specs.Told.{TraceHolds, seen_of}
 use Rattle.txs_theorem_runs.specs.Transactions.{SaidOf, undisturbed}
-use Rattle.txs_theorem_audit.specs.Audited.{PlainActorReport, PlainReport, books_of}
-use Rattle.txs_theorem_audit.specs.Verdict.{atoms_from, least_printed}
+use Rattle.txs_theorem_order.specs.Order.{IsOrdered}
+use Rattle.txs_theorem_audit.specs.Audited.{PlainActorReport, PlainReport, PlainTerms, books_of}
+use Rattle.txs_theorem_audit.specs.Verdict.{atoms_from, least_printed, report_links}
 
 -- there is one entry for each thread, agent, atom, cell and agent
 pub record Sized (p : PlainProgram) (r : PlainReport) : Type 0 where
@@ -92,16 +95,36 @@ pub record AgentExplained (p : PlainProgram) (r : PlainReport) (g : CellId) (ran
   pub did : List ActionDid
   pub acts : ActsInTurn p.cells p.functions (books_of r) g ran.trace [] ran.printed did
 
+-- ---- ends
+
+-- a stop is true: for steps the actor has made as many as it may, and for a full book one of the books is full
+abbrev pub TrueStop : ℕ → PlainReport → Option Outcome → ℕ → Type 0
+TrueStop limit r None steps = Unit {0}
+TrueStop limit r (Some Done) steps = Unit {0}
+TrueStop limit r (Some (Failed f)) steps = Unit {0}
+TrueStop limit r (Some StepsSpent) steps = steps ≡ limit
+TrueStop limit r (Some JournalFull) steps = (b : ℕ) × (length (books_of r b) ≡ most_events)
+TrueStop limit r (Some Memory) steps = Unit {0}
+
+-- Where the run was to go on up to its end each thread has ended, and each agent's actor has, too, or it has nothing to do. Stops are true.
+pub record EndsTruly (p : PlainProgram) (w : PlainTerms) (r : PlainReport) : Type 0 where
+  pub threads : w.finishes ≡ true → (a : ℕ) (ran : PlainActorReport) → nth r.threads a ≡ Some ran → ran.outcome ≡ None → ⊥
+  pub agents : w.finishes ≡ true → (i : ℕ) (g : CellId) (ran : PlainActorReport) → nth (agents_from 0 p.cells) i ≡ Some g → nth r.agents i ≡ Some ran → ran.outcome ≡ None
+      → next_action (cells_of p.cells) r.book g ≡ None
+  pub stops : (a : ℕ) (ran : PlainActorReport) → nth (r.threads ++ r.agents) a ≡ Some ran → TrueStop w.limit r ran.outcome ran.steps
+
 -- ---- all
 
--- A program explains a report: there is one entry for each; each trace names its actor's events, and no others; the books are legal; cells
--- and failed agents are those after them; and threads and agents did what they mean.
-pub record IsExplained (p : PlainProgram) (r : PlainReport) : Type 0 where
+-- A program explains the report of a run that was to do this: there is one entry for each; each trace names its actor's events, and no others; the books are legal; cells
+-- and failed agents are those after them; all ended, or were stopped, truly; the events of all books have an order; and threads and agents did what they mean.
+pub record IsExplained (p : PlainProgram) (w : PlainTerms) (r : PlainReport) : Type 0 where
   pub sized : Sized p r
   pub traced : (a : ℕ) (ran : PlainActorReport) → nth (r.threads ++ r.agents) a ≡ Some ran → TraceHolds (books_of r) a ran.trace
   pub legal : Legal (cells_of p.cells) (length p.threads) r.book
   pub values : (k : ℕ) (d : CellDefinition) → nth p.cells k ≡ Some d → same_kind d.kind Atom ≡ false → nth r.cells k ≡ Some (newest (opening (cells_of p.cells)) r.book k)
   pub failures : (i : ℕ) (g : CellId) → nth (agents_from 0 p.cells) i ≡ Some g → nth r.failed i ≡ Some (mail_after (cells_of p.cells) r.book g.number).fault
   pub atoms : (c : CellId) → has_atom p.cells c ≡ true → AtomExplained p r c
+  pub ends : EndsTruly p w r
+  pub ordered : IsOrdered (books_of r) (report_links p r)
   pub threads : (a : ℕ) (t : PlainThread) (ran : PlainActorReport) → nth p.threads a ≡ Some t → nth r.threads a ≡ Some ran → ThreadExplained p r t ran
   pub agents : (i : ℕ) (g : CellId) (ran : PlainActorReport) → nth (agents_from 0 p.cells) i ≡ Some g → nth r.agents i ≡ Some ran → AgentExplained p r g ran

@@ -19,26 +19,26 @@ use Rattle.txs_theorem_runs.specs.Agents.{ActionDid}
 use Rattle.txs_theorem_runs.specs.Transactions.{SaidOf}
 use Rattle.txs_theorem_serial.specs.Whole.{all_covered, all_txs, serial_if_covered, OneByOne}
 use Rattle.txs_value_base.specs.Places.{nth}
-use Rattle.txs_theorem_audit.specs.Audited.{PlainActorReport, PlainReport, books_of, Agrees, Differs}
+use Rattle.txs_theorem_audit.specs.Audited.{PlainActorReport, PlainReport, PlainTerms, books_of, Agrees, Differs}
 use Rattle.txs_theorem_audit.specs.Explained.{meaning_of, ThreadExplained, AgentExplained, IsExplained}
 use Rattle.txs_theorem_audit.specs.Verdict.{verdict}
 
 -- A sound program explains a report on which an audit agrees. That its marks tell which results are wanted is so of every program.
 abbrev pub AgreesIsExplained : Type 0
-AgreesIsExplained = (p : PlainProgram) (r : PlainReport) (n : ℕ) (serial : Bool) → Sound p → MarkedProgram p → verdict p r n ≡ Agrees serial → IsExplained p r
+AgreesIsExplained = (p : PlainProgram) (w : PlainTerms) (r : PlainReport) (n : ℕ) (serial : Bool) → Sound p → MarkedProgram p → verdict p w r n ≡ Agrees serial → IsExplained p w r
 
 -- Each covered commit of a report that a sound program explains is in the store's book, and is serial: run alone at its index of the store's book, with its commutes
 -- there, its transaction gives the same writes, the same sends and, where it is wanted, the same result.
 abbrev pub ExplainedIsSerial : Type 0
 ExplainedIsSerial =
-    (p : PlainProgram) (r : PlainReport) → Sound p → MarkedProgram p → (x : IsExplained p r)
+    (p : PlainProgram) (w : PlainTerms) (r : PlainReport) → Sound p → MarkedProgram p → (x : IsExplained p w r)
     → (a : ℕ) (t : PlainThread) (ran : PlainActorReport) (there : nth p.threads a ≡ Some t) (here : nth r.threads a ≡ Some ran)
     → SaidOf (serial_if_covered p.functions (x.threads a t ran there here).turns p.cells (books_of r)) (books_of r) ran.trace (txs_of (meaning_of p r t ran (x.threads a t ran there here).turns))
 
 -- So is each of an action; its sends are those that joined what the action holds.
 abbrev pub ExplainedActionsAreSerial : Type 0
 ExplainedActionsAreSerial =
-    (p : PlainProgram) (r : PlainReport) → Sound p → MarkedProgram p → (x : IsExplained p r)
+    (p : PlainProgram) (w : PlainTerms) (r : PlainReport) → Sound p → MarkedProgram p → (x : IsExplained p w r)
     → (i : ℕ) (g : CellId) (ran : PlainActorReport) (there : nth (agents_from 0 p.cells) i ≡ Some g) (here : nth r.agents i ≡ Some ran) (j : ℕ) (d : ActionDid)
     → nth (x.agents i g ran there here).did j ≡ Some d → SaidOf (serial_if_covered p.functions d.turns p.cells (books_of r)) (books_of r) d.trace d.txs
 
@@ -58,12 +58,12 @@ AllCovered r runs = (a : ℕ) (ran : PlainActorReport) → nth (r.threads ++ r.a
 -- store's book, give the writes, the sends and the wanted results of its commits: each is that of one commit or one refusal, and none is left.
 abbrev pub SerialIsOneByOne : Type 0
 SerialIsOneByOne =
-    (p : PlainProgram) (r : PlainReport) (n : ℕ) → Sound p → MarkedProgram p → verdict p r n ≡ Agrees true
+    (p : PlainProgram) (w : PlainTerms) (r : PlainReport) (n : ℕ) → Sound p → MarkedProgram p → verdict p w r n ≡ Agrees true
     → (runs : ℕ → List TxRun) × OwnRuns p r runs × AllCovered r runs × OneByOne p.functions (validators_of p.cells) (length p.threads) runs (opening (cells_of p.cells)) r.book
 
 -- A sound program explains no report on which an audit differs, whatever the bound on its loops.
 abbrev pub DiffersIsNotExplained : Type 0
-DiffersIsNotExplained = (p : PlainProgram) (r : PlainReport) (n actor event : ℕ) → Sound p → verdict p r n ≡ Differs actor event → IsExplained p r → ⊥
+DiffersIsNotExplained = (p : PlainProgram) (w : PlainTerms) (r : PlainReport) (n actor event : ℕ) → Sound p → verdict p w r n ≡ Differs actor event → IsExplained p w r → ⊥
 
 -- What a sound thread doesn't allow on a beginning of its events, it doesn't allow on all of them: so the first event that it doesn't
 -- allow is the first beginning that has no meaning.

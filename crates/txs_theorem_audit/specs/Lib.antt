@@ -4,4 +4,5 @@ pub mod Explained
 pub mod Laws
 pub mod NotSerial
 pub mod Pieces
+pub mod Stays
 pub mod Verdict

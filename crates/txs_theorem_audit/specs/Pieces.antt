@@ -12,9 +12,9 @@ use Rattle.txs_world_book.specs.Served.{cells_of}
 use Rattle.txs_world.specs.Store.{next_action}
 use Rattle.txs_theorem_serial.specs.Whole.{is_act}
 use Rattle.txs_theorem_runs.specs.Told.{Place}
-use Rattle.txs_theorem_audit.specs.Audited.{PlainActorReport, PlainReport, books_of, Finding, Fine, and_then, answer}
+use Rattle.txs_theorem_audit.specs.Audited.{PlainActorReport, PlainReport, PlainTerms, books_of, Finding, Fine, and_then, answer}
 use Rattle.txs_theorem_audit.specs.Explained.{meaning_of}
-use Rattle.txs_theorem_audit.specs.Verdict.{atoms_from, fits_sizes, traces_found, store_found, atoms_found, thread_found, action_found, action_prints, agent_end, action_covered, covered_all, verdict}
+use Rattle.txs_theorem_audit.specs.Verdict.{atoms_from, fits_sizes, traces_found, store_found, atoms_found, ends_found, order_found, thread_found, action_found, action_prints, agent_end, action_covered, covered_all, verdict}
 
 -- the thread with this number; of the agent with this number among the agents an action that is over, with the events of its trace from one index up to its
 -- act at another; and what comes after its last act
@@ -155,6 +155,6 @@ HalvesAreWhole =
 -- Where the tests before find nothing, the verdict is what is found of all pieces.
 abbrev pub PiecesAreAll : Type 0
 PiecesAreAll =
-    (p : PlainProgram) (r : PlainReport) (n : ℕ)
+    (p : PlainProgram) (w : PlainTerms) (r : PlainReport) (n : ℕ)
     → fits_sizes p r ≡ true → traces_found (books_of r) (suc (length r.atom_books)) 0 (r.threads ++ r.agents) ≡ Fine → store_found p r ≡ Fine → atoms_found p r (atoms_from 0 p.cells) ≡ Fine
-    → verdict p r n ≡ answer (pieces_finding p r n (pieces_of r)) (pieces_serial p r n (pieces_of r))
+    → ends_found p w r ≡ Fine → order_found p r ≡ Fine → verdict p w r n ≡ answer (pieces_finding p r n (pieces_of r)) (pieces_serial p r n (pieces_of r))

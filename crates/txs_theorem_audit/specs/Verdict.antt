@@ -1,5 +1,5 @@
 -- What an audit answers of a report: the tests in their order, the first that fails or needs more turns.
-use Rattle.std.specs.Prelude.{ℕ, zero, suc, Bool, true, false, not, ◌&&◌, ◌||◌, ◌==◌, ◌-◌, ◌+◌, nat_le, nat_lt, List, [], ◌∷◌, ◌++◌, length, take, drop, Option, Some, None, Result, Ok, Err, if◌then◌else◌}
+use Rattle.std.specs.Prelude.{ℕ, zero, suc, Bool, true, false, not, ◌&&◌, ◌||◌, ◌==◌, ◌-◌, ◌+◌, nat_le, nat_lt, List, [], ◌∷◌, ◌++◌, length, map, take, drop, Option, Some, None, Result, Ok, Err, if◌then◌else◌}
 use Rattle.txs_value_base.specs.Places.{nth, fault_at}
 use Rattle.txs_value_apply.specs.Core.{takes}
 use Rattle.txs_value_base.specs.declared.fault.Fault.{Fault}
@@ -23,7 +23,7 @@ use Rattle.txs_world_protocol.specs.declared.event.EventKind.TheVariants.{Read, 
 use Rattle.txs_world_protocol.specs.declared.event.Outcome.{Outcome}
 use Rattle.txs_world_protocol.specs.declared.event.Outcome.TheVariants.{Done, Failed, StepsSpent, JournalFull, Memory}
 use Rattle.txs_world_book.specs.Atom.{atom_after}
-use Rattle.txs_world_book.specs.Book.{has_ref, has_agent, has_readable, are_refs, are_sends, cells_in, may_end, may_name, first_failed, is_failed, is_there, is_empty, may_send, actors, mail_after, waits, makes, newest, opening, written}
+use Rattle.txs_world_book.specs.Book.{has_ref, has_agent, has_readable, are_refs, are_sends, cells_in, may_end, may_name, may_rerun, first_failed, is_failed, is_there, is_empty, may_send, actors, mail_after, waits, makes, newest, opening, written}
 use Rattle.txs_world_book.specs.Served.{cells_of}
 use Rattle.txs_world_book.specs.declared.cell.StoreCell.{StoreCell}
 use Rattle.txs_world.specs.Store.{next_action}
@@ -36,7 +36,9 @@ use Rattle.txs_theorem_threads.specs.FollowsAll.{source_of}
 use Rattle.txs_theorem_threads.specs.Noted.{txs_of}
 use Rattle.txs_theorem_runs.specs.Told.{Place, places_in, places_by, seen_of}
 use Rattle.txs_theorem_serial.specs.Serial.{is_covered}
-use Rattle.txs_theorem_audit.specs.Audited.{PlainActorReport, PlainReport, books_of, entry_of, Verdict, Finding, Fine, Off, Short, and_then, check, answer}
+use Rattle.txs_theorem_order.specs.Order.{Link, all_links}
+use Rattle.txs_theorem_order.specs.Taken.{out_of_order}
+use Rattle.txs_theorem_audit.specs.Audited.{PlainActorReport, PlainReport, PlainTerms, books_of, entry_of, Verdict, Finding, Fine, Off, Short, and_then, check, answer}
 
 -- ---- cells and indices
 
@@ -115,7 +117,7 @@ traces_found books count a (ran ∷ rans) = and_then (trace_found books count a 
 abbrev pub is_legal_kind : List StoreCell → List Event → ℕ → EventKind → Bool
 is_legal_kind cells done a (Read c) = has_readable cells c
 is_legal_kind cells done a (Commit at view ws sends) = are_refs cells 0 (cells_in ws) && (are_sends cells sends && (may_end done a at view && not (is_there (first_failed cells done sends))))
-is_legal_kind cells done a (Retry since c commute) = has_ref cells c && (may_name commute done a since && written c.number since done)
+is_legal_kind cells done a (Retry since c cause) = has_ref cells c && (may_rerun done a since c cause && written c.number since done)
 is_legal_kind cells done a (Fail at view) = may_end done a at view
 is_legal_kind cells done a (Refused at view g) = has_agent cells g && (may_end done a at view && is_failed cells done g)
 is_legal_kind cells done a (Send x) = has_agent cells x.agent && not (is_failed cells done x.agent)
@@ -129,7 +131,7 @@ is_legal_kind cells done a (Broke at) = false
 abbrev pub is_legal_swap : CellId → List Event → ℕ → EventKind → Bool
 is_legal_swap cell done a (Read c) = same_cell c cell
 is_legal_swap cell done a (Commit at view ws sends) = false
-is_legal_swap cell done a (Retry since c commute) = false
+is_legal_swap cell done a (Retry since c cause) = false
 is_legal_swap cell done a (Fail at view) = false
 is_legal_swap cell done a (Refused at view g) = false
 is_legal_swap cell done a (Send x) = false
@@ -186,6 +188,66 @@ abbrev pub atoms_found : PlainProgram → PlainReport → List CellId → Findin
 atoms_found p r [] = Fine
 atoms_found p r (c ∷ cs) = and_then (atom_found p r c) (atoms_found p r cs)
 
+-- ---- ends
+
+-- whether one of the first n books is full
+abbrev pub is_full : (ℕ → List Event) → ℕ → Bool
+is_full books zero = false
+is_full books (suc n) = length (books n) == most_events || is_full books n
+
+-- whether a stop is true: for steps the actor has made as many as it may, and for a full book one is full
+abbrev pub is_true_stop : ℕ → Bool → Option Outcome → ℕ → Bool
+is_true_stop limit full None steps = true
+is_true_stop limit full (Some Done) steps = true
+is_true_stop limit full (Some (Failed f)) steps = true
+is_true_stop limit full (Some StepsSpent) steps = steps == limit
+is_true_stop limit full (Some JournalFull) steps = full
+is_true_stop limit full (Some Memory) steps = true
+
+-- a thread, which has ended where the run was to go on up to its end
+abbrev pub thread_over : PlainTerms → Bool → ℕ → PlainActorReport → Finding
+thread_over w full a ran = check ((not w.finishes || is_there ran.outcome) && is_true_stop w.limit full ran.outcome ran.steps) a (length ran.trace)
+
+-- the threads, from this one on
+abbrev pub threads_over : PlainTerms → Bool → ℕ → List PlainActorReport → Finding
+threads_over w full a [] = Fine
+threads_over w full a (ran ∷ rans) = and_then (thread_over w full a ran) (threads_over w full (suc a) rans)
+
+-- an agent's actor, which has ended so, too, or has nothing to do, since the agent has failed or has no mail
+abbrev pub agent_over : PlainTerms → Bool → List StoreCell → List Event → ℕ → CellId → PlainActorReport → Finding
+agent_over w full cells book a g ran =
+    check ((not w.finishes || (is_there ran.outcome || not (is_there (next_action cells book g)))) && is_true_stop w.limit full ran.outcome ran.steps) a (length ran.trace)
+
+-- these agents, from this actor on
+abbrev pub agents_over : PlainTerms → Bool → List StoreCell → List Event → ℕ → List CellId → List PlainActorReport → Finding
+agents_over w full cells book a [] rans = Fine
+agents_over w full cells book a (g ∷ gs) [] = Fine
+agents_over w full cells book a (g ∷ gs) (ran ∷ rans) = and_then (agent_over w full cells book a g ran) (agents_over w full cells book (suc a) gs rans)
+
+-- how all actors ended
+abbrev pub ends_found : PlainProgram → PlainTerms → PlainReport → Finding
+ends_found p w r =
+    and_then (threads_over w (is_full (books_of r) (suc (length r.atom_books))) 0 r.threads)
+    (agents_over w (is_full (books_of r) (suc (length r.atom_books))) (cells_of p.cells) r.book (length p.threads) (agents_from 0 p.cells) r.agents)
+
+-- ---- the order of all events
+
+-- what the traces of a report say of the order
+abbrev pub report_links : PlainProgram → PlainReport → List Link
+report_links p r = all_links (books_of r) (map (λ (x : PlainActorReport). x.trace) r.threads) (agents_from 0 p.cells) (map (λ (x : PlainActorReport). x.trace) r.agents)
+
+-- an event that comes before itself is off
+abbrev pub named_off : PlainReport → Place → Option Event → Finding
+named_off r q None = Fine
+named_off r q (Some e) = Off e.actor (index_if q.book q.at (entry_of r e.actor))
+
+abbrev pub place_off : PlainReport → Option Place → Finding
+place_off r None = Fine
+place_off r (Some q) = named_off r q (nth (books_of r q.book) q.at)
+
+abbrev pub order_found : PlainProgram → PlainReport → Finding
+order_found p r = place_off r (out_of_order (books_of r) (report_links p r) (suc (length r.atom_books)))
+
 -- ---- threads
 
 -- what a meaning prints
@@ -218,7 +280,7 @@ is_calm cells done _ x = true
 abbrev pub is_end : EventKind → Bool
 is_end (Read c) = false
 is_end (Commit at view ws sends) = true
-is_end (Retry since c commute) = false
+is_end (Retry since c cause) = false
 is_end (Fail at view) = false
 is_end (Refused at view g) = true
 is_end (Send x) = false
@@ -231,7 +293,7 @@ is_end (Broke at) = false
 abbrev pub is_commit : EventKind → Bool
 is_commit (Read c) = false
 is_commit (Commit at view ws sends) = true
-is_commit (Retry since c commute) = false
+is_commit (Retry since c cause) = false
 is_commit (Fail at view) = false
 is_commit (Refused at view g) = false
 is_commit (Send x) = false
@@ -494,14 +556,16 @@ agents_serial p r n (g ∷ gs) [] = true
 agents_serial p r n (g ∷ gs) (ran ∷ rans) = acts_covered p r n g [] ran.trace && agents_serial p r n gs rans
 
 -- what the tests find, in their order
-abbrev pub found : PlainProgram → PlainReport → ℕ → Finding
-found p r n =
+abbrev pub found : PlainProgram → PlainTerms → PlainReport → ℕ → Finding
+found p w r n =
     and_then (check (fits_sizes p r) 0 0)
     (and_then (traces_found (books_of r) (suc (length r.atom_books)) 0 (r.threads ++ r.agents))
     (and_then (store_found p r)
     (and_then (atoms_found p r (atoms_from 0 p.cells))
-    (and_then (threads_found p r n 0 p.threads r.threads) (agents_found p r n (length p.threads) (agents_from 0 p.cells) r.agents)))))
+    (and_then (ends_found p w r)
+    (and_then (order_found p r)
+    (and_then (threads_found p r n 0 p.threads r.threads) (agents_found p r n (length p.threads) (agents_from 0 p.cells) r.agents)))))))
 
--- the verdict, where each loop makes at most n turns
-abbrev pub verdict : PlainProgram → PlainReport → ℕ → Verdict
-verdict p r n = answer (found p r n) (are_serial p r n p.threads r.threads && agents_serial p r n (agents_from 0 p.cells) r.agents)
+-- the verdict on a run that was to do this, where each loop makes at most n turns
+abbrev pub verdict : PlainProgram → PlainTerms → PlainReport → ℕ → Verdict
+verdict p w r n = answer (found p w r n) (are_serial p r n p.threads r.threads && agents_serial p r n (agents_from 0 p.cells) r.agents)

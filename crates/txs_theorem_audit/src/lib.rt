@@ -4,25 +4,35 @@
 ghost use Rattle.txs_theorem_audit.specs.Examples.{
   ChangedIsAnswered,
   CountsAreAnswered,
+  CrossedIsAnswered,
   EntriesAreAnswered,
   EventsAreAnswered,
   RefusedIsAnswered,
   SkewIsAnswered,
   TwoAreAnswered,
+  UnfinishedIsAnswered,
 };
 ghost use Rattle.txs_theorem_audit.specs.Laws.{AgreesIsExplained, DiffersIsNotExplained, ExplainedActionsAreSerial, ExplainedIsSerial, SerialIsOneByOne, WrongStays, WrongStaysInActions};
 ghost use Rattle.txs_theorem_audit.specs.NotSerial.{SkewIsNotOneByOne};
 ghost use Rattle.txs_theorem_audit.specs.Pieces.{HalvesAreWhole, PiecesAreAll};
+ghost use Rattle.txs_theorem_audit.specs.Stays.{ActionStays, RestStays, ThreadStays};
+
+use txs_theorem_order::{named_on_a_cycle, none_is_ordered, some_is_not_ordered};
 
 /// A program explains a report on which an audit agrees.
 pub fn agrees_is_explained()
     ensures { AgreesIsExplained }
-{}
+{
+    none_is_ordered();
+    named_on_a_cycle();
+}
 
 /// No sound program explains a report on which an audit differs.
 pub fn differs_is_not_explained()
     ensures { DiffersIsNotExplained }
-{}
+{
+    some_is_not_ordered();
+}
 
 /// Each covered commit of a report that a sound program explains is serial.
 pub fn explained_is_serial()
@@ -90,6 +100,16 @@ pub fn refused_is_answered()
     ensures { RefusedIsAnswered }
 {}
 
+/// A thread that hasn't ended, or was stopped for no reason, is answered right.
+pub fn unfinished_is_answered()
+    ensures { UnfinishedIsAnswered }
+{}
+
+/// Two threads of which each read an atom before the other set it, and set its own before, differ; where one read comes behind, they agree.
+pub fn crossed_is_answered()
+    ensures { CrossedIsAnswered }
+{}
+
 /// The last tests may be gone through by halves.
 pub fn halves_are_whole()
     ensures { HalvesAreWhole }
@@ -98,4 +118,19 @@ pub fn halves_are_whole()
 /// Where the tests before find nothing, the verdict is what is found of all pieces.
 pub fn pieces_are_all()
     ensures { PiecesAreAll }
+{}
+
+/// What is found of a thread with some turns of each loop is found with more.
+pub fn thread_stays()
+    ensures { ThreadStays }
+{}
+
+/// So is what is found of an action that is over, and what it prints.
+pub fn action_stays()
+    ensures { ActionStays }
+{}
+
+/// So is what is found behind an agent's last act.
+pub fn rest_stays()
+    ensures { RestStays }
 {}

@@ -137,7 +137,7 @@ none_left k left le = go (left == 0) refl (k - left == k) refl
 
 -- before any event
 abbrev begun : List SeenEvent → ThreadState
-begun es = record { todo = es; printed = []; held = None; txs = [] }
+begun es = record { todo = es; printed = []; held = None; txs = []; asks = None }
 
 few_left : (es : List SeenEvent) (t : ThreadState) → Onward (begun es) t → length t.todo ≤ length es
 few_left es t g = let e : length es ≡ length g.gone + length t.todo = ap length g.eats ∙ length-append g.gone t.todo in omega (arith, e)

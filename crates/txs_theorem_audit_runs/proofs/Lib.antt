@@ -1,1 +1,4 @@
+pub mod Numbered
+pub mod Ending
+pub mod Ordering
 pub mod Running

@@ -1,5 +1,5 @@
 -- The report of a run that a program explains is explained as an audit asks.
-use Rattle.std.proofs.Common.{◌≡◌, ◌≤◌, ℕ, zero, suc, ◌+◌, Bool, true, false, List, [], ◌∷◌, ◌++◌, length, map, take, get_or, Option, Some, None, refl, sym, ap, ◌∙◌, subst, arith, ⊎_elim, inl, inr, ◌⊎◌, if◌then◌else◌}
+use Rattle.std.proofs.Common.{◌≡◌, ◌≤◌, ℕ, zero, suc, ◌+◌, Bool, true, false, List, [], ◌∷◌, ◌++◌, length, map, Option, Some, None, refl, sym, ap, ◌∙◌, subst, arith, ⊎_elim, if◌then◌else◌}
 use Rattle.std.proofs.lemmas.Bool.{false≢true, cases_lt}
 use Rattle.txs_value_base.specs.Places.{nth}
 use Rattle.txs_value_base.specs.declared.fault.Fault.{Fault}
@@ -14,7 +14,6 @@ use Rattle.txs_world_protocol.specs.SeenEvent.{SeenEvent, atoms_below, home}
 use Rattle.txs_world_protocol.specs.declared.event.Event.{Event}
 use Rattle.txs_world_protocol.specs.declared.event.Outcome.{Outcome}
 use Rattle.txs_world_protocol.specs.declared.event.Outcome.TheVariants as outcome
-use Rattle.txs_world_protocol.specs.declared.event.Place as event
 use Rattle.txs_world_protocol.specs.declared.report.ActorReport.{ActorReport}
 use Rattle.txs_world_protocol.specs.declared.report.Report.{Report}
 use Rattle.txs_world_book.specs.Atom.{LegalAtom, atom_after}
@@ -38,51 +37,23 @@ use Rattle.txs_world_shared.specs.SharedState.{PlainShared, shared_of}
 use Rattle.txs_machine.specs.Reported.{IsReportOf}
 use Rattle.txs_machine.specs.RunOver.{places_of}
 use Rattle.txs_machine.specs.RunTheorem.{meant_by, ExplainsSo, HasPrintedLeast, NeverEnds, ExplainsAll}
-use Rattle.txs_theorem_audit.specs.Audited.{PlainActorReport, PlainReport, place_of, ran_as, report_as, book_or_none, books_of}
-use Rattle.txs_theorem_audit.specs.Explained.{Begins, Stopped, EndsAs, ThreadExplained, AtomExplained, AgentExplained, IsExplained}
-use Rattle.txs_theorem_audit.specs.Verdict.{atoms_from, printed_by, but_last, least_printed}
+use Rattle.txs_theorem_audit.specs.Audited.{PlainActorReport, PlainReport, PlainTerms, place_of, ran_as, report_as, books_of}
+use Rattle.txs_theorem_audit.specs.Explained.{Begins, Stopped, EndsAs, ThreadExplained, AtomExplained, AgentExplained, EndsTruly, IsExplained}
+use Rattle.txs_theorem_audit.specs.Verdict.{atoms_from, printed_by, but_last, least_printed, report_links}
 use Rattle.txs_theorem_audit.proofs.Agreeing.{sound_thread}
 use Rattle.txs_theorem_audit.proofs.Beginning.{cut}
-use Rattle.txs_theorem_audit.proofs.Differing.{settles, differs_is_not_explained}
+use Rattle.txs_theorem_audit.proofs.Differing.{settles}
+use Rattle.txs_theorem_audit.specs.Laws.{DiffersIsNotExplained}
+use Rattle.txs_theorem_order.specs.Order.{IsOrdered}
+use Rattle.txs_theorem_order_runs.specs.Runs.{RunsAreOrdered}
 use Rattle.txs_theorem_audit.proofs.Waiting.{HasEatenUp, ends_up, waits_front}
 use Rattle.txs_theorem_audit.proofs.Findings.{not_there}
 use Rattle.txs_theorem_audit.proofs.Listing.{there_is, within}
 use Rattle.txs_theorem_audit_runs.specs.Runs.{RunsAreExplained, RunsNeverDiffer}
-
--- ---- lists
-
-many : {A B : Type 0} (f : A → B) (xs : List A) → length (map f xs) ≡ length xs
-many f [] = refl
-many f (x ∷ xs) = ap suc (many f xs)
-
-mapped : {A B : Type 0} (f : A → B) (xs : List A) (i : ℕ) (y : B) → nth (map f xs) i ≡ Some y → (x : A) × (nth xs i ≡ Some x) × (f x ≡ y)
-mapped f [] i y h = not_there h
-mapped f (x ∷ xs) zero y h = let same : f x ≡ y = cc in (x, refl, same)
-mapped f (x ∷ xs) (suc i) y h = mapped f xs i y h
-
--- a member of the first list or of the second
-either : {A : Type 0} (xs ys : List A) (a : ℕ) (x : A) → nth (xs ++ ys) a ≡ Some x → (nth xs a ≡ Some x) ⊎ ((i : ℕ) × (a ≡ length xs + i) × (nth ys i ≡ Some x))
-either [] ys a x h = let z : a ≡ 0 + a = omega arith in inr (a, z, h)
-either (y ∷ xs) ys zero x h = inl h
-either (y ∷ xs) ys (suc a) x h = ⊎_elim (λ l. inl l) (λ r. (let e = r.1 in let z : suc a ≡ suc (length xs) + r.0 = omega (arith, e) in inr (r.0, z, r.2))) (either xs ys a x h)
-
-places_same : (ps : List event.Place) → places_of ps ≡ map place_of ps
-places_same [] = refl
-places_same (p ∷ ps) = ap (λ l. place_of p ∷ l) (places_same ps)
-
--- ---- books by number
-
-book_same : (bs : List (List Event)) (n : ℕ) → get_or bs n [] ≡ book_or_none (nth bs n)
-book_same [] n = refl
-book_same (b ∷ bs) zero = refl
-book_same (b ∷ bs) (suc n) = book_same bs n
-
-numbered_same : (r : PlainReport) (n : ℕ) → get_or (r.book ∷ r.atom_books) n [] ≡ books_of r n
-numbered_same r zero = refl
-numbered_same r (suc n) = book_same r.atom_books n
-
-books_same : (r : PlainReport) → (λ n. get_or (r.book ∷ r.atom_books) n []) ≡ books_of r
-books_same r = λ i n. numbered_same r n i
+use Rattle.txs_theorem_audit_runs.proofs.Numbered as numbered
+use Rattle.txs_theorem_audit_runs.proofs.Numbered.{many, mapped, either, places_same, many_atoms}
+use Rattle.txs_theorem_audit_runs.proofs.Ending.{ends_truly}
+use Rattle.txs_theorem_audit_runs.proofs.Ordering.{is_ordered}
 
 -- ---- values and faults by number
 
@@ -118,15 +89,6 @@ many_faults fault n (d ∷ ds) = go d.kind (many_faults fault (suc n) ds)
     go Ref h = h
     go Atom h = h
     go Agent h = ap suc h
-
-many_atoms : (n : ℕ) (ds : List CellDefinition) → atoms_below ds (length ds) ≡ length (atoms_from n ds)
-many_atoms n [] = refl
-many_atoms n (d ∷ ds) = go (same_kind d.kind Atom) (many_atoms (suc n) ds)
-  where
-    go : (b : Bool) → atoms_below ds (length ds) ≡ length (atoms_from (suc n) ds)
-        → (if b then suc (atoms_below ds (length ds)) else atoms_below ds (length ds)) ≡ length (if b then record { kind = Atom; number = n } ∷ atoms_from (suc n) ds else atoms_from (suc n) ds)
-    go true h = ap suc h
-    go false h = h
 
 -- the definition of a cell that is there
 cell_there : (ds : List CellDefinition) (k : CellKind) (j : ℕ) → is_of_kind k (nth (cells_of ds) j) ≡ true → (d : CellDefinition) × (nth ds j ≡ Some d) × (same_kind k d.kind ≡ true)
@@ -209,7 +171,7 @@ module _ (p : PlainProgram) (s : PlainShared) (r : Report) (sound : Sound p) (ce
   N = (shared_of s).books
 
   same_books : N ≡ books_of rep
-  same_books = let numbered : List (List Event) → ℕ → List Event = λ bs n. get_or bs n [] in ap numbered (sym of.books) ∙ books_same rep
+  same_books = numbered.same_books s r of
 
   -- ---- threads and agents
 
@@ -311,8 +273,8 @@ module _ (p : PlainProgram) (s : PlainShared) (r : Report) (sound : Sound p) (ce
         acts = subst (λ b. ActsInTurn p.cells p.functions b g (map place_of ran.trace.items) [] out e.did) same_books (subst (λ ps. ActsInTurn p.cells p.functions N g ps [] out e.did) (places_same ran.trace.items) e.acts);
       }
 
-  is_explained : IsExplained p rep
-  is_explained = record {
+  is_explained : (w : PlainTerms) → EndsTruly p w rep → IsOrdered (books_of rep) (report_links p rep) → IsExplained p w rep
+  is_explained w ends ordered = record {
     sized = record {
       threads = many ran_as r.threads.items ∙ x.by_threads.one_each;
       agents = many ran_as r.agents.items ∙ x.one_each;
@@ -325,12 +287,15 @@ module _ (p : PlainProgram) (s : PlainShared) (r : Report) (sound : Sound p) (ce
     values = value_is;
     failures = λ i g there. ap (λ l. nth l i) faults_same ∙ nth_faults fault 0 p.cells i g there ∙ ap (λ (b : ℕ → List Event). Some (mail_after (cells_of p.cells) (b 0) g.number).fault) same_books;
     atoms = atom_is_explained;
+    ends = ends;
+    ordered = ordered;
     threads = λ a t ran there h. (let m = mapped ran_as r.threads.items a ran h in subst (λ z. ThreadExplained p rep t z) m.2 (thread_is a t m.0 there m.1));
     agents = λ i g ran there h. (let m = mapped ran_as r.agents.items i ran h in subst (λ z. AgentExplained p rep g z) m.2 (agent_is i g m.0 there m.1));
   }
 
-pub runs_are_explained : RunsAreExplained
-runs_are_explained p s r sound cells of x = is_explained p s r sound cells of x
+pub runs_are_explained : RunsAreOrdered → RunsAreExplained
+runs_are_explained law p code w s r sound cells staged run x =
+    is_explained p s r sound (run.state.cells ∙ cells) run.of x w (ends_truly p code w s r cells run x) (is_ordered law p code w s r cells staged run)
 
-pub runs_never_differ : RunsNeverDiffer
-runs_never_differ p s r n a i sound cells of x h = differs_is_not_explained p (report_as r) n a i sound h (runs_are_explained p s r sound cells of x)
+pub runs_never_differ : DiffersIsNotExplained → RunsAreExplained → RunsNeverDiffer
+runs_never_differ differs explained p code w s r n a i sound cells staged run x h = differs p w (report_as r) n a i sound h (explained p code w s r sound cells staged run x)

@@ -3,12 +3,20 @@
 
 ghost use Rattle.txs_theorem_audit_runs.specs.Runs.{RunsAreExplained, RunsNeverDiffer};
 
+use txs_theorem_audit::differs_is_not_explained;
+use txs_theorem_order_runs::runs_are_ordered;
+
 /// The report of a run that a program explains is explained as an audit asks.
 pub fn runs_are_explained()
     ensures { RunsAreExplained }
-{}
+{
+    runs_are_ordered();
+}
 
 /// An audit of it never differs.
 pub fn runs_never_differ()
     ensures { RunsNeverDiffer }
-{}
+{
+    differs_is_not_explained();
+    runs_are_explained();
+}

@@ -66,7 +66,7 @@ module _ (functions : List PlainFunction) where
   sound_changed : (goes : Bool) (k : ℕ) (d : EventKind) (m : Mail) → SendsSound functions d → AreSound functions m.actions → AreSound functions (mail_changed goes k d m).actions
   sound_changed goes k (event.Read c) m s h = h
   sound_changed goes k (event.Commit at view ws sends) m s h = sound_append m.actions (sent_to k sends) h (sound_sent k sends s)
-  sound_changed goes k (event.Retry since c commute) m s h = h
+  sound_changed goes k (event.Retry since c cause) m s h = h
   sound_changed goes k (event.Fail at view) m s h = h
   sound_changed goes k (event.Refused at view g) m s h = h
   sound_changed goes k (event.Send x) m s h = sound_append m.actions (sent_to k (x ∷ [])) h (sound_sent k (x ∷ []) (s, tt))
@@ -169,7 +169,7 @@ module _ (cells : List StoreCell) (threads : ℕ) (g : CellId) where
   not_acts : (b : ℕ) (d : EventKind) → (b ≡ a → ⊥) → makes cells threads b d ≡ true → acts_for g.number d ≡ false
   not_acts b (event.Read c) n m = refl
   not_acts b (event.Commit at view ws sends) n m = refl
-  not_acts b (event.Retry since c commute) n m = refl
+  not_acts b (event.Retry since c cause) n m = refl
   not_acts b (event.Fail at view) n m = refl
   not_acts b (event.Refused at view h) n m = refl
   not_acts b (event.Send x) n m = refl

@@ -7,6 +7,7 @@ use Rattle.txs_world_protocol.specs.declared.ask.Reply.{Reply}
 use Rattle.txs_world_protocol.specs.declared.ask.Reply.TheVariants as reply
 use Rattle.txs_world_protocol.specs.declared.event.Event.{Event}
 use Rattle.txs_world_protocol.specs.declared.event.EventKind.{EventKind}
+use Rattle.txs_world_protocol.specs.declared.event.Cause.TheVariants as cause
 use Rattle.txs_world_protocol.specs.declared.event.EventKind.TheVariants as event
 use Rattle.txs_value_data.specs.Limits.{most_events}
 use Rattle.txs_value_cell.specs.declared.action.Action.{Action}
@@ -55,12 +56,12 @@ module _ (Q : List Event → EventKind → Type 0) (quiet : (done : List Event) 
   adds_quiet kind r m = adds_such kind r (quiet book kind m)
 
   looks_such : (t : Bool) (c : CellId) (p : ℕ) → All (looks t (opening (cells_of cells)) b c p book).book
-  looks_such true c p = adds_quiet (event.Retry p c false) (reply.Retry c) tt
+  looks_such true c p = adds_quiet (event.Retry p c cause.Outdated) (reply.Retry c) tt
   looks_such false c p = h
 
   commits_such : (o c g : Option CellId) (p q : ℕ) (ws : Writes) (sends : List Action) → Q book (event.Commit p q ws sends) → All (commits o c g b p q ws sends book).book
-  commits_such (Some d) c g p q ws sends m = adds_quiet (event.Retry p d false) (reply.Retry d) tt
-  commits_such None (Some d) g p q ws sends m = adds_quiet (event.Retry q d true) (reply.Changed d) tt
+  commits_such (Some d) c g p q ws sends m = adds_quiet (event.Retry p d cause.Held) (reply.Retry d) tt
+  commits_such None (Some d) g p q ws sends m = adds_quiet (event.Retry q d (cause.Commuted p)) (reply.Changed d) tt
   commits_such None None (Some g) p q ws sends m = adds_quiet (event.Refused p q g) (reply.AgentIsFailed g) tt
   commits_such None None None p q ws sends m = adds_such (event.Commit p q ws sends) reply.Done m
 

@@ -10,6 +10,7 @@ use Rattle.txs_world_protocol.specs.declared.ask.Reply.{Reply}
 use Rattle.txs_world_protocol.specs.declared.ask.Reply.TheVariants as reply
 use Rattle.txs_world_protocol.specs.declared.event.Event.{Event}
 use Rattle.txs_world_protocol.specs.declared.event.EventKind.{EventKind}
+use Rattle.txs_world_protocol.specs.declared.event.Cause.TheVariants as cause
 use Rattle.txs_world_protocol.specs.declared.event.EventKind.TheVariants as event
 use Rattle.txs_value_data.proofs.SameLemmas.{and_both}
 use Rattle.txs_value_cell.specs.Cells.{World}
@@ -21,6 +22,7 @@ use Rattle.txs_value_cell.specs.declared.cell.CellDefinition.{CellDefinition}
 use Rattle.txs_value_data.specs.declared.value.CellId.{CellId}
 use Rattle.txs_value_data.specs.declared.value.CellKind.TheVariants.{Atom}
 use Rattle.txs_value_data.specs.declared.value.Value.{Value}
+use Rattle.txs_frame.specs.Frame.{has_number}
 use Rattle.txs_theorem_threads.specs.RepliesFit.{Phase, Out, belongs, PhaseFits, Gives, AgreeOn}
 use Rattle.txs_theorem_threads.specs.RepliesFitTo.{RepliesFitTo}
 use Rattle.txs_world_book.specs.Atom.{atom_after, swapped_since, closes_at}
@@ -32,7 +34,7 @@ use Rattle.txs_world.specs.Store.{looks, commits, sends_to, merged, are_apart, s
 use Rattle.txs_theorem_runs.specs.Shared.{book_for, serve_on, may_ask, is_atom, has_atom, world_of, seen_in}
 use Rattle.txs_theorem_runs.specs.Stages.{Stage, Resting, Idle, Open, Viewing, Swapping, AsksIn, stage_after, phase_of}
 use Rattle.txs_theorem_runs.specs.Told.{Entry, exchange_of, Place, IsExchanged, AllHold, AreStaged, trace_of, seen_before, seen_of, history_of}
-use Rattle.txs_theorem_runs.proofs.Replayed.{length_taken, after_taken, newest_taken, atom_taken, atom_newest_taken, atom_unswapped, stands_there, named, ended, gives_all, unwritten_agree}
+use Rattle.txs_theorem_runs.proofs.Replayed.{length_taken, after_taken, newest_taken, atom_taken, atom_newest_taken, atom_unswapped, stands_there, named, ended, gives_all, unwritten_agree, least_among}
 
 -- an event added where there is room
 abbrev pub added : Bool → ℕ → EventKind → Reply → List Event → Served
@@ -171,17 +173,18 @@ module _ (stays : UnwrittenStays) (cells : List CellDefinition) (threads : ℕ) 
     idle_fits (ask.Broke c p) ok within may = absurd ok
 
     looks_fit : (b : Bool) (c : CellId) (p : ℕ) (within : k ≤ length (books 0)) → p ≤ k → Fitting (ask.Look c p) k within xs end ps (Open p) (looks b w a c p (take k (books 0)))
-    looks_fit true c p within le = adding (ask.Look c p) k within xs end ps (Open p) (event.Retry p c false) (reply.Retry c) (λ g. (refl, (refl, refl, g)))
+    looks_fit true c p within le = adding (ask.Look c p) k within xs end ps (Open p) (event.Retry p c cause.Outdated) (reply.Retry c) (λ g. (refl, (refl, tt, g)))
     looks_fit false c p within le =
         quietly (ask.Look c p) k within xs end ps (Open p) (reply.Is (after w (take k (books 0)) p c.number)) (λ g. (refl, (ap (λ (u : World). u c.number) (sym (after_taken w (books 0) k p le)), g)))
 
     commit_fits : (o g : Option CellId) (p q : ℕ) (sets : Writes) (ensured : List CellId) (sends : List Action) (within : k ≤ length (books 0))
+        → ((c : CellId) → o ≡ Some c → has_number (cells_in sets ++ ensured) c.number ≡ true)
         → Fitting (ask.Commit p sets ensured q [] sends) k within xs end ps (Open p) (commits o None g a p q sets sends (take k (books 0)))
-    commit_fits (Some c) g p q sets ensured sends within =
-        adding (ask.Commit p sets ensured q [] sends) k within xs end ps (Open p) (event.Retry p c false) (reply.Retry c) (λ f. (refl, (refl, refl, f)))
-    commit_fits None (Some g) p q sets ensured sends within =
+    commit_fits (Some c) g p q sets ensured sends within held =
+        adding (ask.Commit p sets ensured q [] sends) k within xs end ps (Open p) (event.Retry p c cause.Held) (reply.Retry c) (λ f. (refl, (refl, (refl, refl, held c refl), f)))
+    commit_fits None (Some g) p q sets ensured sends within held =
         adding (ask.Commit p sets ensured q [] sends) k within xs end ps (Open p) (event.Refused p q g) (reply.AgentIsFailed g) (λ f. (refl, (refl, (refl, refl, tt), f)))
-    commit_fits None None p q sets ensured sends within =
+    commit_fits None None p q sets ensured sends within held =
         adding (ask.Commit p sets ensured q [] sends) k within xs end ps (Open p) (event.Commit p q sets sends) reply.Done (λ f. (refl, (refl, (refl, refl, (refl, refl)), f)))
 
     in_place : (all : Bool) (p : ℕ) → k ≤ length (books 0) → may_name all (take k (books 0)) a p ≡ true → p ≤ k
@@ -208,7 +211,8 @@ module _ (stays : UnwrittenStays) (cells : List CellDefinition) (threads : ℕ) 
     open_fits at (ask.Commit p sets ensured q commuted sends) ok within may =
         subst (λ i. Fitting (ask.Commit p sets ensured q commuted sends) k within xs end ps (Open i) (serve (cells_of cells) a (ask.Commit p sets ensured q commuted sends) (take k (books 0)))) (sym ok.0)
         (subst (λ cs. Fitting (ask.Commit p sets ensured q cs sends) k within xs end ps (Open p) (serve (cells_of cells) a (ask.Commit p sets ensured q cs sends) (take k (books 0)))) (sym ok.1)
-        (commit_fits (least_written (take k (books 0)) p (cells_in sets ++ ensured)) (first_failed (cells_of cells) (take k (books 0)) sends) p q sets ensured sends within))
+        (commit_fits (least_written (take k (books 0)) p (cells_in sets ++ ensured)) (first_failed (cells_of cells) (take k (books 0)) sends) p q sets ensured sends within
+        (λ c e. least_among (take k (books 0)) p (cells_in sets ++ ensured) c e)))
     open_fits at (ask.Fail p q) ok within may =
         subst (λ i. Fitting (ask.Fail p q) k within xs end ps (Open i) (adds a (event.Fail p q) reply.Done (take k (books 0)))) (sym ok)
         (adding (ask.Fail p q) k within xs end ps (Open p) (event.Fail p q) reply.Done (λ g. (refl, (refl, (refl, tt), g))))
@@ -227,15 +231,16 @@ module _ (stays : UnwrittenStays) (cells : List CellDefinition) (threads : ℕ) 
 
     -- the test of the commuted refs, in a commit with a commute phase
     phased_fits : (o c g : Option CellId) (p q : ℕ) (sets commuted : Writes) (ensured : List CellId) (sends : List Action) (within : k ≤ length (books 0))
+        → ((d : CellId) → o ≡ Some d → has_number (cells_in sets ++ ensured) d.number ≡ true) → ((d : CellId) → c ≡ Some d → has_number (cells_in commuted) d.number ≡ true)
         → (c ≡ None → AgreeOn commuted (after w (books 0) q) (after w (books 0) k))
         → Fitting (ask.Commit p sets ensured q commuted sends) k within xs end ps (Viewing p q) (commits o c g a p q (merged sets commuted) sends (take k (books 0)))
-    phased_fits (Some d) c g p q sets commuted ensured sends within same =
-        adding (ask.Commit p sets ensured q commuted sends) k within xs end ps (Viewing p q) (event.Retry p d false) (reply.Retry d) (λ f. (refl, (refl, refl, f)))
-    phased_fits None (Some d) g p q sets commuted ensured sends within same =
-        adding (ask.Commit p sets ensured q commuted sends) k within xs end ps (Viewing p q) (event.Retry q d true) (reply.Changed d) (λ f. (refl, (refl, refl, f)))
-    phased_fits None None (Some g) p q sets commuted ensured sends within same =
+    phased_fits (Some d) c g p q sets commuted ensured sends within held redone same =
+        adding (ask.Commit p sets ensured q commuted sends) k within xs end ps (Viewing p q) (event.Retry p d cause.Held) (reply.Retry d) (λ f. (refl, (refl, (refl, refl, held d refl), f)))
+    phased_fits None (Some d) g p q sets commuted ensured sends within held redone same =
+        adding (ask.Commit p sets ensured q commuted sends) k within xs end ps (Viewing p q) (event.Retry q d (cause.Commuted p)) (reply.Changed d) (λ f. (refl, (refl, (refl, refl, redone d refl), f)))
+    phased_fits None None (Some g) p q sets commuted ensured sends within held redone same =
         adding (ask.Commit p sets ensured q commuted sends) k within xs end ps (Viewing p q) (event.Refused p q g) (reply.AgentIsFailed g) (λ f. (refl, (refl, (refl, refl, tt), f)))
-    phased_fits None None None p q sets commuted ensured sends within same =
+    phased_fits None None None p q sets commuted ensured sends within held redone same =
         adding (ask.Commit p sets ensured q commuted sends) k within xs end ps (Viewing p q) (event.Commit p q (merged sets commuted) sends) reply.Done
         (λ f. (refl, (refl, (refl, same refl, (merged_alike sets commuted, refl)), f)))
 
@@ -244,7 +249,8 @@ module _ (stays : UnwrittenStays) (cells : List CellDefinition) (threads : ℕ) 
     viewing_fits at view (ask.Commit p sets ensured q commuted sends) ok within may =
         subst (λ i. Fitting (ask.Commit p sets ensured q commuted sends) k within xs end ps (Viewing i view) (serve (cells_of cells) a (ask.Commit p sets ensured q commuted sends) (take k (books 0)))) (sym ok.0)
         (subst (λ i. Fitting (ask.Commit p sets ensured q commuted sends) k within xs end ps (Viewing p i) (serve (cells_of cells) a (ask.Commit p sets ensured q commuted sends) (take k (books 0)))) (sym ok.1)
-        (phased_fits (least_written (take k (books 0)) p (cells_in sets ++ ensured)) (least_written (take k (books 0)) q (cells_in commuted)) (first_failed (cells_of cells) (take k (books 0)) sends) p q sets commuted ensured sends within same))
+        (phased_fits (least_written (take k (books 0)) p (cells_in sets ++ ensured)) (least_written (take k (books 0)) q (cells_in commuted)) (first_failed (cells_of cells) (take k (books 0)) sends) p q sets commuted ensured sends within
+        (λ d e. least_among (take k (books 0)) p (cells_in sets ++ ensured) d e) (λ d e. least_among (take k (books 0)) q (cells_in commuted) d e) same))
       where
         ends_may : may_end (take k (books 0)) a p q ≡ true
         ends_may =

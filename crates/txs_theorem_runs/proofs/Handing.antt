@@ -57,7 +57,7 @@ module _ (k n : ℕ) where
   quiet_none : (done : List Event) (kind : EventKind) → IsQuiet kind → NoAct done kind
   quiet_none done (event.Read c) h = inr refl
   quiet_none done (event.Commit at view ws sends) h = absurd h
-  quiet_none done (event.Retry since c commute) h = inr refl
+  quiet_none done (event.Retry since c cause) h = inr refl
   quiet_none done (event.Fail at view) h = inr refl
   quiet_none done (event.Refused at view g) h = inr refl
   quiet_none done (event.Send x) h = absurd h

@@ -9,6 +9,7 @@ use Rattle.txs_world_protocol.specs.declared.ask.Reply.{Reply}
 use Rattle.txs_world_protocol.specs.declared.ask.Reply.TheVariants as reply
 use Rattle.txs_world_protocol.specs.declared.event.Event.{Event}
 use Rattle.txs_world_protocol.specs.declared.event.EventKind.{EventKind}
+use Rattle.txs_world_protocol.specs.declared.event.Cause.TheVariants as cause
 use Rattle.txs_world_protocol.specs.declared.event.EventKind.TheVariants as event
 use Rattle.txs_value_data.proofs.SameLemmas.{number-itself}
 use Rattle.txs_value_data.specs.Limits.{most_events}
@@ -133,7 +134,7 @@ module _ (cells : List CellDefinition) (a : ℕ) (books : ℕ → List Event) wh
   look_named : (at : ℕ) (c : CellId) (p : ℕ) → may_name false (books 0) a at ≡ true → (t : Bool) → NamesAfter (Open at) (ask.Look c p) (looks t (opening (cells_of cells)) a c p (books 0))
   look_named at c p h true = go (nat_lt (length (books 0)) most_events)
     where
-      go : (t : Bool) → NamesAfter (Open at) (ask.Look c p) (added t a (event.Retry p c false) (reply.Retry c) (books 0))
+      go : (t : Bool) → NamesAfter (Open at) (ask.Look c p) (added t a (event.Retry p c cause.Outdated) (reply.Retry c) (books 0))
       go true = tt
       go false = tt
   look_named at c p h false = h
@@ -145,8 +146,8 @@ module _ (cells : List CellDefinition) (a : ℕ) (books : ℕ → List Event) wh
       (joined (may_name false (books 0) a at) (may_name true (books 0) a (length (books 0))) h (end_named true a (books 0)))
 
   -- the read point may be named behind a redone commute phase
-  redo_named : (at q : ℕ) (d : CellId) → may_name false (books 0) a at ≡ true → may_name false (books 0 ++ event_of a (event.Retry q d true) ∷ []) a at ≡ true
-  redo_named at q d h = named_more false a at (books 0) (event_of a (event.Retry q d true) ∷ []) (skipped (a == a), tt) h
+  redo_named : (at p q : ℕ) (d : CellId) → may_name false (books 0) a at ≡ true → may_name false (books 0 ++ event_of a (event.Retry q d (cause.Commuted p)) ∷ []) a at ≡ true
+  redo_named at p q d h = named_more false a at (books 0) (event_of a (event.Retry q d (cause.Commuted p)) ∷ []) (skipped (a == a), tt) h
     where
       skipped : (t : Bool) → (t && (false || not true)) ≡ false
       skipped true = refl
@@ -160,7 +161,7 @@ module _ (cells : List CellDefinition) (a : ℕ) (books : ℕ → List Event) wh
     tried_named : (at : ℕ) (o g : Option CellId) (ws : Writes) → NamesAfter (Open at) commit (commits o None g a p q ws sends (books 0))
     tried_named at (Some d) g ws = go (nat_lt (length (books 0)) most_events)
       where
-        go : (t : Bool) → NamesAfter (Open at) commit (added t a (event.Retry p d false) (reply.Retry d) (books 0))
+        go : (t : Bool) → NamesAfter (Open at) commit (added t a (event.Retry p d cause.Held) (reply.Retry d) (books 0))
         go true = tt
         go false = tt
     tried_named at None (Some g) ws = go (nat_lt (length (books 0)) most_events)
@@ -178,13 +179,13 @@ module _ (cells : List CellDefinition) (a : ℕ) (books : ℕ → List Event) wh
     phased_named : (at view : ℕ) (o c g : Option CellId) (ws : Writes) → may_name false (books 0) a at ≡ true → NamesAfter (Viewing at view) commit (commits o c g a p q ws sends (books 0))
     phased_named at view (Some d) c g ws h = go (nat_lt (length (books 0)) most_events)
       where
-        go : (t : Bool) → NamesAfter (Viewing at view) commit (added t a (event.Retry p d false) (reply.Retry d) (books 0))
+        go : (t : Bool) → NamesAfter (Viewing at view) commit (added t a (event.Retry p d cause.Held) (reply.Retry d) (books 0))
         go true = tt
         go false = tt
     phased_named at view None (Some d) g ws h = go (nat_lt (length (books 0)) most_events)
       where
-        go : (t : Bool) → NamesAfter (Viewing at view) commit (added t a (event.Retry q d true) (reply.Changed d) (books 0))
-        go true = redo_named at q d h
+        go : (t : Bool) → NamesAfter (Viewing at view) commit (added t a (event.Retry q d (cause.Commuted p)) (reply.Changed d) (books 0))
+        go true = redo_named at p q d h
         go false = tt
     phased_named at view None None (Some g) ws h = go (nat_lt (length (books 0)) most_events)
       where
@@ -290,7 +291,7 @@ module _ (cells : List CellDefinition) (a : ℕ) (books : ℕ → List Event) wh
   tried_ends : (p q at : ℕ) (sets : Writes) (ensured : List CellId) (sends : List Action) (o g : Option CellId) (ws : Writes) → stage_after (Open at) (ask.Commit p sets ensured q [] sends) (commits o None g a p q ws sends (books 0)).reply ≡ Idle
   tried_ends p q at sets ensured sends (Some d) g ws = go (nat_lt (length (books 0)) most_events)
     where
-      go : (t : Bool) → stage_after (Open at) (ask.Commit p sets ensured q [] sends) (added t a (event.Retry p d false) (reply.Retry d) (books 0)).reply ≡ Idle
+      go : (t : Bool) → stage_after (Open at) (ask.Commit p sets ensured q [] sends) (added t a (event.Retry p d cause.Held) (reply.Retry d) (books 0)).reply ≡ Idle
       go true = refl
       go false = refl
   tried_ends p q at sets ensured sends None (Some g) ws = go (nat_lt (length (books 0)) most_events)
@@ -310,7 +311,7 @@ module _ (cells : List CellDefinition) (a : ℕ) (books : ℕ → List Event) wh
   look_viewed : (at : ℕ) (c : CellId) (p : ℕ) → may_name true (books 0) a at ≡ true → (t : Bool) → ViewAfter (Open at) (ask.Look c p) (looks t (opening (cells_of cells)) a c p (books 0))
   look_viewed at c p h true = go (nat_lt (length (books 0)) most_events)
     where
-      go : (t : Bool) → ViewAfter (Open at) (ask.Look c p) (added t a (event.Retry p c false) (reply.Retry c) (books 0))
+      go : (t : Bool) → ViewAfter (Open at) (ask.Look c p) (added t a (event.Retry p c cause.Outdated) (reply.Retry c) (books 0))
       go true = tt
       go false = tt
   look_viewed at c p h false = h

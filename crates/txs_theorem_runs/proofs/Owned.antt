@@ -52,7 +52,7 @@ module _ (k : ℕ) where
   to_changed : (goes : Bool) (d : EventKind) (m : Mail) → AreTo m.actions → AreTo (mail_changed goes k d m).actions
   to_changed goes (event.Read c) m h = h
   to_changed goes (event.Commit at view ws sends) m h = to_append m.actions (sent_to k sends) h (to_sent sends)
-  to_changed goes (event.Retry since c commute) m h = h
+  to_changed goes (event.Retry since c cause) m h = h
   to_changed goes (event.Fail at view) m h = h
   to_changed goes (event.Refused at view g) m h = h
   to_changed goes (event.Send x) m h = to_append m.actions (sent_to k (x ∷ [])) h (to_sent (x ∷ []))
@@ -87,7 +87,7 @@ module _ (cells : List StoreCell) where
   legal_such : (done : List Event) (a : ℕ) (d : EventKind) → LegalKind cells done a d → SendsWell IsFor d
   legal_such done a (event.Read c) h = tt
   legal_such done a (event.Commit at view ws sends) h = are_for sends h.1
-  legal_such done a (event.Retry since c commute) h = tt
+  legal_such done a (event.Retry since c cause) h = tt
   legal_such done a (event.Fail at view) h = tt
   legal_such done a (event.Refused at view g) h = tt
   legal_such done a (event.Send x) h = h.0

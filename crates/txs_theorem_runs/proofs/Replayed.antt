@@ -1,5 +1,5 @@
 -- Worlds after the first events of a book, and what stands at an entry's place.
-use Rattle.std.proofs.Common.{◌≡◌, ◌≤◌, ℕ, zero, suc, Bool, true, false, ◌&&◌, ◌||◌, nat_le, List, [], ◌∷◌, ◌++◌, if◌then◌else◌, length, take, drop, map, Option, Some, None, refl, sym, ap, ◌∙◌, subst, arith}
+use Rattle.std.proofs.Common.{◌≡◌, ◌≤◌, ℕ, zero, suc, Bool, true, false, ◌&&◌, ◌||◌, ◌==◌, nat_le, List, [], ◌∷◌, ◌++◌, if◌then◌else◌, length, take, drop, map, Option, Some, None, refl, sym, ap, ◌∙◌, subst, arith}
 use Rattle.std.proofs.lemmas.Bool.{false≢true}
 use Rattle.std.proofs.lemmas.Bool.Decides.{nat_tests}
 use Rattle.std.proofs.lemmas.List.{length-take-le}
@@ -11,10 +11,11 @@ use Rattle.txs_value_cell.specs.Cells.{World}
 use Rattle.txs_value_base.specs.Places.{nth}
 use Rattle.txs_value_data.specs.declared.value.CellId.{CellId}
 use Rattle.txs_value_data.specs.declared.value.Value.{Value}
+use Rattle.txs_frame.specs.Frame.{has_number}
 use Rattle.txs_theorem_threads.specs.RepliesFit.{Gives, AgreeOn}
 use Rattle.txs_world_protocol.specs.Ask.{Writes}
 use Rattle.txs_world_book.specs.Atom.{atom_after, swapped_to, is_swap, swapped_since}
-use Rattle.txs_world_book.specs.Book.{changed, value_or, after, newest, written, least, least_written, cells_in, all_before, may_name, may_end}
+use Rattle.txs_world_book.specs.Book.{changed, value_or, is_there, after, newest, written, least, least_written, cells_in, all_before, may_name, may_end}
 use Rattle.txs_world_book.specs.Laws.{UnwrittenStays}
 
 pub length_taken : {A : Type 0} (k : ℕ) (xs : List A) → k ≤ length xs → length (take k xs) ≡ k
@@ -62,7 +63,7 @@ atom_unswapped v (e ∷ es) zero h =
     quiet : (d : EventKind) → is_swap d ≡ false → value_or (swapped_to d) v ≡ v
     quiet (Read c) i = refl
     quiet (Commit at view ws sends) i = refl
-    quiet (Retry since c commute) i = refl
+    quiet (Retry since c cause) i = refl
     quiet (Fail at view) i = refl
     quiet (Refused at view g) i = refl
     quiet (Send x) i = refl
@@ -119,3 +120,30 @@ unwritten_agree stays w done view (x ∷ ws) h = go (unwritten_agree stays w don
         → (if b then least (Some x.0) (least_written done view (cells_in ws)) else least_written done view (cells_in ws)) ≡ None → AgreeOn (x ∷ ws) (after w done view) (after w done (length done))
     go more true e i = absurd (one_is_least x.0 (least_written done view (cells_in ws)) i)
     go more false e i = (sym (stays w done view x.0.number e), more i)
+
+-- what is found among refs is one of them
+pub least_among : (book : List Event) (p : ℕ) (cs : List CellId) (d : CellId) → least_written book p cs ≡ Some d → has_number cs d.number ≡ true
+least_among book p [] d h = absurd (false≢true (ap is_there h))
+least_among book p (c ∷ cs) d h = go (written c.number p book) (least_written book p cs) (λ x e. least_among book p cs x e) h
+  where
+    behind : (b t : Bool) → t ≡ true → (b || t) ≡ true
+    behind true t e = refl
+    behind false t e = e
+
+    some_same : (x y : CellId) → Some x ≡ Some y → x ≡ y
+    some_same x y e = cc
+
+    itself : (n : ℕ) → (n == n) ≡ true
+    itself n = grind (arith, nat_tests)
+
+    first : Some c ≡ Some d → (c.number == d.number || has_number cs d.number) ≡ true
+    first e = subst (λ (x : CellId). (c.number == x.number || has_number cs x.number) ≡ true) (some_same c d e) (ap (λ b. b || has_number cs c.number) (itself c.number))
+
+    picked : (t : Bool) (x : CellId) → ((y : CellId) → Some x ≡ Some y → has_number cs y.number ≡ true) → (if t then Some c else Some x) ≡ Some d → (c.number == d.number || has_number cs d.number) ≡ true
+    picked true x f e = first e
+    picked false x f e = behind (c.number == d.number) (has_number cs d.number) (f d e)
+
+    go : (t : Bool) (o : Option CellId) → ((x : CellId) → o ≡ Some x → has_number cs x.number ≡ true) → (if t then least (Some c) o else o) ≡ Some d → (c.number == d.number || has_number cs d.number) ≡ true
+    go false o f e = behind (c.number == d.number) (has_number cs d.number) (f d e)
+    go true None f e = first e
+    go true (Some x) f e = picked (nat_le c.number x.number) x f e

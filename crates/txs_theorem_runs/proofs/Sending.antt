@@ -117,7 +117,7 @@ module _ (functions : List PlainFunction) where
   pub quiet_sound : (done : List Event) (kind : EventKind) → IsQuiet kind → Sent done kind
   quiet_sound done (event.Read c) h = tt
   quiet_sound done (event.Commit at view ws sends) h = absurd h
-  quiet_sound done (event.Retry since c commute) h = tt
+  quiet_sound done (event.Retry since c cause) h = tt
   quiet_sound done (event.Fail at view) h = tt
   quiet_sound done (event.Refused at view g) h = tt
   quiet_sound done (event.Send x) h = absurd h

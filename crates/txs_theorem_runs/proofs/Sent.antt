@@ -85,7 +85,7 @@ module _ (P : Action → Type 0) where
   such_changed : (goes : Bool) (k : ℕ) (d : EventKind) (m : Mail) → SendsWell d → AreSuch m.actions → AreSuch (mail_changed goes k d m).actions
   such_changed goes k (event.Read c) m s h = h
   such_changed goes k (event.Commit at view ws sends) m s h = such_append m.actions (sent_to k sends) h (such_sent k sends s)
-  such_changed goes k (event.Retry since c commute) m s h = h
+  such_changed goes k (event.Retry since c cause) m s h = h
   such_changed goes k (event.Fail at view) m s h = h
   such_changed goes k (event.Refused at view g) m s h = h
   such_changed goes k (event.Send x) m s h = such_append m.actions (sent_to k (x ∷ [])) h (such_sent k (x ∷ []) (s, tt))
@@ -195,7 +195,7 @@ module _ (P : Action → Type 0) where
   quiet_sound : (done : List Event) (kind : EventKind) → IsQuiet kind → Sent done kind
   quiet_sound done (event.Read c) h = tt
   quiet_sound done (event.Commit at view ws sends) h = absurd h
-  quiet_sound done (event.Retry since c commute) h = tt
+  quiet_sound done (event.Retry since c cause) h = tt
   quiet_sound done (event.Fail at view) h = tt
   quiet_sound done (event.Refused at view g) h = tt
   quiet_sound done (event.Send x) h = absurd h

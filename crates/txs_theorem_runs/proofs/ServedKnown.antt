@@ -7,6 +7,7 @@ use Rattle.txs_world_protocol.specs.declared.ask.Reply.{Reply}
 use Rattle.txs_world_protocol.specs.declared.ask.Reply.TheVariants as reply
 use Rattle.txs_world_protocol.specs.declared.event.Event.{Event}
 use Rattle.txs_world_protocol.specs.declared.event.EventKind.{EventKind}
+use Rattle.txs_world_protocol.specs.declared.event.Cause.TheVariants as cause
 use Rattle.txs_world_protocol.specs.declared.event.EventKind.TheVariants as event
 use Rattle.txs_value_cell.specs.Cells.{World}
 use Rattle.txs_value_data.specs.Limits.{most_events}
@@ -40,7 +41,7 @@ module _ (cells : List CellDefinition) (opens : OpeningIsKnown cells) where
   abbrev KindKnown : EventKind → Type 0
   KindKnown (event.Read c) = Unit {0}
   KindKnown (event.Commit at view ws sends) = ValuesKnown cells ws × SendsKnown cells sends
-  KindKnown (event.Retry since c commute) = Unit {0}
+  KindKnown (event.Retry since c cause) = Unit {0}
   KindKnown (event.Fail at view) = Unit {0}
   KindKnown (event.Refused at view g) = Unit {0}
   KindKnown (event.Send x) = ActionKnown cells x
@@ -71,7 +72,7 @@ module _ (cells : List CellDefinition) (opens : OpeningIsKnown cells) where
   writes_known : (kind : EventKind) → KindKnown kind → ValuesKnown cells (writes_of kind)
   writes_known (event.Read c) h = tt
   writes_known (event.Commit at view ws sends) h = h.0
-  writes_known (event.Retry since c commute) h = tt
+  writes_known (event.Retry since c cause) h = tt
   writes_known (event.Fail at view) h = tt
   writes_known (event.Refused at view g) h = tt
   writes_known (event.Send x) h = tt
@@ -91,7 +92,7 @@ module _ (cells : List CellDefinition) (opens : OpeningIsKnown cells) where
   swapped_known : (kind : EventKind) → KindKnown kind → OptionKnown cells (swapped_to kind)
   swapped_known (event.Read c) h = tt
   swapped_known (event.Commit at view ws sends) h = tt
-  swapped_known (event.Retry since c commute) h = tt
+  swapped_known (event.Retry since c cause) h = tt
   swapped_known (event.Fail at view) h = tt
   swapped_known (event.Refused at view g) h = tt
   swapped_known (event.Send x) h = tt
@@ -127,7 +128,7 @@ module _ (cells : List CellDefinition) (opens : OpeningIsKnown cells) where
   mail_kept : (goes : Bool) (k : ℕ) (kind : EventKind) (m : Mail) → KindKnown kind → SendsKnown cells m.actions → SendsKnown cells (mail_changed goes k kind m).actions
   mail_kept goes k (event.Read c) m g h = h
   mail_kept goes k (event.Commit at view ws sends) m g h = sends_append cells m.actions (sent_to k sends) h (sent_known k sends g.1)
-  mail_kept goes k (event.Retry since c commute) m g h = h
+  mail_kept goes k (event.Retry since c cause) m g h = h
   mail_kept goes k (event.Fail at view) m g h = h
   mail_kept goes k (event.Refused at view a) m g h = h
   mail_kept goes k (event.Send x) m g h = sends_append cells m.actions (sent_to k (x ∷ [])) h (sent_known k (x ∷ []) (g, tt))
@@ -162,12 +163,12 @@ module _ (cells : List CellDefinition) (opens : OpeningIsKnown cells) where
         go false = (tt, h)
 
     looks_known : (b : Bool) (c : CellId) (p : ℕ) → ServedKnown (looks b (opening store) a c p es)
-    looks_known true c p = adds_known (event.Retry p c false) (reply.Retry c) tt tt
+    looks_known true c p = adds_known (event.Retry p c cause.Outdated) (reply.Retry c) tt tt
     looks_known false c p = (after_known (opening store) es p opens h c.number, h)
 
     commits_known : (o c g : Option CellId) (p q : ℕ) (ws : Writes) (sends : List Action) → ValuesKnown cells ws → SendsKnown cells sends → ServedKnown (commits o c g a p q ws sends es)
-    commits_known (Some d) c g p q ws sends k l = adds_known (event.Retry p d false) (reply.Retry d) tt tt
-    commits_known None (Some d) g p q ws sends k l = adds_known (event.Retry q d true) (reply.Changed d) tt tt
+    commits_known (Some d) c g p q ws sends k l = adds_known (event.Retry p d cause.Held) (reply.Retry d) tt tt
+    commits_known None (Some d) g p q ws sends k l = adds_known (event.Retry q d (cause.Commuted p)) (reply.Changed d) tt tt
     commits_known None None (Some g) p q ws sends k l = adds_known (event.Refused p q g) (reply.AgentIsFailed g) tt tt
     commits_known None None None p q ws sends k l = adds_known (event.Commit p q ws sends) reply.Done (k, l) tt
 

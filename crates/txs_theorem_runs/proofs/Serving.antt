@@ -10,6 +10,7 @@ use Rattle.txs_world_protocol.specs.declared.ask.Reply.{Reply}
 use Rattle.txs_world_protocol.specs.declared.ask.Reply.TheVariants as reply
 use Rattle.txs_world_protocol.specs.declared.event.Event.{Event}
 use Rattle.txs_world_protocol.specs.declared.event.EventKind.{EventKind}
+use Rattle.txs_world_protocol.specs.declared.event.Cause.TheVariants as cause
 use Rattle.txs_world_protocol.specs.declared.event.EventKind.TheVariants as event
 use Rattle.txs_value_data.proofs.SameLemmas.{and_both, numbers}
 use Rattle.txs_value_cell.specs.Forms.{same_kind}
@@ -69,12 +70,12 @@ module _ (a : ℕ) (book : List Event) where
       go false e = record { more = []; grown = sym (append_nil book); own = tt; few = omega arith; stays = λ n. refl; full = λ f. ltb-false (length book) most_events e }
 
   looks_serve : (b : Bool) (cells : List CellDefinition) (c : CellId) (p : ℕ) → Serves a book (looks b (opening (cells_of cells)) a c p book)
-  looks_serve true cells c p = adds_serves (event.Retry p c false) (reply.Retry c) tt
+  looks_serve true cells c p = adds_serves (event.Retry p c cause.Outdated) (reply.Retry c) tt
   looks_serve false cells c p = quiet_serves (reply.Is (after (opening (cells_of cells)) book p c.number)) (λ f. f)
 
   commits_serve : (o c g : Option CellId) (p q : ℕ) (ws : Writes) (sends : List Action) → Serves a book (commits o c g a p q ws sends book)
-  commits_serve (Some d) c g p q ws sends = adds_serves (event.Retry p d false) (reply.Retry d) tt
-  commits_serve None (Some d) g p q ws sends = adds_serves (event.Retry q d true) (reply.Changed d) tt
+  commits_serve (Some d) c g p q ws sends = adds_serves (event.Retry p d cause.Held) (reply.Retry d) tt
+  commits_serve None (Some d) g p q ws sends = adds_serves (event.Retry q d (cause.Commuted p)) (reply.Changed d) tt
   commits_serve None None (Some g) p q ws sends = adds_serves (event.Refused p q g) (reply.AgentIsFailed g) tt
   commits_serve None None None p q ws sends = adds_serves (event.Commit p q ws sends) reply.Done tt
 

@@ -9,6 +9,7 @@ use Rattle.txs_world_protocol.specs.declared.ask.Reply.{Reply}
 use Rattle.txs_world_protocol.specs.declared.ask.Reply.TheVariants as reply
 use Rattle.txs_world_protocol.specs.declared.event.Event.{Event}
 use Rattle.txs_world_protocol.specs.declared.event.EventKind.{EventKind}
+use Rattle.txs_world_protocol.specs.declared.event.Cause.TheVariants as cause
 use Rattle.txs_world_protocol.specs.declared.event.EventKind.TheVariants as event
 use Rattle.txs_value_data.specs.Limits.{most_events}
 use Rattle.txs_value_base.specs.Places.{nth}
@@ -91,7 +92,7 @@ module _ (cells : List CellDefinition) (functions : List PlainFunction) (books :
     AskSteps q = (within : k ≤ length (books (book_for cells q))) → Goal q k within (serve_on cells a q (take k (books (book_for cells q))))
 
     looks_step : (b : Bool) (c : CellId) (p : ℕ) (within : k ≤ length (books 0)) → Goal (ask.Look c p) k within (looks b (opening (cells_of cells)) a c p (take k (books 0)))
-    looks_step true c p within = adding_so (ask.Look c p) k within (event.Retry p c false) (reply.Retry c) (λ h. h)
+    looks_step true c p within = adding_so (ask.Look c p) k within (event.Retry p c cause.Outdated) (reply.Retry c) (λ h. h)
     looks_step false c p within = quietly (ask.Look c p) k within (reply.Is (after (opening (cells_of cells)) (take k (books 0)) p c.number))
 
     sends_step : (b : Bool) (x : Action) (within : k ≤ length (books 0)) → Goal (ask.Send x) k within (sends_to b a x (take k (books 0)))
@@ -100,8 +101,8 @@ module _ (cells : List CellDefinition) (functions : List PlainFunction) (books :
 
     commits_step : (o c f : Option CellId) (p v : ℕ) (sets commuted ws : Writes) (ensured : List CellId) (sends : List Action) (within : k ≤ length (books 0))
         → Goal (ask.Commit p sets ensured v commuted sends) k within (commits o c f a p v ws sends (take k (books 0)))
-    commits_step (Some d) c f p v sets commuted ws ensured sends within = adding_so (ask.Commit p sets ensured v commuted sends) k within (event.Retry p d false) (reply.Retry d) (λ h. h)
-    commits_step None (Some d) f p v sets commuted ws ensured sends within = adding_so (ask.Commit p sets ensured v commuted sends) k within (event.Retry v d true) (reply.Changed d) (λ h. h)
+    commits_step (Some d) c f p v sets commuted ws ensured sends within = adding_so (ask.Commit p sets ensured v commuted sends) k within (event.Retry p d cause.Held) (reply.Retry d) (λ h. h)
+    commits_step None (Some d) f p v sets commuted ws ensured sends within = adding_so (ask.Commit p sets ensured v commuted sends) k within (event.Retry v d (cause.Commuted p)) (reply.Changed d) (λ h. h)
     commits_step None None (Some d) p v sets commuted ws ensured sends within = adding_so (ask.Commit p sets ensured v commuted sends) k within (event.Refused p v d) (reply.AgentIsFailed d) (λ h. h)
     commits_step None None None p v sets commuted ws ensured sends within = adding_so (ask.Commit p sets ensured v commuted sends) k within (event.Commit p v ws sends) reply.Done (λ h. h)
 

@@ -9,6 +9,7 @@ use Rattle.txs_world_protocol.specs.declared.ask.Reply.{Reply}
 use Rattle.txs_world_protocol.specs.declared.ask.Reply.TheVariants as reply
 use Rattle.txs_world_protocol.specs.declared.event.Event.{Event}
 use Rattle.txs_world_protocol.specs.declared.event.EventKind.{EventKind}
+use Rattle.txs_world_protocol.specs.declared.event.Cause.TheVariants as cause
 use Rattle.txs_world_protocol.specs.declared.event.EventKind.TheVariants as event
 use Rattle.txs_value_data.specs.Limits.{most_events}
 use Rattle.txs_frame.specs.Frame.{sends_of_commit}
@@ -126,7 +127,7 @@ module _ (held : Option (List Action)) (cells : List CellDefinition) (books : �
     AskCalm q = (within : k ≤ length (books (book_for cells q))) → Goal q k within Rest ps rest xs (serve_on cells a q (take k (books (book_for cells q))))
 
     looks_calm : (b : Bool) (c : CellId) (p : ℕ) (within : k ≤ length (books 0)) → Goal (ask.Look c p) k within Rest ps rest xs (looks b (opening (cells_of cells)) a c p (take k (books 0)))
-    looks_calm true c p within = adding (ask.Look c p) k within Rest ps rest xs (event.Retry p c false) (reply.Retry c) (λ n u r. rest xs n)
+    looks_calm true c p within = adding (ask.Look c p) k within Rest ps rest xs (event.Retry p c cause.Outdated) (reply.Retry c) (λ n u r. rest xs n)
     looks_calm false c p within = quietly (ask.Look c p) k within Rest ps rest xs (reply.Is (after (opening (cells_of cells)) (take k (books 0)) p c.number)) (λ n. n)
 
     sends_calm : (b : Bool) (x : Action) (within : k ≤ length (books 0)) → Goal (ask.Send x) k within Rest ps rest xs (sends_to b a x (take k (books 0)))
@@ -136,9 +137,9 @@ module _ (held : Option (List Action)) (cells : List CellDefinition) (books : �
     commits_calm : (o c g : Option CellId) (p v : ℕ) (sets commuted ws : Writes) (ensured : List CellId) (sends : List Action) (within : k ≤ length (books 0))
         → Goal (ask.Commit p sets ensured v commuted sends) k within Rest ps rest xs (commits o c g a p v ws sends (take k (books 0)))
     commits_calm (Some d) c g p v sets commuted ws ensured sends within =
-        adding (ask.Commit p sets ensured v commuted sends) k within Rest ps rest xs (event.Retry p d false) (reply.Retry d) (λ n u r. rest xs n)
+        adding (ask.Commit p sets ensured v commuted sends) k within Rest ps rest xs (event.Retry p d cause.Held) (reply.Retry d) (λ n u r. rest xs n)
     commits_calm None (Some d) g p v sets commuted ws ensured sends within =
-        adding (ask.Commit p sets ensured v commuted sends) k within Rest ps rest xs (event.Retry v d true) (reply.Changed d) (λ n u r. rest xs n)
+        adding (ask.Commit p sets ensured v commuted sends) k within Rest ps rest xs (event.Retry v d (cause.Commuted p)) (reply.Changed d) (λ n u r. rest xs n)
     commits_calm None None (Some g) p v sets commuted ws ensured sends within =
         adding (ask.Commit p sets ensured v commuted sends) k within Rest ps rest xs (event.Refused p v g) (reply.AgentIsFailed g) (λ n u r. first xs n r)
       where

@@ -24,7 +24,7 @@ pub record Says : Type 1 where
 abbrev pub SaidAt : Says → Place → EventKind → (List TxRun → Type 0) → List TxRun → Type 0
 SaidAt s p (Read c) rest xs = rest xs
 SaidAt s p (Commit at view ws sends) rest xs = Front (λ x. s.commit p.book p.at at ws sends x) rest xs
-SaidAt s p (Retry since c commute) rest xs = rest xs
+SaidAt s p (Retry since c cause) rest xs = rest xs
 SaidAt s p (Fail at view) rest xs = rest xs
 SaidAt s p (Refused at view g) rest xs = Front (λ x. s.refusal p.book p.at at g x) rest xs
 SaidAt s p (Send x) rest xs = rest xs

@@ -11,7 +11,7 @@ use Rattle.txs_tree_meaning.specs.Known.{known}
 use Rattle.txs_tree_meaning.specs.Meaning.{Completion, Completes, Recurs, Faults, Retries, Waits, OutOfTurns, Invalid, bind, closed, Applies, eval}
 use Rattle.txs_tree_meaning.specs.Pure.{nowhere}
 use Rattle.txs_tree_meaning.specs.Sound.{SoundFunctions}
-use Rattle.txs_tree_meaning.specs.Thread.{TxRun}
+use Rattle.txs_tree_meaning.specs.Thread.{TxRun, is_held}
 use Rattle.txs_tree_meaning.specs.Transaction.{TxState, in_transaction, tx_start, tx_meaning, merged, commute_writes, if_accepted}
 use Rattle.txs_tree_meaning.specs.Tree.{PlainFunction}
 use Rattle.txs_tree_meaning.proofs.Callable.{both}
@@ -21,7 +21,7 @@ use Rattle.txs_theorem_threads.proofs.Callees.{IsPure}
 use Rattle.txs_theorem_threads.proofs.Quiet.{carried, quietly, AllCommutes}
 use Rattle.txs_theorem_serial.specs.Laws.{CoveredIsSerial}
 use Rattle.txs_tree_meaning.specs.Marked.{MarkedFunctions}
-use Rattle.txs_theorem_serial.specs.Serial.{is_held, are_held, is_covered, purely, IsSerial, Met, Committed, AgreeOn}
+use Rattle.txs_theorem_serial.specs.Serial.{are_held, is_covered, purely, IsSerial, Met, Committed, AgreeOn}
 use Rattle.txs_theorem_serial.proofs.Bodies.{body_within, callR, callC, tree_carried, calls_carried}
 use Rattle.txs_theorem_serial.proofs.Carrying.{moved, Carried, closed_carried, Goes, Stays, Suits, FineAt, NearAt}
 use Rattle.txs_theorem_serial.proofs.Nearly.{loose, set_tight, alike_sets}

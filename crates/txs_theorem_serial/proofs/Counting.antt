@@ -36,7 +36,7 @@ module _ (functions : List PlainFunction) (validators : Validators) (threads : â
     counted (Commit at view ws sends) h = taken h.0 h.1 h.2 (next (changed (Commit at view ws sends) W) (with_runs e.actor h.1 runs) h.4 a)
     counted (Refused at view g) h = taken h.0 h.1 h.2 (next (changed (Refused at view g) W) (with_runs e.actor h.1 runs) h.4 a)
     counted (Read c) h = untaken (next (changed (Read c) W) runs h a)
-    counted (Retry since c commute) h = untaken (next (changed (Retry since c commute) W) runs h a)
+    counted (Retry since c cause) h = untaken (next (changed (Retry since c cause) W) runs h a)
     counted (Fail at view) h = untaken (next (changed (Fail at view) W) runs h a)
     counted (Send x) h = untaken (next (changed (Send x) W) runs h a)
     counted (SendRefused g) h = untaken (next (changed (SendRefused g) W) runs h a)

@@ -8,6 +8,7 @@ use Rattle.txs_world_protocol.specs.SeenEvent.{SeenEvent, home}
 use Rattle.txs_world_protocol.specs.declared.ask.Ask.{Ask}
 use Rattle.txs_world_protocol.specs.declared.ask.Ask.TheVariants as ask
 use Rattle.txs_world_protocol.specs.declared.event.EventKind.{EventKind}
+use Rattle.txs_world_protocol.specs.declared.event.Cause.TheVariants as cause
 use Rattle.txs_world_protocol.specs.declared.event.EventKind.TheVariants as event
 use Rattle.txs_value_cell.specs.Cells.{World, Validators, validators_of, validator_at}
 use Rattle.txs_value_cell.specs.Forms.{rule, may_stand, cell_of}
@@ -21,7 +22,7 @@ use Rattle.txs_value_cell.specs.declared.form.PutForm.TheVariants.{RefSet, Reset
 use Rattle.txs_value_cell.specs.declared.form.UpdateForm.{UpdateForm}
 use Rattle.txs_value_cell.specs.declared.form.UpdateForm.TheVariants.{Alter, Commute, Swap}
 use Rattle.txs_frame.specs.declared.frame.Commute.{Commute as CommuteOf}
-use Rattle.txs_frame.specs.Frame.{PlainTxFrame, set_writes, commuted, phase_work, sends_of_commit}
+use Rattle.txs_frame.specs.Frame.{PlainTxFrame, has_number, set_writes, commuted, phase_work, sends_of_commit}
 use Rattle.txs_value_apply.specs.Core.{core, vector_of}
 use Rattle.txs_value_apply.specs.Truth.{choose}
 use Rattle.txs_value_base.specs.Places.{nth, fault_at}
@@ -38,7 +39,7 @@ use Rattle.txs_tree_meaning.specs.Known.{known}
 use Rattle.txs_tree_meaning.specs.Meaning.{Completion, Completes, Recurs, Faults, Retries, Waits, OutOfTurns, Invalid, bind, again, give, result_of, allowed, Applies, turns, apply, eval, eval_all, eval_let, eval_do, call_at}
 use Rattle.txs_tree_meaning.specs.Pure.{nowhere}
 use Rattle.txs_tree_meaning.specs.Sound.{Zone, in_function, in_thread, in_dosync, SoundTree, SoundAll, SoundLet, SoundDo, SoundFunctions, SoundCells}
-use Rattle.txs_tree_meaning.specs.Thread.{TxRun, ThreadState, from_events, body_in, applies_in, action_meaning, with_tx, holding, eats, meant, reads, resets, faulted, faultless, swaps, sends, sends_or_holds, over, Transacting, run_of, ends_tx, is_retry, uneaten, eats_tx, Surroundings, thread_look, thread_put, thread_update, on_events, thread_meaning, accepts}
+use Rattle.txs_tree_meaning.specs.Thread.{TxRun, ThreadState, from_events, body_in, applies_in, action_meaning, with_tx, holding, eats, meant, reads, resets, faulted, faultless, swaps, sends, sends_or_holds, over, Transacting, run_of, ends_tx, is_retry, is_held, again as tried_again, uneaten, eats_tx, Surroundings, thread_look, thread_put, thread_update, on_events, thread_meaning, accepts}
 use Rattle.txs_tree_meaning.specs.Transaction.{TxState, value_or, valued, merged, redone, judged, validated, accepted, if_accepted, final_writes, tx_meaning}
 use Rattle.txs_tree_meaning.specs.Tree.{Mark, Tree, Const, Local, If, Do, Let, Loop, Recur, Core, Call, VectorOf, Println, Dosync, Look, Put, Update, Send, Trees, none, more, count, PlainFunction}
 use Rattle.txs_tree_meaning.proofs.Callable.{both, function_at, nth-take, tree-widened}
@@ -85,7 +86,7 @@ module _ (cells : List CellDefinition) (functions : List PlainFunction) (from : 
   run_on o (event.Read c) R Q C rest next xs ys h r = h xs r
   run_on o (event.Commit at view ws sends) R Q C rest next [] ys h r = absurd r
   run_on o (event.Commit at view ws sends) R Q C rest next (x ∷ xs) ys h r = (r.0, h xs r.1)
-  run_on o (event.Retry since c commute) R Q C rest next xs ys h r = h xs r
+  run_on o (event.Retry since c cause) R Q C rest next xs ys h r = h xs r
   run_on o (event.Fail at view) R Q C rest next xs ys h r = h xs r
   run_on o (event.Refused at view g) R Q C rest next [] ys h r = absurd r
   run_on o (event.Refused at view g) R Q C rest next (x ∷ xs) ys h r = (r.0, h xs r.1)
@@ -445,8 +446,28 @@ module _ (cells : List CellDefinition) (functions : List PlainFunction) (from : 
 
         -- a retry has no transaction
         retry_none : (k : EventKind) (R Q C : World) → is_retry k ≡ true → RunOf functions validators from n 0 k R Q C IsNone []
-        retry_none (event.Retry since c commute) R Q C h = tt
+        retry_none (event.Retry since c cause) R Q C h = tt
         retry_none _ R Q C h = absurd (false≢true h)
+
+        caused_reaches : (b : Bool) (x : Completion ThreadState Value) → Reaches Any x → Reaches Any (allowed b x)
+        caused_reaches true x h = h
+        caused_reaches false x h = tt
+
+        -- where a try came to its end and had its cause, what follows goes on
+        over_reaches : (z : Completion TxState Value) (b : TxState → Bool) (t : ThreadState) (next : Completion ThreadState Value) → NotedAt t → Reaches Any next → Reaches Any (over t z (λ v s. allowed (b s) next) (λ g. Invalid))
+        over_reaches (Completes v s) b t next g h = caused_reaches (b s) next h
+        over_reaches (Recurs vs s) b t next g h = tt
+        over_reaches (Faults f1 s) b t next g h = tt
+        over_reaches (Retries s) b t next g h = tt
+        over_reaches (Waits s) b t next g h = tt
+        over_reaches (OutOfTurns s) b t next g h = g
+        over_reaches Invalid b t next g h = tt
+
+        tried_reaches : (k : EventKind) (R : World) (t : ThreadState) (next : Completion ThreadState Value) → NotedAt t → Reaches Any next → Reaches Any (tried_again d k R t next)
+        tried_reaches (event.Retry since c cause.Outdated) R t next g h = h
+        tried_reaches (event.Retry since c cause.Held) R t next g h = over_reaches (d.on R) (λ s. is_held s.done c.number) t next g h
+        tried_reaches (event.Retry since c (cause.Commuted at)) R t next g h = over_reaches (d.on R) (λ s. has_number (commuted s.done) c.number) t next g h
+        tried_reaches _ R t next g h = tt
 
         eats_tx_reaches : (k : ℕ) (es : List SeenEvent) (t : ThreadState) → NotedWith es t → Reaches Any (eats_tx k d f es t)
         eats_tx_reaches zero es t g = g
@@ -457,11 +478,14 @@ module _ (cells : List CellDefinition) (functions : List PlainFunction) (from : 
             next_own : (e1.book == 0) ≡ true → Next 0 e1.kind e1.R e1.Q e1.C (record t { todo = es })
             next_own own = subst (λ o. Next o e1.kind e1.R e1.Q e1.C (record t { todo = es })) (eqb-true e1.book 0 own) (next_event e1 es t g)
 
-            of_book : (own : Bool) → (e1.book == 0) ≡ own → (again : Bool) → is_retry e1.kind ≡ again → (NotedWith es t → Reaches Any (eats_tx k d f es t)) → Reaches Any (if own then (if again then eats_tx k d f es t else uneaten (e1 ∷ es) (ends_tx d f e1.kind e1.R e1.Q e1.C (record t { todo = es }))) else Invalid)
-            of_book true own true h rest = rest (without 0 e1.kind e1.R e1.Q e1.C (record t { todo = es }) (next_own own) (retry_none e1.kind e1.R e1.Q e1.C h))
+            of_book : (own : Bool) → (e1.book == 0) ≡ own → (retry : Bool) → is_retry e1.kind ≡ retry → (NotedWith es t → Reaches Any (eats_tx k d f es t))
+                → Reaches Any (if own then (if retry then tried_again d e1.kind e1.R (record t { todo = e1 ∷ es }) (eats_tx k d f es t) else uneaten (e1 ∷ es) (ends_tx d f e1.kind e1.R e1.Q e1.C (record t { todo = es }))) else Invalid)
+            of_book true own true h rest =
+                tried_reaches e1.kind e1.R (record t { todo = e1 ∷ es }) (eats_tx k d f es t) g
+                (rest (without 0 e1.kind e1.R e1.Q e1.C (record t { todo = es }) (next_own own) (retry_none e1.kind e1.R e1.Q e1.C h)))
             of_book true own false h rest =
                 within_reaches (e1 ∷ es) t.txs (ends_tx d f e1.kind e1.R e1.Q e1.C (record t { todo = es })) g.1 (ends_reaches e1.kind e1.R e1.Q e1.C (record t { todo = es }) (next_own own))
-            of_book false own again h rest = tt
+            of_book false own retry h rest = tt
 
       -- ---- forms
 

@@ -19,7 +19,7 @@ use Rattle.txs_value_cell.specs.declared.cell.CellDefinition.{CellDefinition}
 use Rattle.txs_frame.specs.Frame.{PlainTxFrame, has_number, sends_of_commit}
 use Rattle.txs_value_base.specs.Places.{nth}
 use Rattle.txs_tree_meaning.specs.Sound.{SoundFunctions}
-use Rattle.txs_tree_meaning.specs.Thread.{TxRun}
+use Rattle.txs_tree_meaning.specs.Thread.{TxRun, is_held}
 use Rattle.txs_tree_meaning.specs.Tree.{PlainFunction}
 use Rattle.txs_value_data.specs.declared.value.CellId.{CellId}
 use Rattle.txs_value_data.specs.declared.value.CellKind.{CellKind}
@@ -30,7 +30,7 @@ use Rattle.txs_theorem_runs.specs.Shared.{world_of, seen_in}
 use Rattle.txs_theorem_runs.specs.Told.{Place, TraceHolds, places_in, places_by, seen_before, seen_of}
 use Rattle.txs_theorem_serial.specs.Laws.{CommitsSerial, RunsAreSerial}
 use Rattle.txs_tree_meaning.specs.Marked.{MarkedFunctions}
-use Rattle.txs_theorem_serial.specs.Serial.{is_held, is_covered, IsSerial, Committed, AgreeOn, RunOf, RunsOf}
+use Rattle.txs_theorem_serial.specs.Serial.{is_covered, IsSerial, Committed, AgreeOn, RunOf, RunsOf}
 use Rattle.txs_theorem_runs.specs.Transactions.{Says, SaidAt, SaidIf, SaidOf, undisturbed}
 use Rattle.txs_theorem_serial.specs.Whole.{all_covered, serial_if_covered, all_traces, all_txs, is_act, is_act_kind, without_acts, holds_sends, with_runs, ActionsDid, AgentDid, ThreadDid, CommitAlone, EventAlone, OneByOne}
 use Rattle.txs_tree_meaning.proofs.Callable.{both}
@@ -135,7 +135,7 @@ module _ (functions : List PlainFunction) (turns : ℕ) (held : Option (List Act
     step p ps e there next (Read c) is xs r u = next xs r u
     step p ps e there next (Commit at view ws sends) is [] r u = absurd r
     step p ps e there next (Commit at view ws sends) is (x ∷ xs) r u = (gives p.book p.at at view ws sends e x there is r.0.0 r.0.1 u.0, next xs r.1 u.1)
-    step p ps e there next (Retry since c commute) is xs r u = next xs r u
+    step p ps e there next (Retry since c cause) is xs r u = next xs r u
     step p ps e there next (Fail at view) is xs r u = next xs r u
     step p ps e there next (Refused at view g) is [] r u = absurd r
     step p ps e there next (Refused at view g) is (x ∷ xs) r u = (refused p.book p.at at g x r.0.0, next xs r.1 u.1)
@@ -172,7 +172,7 @@ module _ (S : Says) (books : ℕ → List Event) where
   said_at p (Read c) rest next xs ys h r = h xs r
   said_at p (Commit at view ws sends) rest next [] ys h r = absurd r
   said_at p (Commit at view ws sends) rest next (x ∷ xs) ys h r = (r.0, h xs r.1)
-  said_at p (Retry since c commute) rest next xs ys h r = h xs r
+  said_at p (Retry since c cause) rest next xs ys h r = h xs r
   said_at p (Fail at view) rest next xs ys h r = h xs r
   said_at p (Refused at view g) rest next [] ys h r = absurd r
   said_at p (Refused at view g) rest next (x ∷ xs) ys h r = (r.0, h xs r.1)
@@ -198,7 +198,7 @@ said_on : (S : Says) (p : Place) (d : EventKind) (rest next : List TxRun → Typ
 said_on S p (Read c) rest next xs h r = h xs r
 said_on S p (Commit at view ws sends) rest next [] h r = absurd r
 said_on S p (Commit at view ws sends) rest next (x ∷ xs) h r = (r.0, h xs r.1)
-said_on S p (Retry since c commute) rest next xs h r = h xs r
+said_on S p (Retry since c cause) rest next xs h r = h xs r
 said_on S p (Fail at view) rest next xs h r = h xs r
 said_on S p (Refused at view g) rest next [] h r = absurd r
 said_on S p (Refused at view g) rest next (x ∷ xs) h r = (r.0, h xs r.1)
@@ -216,7 +216,7 @@ module _ (S T U : Says) (commit : (n k at : ℕ) (ws : Writes) (sends : List Act
   follows_at p (Read c) ps xs next s t = next xs s t
   follows_at p (Commit at view ws sends) ps [] next s t = absurd s
   follows_at p (Commit at view ws sends) ps (x ∷ xs) next s t = (commit p.book p.at at ws sends x s.0 t.0, next xs s.1 t.1)
-  follows_at p (Retry since c commute) ps xs next s t = next xs s t
+  follows_at p (Retry since c cause) ps xs next s t = next xs s t
   follows_at p (Fail at view) ps xs next s t = next xs s t
   follows_at p (Refused at view g) ps [] next s t = absurd s
   follows_at p (Refused at view g) ps (x ∷ xs) next s t = (refusal p.book p.at at g x s.0 t.0, next xs s.1 t.1)
@@ -390,7 +390,7 @@ module _ (functions : List PlainFunction) (cells : List CellDefinition) (threads
     first_event (Commit at view ws sends) is [] same s next = absurd s
     first_event (Commit at view ws sends) is (x ∷ xs) same s next =
         (x, xs, same, subst (λ V. CommitAlone functions (validators_of cells) threads e.actor V ws sends x) here s.0.1, next (changed (Commit at view ws sends) W) (with_runs e.actor xs runs) (behind (Commit at view ws sends) is) (left_own xs s.1))
-    first_event (Retry since c commute) is xs same s next = untaken (Retry since c commute) is xs same s next
+    first_event (Retry since c cause) is xs same s next = untaken (Retry since c cause) is xs same s next
     first_event (Fail at view) is xs same s next = untaken (Fail at view) is xs same s next
     first_event (Refused at view g) is [] same s next = absurd s
     first_event (Refused at view g) is (x ∷ xs) same s next = (x, xs, same, tt, next (changed (Refused at view g) W) (with_runs e.actor xs runs) (behind (Refused at view g) is) (left_own xs s.1))

@@ -93,7 +93,7 @@ module _ (cells : List CellDefinition) (functions : List PlainFunction) (books :
         )
     kind_turned (Read c) since out ds m = joined since out ds m
     kind_turned (Commit at view ws sends) since out ds m = joined since out ds m
-    kind_turned (Retry from c commute) since out ds m = joined since out ds m
+    kind_turned (Retry from c cause) since out ds m = joined since out ds m
     kind_turned (Fail at view) since out ds m = joined since out ds m
     kind_turned (Refused at view h) since out ds m = joined since out ds m
     kind_turned (Send x) since out ds m = joined since out ds m

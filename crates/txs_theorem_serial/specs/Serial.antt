@@ -12,16 +12,12 @@ use Rattle.txs_tree_meaning.specs.Known.{known}
 use Rattle.txs_tree_meaning.specs.Meaning.{Completion, Completes, Recurs, Faults, Retries, Waits, OutOfTurns, Invalid, Applies}
 use Rattle.txs_tree_meaning.specs.Pure.{nowhere, pure_meaning}
 use Rattle.txs_tree_meaning.specs.Sound.{in_dosync, SoundTree}
-use Rattle.txs_tree_meaning.specs.Thread.{TxRun, ThreadState}
+use Rattle.txs_tree_meaning.specs.Thread.{TxRun, ThreadState, is_held}
 use Rattle.txs_tree_meaning.specs.Transaction.{TxState, tx_meaning, final_writes}
 use Rattle.txs_tree_meaning.specs.Tree.{PlainFunction}
 use Rattle.txs_value_data.specs.declared.value.CellId.{CellId}
 use Rattle.txs_value_data.specs.declared.value.Value.{Value}
 use Rattle.txs_tree_meaning.specs.Marked.{Marked}
-
--- whether a transaction set or ensured the ref with this number
-abbrev pub is_held : PlainTxFrame → ℕ → Bool
-is_held w k = has_number w.sets k || has_number w.ensures k
 
 -- whether it set or ensured each of these
 abbrev pub are_held : PlainTxFrame → List CellId → Bool
@@ -75,7 +71,7 @@ AgreeOn w R C = (k : ℕ) → is_held w k ≡ true → R k ≡ C k
 abbrev pub RunOf : List PlainFunction → Validators → Option (List Action) → ℕ → ℕ → EventKind → World → World → World → (List TxRun → Type 0) → List TxRun → Type 0
 RunOf functions validators held n book (Read c) R Q C rest xs = rest xs
 RunOf functions validators held n book (Commit at view ws sends) R Q C rest xs = Front (λ x. (book ≡ 0) × Committed functions validators held n x R C ws sends) rest xs
-RunOf functions validators held n book (Retry since c commute) R Q C rest xs = rest xs
+RunOf functions validators held n book (Retry since c cause) R Q C rest xs = rest xs
 RunOf functions validators held n book (Fail at view) R Q C rest xs = rest xs
 RunOf functions validators held n book (Refused at view g) R Q C rest xs = Front (λ x. (book ≡ 0) × Declined functions validators n x R Q) rest xs
 RunOf functions validators held n book (Send x) R Q C rest xs = rest xs

@@ -21,7 +21,7 @@ use Rattle.txs_theorem_threads.proofs.Worlds.{Fitting, Splits, IsShort, WantsOwn
 use Rattle.txs_theorem_threads.specs.EndsSo.{in_hand}
 use Rattle.txs_theorem_threads.specs.Noted.{Commits}
 use Rattle.txs_theorem_threads.specs.OnReplies.{retrying}
-use Rattle.txs_theorem_threads.specs.RepliesFit.{Phase, Out, OnEvent, Goes, ReplyFits, Halt, Going, Stopped, Short, Rerun, halted, HasWaited, HasEaten}
+use Rattle.txs_theorem_threads.specs.RepliesFit.{Phase, Out, Goes, ReplyFits, Halt, Going, Stopped, Short, Rerun, halted, HasWaited, HasEaten}
 
 -- which exchanges fit which events, where a thread has noted these transactions
 abbrev pub Noting : Type 1
@@ -168,8 +168,3 @@ not_retrying cells a (Retries s) y go h = absurd h
 not_retrying cells a (Waits s) y go h = h
 not_retrying cells a (OutOfTurns s) y go h = h
 not_retrying cells a Invalid y go h = tt
-
--- what follows an event
-pub on_then : (book : ℕ) (P : SeenEvent → Type 0) (next next1 : List SeenEvent → Type 0) → ((es : List SeenEvent) → next es → next1 es) → (es : List SeenEvent) → OnEvent book P next es → OnEvent book P next1 es
-on_then book P next next1 h [] m = absurd m
-on_then book P next next1 h (e ∷ es) m = (m.0, m.1, h es m.2)

@@ -6,11 +6,12 @@ use Rattle.txs_world_protocol.specs.declared.ask.Ask.TheVariants as ask
 use Rattle.txs_world_protocol.specs.declared.ask.Ask.{Ask}
 use Rattle.txs_world_protocol.specs.declared.ask.Reply.TheVariants as reply
 use Rattle.txs_world_protocol.specs.declared.ask.Reply.{Reply}
+use Rattle.txs_frame.specs.Frame.{has_number, cells_in}
 use Rattle.txs_value_cell.specs.Cells.{World}
 use Rattle.txs_value_cell.specs.declared.cell.CellDefinition.{CellDefinition}
 use Rattle.txs_value_data.specs.declared.value.CellId.{CellId}
 use Rattle.txs_tree_meaning.specs.Transaction.{merged}
-use Rattle.txs_theorem_threads.specs.RepliesFit.{Phase, Out, In, Viewed, WithSwap, OnEvent, SaysRetry, SaysRead, SaysCommit, SaysFail, SaysRefused, SaysSent, SaysSendRefused, SaysSwap, SaysBroke, AgreeOn, Goes, OutFits, InFits, ViewedFits, SwapFits, belongs, PhaseFits, IfBelongs, ReplyFits, RepliesFit}
+use Rattle.txs_theorem_threads.specs.RepliesFit.{Phase, Out, In, Viewed, WithSwap, OnEvent, SaysOutdated, SaysHeld, SaysCommuted, SaysRead, SaysCommit, SaysFail, SaysRefused, SaysSent, SaysSendRefused, SaysSwap, SaysBroke, AgreeOn, Goes, OutFits, InFits, ViewedFits, SwapFits, belongs, PhaseFits, IfBelongs, ReplyFits, RepliesFit}
 use Rattle.txs_theorem_threads.specs.RepliesFitTo.{RepliesFitTo, FittingToFits, OneMoreFits}
 
 -- what holds, holds where something is said of it
@@ -34,18 +35,18 @@ module _ (cells : List CellDefinition) (fs : List SeenEvent) (next next1 : Goes)
 
   in_more : (R : World) (a : Ask) (r : Reply) (es : List SeenEvent) → InFits R a r next es → InFits R a r next1 (es ++ fs)
   in_more R (ask.Look c p) (reply.Is v) es h = (h.0, k (In R) es h.1)
-  in_more R (ask.Look c p) (reply.Retry d) es h = on_more Out 0 (λ e. SaysRetry false e.kind) es h
+  in_more R (ask.Look c p) (reply.Retry d) es h = on_more Out 0 (λ e. SaysOutdated e.kind) es h
   in_more R (ask.View cs) (reply.Views q vs) es h = (h.0, h.1, k (Viewed R h.0) es h.2)
   in_more R (ask.Commit p ws rs q cs sends) reply.Done es h = on_more Out 0 (λ e. (R ≡ e.R) × (cs ≡ []) × SaysCommit ws sends e.kind) es h
-  in_more R (ask.Commit p ws rs q cs sends) (reply.Retry d) es h = on_more Out 0 (λ e. SaysRetry false e.kind) es h
+  in_more R (ask.Commit p ws rs q cs sends) (reply.Retry d) es h = on_more Out 0 (λ e. (R ≡ e.R) × SaysHeld d e.kind × (has_number (cells_in ws ++ rs) d.number ≡ true)) es h
   in_more R (ask.Commit p ws rs q cs sends) (reply.AgentIsFailed g) es h = on_more Out 0 (λ e. (R ≡ e.R) × (cs ≡ []) × SaysRefused e.kind) es h
   in_more R (ask.Fail p q) reply.Done es h = on_more Out 0 (λ e. (R ≡ e.R) × SaysFail e.kind) es h
   in_more R _ _ es h = absurd h
 
   viewed_more : (R Q : World) (a : Ask) (r : Reply) (es : List SeenEvent) → ViewedFits R Q a r next es → ViewedFits R Q a r next1 (es ++ fs)
   viewed_more R Q (ask.Commit p ws rs q cs sends) reply.Done es h = on_more Out 0 (λ e. (R ≡ e.R) × AgreeOn cs Q e.C × SaysCommit (merged ws cs) sends e.kind) es h
-  viewed_more R Q (ask.Commit p ws rs q cs sends) (reply.Retry d) es h = on_more Out 0 (λ e. SaysRetry false e.kind) es h
-  viewed_more R Q (ask.Commit p ws rs q cs sends) (reply.Changed d) es h = on_more (In R) 0 (λ e. SaysRetry true e.kind) es h
+  viewed_more R Q (ask.Commit p ws rs q cs sends) (reply.Retry d) es h = on_more Out 0 (λ e. (R ≡ e.R) × SaysHeld d e.kind × (has_number (cells_in ws ++ rs) d.number ≡ true)) es h
+  viewed_more R Q (ask.Commit p ws rs q cs sends) (reply.Changed d) es h = on_more (In R) 0 (λ e. (R ≡ e.R) × SaysCommuted d e.kind × (has_number (cells_in cs) d.number ≡ true)) es h
   viewed_more R Q (ask.Commit p ws rs q cs sends) (reply.AgentIsFailed g) es h = on_more Out 0 (λ e. (R ≡ e.R) × (Q ≡ e.Q) × SaysRefused e.kind) es h
   viewed_more R Q (ask.Fail p q) reply.Done es h = on_more Out 0 (λ e. (R ≡ e.R) × (Q ≡ e.Q) × SaysFail e.kind) es h
   viewed_more R Q _ _ es h = absurd h

@@ -4,9 +4,10 @@ use Rattle.txs_theorem_threads.proofs.Accepted.{validated_related, if_accepted_r
 use Rattle.std.proofs.lemmas.Bool.{false≢true}
 use Rattle.txs_world_protocol.specs.Ask.{same_writes, same_value, same_actions}
 use Rattle.txs_world_protocol.specs.SeenEvent.{SeenEvent, home}
+use Rattle.txs_world_protocol.specs.declared.event.Cause.TheVariants as cause
 use Rattle.txs_world_protocol.specs.declared.event.EventKind.{EventKind}
 use Rattle.txs_world_protocol.specs.declared.event.EventKind.TheVariants as event
-use Rattle.txs_frame.specs.Frame.{PlainTxFrame, set_ref, commuted, commute_ref, set_writes, phase_work, sends_of_commit}
+use Rattle.txs_frame.specs.Frame.{PlainTxFrame, has_number, set_ref, commuted, commute_ref, set_writes, phase_work, sends_of_commit}
 use Rattle.txs_value_cell.specs.Cells.{World, Validators, validators_of, validator_at}
 use Rattle.txs_value_cell.specs.Forms.{rule, cell_of}
 use Rattle.txs_value_data.specs.Limits.{reruns}
@@ -25,9 +26,9 @@ use Rattle.txs_value_base.specs.declared.op.Callee.{Callee}
 use Rattle.txs_value_data.specs.declared.value.CellId.{CellId}
 use Rattle.txs_value_data.specs.declared.value.Value.{Value}
 use Rattle.txs_tree_meaning.specs.Known.{known}
-use Rattle.txs_tree_meaning.specs.Meaning.{Completion, Completes, Recurs, Faults, Retries, Waits, OutOfTurns, Invalid, bind, closed, result_of, Applies, Effects, eval, call_at, apply}
+use Rattle.txs_tree_meaning.specs.Meaning.{Completion, Completes, Recurs, Faults, Retries, Waits, OutOfTurns, Invalid, bind, closed, allowed, result_of, Applies, Effects, eval, call_at, apply}
 use Rattle.txs_tree_meaning.specs.Sound.{SoundSource, SoundFunctions, in_thread}
-use Rattle.txs_tree_meaning.specs.Thread.{ThreadState, with_tx, eats, meant, faulted, faultless, swaps, over, Transacting, run_of, ends_tx, is_retry, eats_tx, on_events, around_action, from_events, thread_meaning, action_meaning, holding, uneaten, accepts, resets}
+use Rattle.txs_tree_meaning.specs.Thread.{ThreadState, with_tx, eats, meant, faulted, faultless, swaps, over, Transacting, run_of, ends_tx, is_retry, is_held, again, eats_tx, on_events, around_action, from_events, thread_meaning, action_meaning, holding, uneaten, accepts, resets}
 use Rattle.txs_tree_meaning.specs.Transaction.{TxState, current, taken, done_as, tx_update, in_transaction, tx_start, tx_meaning, valued, merged, commute_writes, final_writes, if_accepted, validated}
 use Rattle.txs_tree_meaning.specs.Tree.{Mark, Tree, PlainFunction, ThreadSource}
 use Rattle.txs_theorem_threads.proofs.Callees.{Keeps, pure_callees, callees_in, function_callees}
@@ -125,6 +126,11 @@ final_alike validators span f g a w C t =
     bind_related ThreadState ThreadState (same_link ThreadState) (commute_writes f w C t) (commute_writes g w C t) (λ ws t1. if_accepted f validators span (merged (set_writes w) ws) t1) (λ ws t1. if_accepted g validators span (merged (set_writes w) ws) t1)
     (redone_alike ThreadState f g a (phase_work w) (valued (commuted w) C) t) (λ ws s1 t1 r1. if_accepted_related ThreadState ThreadState (same_link ThreadState) f g a validators span (merged (set_writes w) ws) s1 t1 r1)
 
+-- what is allowed
+allowed_alike : (b : Bool) (x y : Completion ThreadState Value) → Related (same_link ThreadState) x y → Related (same_link ThreadState) (allowed b x) (allowed b y)
+allowed_alike true x y h = h
+allowed_alike false x y h = refl
+
 -- what stays to come where turns don't suffice
 uneaten_alike : (l : List SeenEvent) (x y : Completion ThreadState Value) → Related (same_link ThreadState) x y → Related (same_link ThreadState) (uneaten l x) (uneaten l y)
 uneaten_alike l (Completes v s) (Completes w t) h = h
@@ -159,18 +165,25 @@ module _ (validators : Validators) (m : Mark) (node : Tree) (env : List Value) (
       (λ v z. faultless_alike (final_writes f validators m.span z.done Q t) (final_writes g validators m.span z.done Q t) _ _ (final_alike validators m.span f g a z.done Q t) (λ ws t1. (refl, refl)))
   ends_alike _ R Q C t = refl
 
+  -- a try that had to run again, and what follows
+  again_alike : (e : EventKind) (R : World) (t : ThreadState) (p q : Completion ThreadState Value) → Related (same_link ThreadState) p q → Related (same_link ThreadState) (again (with_body x) e R t p) (again (with_body y) e R t q)
+  again_alike (event.Retry since c cause.Outdated) R t p q h = h
+  again_alike (event.Retry since c cause.Held) R t p q h = over_alike t (x R) (y R) _ _ (λ e. Invalid) (b R) (λ v z. allowed_alike (is_held z.done c.number) p q h)
+  again_alike (event.Retry since c (cause.Commuted at)) R t p q h = over_alike t (x R) (y R) _ _ (λ e. Invalid) (b R) (λ v z. allowed_alike (has_number (commuted z.done) c.number) p q h)
+  again_alike _ R t p q h = refl
+
   eats_tx_alike : (k : ℕ) (es : List SeenEvent) (t : ThreadState) → Related (same_link ThreadState) (eats_tx k (with_body x) f es t) (eats_tx k (with_body y) g es t)
   eats_tx_alike zero es t = (refl, refl)
   eats_tx_alike (suc k) [] t = refl
   eats_tx_alike (suc k) (e ∷ es) t = of_book (e.book == 0) (is_retry e.kind) (eats_tx_alike k es t)
     where
-      of_book : (own again : Bool) → Related (same_link ThreadState) (eats_tx k (with_body x) f es t) (eats_tx k (with_body y) g es t)
-          → Related (same_link ThreadState) (if own then (if again then eats_tx k (with_body x) f es t else uneaten (e ∷ es) (ends_tx (with_body x) f e.kind e.R e.Q e.C (record t { todo = es }))) else Invalid)
-          (if own then (if again then eats_tx k (with_body y) g es t else uneaten (e ∷ es) (ends_tx (with_body y) g e.kind e.R e.Q e.C (record t { todo = es }))) else Invalid)
-      of_book true true rest = rest
+      of_book : (own retry : Bool) → Related (same_link ThreadState) (eats_tx k (with_body x) f es t) (eats_tx k (with_body y) g es t)
+          → Related (same_link ThreadState) (if own then (if retry then again (with_body x) e.kind e.R (record t { todo = e ∷ es }) (eats_tx k (with_body x) f es t) else uneaten (e ∷ es) (ends_tx (with_body x) f e.kind e.R e.Q e.C (record t { todo = es }))) else Invalid)
+          (if own then (if retry then again (with_body y) e.kind e.R (record t { todo = e ∷ es }) (eats_tx k (with_body y) g es t) else uneaten (e ∷ es) (ends_tx (with_body y) g e.kind e.R e.Q e.C (record t { todo = es }))) else Invalid)
+      of_book true true rest = again_alike e.kind e.R (record t { todo = e ∷ es }) (eats_tx k (with_body x) f es t) (eats_tx k (with_body y) g es t) rest
       of_book true false rest =
           uneaten_alike (e ∷ es) (ends_tx (with_body x) f e.kind e.R e.Q e.C (record t { todo = es })) (ends_tx (with_body y) g e.kind e.R e.Q e.C (record t { todo = es })) (ends_alike e.kind e.R e.Q e.C (record t { todo = es }))
-      of_book false again rest = refl
+      of_book false retry rest = refl
 
 -- ---- swaps on events
 

@@ -7,9 +7,10 @@ use Rattle.txs_world_protocol.specs.declared.ask.Ask.{Ask}
 use Rattle.txs_world_protocol.specs.declared.ask.Ask.TheVariants as ask
 use Rattle.txs_world_protocol.specs.declared.ask.Reply.TheVariants as reply
 use Rattle.txs_world_protocol.specs.declared.ask.Reply.{Reply}
+use Rattle.txs_world_protocol.specs.declared.event.Cause.TheVariants as cause
 use Rattle.txs_world_protocol.specs.declared.event.EventKind.TheVariants as event
 use Rattle.txs_world_protocol.specs.declared.event.EventKind.{EventKind}
-use Rattle.txs_frame.specs.Frame.{PlainTxFrame, empty_frame, commuted, set_writes, by_ref, phase_work, sends_of_commit}
+use Rattle.txs_frame.specs.Frame.{PlainTxFrame, empty_frame, has_number, cells_in, commuted, set_writes, by_ref, phase_work, sends_of_commit}
 use Rattle.txs_frame.specs.declared.frame.Commute.{Commute}
 use Rattle.txs_value_data.proofs.SameLemmas.{numbers}
 use Rattle.txs_value_cell.specs.Cells.{World, Validators}
@@ -23,21 +24,21 @@ use Rattle.txs_value_base.specs.declared.op.Callee.{Callee}
 use Rattle.txs_value_data.specs.declared.value.CellId.{CellId}
 use Rattle.txs_value_data.specs.declared.value.Value.{Value}
 use Rattle.txs_value_data.specs.declared.value.Value.TheVariants.{Nil}
-use Rattle.txs_tree_meaning.specs.Meaning.{Completion, Completes, Recurs, Faults, Retries, Waits, OutOfTurns, Invalid, bind, Applies}
-use Rattle.txs_tree_meaning.specs.Thread.{TxRun, ThreadState, with_tx, holding, meant, faulted, faultless, over, Transacting, run_of, ends_tx, is_retry, uneaten, eats_tx}
+use Rattle.txs_tree_meaning.specs.Meaning.{Completion, Completes, Recurs, Faults, Retries, Waits, OutOfTurns, Invalid, bind, allowed, Applies}
+use Rattle.txs_tree_meaning.specs.Thread.{TxRun, ThreadState, with_tx, holding, meant, faulted, faultless, over, Transacting, run_of, ends_tx, is_retry, is_held, again, uneaten, eats_tx}
 use Rattle.txs_tree_meaning.specs.Transaction.{TxState, value_or, valued, merged, redone, accepted, if_accepted, final_writes}
 use Rattle.txs_code_meaning.specs.ActorState as actor
 use Rattle.txs_code_meaning.specs.ActorState.{ActorState, Replied, held_in, landed, heard, on_step, begin, begun, read_point, fail, just_done, views, with_first, paired, viewed, view, commit, commit_verdict}
 use Rattle.txs_theorem_threads.proofs.Accepted.{AllValidators, accepted_carried, if_accepted_carried, final_carried}
-use Rattle.txs_theorem_threads.proofs.Account.{Account, IsBeside, begin_of, sends_begin, holds_beside, account_link, after_reply, answered_in, not_retrying, on_then}
+use Rattle.txs_theorem_threads.proofs.Account.{Account, IsBeside, begin_of, sends_begin, holds_beside, account_link, after_reply, answered_in, not_retrying}
 use Rattle.txs_theorem_threads.proofs.Quiet.{carried, IsQuiet, bind_carried, bind_quiet, AllCommutes, phase_some, redone_carried}
 use Rattle.txs_theorem_threads.proofs.Related.{Related, CompletesAs, FaultsAs}
-use Rattle.txs_theorem_threads.proofs.Worlds.{IsShort, Kept, WantsOwn, tx_link, says_retry}
-use Rattle.txs_theorem_threads.proofs.Owned.{are_written}
+use Rattle.txs_theorem_threads.proofs.Worlds.{IsShort, Kept, WantsOwn, tx_link}
+use Rattle.txs_theorem_threads.proofs.Owned.{are_written, Within, within_head, within_tail, write_within, held_there, valued_within, refs_in, phase_within}
 use Rattle.txs_theorem_threads.specs.EndsSo.{in_hand}
 use Rattle.txs_theorem_threads.specs.Noted.{AreWritten, Commits}
 use Rattle.txs_theorem_threads.specs.OnReplies.{res, telling, Start, Anew, Behind, concludes, lands_on, if_all_accepted, closing, attempt, retrying, tries}
-use Rattle.txs_theorem_threads.specs.RepliesFit.{Phase, Out, In, Viewed, OnEvent, SaysRetry, SaysCommit, SaysFail, SaysRefused, Gives, AgreeOn, ReplyFits, halted}
+use Rattle.txs_theorem_threads.specs.RepliesFit.{Phase, Out, In, Viewed, OnEvent, SaysOutdated, SaysHeld, SaysCommuted, SaysCommit, SaysFail, SaysRefused, Gives, AgreeOn, ReplyFits, halted}
 
 -- ---- views
 
@@ -90,6 +91,52 @@ agree_before Q C q (c ∷ cs) ws xs u e h = step (λ v. agree_before Q C q cs (w
 agree_valued : (Q C : World) (cs : List CellId) → AgreeOn (valued cs Q) Q C → valued cs Q ≡ valued cs C
 agree_valued Q C [] h = refl
 agree_valued Q C (c ∷ cs) h = ap (λ v. (c, v) ∷ valued cs Q) h.0 ∙ ap (λ l. (c, C c.number) ∷ l) (agree_valued Q C cs h.1)
+
+-- commutes make values of their own refs alone
+redone_within : (ds : List CellId) (q : Applies (Unit {0})) (work : List Commute) (ws xs : Writes) (u : Unit {0}) → redone q work ws tt ≡ Completes xs u → Within ds (cells_in ws) → Within ds (refs_in work) → Within ds (cells_in xs)
+redone_within ds q [] ws xs u e h all = subst (λ l. Within ds (cells_in l)) (ap (written ws) e) h
+redone_within ds q (c ∷ cs) ws xs u e h all =
+    step (λ v r. redone_within ds q cs (with_write ws c.cell v) xs u r (write_within ds ws c.cell v (within_head ds (refs_in cs) c.cell all) h) (within_tail ds (refs_in cs) c.cell all)) (q c.callee (value_or (buffered ws c.cell.number) Nil ∷ c.args) tt) e
+  where
+    made : Value → Unit {0} → Completion (Unit {0}) Writes
+    made v t = redone q cs (with_write ws c.cell v) t
+
+    step : ((v : Value) → redone q cs (with_write ws c.cell v) tt ≡ Completes xs u → Within ds (cells_in xs)) → (y : Completion (Unit {0}) Value) → bind y made ≡ Completes xs u → Within ds (cells_in xs)
+    step rest (Completes v t) k = rest v k
+    step rest (Recurs vs t) k = absurd (subst Written (sym k) tt)
+    step rest (Faults f t) k = absurd (subst Written (sym k) tt)
+    step rest (Retries t) k = absurd (subst Written (sym k) tt)
+    step rest (Waits t) k = absurd (subst Written (sym k) tt)
+    step rest (OutOfTurns t) k = absurd (subst Written (sym k) tt)
+    step rest Invalid k = absurd (subst Written (sym k) tt)
+
+-- ---- a retry with its cause
+
+-- the try had to run again for the cause that the event says
+abbrev pub Passes : Transacting → EventKind → World → Type 0
+Passes d kind R = (is_retry kind ≡ true) × ((t : ThreadState) (next : Completion ThreadState Value) → again d kind R t next ≡ next)
+
+abbrev pub PassesAt : Transacting → SeenEvent → Type 0
+PassesAt d e = Passes d e.kind e.R
+
+outdated_passes : (d : Transacting) (kind : EventKind) (R : World) → SaysOutdated kind → Passes d kind R
+outdated_passes d (event.Retry since c cause.Outdated) R says = (refl, λ t next. refl)
+outdated_passes d _ R says = absurd says
+
+held_passes : (d : Transacting) (kind : EventKind) (R : World) (c : CellId) (v : Value) (x : TxState) → d.on R ≡ Completes v x → SaysHeld c kind → is_held x.done c.number ≡ true → Passes d kind R
+held_passes d (event.Retry since b cause.Held) R c v x on says held =
+    (refl, λ t next. ap (λ y. over t y (λ w z. allowed (is_held z.done b.number) next) (λ g. Invalid)) on ∙ ap (λ r. allowed r next) (ap (λ n. is_held x.done n.number) says ∙ held))
+held_passes d _ R c v x on says held = absurd says
+
+commuted_passes : (d : Transacting) (kind : EventKind) (R : World) (c : CellId) (v : Value) (x : TxState) → d.on R ≡ Completes v x → SaysCommuted c kind → has_number (commuted x.done) c.number ≡ true → Passes d kind R
+commuted_passes d (event.Retry since b (cause.Commuted at)) R c v x on says among =
+    (refl, λ t next. ap (λ y. over t y (λ w z. allowed (has_number (commuted z.done) b.number) next) (λ g. Invalid)) on ∙ ap (λ r. allowed r next) (ap (λ n. has_number (commuted x.done) n.number) says ∙ among))
+commuted_passes d _ R c v x on says among = absurd says
+
+-- an event that has its cause, and what follows it
+on_passing : (d : Transacting) (Q : SeenEvent → Type 0) (next next1 : List SeenEvent → Type 0) → ((e : SeenEvent) → Q e → PassesAt d e) → ((es : List SeenEvent) → next es → next1 es) → (es : List SeenEvent) → OnEvent 0 Q next es → OnEvent 0 (PassesAt d) next1 es
+on_passing d Q next next1 p h [] m = absurd m
+on_passing d Q next next1 p h (e ∷ es) m = (m.0, p e m.1, h es m.2)
 
 -- ---- a transaction's end
 
@@ -247,6 +294,12 @@ module _ (cells : List CellDefinition) (a : Account cells) (P : Callee → Type 
   phase_redone w ws u (OutOfTurns u1) e = absurd (subst Written (sym e) tt)
   phase_redone w ws u Invalid e = absurd (subst Written (sym e) tt)
 
+  -- what the phase writes was commuted
+  redone_there : (s : ActorState) (W : World) (ws : Writes) (u : Unit {0}) → phase s.done W ≡ Completes ws u → Within (commuted s.done) (cells_in ws)
+  redone_there s W ws u e =
+      let r = phase_redone s.done ws u (redone q (phase_work s.done) (valued (commuted s.done) W) tt) e in
+      redone_within (commuted s.done) q (phase_work s.done) (valued (commuted s.done) W) ws r.0 r.1 (valued_within (commuted s.done) W) (phase_within s.done)
+
   -- on replies, with a state that it leaves as it was
   checked_left : (s : ActorState) (xs : Writes) → (if_all_accepted d.validators d.mark.span f xs s ≡ carried s (checked s.done xs tt)) × IsQuiet (checked s.done xs tt)
   checked_left s xs =
@@ -277,24 +330,25 @@ module _ (cells : List CellDefinition) (a : Account cells) (P : Callee → Type 
     shortage : (ph : Phase) (s : ActorState) (es : List SeenEvent) (t : ThreadState) → IsBeside a.before a.from s t → a.fits t.txs ph s.todo es → ((Q : World) → IsShort (halted (eats_tx (suc k) d g (in_hand cells Q ph) t))) → a.short s (halted (eats_tx (suc k) d g (es ++ a.tail) t))
     shortage ph s es t pr fits h = a.shortage t.txs ph s es (λ l. eats_tx (suc k) d g l t) fits (refl, pr.0, refl) h
 
-    -- an event that says to run again is eaten
-    eats_retry : (e : SeenEvent) (es : List SeenEvent) (t : ThreadState) → e.book ≡ 0 → is_retry e.kind ≡ true → eats_tx (suc k) d g (e ∷ es) t ≡ eats_tx k d g es t
-    eats_retry e es t b r =
-        ap (λ n. if n == 0 then (if is_retry e.kind then eats_tx k d g es t else uneaten (e ∷ es) (ends_tx d g e.kind e.R e.Q e.C (record t { todo = es }))) else Invalid) b
-        ∙ ap (λ z. if z then eats_tx k d g es t else uneaten (e ∷ es) (ends_tx d g e.kind e.R e.Q e.C (record t { todo = es }))) r
+    -- an event that says to run again, with its cause, is eaten
+    eats_retry : (e : SeenEvent) (es : List SeenEvent) (t : ThreadState) → e.book ≡ 0 → PassesAt d e → eats_tx (suc k) d g (e ∷ es) t ≡ eats_tx k d g es t
+    eats_retry e es t b p =
+        ap (λ n. if n == 0 then (if is_retry e.kind then again d e.kind e.R (record t { todo = e ∷ es }) (eats_tx k d g es t) else uneaten (e ∷ es) (ends_tx d g e.kind e.R e.Q e.C (record t { todo = es }))) else Invalid) b
+        ∙ ap (λ z. if z then again d e.kind e.R (record t { todo = e ∷ es }) (eats_tx k d g es t) else uneaten (e ∷ es) (ends_tx d g e.kind e.R e.Q e.C (record t { todo = es }))) p.0
+        ∙ p.1 (record t { todo = e ∷ es }) (eats_tx k d g es t)
 
     -- the event of the end is eaten
     eats_end : (e : SeenEvent) (es : List SeenEvent) (t : ThreadState) (r : Completion ThreadState Value) → e.book ≡ 0 → EndsAs d g e.R e.Q e.C (record t { todo = es }) e.kind r → eats_tx (suc k) d g (e ∷ es) t ≡ uneaten (e ∷ es) r
     eats_end e es t r b h =
-        ap (λ n. if n == 0 then (if is_retry e.kind then eats_tx k d g es t else uneaten (e ∷ es) (ends_tx d g e.kind e.R e.Q e.C (record t { todo = es }))) else Invalid) b
-        ∙ ap (λ z. if z then eats_tx k d g es t else uneaten (e ∷ es) (ends_tx d g e.kind e.R e.Q e.C (record t { todo = es }))) h.0
+        ap (λ n. if n == 0 then (if is_retry e.kind then again d e.kind e.R (record t { todo = e ∷ es }) (eats_tx k d g es t) else uneaten (e ∷ es) (ends_tx d g e.kind e.R e.Q e.C (record t { todo = es }))) else Invalid) b
+        ∙ ap (λ z. if z then again d e.kind e.R (record t { todo = e ∷ es }) (eats_tx k d g es t) else uneaten (e ∷ es) (ends_tx d g e.kind e.R e.Q e.C (record t { todo = es }))) h.0
         ∙ ap (uneaten (e ∷ es)) h.1
 
     -- a try that has to run again
-    retry_comes : (b : Bool) (from : Start) (s : ActorState) (es : List SeenEvent) (t : ThreadState) → IsBeside a.before a.from s t → OnEvent 0 (λ e. SaysRetry b e.kind) (StartFits cells a P d t.txs from s) es → Related (account_link cells a) (tries d.validators k d.mark.span body f from s) (eats_tx (suc k) d g (es ++ a.tail) t)
-    retry_comes b from s [] t pr m = absurd m
-    retry_comes b from s (e ∷ es) t pr m =
-        subst (Related (account_link cells a) (tries d.validators k d.mark.span body f from s)) (sym (eats_retry e (es ++ a.tail) t m.0 (says_retry b e.kind m.1))) (next from s es t pr m.2)
+    retry_comes : (from : Start) (s : ActorState) (es : List SeenEvent) (t : ThreadState) → IsBeside a.before a.from s t → OnEvent 0 (PassesAt d) (StartFits cells a P d t.txs from s) es → Related (account_link cells a) (tries d.validators k d.mark.span body f from s) (eats_tx (suc k) d g (es ++ a.tail) t)
+    retry_comes from s [] t pr m = absurd m
+    retry_comes from s (e ∷ es) t pr m =
+        subst (Related (account_link cells a) (tries d.validators k d.mark.span body f from s)) (sym (eats_retry e (es ++ a.tail) t m.0 m.1)) (next from s es t pr m.2)
 
     -- a value, at the event of the end
     lands_at : (v : Value) (s : ActorState) (e : SeenEvent) (es : List SeenEvent) (t : ThreadState) (x : TxState) → s.done.sends ≡ x.done.sends → IsBeside a.before a.from s t → e.book ≡ 0 → a.fits (t.txs ++ run_of d v x ∷ []) Out s.todo es
@@ -343,6 +397,14 @@ module _ (cells : List CellDefinition) (a : Account cells) (P : Callee → Type 
       final_fine : (s : ActorState) (W : World) (t : ThreadState) (u : Unit {0}) → Made s → commuted s.done ≡ [] → plainly s.done ≡ Completes tt u → final_writes g d.validators d.mark.span x.done W t ≡ Completes (set_writes s.done) t
       final_fine s W t u made none fine = subst (λ w. final_writes g d.validators d.mark.span w W t ≡ Completes (set_writes s.done) t) made.0 (final_plain s.done W t (Completes tt u) none fine)
 
+      -- a ref that it set or ensured was written
+      held_comes : (c : CellId) (s : ActorState) (es : List SeenEvent) (t : ThreadState) → Made s → IsBeside a.before a.from s t
+          → OnEvent 0 (λ e. (R ≡ e.R) × SaysHeld c e.kind × (has_number (cells_in (set_writes s.done) ++ s.done.ensures) c.number ≡ true)) (a.fits t.txs Out s.todo) es → Related (account_link cells a) (tries d.validators k d.mark.span body f Anew s) (eats_tx (suc k) d g (es ++ a.tail) t)
+      held_comes c s es t made pr m =
+          retry_comes Anew s es t pr
+          (on_passing d (λ e. (R ≡ e.R) × SaysHeld c e.kind × (has_number (cells_in (set_writes s.done) ++ s.done.ensures) c.number ≡ true)) (a.fits t.txs Out s.todo) (StartFits cells a P d t.txs Anew s)
+          (λ e h. held_passes d e.kind e.R c v x (on_there e.R h.0) h.1 (subst (λ w. is_held w c.number ≡ true) made.0 (held_there s.done c.number h.2))) (λ es1 fits. fits) es m)
+
       plain_done : (ws : Writes) (u : Unit {0}) (s : ActorState) (es : List SeenEvent) (t : ThreadState) → Made s → commuted s.done ≡ [] → plainly s.done ≡ Completes tt u → IsBeside a.before a.from s t
           → OnEvent 0 (λ e. (R ≡ e.R) × (ws ≡ []) × SaysCommit (set_writes s.done) (sends_of_commit (held_in s.acting) s.done.sends) e.kind) (BehindEnd s ws t) es → Comes (Completes v (actor.holding s.done.sends s)) es t
       plain_done ws u s [] t made none fine pr m = absurd m
@@ -371,7 +433,7 @@ module _ (cells : List CellDefinition) (a : Account cells) (P : Callee → Type 
           → ReplyFits cells (In R) (committing s []) r (after_reply a.from a.fits t.txs (committing s []) r xs) es
           → Comes (bind (res (on_step (heard commit_verdict (Replied r (record s { todo = xs }))) landed)) (λ verdict s1. concludes verdict d.mark.span v (tries d.validators k d.mark.span body f) s1)) es t
       plain_answered u s es t reply.Done xs made none fine pr m = plain_done [] u (record s { todo = xs }) es t made none fine pr m
-      plain_answered u s es t (reply.Retry c) xs made none fine pr m = retry_comes false Anew (record s { todo = xs }) es t pr m
+      plain_answered u s es t (reply.Retry c) xs made none fine pr m = held_comes c (record s { todo = xs }) es t made pr m
       plain_answered u s es t (reply.AgentIsFailed a) xs made none fine pr m = plain_refused [] u (record s { todo = xs }) es t made none fine pr m
       plain_answered u s es t (reply.Changed c) xs made none fine pr m = absurd m
       plain_answered u s es t _ xs made none fine pr m = tt
@@ -429,8 +491,8 @@ module _ (cells : List CellDefinition) (a : Account cells) (P : Callee → Type 
         phase_done s [] t ws u made z pr m = absurd m
         phase_done s (e ∷ es) t ws u made z pr m =
             let t1 : ThreadState = record t { todo = es ++ a.tail } in
-            let again = phase_redone s.done ws u (redone q (phase_work s.done) (valued (commuted s.done) Q) tt) z in
-            let same : valued (commuted s.done) Q ≡ valued (commuted s.done) e.C = agree_valued Q e.C (commuted s.done) (agree_before Q e.C q (phase_work s.done) (valued (commuted s.done) Q) ws again.0 again.1 m.1.1) in
+            let remade = phase_redone s.done ws u (redone q (phase_work s.done) (valued (commuted s.done) Q) tt) z in
+            let same : valued (commuted s.done) Q ≡ valued (commuted s.done) e.C = agree_valued Q e.C (commuted s.done) (agree_before Q e.C q (phase_work s.done) (valued (commuted s.done) Q) ws remade.0 remade.1 m.1.1) in
             let there : phase s.done e.C ≡ Completes ws u = subst (λ l. phase_on s.done l ≡ Completes ws u) same z in
             lands_at v s e es t x (ap (λ w. w.sends) made.0) pr m.0 (m.2 (run_of d v x) (own_commit s ws t made pr))
             (commits_as d g e.R e.Q e.C t1 e.kind v x (merged (set_writes s.done) ws) (sends_of_commit (held_in s.acting) s.done.sends) (on_there e.R m.1.0) (final_there s e.C t1 ws u made there) (sym (sends_there s t made pr)) m.1.2)
@@ -457,12 +519,13 @@ module _ (cells : List CellDefinition) (a : Account cells) (P : Callee → Type 
             → ReplyFits cells (Viewed R Q) (committing s ws) r (after_reply a.from a.fits t.txs (committing s ws) r xs) es
             → Comes (bind (res (on_step (heard commit_verdict (Replied r (record s { todo = xs }))) landed)) (λ verdict s1. concludes verdict d.mark.span v (tries d.validators k d.mark.span body f) s1)) es t
         phase_answered s es t ws u reply.Done xs made z pr m = phase_done (record s { todo = xs }) es t ws u made z pr m
-        phase_answered s es t ws u (reply.Retry c) xs made z pr m = retry_comes false Anew (record s { todo = xs }) es t pr m
+        phase_answered s es t ws u (reply.Retry c) xs made z pr m = held_comes c (record s { todo = xs }) es t made pr m
         phase_answered s es t ws u (reply.AgentIsFailed a) xs made z pr m = phase_refused (record s { todo = xs }) es t ws u made z pr m
         phase_answered s es t ws u (reply.Changed c) xs made z pr m =
             not_retrying cells a (tries d.validators k d.mark.span body f (Behind v) (record s { todo = xs })) (eats_tx (suc k) d g (es ++ a.tail) t) (tries d.validators k d.mark.span body f Anew)
-            (retry_comes true (Behind v) (record s { todo = xs }) es t pr
-            (on_then 0 (λ e. SaysRetry true e.kind) (a.fits t.txs (In R) xs) (StartFits cells a P d t.txs (Behind v) (record s { todo = xs })) (λ es1 fits. (R, x, on, made.0, made.1, fits)) es m))
+            (retry_comes (Behind v) (record s { todo = xs }) es t pr
+            (on_passing d (λ e. (R ≡ e.R) × SaysCommuted c e.kind × (has_number (cells_in ws) c.number ≡ true)) (a.fits t.txs (In R) xs) (StartFits cells a P d t.txs (Behind v) (record s { todo = xs }))
+            (λ e h. commuted_passes d e.kind e.R c v x (on_there e.R h.0) h.1 (subst (λ w. has_number (commuted w) c.number ≡ true) made.0 (redone_there s Q ws u z c.number h.2))) (λ es1 fits. (R, x, on, made.0, made.1, fits)) es m))
         phase_answered s es t ws u _ xs made z pr m = tt
 
         lands_viewed : (s : ActorState) (es : List SeenEvent) (t : ThreadState) (ws : Writes) (u : Unit {0}) → Made s → phase s.done Q ≡ Completes ws u → IsBeside a.before a.from s t → a.fits t.txs (Viewed R Q) s.todo es
@@ -567,7 +630,7 @@ module _ (cells : List CellDefinition) (a : Account cells) (P : Callee → Type 
     body_comes R (Faults e s) es t out sends pr h = body_faulted R e s (d.on R) es t out sends refl pr h
     body_comes R (Retries s) es t out sends pr h =
         subst (λ l. Comes (Retries s) l t) (sym h.2)
-        (subst (Related (account_link cells a) (tries d.validators k d.mark.span body f Anew s)) (sym (eats_retry h.0 (h.1 ++ a.tail) t h.3 h.4)) (next Anew s h.1 t (pr.0 ∙ sym h.6.0, h.6.1 ∙ pr.1, pr.2) h.5))
+        (subst (Related (account_link cells a) (tries d.validators k d.mark.span body f Anew s)) (sym (eats_retry h.0 (h.1 ++ a.tail) t h.3 (outdated_passes d h.0.kind h.0.R h.4))) (next Anew s h.1 t (pr.0 ∙ sym h.6.0, h.6.1 ∙ pr.1, pr.2) h.5))
     body_comes R (Waits s) es t out sends pr h = waiting (In R) s es t h.2 (pr.0 ∙ sym h.1.0, h.1.1 ∙ pr.1, pr.2) h.0
     body_comes R (OutOfTurns s) es t out sends pr h = shortage (In R) s es t (pr.0 ∙ sym h.2.0, h.2.1 ∙ pr.1, pr.2) h.1 (λ Q. uneaten_short (in_hand cells Q (In R)) (ends_tx d g (event.Fail 0 0) R Q Q (record t { todo = [] })) (over_short (d.on R) (record t { todo = [] }) _ _ h.0))
     body_comes R Invalid es t out sends pr h = tt

@@ -8,8 +8,6 @@ use Rattle.txs_world_protocol.specs.declared.ask.Ask.TheVariants as ask
 use Rattle.txs_world_protocol.specs.declared.ask.Ask.{Ask}
 use Rattle.txs_world_protocol.specs.declared.ask.Reply.TheVariants as reply
 use Rattle.txs_world_protocol.specs.declared.ask.Reply.{Reply}
-use Rattle.txs_world_protocol.specs.declared.event.EventKind.{EventKind}
-use Rattle.txs_world_protocol.specs.declared.event.EventKind.TheVariants as event
 use Rattle.txs_frame.specs.Frame.{PlainTxFrame, empty_frame, with_cell, is_commuted, set_ref, ensure_ref, commute_ref, hold_send}
 use Rattle.txs_frame.specs.declared.frame.Commute.{Commute}
 use Rattle.txs_value_cell.specs.Cells.{World, Validators, validators_of}
@@ -36,7 +34,6 @@ use Rattle.txs_value_data.specs.declared.value.Value.TheVariants.{Nil, Truth, In
 use Rattle.txs_tree_meaning.specs.Known.{known}
 use Rattle.txs_tree_meaning.specs.Meaning.{Completion, Completes, Recurs, Faults, Retries, Waits, OutOfTurns, Invalid, bind, closed, result_of, apply, Applies, eval, call_at}
 use Rattle.txs_tree_meaning.specs.Sound.{SoundFunctions}
-use Rattle.txs_tree_meaning.specs.Thread.{is_retry}
 use Rattle.txs_tree_meaning.specs.Transaction.{TxState, value_or, own, current, noted, taken, done_as, tx_look, tx_put, tx_update, in_transaction, tx_start, tx_meaning}
 use Rattle.txs_tree_meaning.specs.Tree.{Mark, Tree, PlainFunction}
 use Rattle.txs_code_meaning.specs.ActorState.{held_in, ActorState, Reception, Replied, Unreplied, receives, asks, StepResult, Continue, Break, Redo, Await, Malformed, on_step, step_of, heard, value_there, buffered_or, look, set_own, close_own, read_cell, assign_cell, send_action, send_to, print}
@@ -46,7 +43,7 @@ use Rattle.txs_theorem_threads.proofs.Placed.{MayCallAt, placed, function_placed
 use Rattle.txs_theorem_threads.proofs.Quiet.{carried, IsQuiet, quietly, callee_carried, AllCommutes, commutes_both}
 use Rattle.txs_theorem_threads.proofs.Related.{Link, Related, Applied, bind_related, closed_related, Alike, eval_related, calls_related}
 use Rattle.txs_theorem_threads.specs.OnReplies.{res, on_replies}
-use Rattle.txs_theorem_threads.specs.RepliesFit.{Halt, Going, Stopped, Short, Rerun, Phase, Out, In, OnEvent, SaysRetry, Goes, ReplyFits, RepliesFit}
+use Rattle.txs_theorem_threads.specs.RepliesFit.{Halt, Going, Stopped, Short, Rerun, Phase, Out, In, OnEvent, SaysOutdated, Goes, ReplyFits, RepliesFit}
 
 -- which exchanges fit which events, by the phase that they begin in
 abbrev pub Fitting : Type 1
@@ -88,10 +85,6 @@ answered_less cells F splits ph es a s P fits un he = answered_by cells F ph es 
 
 pub answered : (cells : List CellDefinition) (F : Fitting) → Splits cells F → (ph : Phase) (es : List SeenEvent) (a : Ask) (s : ActorState) (P : Reception → Type 0) → F ph s.todo es → P (Unreplied (record s { wants = Some a })) → ((r : Reply) (xs : List Exchange) → ReplyFits cells ph a r (λ ph1 es1. F ph1 xs es1) es → P (Replied r (record s { todo = xs }))) → P (asks a s)
 answered cells F splits ph es a s P fits un he = answered_less cells F splits ph es a s P fits un (λ r xs l m. he r xs m)
-
-pub says_retry : (b : Bool) (k : EventKind) → SaysRetry b k → is_retry k ≡ true
-says_retry b (event.Retry since c commute) h = refl
-says_retry b _ h = absurd h
 
 -- a step that goes on, as parts of a tree
 pub res_step : {A B : Type 0} (x : StepResult A) (go : A → ActorState → StepResult B) → res (on_step x go) ≡ bind (res x) (λ a s. res (go a s))
@@ -177,7 +170,7 @@ tx_link P F R es out sends = record {
   faults = λ s t. F (In R) s.todo es × HasPrinted out sends s;
   waits = λ s o. F (In R) s.todo es × HasPrinted out sends s × WantsOwn s.wants;
   out_of_turns = λ s o. IsShort o × F (In R) s.todo es × HasPrinted out sends s;
-  retries = λ s o. (e : SeenEvent) × (es1 : List SeenEvent) × (es ≡ e ∷ es1) × (e.book ≡ 0) × (is_retry e.kind ≡ true) × F Out s.todo es1 × HasPrinted out sends s;
+  retries = λ s o. (e : SeenEvent) × (es1 : List SeenEvent) × (es ≡ e ∷ es1) × (e.book ≡ 0) × SaysOutdated e.kind × F Out s.todo es1 × HasPrinted out sends s;
   waits_loose = λ s h o. h;
   out_of_turns_loose = λ s h o. absurd h.0;
   retries_loose = λ s h o. h;
@@ -192,9 +185,9 @@ module _ (cells : List CellDefinition) (F : Fitting) (looks : LooksFit cells F) 
   abbrev k : Link ActorState TxState
   k = tx_link P F R es out sends
 
-  retry_read : (l : List SeenEvent) → es ≡ l → (s : ActorState) (v : Value) (t : TxState) → HasPrinted out sends s → OnEvent 0 (λ e. SaysRetry false e.kind) (λ es1. F Out s.todo es1) l → Related k (Retries s) (Completes v t)
+  retry_read : (l : List SeenEvent) → es ≡ l → (s : ActorState) (v : Value) (t : TxState) → HasPrinted out sends s → OnEvent 0 (λ e. SaysOutdated e.kind) (λ es1. F Out s.todo es1) l → Related k (Retries s) (Completes v t)
   retry_read [] q s v t pr m = absurd m
-  retry_read (e ∷ l) q s v t pr m = (e, l, q, m.0, says_retry false e.kind m.1, m.2, pr)
+  retry_read (e ∷ l) q s v t pr m = (e, l, q, m.0, m.1, m.2, pr)
 
   looked_related : (c : CellId) (s : ActorState) (t : TxState) (r : Reply) (xs : List Exchange) → k.rel s t → ReplyFits cells (In R) (ask.Look c s.at) r (λ ph1 es1. F ph1 xs es1) es → Related k (res (heard value_there (Replied r (record s { todo = xs })))) (Completes (R c.number) t)
   looked_related c s t (reply.Is v) xs r m = (sym m.0, (r.0, r.1, m.1, r.3))

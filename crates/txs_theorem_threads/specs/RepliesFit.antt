@@ -6,8 +6,10 @@ use Rattle.txs_world_protocol.specs.declared.ask.Ask.{Ask}
 use Rattle.txs_world_protocol.specs.declared.ask.Ask.TheVariants as ask
 use Rattle.txs_world_protocol.specs.declared.ask.Reply.{Reply}
 use Rattle.txs_world_protocol.specs.declared.ask.Reply.TheVariants as reply
+use Rattle.txs_world_protocol.specs.declared.event.Cause.TheVariants as cause
 use Rattle.txs_world_protocol.specs.declared.event.EventKind.{EventKind}
 use Rattle.txs_world_protocol.specs.declared.event.EventKind.TheVariants as event
+use Rattle.txs_frame.specs.Frame.{has_number, cells_in}
 use Rattle.txs_value_cell.specs.Cells.{World}
 use Rattle.txs_value_cell.specs.declared.action.Action.{Action}
 use Rattle.txs_value_cell.specs.declared.cell.CellDefinition.{CellDefinition}
@@ -37,10 +39,20 @@ abbrev pub OnEvent : ℕ → (SeenEvent → Type 0) → (List SeenEvent → Type
 OnEvent book P next [] = ⊥
 OnEvent book P next (e ∷ es) = (e.book ≡ book) × P e × next es
 
--- a transaction had to run again, or where this says so its commutes alone had to
-abbrev pub SaysRetry : Bool → EventKind → Type 0
-SaysRetry b (event.Retry since c commute) = commute ≡ b
-SaysRetry b _ = ⊥
+-- a transaction had to run again, since a value was no longer kept
+abbrev pub SaysOutdated : EventKind → Type 0
+SaysOutdated (event.Retry since c cause.Outdated) = Unit {0}
+SaysOutdated _ = ⊥
+
+-- or since this ref, which it had set or ensured, was written
+abbrev pub SaysHeld : CellId → EventKind → Type 0
+SaysHeld d (event.Retry since c cause.Held) = c ≡ d
+SaysHeld d _ = ⊥
+
+-- its commutes alone had to, since this ref, which it had commuted, was written
+abbrev pub SaysCommuted : CellId → EventKind → Type 0
+SaysCommuted d (event.Retry since c (cause.Commuted at)) = c ≡ d
+SaysCommuted d _ = ⊥
 
 -- a read of this cell
 abbrev pub SaysRead : CellId → EventKind → Type 0
@@ -118,12 +130,13 @@ OutFits cells _ _ next es = ⊥
 abbrev pub InFits : World → Ask → Reply → Goes → List SeenEvent → Type 0
 -- the values of one try are of one world
 InFits R (ask.Look c p) (reply.Is v) next es = (R c.number ≡ v) × next (In R) es
-InFits R (ask.Look c p) (reply.Retry d) next es = OnEvent 0 (λ e. SaysRetry false e.kind) (next Out) es
+InFits R (ask.Look c p) (reply.Retry d) next es = OnEvent 0 (λ e. SaysOutdated e.kind) (next Out) es
 -- the values of one view are of one world
 InFits R (ask.View cs) (reply.Views q vs) next es = (Q : World) × Gives Q cs vs × next (Viewed R Q) es
 -- a commit without a commute phase
 InFits R (ask.Commit p ws rs q cs sends) reply.Done next es = OnEvent 0 (λ e. (R ≡ e.R) × (cs ≡ []) × SaysCommit ws sends e.kind) (next Out) es
-InFits R (ask.Commit p ws rs q cs sends) (reply.Retry d) next es = OnEvent 0 (λ e. SaysRetry false e.kind) (next Out) es
+-- the ref is one that it set or ensured
+InFits R (ask.Commit p ws rs q cs sends) (reply.Retry d) next es = OnEvent 0 (λ e. (R ≡ e.R) × SaysHeld d e.kind × (has_number (cells_in ws ++ rs) d.number ≡ true)) (next Out) es
 InFits R (ask.Commit p ws rs q cs sends) (reply.AgentIsFailed g) next es = OnEvent 0 (λ e. (R ≡ e.R) × (cs ≡ []) × SaysRefused e.kind) (next Out) es
 InFits R (ask.Fail p q) reply.Done next es = OnEvent 0 (λ e. (R ≡ e.R) × SaysFail e.kind) (next Out) es
 InFits R _ _ next es = ⊥
@@ -133,9 +146,9 @@ abbrev pub ViewedFits : World → World → Ask → Reply → Goes → List Seen
 -- what the commutes were applied to is what the refs are at the commit
 ViewedFits R Q (ask.Commit p ws rs q cs sends) reply.Done next es =
     OnEvent 0 (λ e. (R ≡ e.R) × AgreeOn cs Q e.C × SaysCommit (merged ws cs) sends e.kind) (next Out) es
-ViewedFits R Q (ask.Commit p ws rs q cs sends) (reply.Retry d) next es = OnEvent 0 (λ e. SaysRetry false e.kind) (next Out) es
--- the commutes alone are redone, in the same try
-ViewedFits R Q (ask.Commit p ws rs q cs sends) (reply.Changed d) next es = OnEvent 0 (λ e. SaysRetry true e.kind) (next (In R)) es
+ViewedFits R Q (ask.Commit p ws rs q cs sends) (reply.Retry d) next es = OnEvent 0 (λ e. (R ≡ e.R) × SaysHeld d e.kind × (has_number (cells_in ws ++ rs) d.number ≡ true)) (next Out) es
+-- the commutes alone are redone, in the same try; the ref is one of theirs
+ViewedFits R Q (ask.Commit p ws rs q cs sends) (reply.Changed d) next es = OnEvent 0 (λ e. (R ≡ e.R) × SaysCommuted d e.kind × (has_number (cells_in cs) d.number ≡ true)) (next (In R)) es
 ViewedFits R Q (ask.Commit p ws rs q cs sends) (reply.AgentIsFailed g) next es = OnEvent 0 (λ e. (R ≡ e.R) × (Q ≡ e.Q) × SaysRefused e.kind) (next Out) es
 ViewedFits R Q (ask.Fail p q) reply.Done next es = OnEvent 0 (λ e. (R ≡ e.R) × (Q ≡ e.Q) × SaysFail e.kind) (next Out) es
 ViewedFits R Q _ _ next es = ⊥

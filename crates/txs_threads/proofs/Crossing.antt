@@ -16,6 +16,7 @@ use Rattle.std.proofs.vec.Vec.TheSendSync as vec
 use Rattle.std.proofs.alloc.Global.TheSendSync as global
 use Rattle.txs_value_data.proofs.listed.Listed.TheSendSync as listed
 use Rattle.txs_world_protocol.proofs.event.Outcome.TheSendSync as outcome
+use Rattle.txs_world_protocol.proofs.event.Cause.TheSendSync as cause_sent
 use Rattle.txs_value_data.proofs.value.Body.TheLaws.TheKnot as knot
 use Rattle.txs_code_meaning.proofs.code.Body.TheSendSync as body_sent
 use Rattle.txs_code_meaning.specs.contracts.code.Code as code_is
@@ -116,7 +117,7 @@ pub reply_send : IsSend reply_is.the_row
 reply_send = recorded_send (reply_is.the_field).row _ _ (reply_is.the_type).to_one reply_field_send
 
 pub event_kind_field_send : IsSend (event_kind_is.the_field).row
-event_kind_field_send = enum_send (E.shape event_kind_is.the_type) ((cell_id_sent.the_field_send, tt), ((plain_send _ _ _ _ _, (plain_send _ _ _ _ _, ((search (value_send, vec.the_send, listed.the_send, cell_id_sent.the_send, crosses, sendable) depth 60 fits 20000), ((search (action_send, listed.the_send, crosses, sendable) depth 60 fits 20000), tt)))), ((plain_send _ _ _ _ _, (cell_id_sent.the_field_send, (plain_send _ _ _ _ _, tt))), ((plain_send _ _ _ _ _, (plain_send _ _ _ _ _, tt)), ((plain_send _ _ _ _ _, (plain_send _ _ _ _ _, (cell_id_sent.the_field_send, tt))), ((action_field_send, tt), ((cell_id_sent.the_field_send, tt), ((cell_id_sent.the_field_send, (plain_send _ _ _ _ _, ((search (value_send, fault_sent.the_send, crosses, sendable) depth 60 fits 20000), ((search (action_send, listed.the_send, crosses, sendable) depth 60 fits 20000), tt)))), ((value_field_send, tt), ((plain_send _ _ _ _ _, tt), tt))))))))))
+event_kind_field_send = enum_send (E.shape event_kind_is.the_type) ((cell_id_sent.the_field_send, tt), ((plain_send _ _ _ _ _, (plain_send _ _ _ _ _, ((search (value_send, vec.the_send, listed.the_send, cell_id_sent.the_send, crosses, sendable) depth 60 fits 20000), ((search (action_send, listed.the_send, crosses, sendable) depth 60 fits 20000), tt)))), ((plain_send _ _ _ _ _, (cell_id_sent.the_field_send, (cause_sent.the_field_send, tt))), ((plain_send _ _ _ _ _, (plain_send _ _ _ _ _, tt)), ((plain_send _ _ _ _ _, (plain_send _ _ _ _ _, (cell_id_sent.the_field_send, tt))), ((action_field_send, tt), ((cell_id_sent.the_field_send, tt), ((cell_id_sent.the_field_send, (plain_send _ _ _ _ _, ((search (value_send, fault_sent.the_send, crosses, sendable) depth 60 fits 20000), ((search (action_send, listed.the_send, crosses, sendable) depth 60 fits 20000), tt)))), ((value_field_send, tt), ((plain_send _ _ _ _ _, tt), tt))))))))))
 
 pub event_kind_send : IsSend event_kind_is.the_row
 event_kind_send = recorded_send (event_kind_is.the_field).row _ _ (event_kind_is.the_type).to_one event_kind_field_send

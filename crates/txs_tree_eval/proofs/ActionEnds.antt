@@ -9,7 +9,7 @@ use Rattle.txs_value_cell.specs.declared.cell.CellDefinition.{CellDefinition}
 use Rattle.txs_value_data.specs.declared.value.Value.{Value}
 use Rattle.txs_world_protocol.specs.SeenEvent.{SeenEvent}
 use Rattle.txs_tree_eval.specs.ActionTold.{ActionAccount, ActionAccounts, ActionConcluded, ActionTellsOf, ActionTellsWrong, TellsAction}
-use Rattle.txs_tree_eval.specs.Told.{lacking, told_tx}
+use Rattle.txs_tree_eval.specs.Told.{asked, lacking, told_tx}
 use Rattle.txs_tree_eval.specs.declared.action.ActionMeaning.{ActionMeaning}
 use Rattle.txs_tree_eval.specs.declared.meaning.Needs.{Needs}
 use Rattle.txs_tree_eval.specs.declared.meaning.Needs.TheVariants.{Wrong as NotAllowed}
@@ -42,6 +42,7 @@ module _ (m : ActionMeaning) (k right : ℕ) (before : Completion ThreadState Va
     eaten = a.eaten;
     txs = a.txs;
     needs = a.needs ∙ n;
+    asks = a.asks ∙ ap (λ q. asked q s.asks) n;
     result = a.result ∙ e;
     sends = a.sends ∙ l;
   }
@@ -72,6 +73,7 @@ module _ (m : ActionMeaning) (k right : ℕ) (before : Completion ThreadState Va
         eaten = a.eaten ∙ sym told.0;
         txs = a.txs ∙ ap (λ l. map told_tx l) told.4;
         needs = a.needs ∙ lack ∙ some;
+        asks = a.asks ∙ ap (λ n. asked n s.asks) (lack ∙ some);
         result = a.result ∙ over;
         sends = a.sends ∙ held;
       } in

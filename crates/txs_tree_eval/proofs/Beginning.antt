@@ -8,7 +8,7 @@ use Rattle.txs_value_data.specs.declared.value.Value.{Value}
 use Rattle.txs_tree_meaning.specs.Meaning.{Completion, Completes, Recurs, Faults, Retries, Waits, OutOfTurns, Invalid}
 use Rattle.txs_tree_meaning.specs.Right.{is_wrong, right_events}
 use Rattle.txs_tree_meaning.specs.Thread.{ThreadState}
-use Rattle.txs_tree_eval.proofs.Right.{Steady, longer, Later, Three}
+use Rattle.txs_tree_eval.proofs.Right.{Steady, longer, unasked, Later, Three}
 
 -- ---- answers that wait
 
@@ -84,7 +84,7 @@ module _ (f : SeenEvent) (gs : List SeenEvent) where
       ⊎_elim (λ p. absurd (subst IsWaiting (sym is ∙ p.0) tt)) (λ p. (p.1, p.2, ap (λ t. t.todo) (same_wait s p.0 (sym is ∙ p.4)) ∙ p.3)) h
 
 -- what waits before the one event behind waits for it on the events before
-right_before : (f : SeenEvent) (c x y : Completion ThreadState Value) (t : ThreadState) → Three f [] c x y → is_wrong c ≡ false → y ≡ Waits t → Left t → (s : ThreadState) × (c ≡ Waits s) × (s.todo ≡ []) × (t ≡ longer f [] s)
+right_before : (f : SeenEvent) (c x y : Completion ThreadState Value) (t : ThreadState) → Three f [] c x y → is_wrong c ≡ false → y ≡ Waits t → Left t → (s : ThreadState) × (c ≡ Waits s) × (s.todo ≡ []) × (unasked f [] t ≡ unasked f [] (longer f [] s))
 right_before f (Completes v u) x y t h w is left = absurd (subst IsWaiting (sym is ∙ h.1) tt)
 right_before f (Recurs vs u) x y t h w is left = absurd (false≢true (sym w))
 right_before f (Faults e u) x y t h w is left = absurd (subst IsWaiting (sym is ∙ h.1) tt)

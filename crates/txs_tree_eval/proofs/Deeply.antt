@@ -28,7 +28,7 @@ use Rattle.txs_tree_meaning.specs.Known.{Known, is_pure, known_of, known}
 use Rattle.txs_tree_meaning.specs.Meaning.{Completion, Completes, Recurs, Faults, Retries, Waits, OutOfTurns, Invalid, bind, closed, give, result_of, Applies, Effects, turns, apply, eval, eval_all, eval_let, eval_do, call_at}
 use Rattle.txs_tree_meaning.specs.Pure.{no_effects}
 use Rattle.txs_tree_meaning.specs.Sound.{in_thread, in_dosync, SoundCall, SoundCallee, SoundCells, SoundTree, SoundAll, SoundLet, SoundDo, SoundFunctions}
-use Rattle.txs_tree_meaning.specs.Thread.{ThreadState, Transacting, Surroundings, with_tx, holding, run_of, uneaten, eats, meant, resets, swaps, over, faulted, faultless, ends_tx, is_retry, eats_tx, accepts, thread_put, thread_update, outside_form, on_events}
+use Rattle.txs_tree_meaning.specs.Thread.{ThreadState, Transacting, Surroundings, with_tx, holding, run_of, uneaten, eats, meant, resets, swaps, over, faulted, faultless, ends_tx, is_retry, again, eats_tx, accepts, thread_put, thread_update, outside_form, on_events}
 use Rattle.txs_tree_meaning.specs.Transaction.{TxState, on_cell, in_transaction, tx_start, tx_meaning, validated, final_writes}
 use Rattle.txs_tree_meaning.specs.Tree.{Mark, Tree, Const, Local, If, Do, Let, Loop, Recur, Core, Call, VectorOf, Println, Dosync, Look, Put, Update, Send, Trees, none, more, count, PlainFunction}
 use Rattle.txs_tree_meaning.specs.View.{functions_of}
@@ -168,7 +168,7 @@ module _ (ks : List Known) (q : Applies (Unit {0})) (f g : Applies ThreadState) 
     eats_same zero es t = refl
     eats_same (suc k) [] t = refl
     eats_same (suc k) (e ∷ es) t =
-        (λ i. if e.book == 0 then (if is_retry e.kind then eats_same k es t i else uneaten (e ∷ es) (ends_same e.kind e.R e.Q e.C (record t { todo = es }) i)) else Invalid)
+        (λ i. if e.book == 0 then (if is_retry e.kind then again d e.kind e.R (record t { todo = e ∷ es }) (eats_same k es t i) else uneaten (e ∷ es) (ends_same e.kind e.R e.Q e.C (record t { todo = es }) i)) else Invalid)
 
 -- ---- trees
 

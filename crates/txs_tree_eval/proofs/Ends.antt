@@ -8,7 +8,7 @@ use Rattle.txs_value_data.specs.declared.value.Value.TheVariants.{Nil}
 use Rattle.txs_world_protocol.specs.SeenEvent.{SeenEvent}
 use Rattle.txs_world_protocol.specs.declared.event.EventKind.TheVariants.{Broke}
 use Rattle.txs_world_protocol.specs.declared.event.Outcome.{Outcome}
-use Rattle.txs_tree_eval.specs.Told.{Account, Accounts, Concluded, Tells, TellsOf, TellsWrong, lacking, told_tx, TellsTx, Waitless, thread_source, source_in}
+use Rattle.txs_tree_eval.specs.Told.{Account, Accounts, Concluded, Tells, TellsOf, TellsWrong, asked, lacking, told_tx, TellsTx, Waitless, thread_source, source_in}
 use Rattle.txs_tree_eval_node.specs.Evaluated.{Yields, means, around_it, deeply, forms_on, thread_state, idle}
 use Rattle.txs_tree_eval_transaction.specs.Worked.{Gives, Stops, tx_state}
 use Rattle.txs_tree_meaning.specs.Known.{known}
@@ -96,6 +96,7 @@ module _ (m : ThreadMeaning) (k right : ℕ) (before : Completion ThreadState Va
         eaten = a.eaten ∙ sym told.0;
         txs = a.txs ∙ ap (λ l. map told_tx l) told.4;
         needs = a.needs ∙ lack ∙ some;
+        asks = a.asks ∙ ap (λ n. asked n s.asks) (lack ∙ some);
         outcome = a.outcome ∙ end;
       } in
       subst (λ d. TellsOf m k right before d) (sym none) (subst (λ d. TellsWrong m right d) (sym told.2) account)

@@ -3,6 +3,7 @@
 use Rattle.std.proofs.Common.{◌≡◌, ℕ, zero, suc, ◌+◌, ◌-◌, ◌≤◌, Bool, true, false, ◌&&◌, ◌==◌, List, [], ◌∷◌, ◌++◌, length, nat_eq, Option, Some, None, Result, Ok, Err, refl, sym, ap, ◌∙◌, subst, subst₂, inl, inr, ⊎_elim, ◌⊎◌, if◌then◌else◌, arith}
 use Rattle.txs_world_protocol.specs.Ask.{Writes, same_writes, same_cell, same_value, same_action, same_actions}
 use Rattle.txs_world_protocol.specs.SeenEvent.{SeenEvent, home}
+use Rattle.txs_world_protocol.specs.declared.event.Cause.TheVariants as cause
 use Rattle.txs_world_protocol.specs.declared.event.EventKind.{EventKind}
 use Rattle.txs_world_protocol.specs.declared.event.EventKind.TheVariants.{Read, Commit, Retry, Fail, Refused, Send as Sent, SendRefused, Act as Acted, Swap as Swapped, Broke}
 use Rattle.txs_value_cell.specs.Cells.{World, validators_of, validator_at}
@@ -18,7 +19,7 @@ use Rattle.txs_value_cell.specs.declared.form.UpdateForm.{UpdateForm}
 use Rattle.txs_value_cell.specs.declared.form.UpdateForm.TheVariants.{Alter, Commute, Swap}
 use Rattle.txs_value_cell.specs.declared.form.Standing.{Standing}
 use Rattle.txs_value_cell.specs.declared.form.Standing.TheVariants.{Anywhere, Inside, Outside}
-use Rattle.txs_frame.specs.Frame.{sends_of_commit}
+use Rattle.txs_frame.specs.Frame.{PlainTxFrame, has_number, commuted, sends_of_commit}
 use Rattle.txs_value_apply.specs.Core.{core, vector_of}
 use Rattle.txs_value_apply.specs.Truth.{choose}
 use Rattle.txs_value_base.specs.Places.{nth, fault_at}
@@ -34,9 +35,9 @@ use Rattle.txs_value_data.specs.declared.value.Value.{Value}
 use Rattle.txs_value_data.specs.declared.value.Value.TheVariants.{Nil, Truth, Int, Key, Text, Vector, Cell}
 use Rattle.txs_tree_meaning.specs.Meaning.{Completion, Completes, Recurs, Faults, Retries, Waits, OutOfTurns, Invalid, bind, again, closed, give, result_of, allowed, Applies, Effects, apply, turns, eval, eval_all, eval_let, eval_do, call_at}
 use Rattle.txs_tree_meaning.specs.Known.{Known, known}
-use Rattle.txs_tree_meaning.specs.Right.{up_to, behind_retries, on_right}
+use Rattle.txs_tree_meaning.specs.Right.{up_to, ended_with, passes, behind_retries, on_right}
 use Rattle.txs_tree_meaning.specs.Sound.{MayStand, in_thread, in_dosync, SoundCall, SoundCallee, SentCallee, SoundCells, SoundValidator, SoundTree, SoundAll, SoundLet, SoundDo, SoundFunctions}
-use Rattle.txs_tree_meaning.specs.Thread.{ThreadState, Transacting, with_tx, holding, run_of, uneaten, eats, meant, reads, resets, faulted, faultless, swaps, sends, sends_or_holds, over, ends_tx, is_retry, eats_tx, accepts, Surroundings, thread_look, thread_put, thread_update, on_events}
+use Rattle.txs_tree_meaning.specs.Thread.{ThreadState, Transacting, with_tx, holding, run_of, uneaten, eats, meant, reads, resets, faulted, faultless, swaps, sends, sends_or_holds, over, ends_tx, is_retry, is_held, again as tried_again, eats_tx, accepts, Surroundings, thread_look, thread_put, thread_update, on_events}
 use Rattle.txs_tree_meaning.specs.Transaction.{TxState, in_transaction, tx_start, tx_meaning, judged, validated, final_writes}
 use Rattle.txs_tree_meaning.specs.Tree.{Mark, Tree, Const, Local, If, Do, Let, Loop, Recur, Core, Call, VectorOf, Println, Dosync, Look, Put, Update, Send, Trees, none, more, count, PlainFunction}
 use Rattle.txs_tree_meaning.specs.View.{functions_of}
@@ -104,6 +105,46 @@ steady_event s e es (Waits u) h = omega (arith, h)
 steady_event s e es (OutOfTurns u) h = tt
 steady_event s e es Invalid h = itself (suc (length es))
 
+-- ---- a transaction that had to run again
+
+-- whether a retry had its cause: then the transaction goes on; else turns don't suffice for the body, or there is no meaning
+abbrev Settled : Bool → (ThreadState → Completion ThreadState Value → Completion ThreadState Value) → Type 0
+Settled p go =
+    ((p ≡ true) × ((t : ThreadState) (next : Completion ThreadState Value) → go t next ≡ next))
+    ⊎ (((p ≡ false) × ((t : ThreadState) (next : Completion ThreadState Value) → go t next ≡ OutOfTurns t)) ⊎ ((p ≡ false) × ((t : ThreadState) (next : Completion ThreadState Value) → go t next ≡ Invalid)))
+
+abbrev Causes : Transacting → EventKind → World → Type 0
+Causes d kind R = Settled (passes d kind R) (λ t next. tried_again d kind R t next)
+
+-- a test of what was done
+settled_by : (b : Bool) → Settled b (λ t next. allowed b next)
+settled_by true = inl (refl, λ t next. refl)
+settled_by false = inr (inr (refl, λ t next. refl))
+
+-- a test of what the body did
+settled : (p : PlainTxFrame → Bool) (c : Completion TxState Value) → Settled (ended_with p c) (λ t next. over t c (λ v x. allowed (p x.done) next) (λ e. Invalid))
+settled p (Completes v x) = settled_by (p x.done)
+settled p (Recurs vs x) = inr (inr (refl, λ t next. refl))
+settled p (Faults e x) = inr (inr (refl, λ t next. refl))
+settled p (Retries x) = inr (inr (refl, λ t next. refl))
+settled p (Waits x) = inr (inr (refl, λ t next. refl))
+settled p (OutOfTurns x) = inr (inl (refl, λ t next. refl))
+settled p Invalid = inr (inr (refl, λ t next. refl))
+
+causes : (d : Transacting) (kind : EventKind) (R : World) → Causes d kind R
+causes d (Retry since c cause.Outdated) R = inl (refl, λ t next. refl)
+causes d (Retry since c cause.Held) R = settled (λ w. is_held w c.number) (d.on R)
+causes d (Retry since c (cause.Commuted at)) R = settled (λ w. has_number (commuted w) c.number) (d.on R)
+causes d (Read c) R = inr (inr (refl, λ t next. refl))
+causes d (Commit at view writes sent) R = inr (inr (refl, λ t next. refl))
+causes d (Fail at view) R = inr (inr (refl, λ t next. refl))
+causes d (Refused at view agent) R = inr (inr (refl, λ t next. refl))
+causes d (Sent a) R = inr (inr (refl, λ t next. refl))
+causes d (SendRefused c) R = inr (inr (refl, λ t next. refl))
+causes d (Acted c m v held) R = inr (inr (refl, λ t next. refl))
+causes d (Swapped v) R = inr (inr (refl, λ t next. refl))
+causes d (Broke at) R = inr (inr (refl, λ t next. refl))
+
 -- ---- a beginning of the events, and all
 
 -- the events behind the beginning: there is at least one
@@ -112,13 +153,17 @@ module _ (f : SeenEvent) (gs : List SeenEvent) where
   abbrev pub longer : ThreadState → ThreadState
   longer s = record s { todo = s.todo ++ f ∷ gs }
 
+  -- the same, whichever book's event it waits for
+  abbrev pub unasked : ThreadState → ThreadState
+  unasked s = record s { asks = None }
+
   -- What may come on all events where the thread waits on the beginning: it waits before the next one, or eats that.
   abbrev pub Later : {A : Type 0} → ThreadState → Completion ThreadState A → Type 0
   Later s (Completes a t) = length t.todo ≤ length gs
   Later s (Recurs vs t) = length t.todo ≤ length gs
   Later s (Faults e t) = Unit {0}
   Later s (Retries t) = Unit {0}
-  Later s (Waits t) = (t ≡ longer s) ⊎ (length t.todo ≤ length gs)
+  Later s (Waits t) = (unasked t ≡ unasked (longer s)) ⊎ (length t.todo ≤ length gs)
   Later s (OutOfTurns t) = Unit {0}
   Later s Invalid = Unit {0}
 
@@ -364,22 +409,22 @@ module _ (f : SeenEvent) (gs : List SeenEvent) where
       )
 
   -- the first event behind the beginning, where the thread waits on the beginning
-  later_event : (s : ThreadState) (c : Completion ThreadState Value) → Steady (length gs) c → Later s (up_to (longer s) (uneaten (f ∷ gs) c))
-  later_event s (Completes a u) h = h
-  later_event s (Recurs vs u) h = h
-  later_event s (Faults e u) h = tt
-  later_event s (Retries u) h = tt
-  later_event s (Waits u) h = inr h
-  later_event s (OutOfTurns u) h = tt
-  later_event s Invalid h = inl refl
+  later_event : (s w : ThreadState) (c : Completion ThreadState Value) → unasked w ≡ unasked (longer s) → Steady (length gs) c → Later s (up_to w (uneaten (f ∷ gs) c))
+  later_event s w (Completes a u) as_left h = h
+  later_event s w (Recurs vs u) as_left h = h
+  later_event s w (Faults e u) as_left h = tt
+  later_event s w (Retries u) as_left h = tt
+  later_event s w (Waits u) as_left h = inr h
+  later_event s w (OutOfTurns u) as_left h = tt
+  later_event s w Invalid as_left h = inl as_left
 
   module _ (book : ℕ) (k g : SeenEvent → ThreadState → Completion ThreadState Value) (each : (e : SeenEvent) → Calm (k e) (g e)) where
     three_eats : (es : List SeenEvent) (s : ThreadState)
         → Three (eats book k es (with_todo es s)) (up_to (with_todo es s) (eats book g es (with_todo es s))) (up_to (longer (with_todo es s)) (eats book g (es ++ f ∷ gs) (longer (with_todo es s))))
     three_eats [] s = (refl, refl, of_book (f.book == book))
       where
-        of_book : (own : Bool) → Later (with_todo [] s) (up_to (longer (with_todo [] s)) (if own then uneaten (f ∷ gs) (g f (with_todo gs s)) else Invalid))
-        of_book true = later_event (with_todo [] s) (g f (with_todo gs s)) ((each f).1 (with_todo gs s))
+        of_book : (own : Bool) → Later (record s { todo = []; asks = Some book }) (up_to (longer (with_todo [] s)) (if own then uneaten (f ∷ gs) (g f (with_todo gs s)) else Invalid))
+        of_book true = later_event (record s { todo = []; asks = Some book }) (longer (with_todo [] s)) (g f (with_todo gs s)) refl ((each f).1 (with_todo gs s))
         of_book false = inl refl
     three_eats (e ∷ es) s = of_book (e.book == book)
       where
@@ -563,41 +608,74 @@ module _ (f : SeenEvent) (gs : List SeenEvent) where
     abbrev ending : Applies ThreadState → SeenEvent → ThreadState → Completion ThreadState Value
     ending h e t = ends_tx d h e.kind e.R e.Q e.C t
 
-    -- what comes at this event
-    steady_own : (n : ℕ) (e : SeenEvent) (es : List SeenEvent) (t : ThreadState) → Steady (length es) (up_to (with_todo (behind_retries n es) t) (eats_tx n d g es t)) → (own again : Bool)
-        → Steady (suc (length es)) (up_to (with_todo (if own then (if again then behind_retries n es else e ∷ es) else e ∷ es) t) (if own then (if again then eats_tx n d g es t else uneaten (e ∷ es) (ending g e (with_todo es t))) else Invalid))
-    steady_own n e es t rest true true = steady_more (length es) (suc (length es)) (up_to (with_todo (behind_retries n es) t) (eats_tx n d g es t)) (omega arith) rest
-    steady_own n e es t rest true false = steady_event t e es (ending g e (with_todo es t)) ((calm_ends e.kind e.R e.Q e.C).1 (with_todo es t))
-    steady_own n e es t rest false again = itself (suc (length es))
+    -- A retry, where a try ran again: the transaction goes on, or turns don't suffice for the body, or it had no such cause.
+    module _ (P : Bool → Completion ThreadState Value → Type 0) (kind : EventKind) (R : World) (u : ThreadState) (next : Completion ThreadState Value) where
+      on_cause : Causes d kind R → P true next → P false (OutOfTurns u) → P false Invalid → P (passes d kind R) (tried_again d kind R u next)
+      on_cause (inl h) goes stops wrong = subst₂ P (sym h.0) (sym (h.1 u next)) goes
+      on_cause (inr (inl h)) goes stops wrong = subst₂ P (sym h.0) (sym (h.1 u next)) stops
+      on_cause (inr (inr h)) goes stops wrong = subst₂ P (sym h.0) (sym (h.1 u next)) wrong
 
-    steady_tx : (n : ℕ) (es : List SeenEvent) (t : ThreadState) → Steady (length es) (up_to (with_todo (behind_retries n es) t) (eats_tx n d g es t))
+    -- the same of three such retries, of one cause
+    module _ (P : Bool → Completion ThreadState Value → Completion ThreadState Value → Completion ThreadState Value → Type 0) (kind : EventKind) (R : World) (u v w : ThreadState) (a b c : Completion ThreadState Value) where
+      on_causes : Causes d kind R → P true a b c → P false (OutOfTurns u) (OutOfTurns v) (OutOfTurns w) → P false Invalid Invalid Invalid
+          → P (passes d kind R) (tried_again d kind R u a) (tried_again d kind R v b) (tried_again d kind R w c)
+      on_causes (inl h) goes stops wrong = subst (λ (p : Bool). P p (tried_again d kind R u a) (tried_again d kind R v b) (tried_again d kind R w c)) (sym h.0)
+          (subst (λ x. P true x (tried_again d kind R v b) (tried_again d kind R w c)) (sym (h.1 u a)) (subst₂ (λ x y. P true a x y) (sym (h.1 v b)) (sym (h.1 w c)) goes))
+      on_causes (inr (inl h)) goes stops wrong = subst (λ (p : Bool). P p (tried_again d kind R u a) (tried_again d kind R v b) (tried_again d kind R w c)) (sym h.0)
+          (subst (λ x. P false x (tried_again d kind R v b) (tried_again d kind R w c)) (sym (h.1 u a)) (subst₂ (λ x y. P false (OutOfTurns u) x y) (sym (h.1 v b)) (sym (h.1 w c)) stops))
+      on_causes (inr (inr h)) goes stops wrong = subst (λ (p : Bool). P p (tried_again d kind R u a) (tried_again d kind R v b) (tried_again d kind R w c)) (sym h.0)
+          (subst (λ x. P false x (tried_again d kind R v b) (tried_again d kind R w c)) (sym (h.1 u a)) (subst₂ (λ x y. P false Invalid x y) (sym (h.1 v b)) (sym (h.1 w c)) wrong))
+
+    -- what comes at this event
+    steady_own : (n : ℕ) (e : SeenEvent) (es : List SeenEvent) (t : ThreadState) → Steady (length es) (up_to (with_todo (behind_retries n d es) t) (eats_tx n d g es t)) → (own retry : Bool)
+        → Steady (suc (length es)) (up_to (with_todo (if own then (if retry then (if passes d e.kind e.R then behind_retries n d es else e ∷ es) else e ∷ es) else e ∷ es) t)
+        (if own then (if retry then tried_again d e.kind e.R (with_todo (e ∷ es) t) (eats_tx n d g es t) else uneaten (e ∷ es) (ending g e (with_todo es t))) else Invalid))
+    steady_own n e es t rest true true =
+        on_cause (λ (p : Bool) c. Steady (suc (length es)) (up_to (with_todo (if p then behind_retries n d es else e ∷ es) t) c)) e.kind e.R (with_todo (e ∷ es) t) (eats_tx n d g es t) (causes d e.kind e.R)
+        (steady_more (length es) (suc (length es)) (up_to (with_todo (behind_retries n d es) t) (eats_tx n d g es t)) (omega arith) rest) tt (itself (suc (length es)))
+    steady_own n e es t rest true false = steady_event t e es (ending g e (with_todo es t)) ((calm_ends e.kind e.R e.Q e.C).1 (with_todo es t))
+    steady_own n e es t rest false retry = itself (suc (length es))
+
+    steady_tx : (n : ℕ) (es : List SeenEvent) (t : ThreadState) → Steady (length es) (up_to (with_todo (behind_retries n d es) t) (eats_tx n d g es t))
     steady_tx zero es t = tt
     steady_tx (suc n) [] t = itself 0
     steady_tx (suc n) (e ∷ es) t = steady_own n e es t (steady_tx n es t) (e.book == 0) (is_retry e.kind)
 
-    later_own : (n : ℕ) (s : ThreadState) → (own again : Bool)
-        → Later (with_todo [] s) (up_to (with_todo (if own then (if again then behind_retries n gs else f ∷ gs) else f ∷ gs) s) (if own then (if again then eats_tx n d g gs (longer s) else uneaten (f ∷ gs) (ending g f (with_todo gs s))) else Invalid))
-    later_own n s true true = less_later (with_todo [] s) (up_to (with_todo (behind_retries n gs) s) (eats_tx n d g gs (longer s))) (steady_tx n gs (longer s))
-    later_own n s true false = later_event (with_todo [] s) (ending g f (with_todo gs s)) ((calm_ends f.kind f.R f.Q f.C).1 (with_todo gs s))
-    later_own n s false again = inl refl
+    -- where it waits for its transaction's next event
+    abbrev waiting : ThreadState → ThreadState
+    waiting s = record s { todo = []; asks = Some 0 }
+
+    later_own : (n : ℕ) (s : ThreadState) → (own retry : Bool)
+        → Later (waiting s) (up_to (with_todo (if own then (if retry then (if passes d f.kind f.R then behind_retries n d gs else f ∷ gs) else f ∷ gs) else f ∷ gs) s)
+        (if own then (if retry then tried_again d f.kind f.R (with_todo (f ∷ gs) s) (eats_tx n d g gs (longer s)) else uneaten (f ∷ gs) (ending g f (with_todo gs s))) else Invalid))
+    later_own n s true true =
+        on_cause (λ (p : Bool) c. Later (waiting s) (up_to (with_todo (if p then behind_retries n d gs else f ∷ gs) s) c)) f.kind f.R (with_todo (f ∷ gs) s) (eats_tx n d g gs (longer s)) (causes d f.kind f.R)
+        (less_later (waiting s) (up_to (with_todo (behind_retries n d gs) s) (eats_tx n d g gs (longer s))) (steady_tx n gs (longer s))) tt (inl refl)
+    later_own n s true false = later_event (waiting s) (longer (with_todo [] s)) (ending g f (with_todo gs s)) refl ((calm_ends f.kind f.R f.Q f.C).1 (with_todo gs s))
+    later_own n s false retry = inl refl
 
     three_own : (n : ℕ) (e : SeenEvent) (es : List SeenEvent) (s : ThreadState)
-        → Three (eats_tx n d k es s) (up_to (with_todo (behind_retries n es) s) (eats_tx n d g es s)) (up_to (with_todo (behind_retries n (es ++ f ∷ gs)) s) (eats_tx n d g (es ++ f ∷ gs) (longer s))) → (own again : Bool)
-        → Three (if own then (if again then eats_tx n d k es s else uneaten (e ∷ es) (ending k e (with_todo es s))) else Invalid)
-        (up_to (with_todo (if own then (if again then behind_retries n es else e ∷ es) else e ∷ es) s) (if own then (if again then eats_tx n d g es s else uneaten (e ∷ es) (ending g e (with_todo es s))) else Invalid))
-        (up_to (with_todo (if own then (if again then behind_retries n (es ++ f ∷ gs) else e ∷ es ++ f ∷ gs) else e ∷ es ++ f ∷ gs) s)
-        (if own then (if again then eats_tx n d g (es ++ f ∷ gs) (longer s) else uneaten (e ∷ es ++ f ∷ gs) (ending g e (longer (with_todo es s)))) else Invalid))
-    three_own n e es s rest true true = rest
+        → Three (eats_tx n d k es s) (up_to (with_todo (behind_retries n d es) s) (eats_tx n d g es s)) (up_to (with_todo (behind_retries n d (es ++ f ∷ gs)) s) (eats_tx n d g (es ++ f ∷ gs) (longer s))) → (own retry : Bool)
+        → Three (if own then (if retry then tried_again d e.kind e.R (with_todo (e ∷ es) s) (eats_tx n d k es s) else uneaten (e ∷ es) (ending k e (with_todo es s))) else Invalid)
+        (up_to (with_todo (if own then (if retry then (if passes d e.kind e.R then behind_retries n d es else e ∷ es) else e ∷ es) else e ∷ es) s)
+        (if own then (if retry then tried_again d e.kind e.R (with_todo (e ∷ es) s) (eats_tx n d g es s) else uneaten (e ∷ es) (ending g e (with_todo es s))) else Invalid))
+        (up_to (with_todo (if own then (if retry then (if passes d e.kind e.R then behind_retries n d (es ++ f ∷ gs) else e ∷ es ++ f ∷ gs) else e ∷ es ++ f ∷ gs) else e ∷ es ++ f ∷ gs) s)
+        (if own then (if retry then tried_again d e.kind e.R (with_todo (e ∷ es ++ f ∷ gs) s) (eats_tx n d g (es ++ f ∷ gs) (longer s)) else uneaten (e ∷ es ++ f ∷ gs) (ending g e (longer (with_todo es s)))) else Invalid))
+    three_own n e es s rest true true =
+        on_causes
+        (λ (p : Bool) x y z. Three x (up_to (with_todo (if p then behind_retries n d es else e ∷ es) s) y) (up_to (with_todo (if p then behind_retries n d (es ++ f ∷ gs) else e ∷ es ++ f ∷ gs) s) z))
+        e.kind e.R (with_todo (e ∷ es) s) (with_todo (e ∷ es) s) (with_todo (e ∷ es ++ f ∷ gs) s) (eats_tx n d k es s) (eats_tx n d g es s) (eats_tx n d g (es ++ f ∷ gs) (longer s)) (causes d e.kind e.R)
+        rest (refl, refl) (inr (with_todo (e ∷ es) s, e, es, refl, refl, refl))
     three_own n e es s rest true false = three_event s e es (ending k e (with_todo es s)) (ending g e (with_todo es s)) (ending g e (longer (with_todo es s))) ((calm_ends e.kind e.R e.Q e.C).0 (with_todo es s))
-    three_own n e es s rest false again = inr (with_todo (e ∷ es) s, e, es, refl, refl, refl)
+    three_own n e es s rest false retry = inr (with_todo (e ∷ es) s, e, es, refl, refl, refl)
 
     three_tx : (n : ℕ) (es : List SeenEvent) (s : ThreadState)
-        → Three (eats_tx n d k es s) (up_to (with_todo (behind_retries n es) s) (eats_tx n d g es s)) (up_to (with_todo (behind_retries n (es ++ f ∷ gs)) s) (eats_tx n d g (es ++ f ∷ gs) (longer s)))
+        → Three (eats_tx n d k es s) (up_to (with_todo (behind_retries n d es) s) (eats_tx n d g es s)) (up_to (with_todo (behind_retries n d (es ++ f ∷ gs)) s) (eats_tx n d g (es ++ f ∷ gs) (longer s)))
     three_tx zero es s = (refl, refl)
     three_tx (suc n) [] s = (refl, refl, later_own n s (f.book == 0) (is_retry f.kind))
     three_tx (suc n) (e ∷ es) s = three_own n e es s (three_tx n es s) (e.book == 0) (is_retry e.kind)
 
-    goes_tx : (n : ℕ) → Goes (λ t. eats_tx n d k t.todo t) (λ t. up_to (with_todo (behind_retries n t.todo) t) (eats_tx n d g t.todo t))
+    goes_tx : (n : ℕ) → Goes (λ t. eats_tx n d k t.todo t) (λ t. up_to (with_todo (behind_retries n d t.todo) t) (eats_tx n d g t.todo t))
     goes_tx n = (λ s. three_tx n s.todo s, λ t. steady_tx n t.todo t)
 
   -- ---- trees

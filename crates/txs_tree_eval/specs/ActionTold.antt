@@ -10,7 +10,7 @@ use Rattle.txs_tree_meaning.specs.Meaning.{Completion, Completes, Recurs, Faults
 use Rattle.txs_tree_meaning.specs.Right.{right_events}
 use Rattle.txs_tree_meaning.specs.Thread.{ThreadState, action_in, around_action}
 use Rattle.txs_tree_meaning.specs.Tree.{PlainProgram}
-use Rattle.txs_tree_eval.specs.Told.{told_tx, lacking}
+use Rattle.txs_tree_eval.specs.Told.{told_tx, asked, lacking}
 use Rattle.txs_tree_eval.specs.declared.action.ActionMeaning.{ActionMeaning}
 use Rattle.txs_tree_eval_transaction.specs.declared.stop.ThreadStop.{ThreadStop}
 use Rattle.txs_tree_eval_transaction.specs.declared.stop.ThreadStop.TheVariants.{Fault as AFault, Event as NoEvent, Wrong as OtherEvent, Turns as NoTurns, Memory}
@@ -28,6 +28,7 @@ pub record ActionAccount (m : ActionMeaning) (ate : ℕ) (t : ThreadState) (lack
   pub eaten : m.eaten ≡ ate
   pub txs : m.txs ≡ map told_tx t.txs
   pub needs : m.needs ≡ lack
+  pub asks : m.asks ≡ asked lack t.asks
   pub result : m.result ≡ end
   pub sends : m.sends ≡ held
 

@@ -33,12 +33,18 @@ thread_source p k = source_in p (nth p.threads k)
 abbrev pub told_tx : TxRun → TxMeaning
 told_tx x = record { result = Ok x.result; done = x.state.done; reads = x.state.reads; used = x.state.used }
 
--- what was printed, how many events were eaten, the transactions, what is needed, and how the thread ended
+-- which book's event is waited for, where an event is needed
+abbrev pub asked : Needs → Option ℕ → Option ℕ
+asked Event book = book
+asked _ book = None
+
+-- what was printed, how many events were eaten, the transactions, what is needed and of which book, and how the thread ended
 pub record Account (m : ThreadMeaning) (ate : ℕ) (s : ThreadState) (lack : Needs) (end : Option Outcome) : Type 0 where
   pub printed : m.printed ≡ s.printed
   pub eaten : m.eaten ≡ ate
   pub txs : m.txs ≡ map told_tx s.txs
   pub needs : m.needs ≡ lack
+  pub asks : m.asks ≡ asked lack s.asks
   pub outcome : m.outcome ≡ end
 
 -- what a thread lacks that waits where so many events are left

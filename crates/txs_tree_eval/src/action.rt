@@ -8,7 +8,7 @@ ghost use Rattle.txs_tree_meaning.specs.Known.{known};
 ghost use Rattle.txs_tree_meaning.specs.Sound.{SentCallee};
 ghost use Rattle.txs_tree_meaning.specs.View.{functions_of, program_of};
 
-use crate::meaning::{Needs, lacking, told};
+use crate::meaning::{Needs, asked, lacking, told};
 use crate::transaction::TxMeaning;
 use std::alloc::{AllocError, Global};
 use txs_tree_eval_node::evaluate::{apply_outside, copy_locals};
@@ -27,6 +27,8 @@ use txs_value_data::{Listed, Value};
 pub struct ActionMeaning {
     pub printed: Listed<u8>,
     pub needs: Needs,
+    /// The book of the event that it needs, 0 for the store's.
+    pub asks: Option<usize>,
     pub result: Option<Result<Value, Fault>>,
     pub sends: Listed<Action>,
     pub eaten: usize,
@@ -105,6 +107,7 @@ fn tell_action(
     Ok(ActionMeaning {
         printed: Listed::from_vec(thread.printed),
         needs,
+        asks: asked(needs, thread.asks),
         result,
         sends,
         eaten,

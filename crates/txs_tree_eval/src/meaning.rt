@@ -1,7 +1,7 @@
 //! What a thread means.
 
 ghost use Rattle.std.specs.Prelude.{◌≡◌, ◌<◌, ◌-◌, length, map, IfOk, IfSome};
-ghost use Rattle.txs_tree_eval.specs.Told.{Account, Accounts, Concluded, Tells, lacking, thread_source, told_run};
+ghost use Rattle.txs_tree_eval.specs.Told.{Account, Accounts, Concluded, Tells, asked, lacking, thread_source, told_run};
 ghost use Rattle.txs_tree_eval_node.specs.Evaluated.{thread_state};
 ghost use Rattle.txs_tree_meaning.specs.View.{program_of};
 ghost use Rattle.txs_tree_eval_node.specs.Events.{seen_events};
@@ -35,6 +35,8 @@ pub enum Needs {
 pub struct ThreadMeaning {
     pub printed: Listed<u8>,
     pub needs: Needs,
+    /// The book of the event that it needs, 0 for the store's.
+    pub asks: Option<usize>,
     pub outcome: Option<Outcome>,
     pub eaten: usize,
     pub txs: Listed<TxMeaning>,
@@ -61,6 +63,16 @@ pub(crate) fn told(
     Ok(Listed::from_vec(txs))
 }
 
+/// The book of the event that is waited for, where one is needed.
+pub(crate) fn asked(needs: Needs, book: Option<usize>) -> Option<usize>
+    ensures { result ≡ asked needs book }
+{
+    match needs {
+        Needs::Event => book,
+        Needs::Nothing | Needs::Turns | Needs::Wrong => None,
+    }
+}
+
 /// The meaning of a thread that ate so many events, and needs this or ended so.
 fn account(
     alloc: Global,
@@ -75,6 +87,7 @@ fn account(
     Ok(ThreadMeaning {
         printed: Listed::from_vec(thread.printed),
         needs,
+        asks: asked(needs, thread.asks),
         outcome,
         eaten,
         txs,

@@ -5,22 +5,26 @@ use Rattle.std.proofs.lemmas.List.{map-append}
 use Rattle.txs_frame.specs.Frame.{sends_of_commit}
 use Rattle.txs_world_protocol.specs.Ask.{Writes, same_writes, same_actions}
 use Rattle.txs_world_protocol.specs.SeenEvent.{SeenEvent}
+use Rattle.txs_world_protocol.specs.declared.event.Cause.TheVariants as cause
 use Rattle.txs_world_protocol.specs.declared.event.EventKind.{EventKind}
 use Rattle.txs_world_protocol.specs.declared.event.EventKind.TheVariants.{Read, Commit, Retry, Fail, Refused, Send as Sent, SendRefused, Act as Acted, Swap as Swapped, Broke}
-use Rattle.txs_tree_eval_node.specs.Evaluated.{HaltsAt, AnswersAt, Yields, Comes, ComesNone, with_todo, retried, BodyStops, Runs, SoundCommutes, forms_on, calls_on, around_it, means, final_means, transacting, at_end, eat_means, carried_on, ended, end_view, Closes, closes, closing, commit_closes, refuse_closes, end_stop, ends_as, body_means, dosync_means, part, is_on, thread_state, tx_run}
-use Rattle.txs_tree_eval_transaction.specs.Worked.{Stops, Gives, Told, ToldOf, tx_state}
+use Rattle.txs_tree_eval_node.specs.Evaluated.{HaltsAt, AnswersAt, Yields, Comes, ComesNone, with_todo, retried, Reruns, Allows, rerun_as, touched, BodyStops, Runs, SoundCommutes, forms_on, calls_on, around_it, means, final_means, transacting, at_end, eat_means, carried_on, ended, end_view, Closes, closes, closing, commit_closes, refuse_closes, end_stop, ends_as, body_means, dosync_means, part, is_on, thread_state, tx_run}
+use Rattle.txs_tree_eval_transaction.specs.Worked.{Stops, Gives, Told, ToldOf, stop_without_fault, tx_state}
 use Rattle.txs_tree_eval_node.specs.Events.{seen_event}
-use Rattle.txs_tree_meaning.specs.Meaning.{Completion, Completes, Recurs, Faults, Retries, Waits, OutOfTurns, Invalid, bind, closed, Applies, apply, eval}
+use Rattle.txs_tree_meaning.specs.Meaning.{Completion, Completes, Recurs, Faults, Retries, Waits, OutOfTurns, Invalid, allowed, bind, closed, Applies, apply, eval}
 use Rattle.txs_tree_eval_node.specs.Setting.{Setting, callable, deepest, on_view, zone_on}
 use Rattle.txs_tree_meaning.specs.Sound.{SoundCells, SoundFunctions, SoundTree, in_dosync}
-use Rattle.txs_tree_meaning.specs.Right.{up_to, behind_retries}
-use Rattle.txs_tree_meaning.specs.Thread.{TxRun, ThreadState, Transacting, over, faultless, faulted, meant, with_tx, holding, run_of, ends_tx, is_retry, uneaten, eats_tx}
+use Rattle.txs_tree_meaning.specs.Right.{up_to, ended_with, passes, behind_retries}
+use Rattle.txs_tree_meaning.specs.Thread.{TxRun, ThreadState, Transacting, over, faultless, faulted, meant, with_tx, holding, run_of, ends_tx, is_retry, again, uneaten, eats_tx}
 use Rattle.txs_tree_meaning.specs.Transaction.{TxState, tx_start, final_writes}
 use Rattle.txs_tree_meaning.specs.Tree.{Mark, Tree}
 use Rattle.txs_tree_meaning.specs.View.{functions_of}
 use Rattle.txs_tree_eval_transaction.specs.Views.{PlainView, plain_view, plain_world, world_of}
 use Rattle.txs_tree_eval_node.specs.declared.closing.Closing.{Closing}
 use Rattle.txs_tree_eval_node.specs.declared.closing.Closing.TheVariants.{Refused as ARefused, Committed, Stopped}
+use Rattle.txs_tree_eval_node.specs.declared.thread.Rerun.{Rerun}
+use Rattle.txs_tree_eval_node.specs.declared.thread.Rerun.TheVariants.{Outdated, Touched, Other}
+use Rattle.txs_tree_eval_node.specs.declared.thread.Touch.{Touch}
 use Rattle.txs_tree_eval_node.specs.declared.seen.Seen.{Seen}
 use Rattle.txs_tree_eval_node.specs.declared.state.Progress.{Progress}
 use Rattle.txs_tree_eval_node.specs.declared.state.State.{State}
@@ -28,7 +32,7 @@ use Rattle.txs_tree_eval_node.specs.declared.state.Transacted.{Transacted}
 use Rattle.txs_tree_eval_transaction.specs.declared.stop.ThreadStop.{ThreadStop}
 use Rattle.txs_tree_eval_transaction.specs.declared.stop.ThreadStop.TheVariants.{Fault, Event, Wrong, Turns, Memory}
 use Rattle.txs_tree_eval_transaction.specs.declared.view.RefView.{RefView}
-use Rattle.txs_value_cell.specs.Cells.{validators_of}
+use Rattle.txs_value_cell.specs.Cells.{World, validators_of}
 use Rattle.txs_value_data.specs.Limits.{reruns}
 use Rattle.txs_value_base.specs.Places.{fault_at}
 use Rattle.txs_value_base.specs.declared.fault.Fault as fault
@@ -211,9 +215,9 @@ noted b is v t u (Ok w) h = ap (λ k. meant k v t) is ∙ ap (λ z. Completes z 
 noted b is v t u (Err y) h = subst (λ z. HaltsAt z u (meant b v t)) (sym h) tt
 
 -- one run more
-pub noted_more : (p : Progress) (r : Transacted) (txs : List Transacted) → txs ≡ p.txs.items ++ r ∷ [] → record { todo = (thread_state p).todo; printed = (thread_state p).printed; held = (thread_state p).held; txs = map tx_run txs } ≡ with_tx (tx_run r) (thread_state p)
+pub noted_more : (p : Progress) (r : Transacted) (txs : List Transacted) → txs ≡ p.txs.items ++ r ∷ [] → record { todo = (thread_state p).todo; printed = (thread_state p).printed; held = (thread_state p).held; txs = map tx_run txs; asks = (thread_state p).asks } ≡ with_tx (tx_run r) (thread_state p)
 noted_more p r txs e =
-    let made : List TxRun → ThreadState = λ (l : List TxRun). record { todo = (thread_state p).todo; printed = (thread_state p).printed; held = (thread_state p).held; txs = l } in
+    let made : List TxRun → ThreadState = λ (l : List TxRun). record { todo = (thread_state p).todo; printed = (thread_state p).printed; held = (thread_state p).held; txs = l; asks = (thread_state p).asks } in
     ap made (ap (map tx_run) e ∙ map-append tx_run p.txs.items (r ∷ []))
 
 -- a stop of the body or a commute
@@ -315,6 +319,117 @@ closes_other (Stopped y) span r (Err Wrong) t u h o = sym h.1
 pub unmatched : {E : Type 0} (P : E → Type 0) (Q : ThreadStop → Type 0) (r : Result E ThreadStop) (y : ThreadStop) → r ≡ Err y → Q y → MatchResult r P Q
 unmatched P Q r y is h = subst (λ z. MatchResult z P Q) (sym is) h
 
+-- what follows a try that had to run again for this
+abbrev again_by : Rerun → Transacting → World → ThreadState → Completion ThreadState Value → Completion ThreadState Value
+again_by Outdated d R t next = next
+again_by (Touched k) d R t next = over t (d.on R) (λ v x. allowed (touched k x.done) next) (λ g. Invalid)
+again_by Other d R t next = Invalid
+
+-- whether it had to
+abbrev passes_by : Rerun → Transacting → World → Bool
+passes_by Outdated d R = true
+passes_by (Touched k) d R = ended_with (λ w. touched k w) (d.on R)
+passes_by Other d R = false
+
+module _ (d : Transacting) (R : World) where
+  again_as : (k : EventKind) (t : ThreadState) (next : Completion ThreadState Value) → again d k R t next ≡ again_by (rerun_as k) d R t next
+  again_as (Retry since c cause.Outdated) t next = refl
+  again_as (Retry since c cause.Held) t next = refl
+  again_as (Retry since c (cause.Commuted at)) t next = refl
+  again_as (Commit at view writes sent) t next = refl
+  again_as (Fail at view) t next = refl
+  again_as (Refused at view agent) t next = refl
+  again_as (Read c) t next = refl
+  again_as (Sent a) t next = refl
+  again_as (SendRefused c) t next = refl
+  again_as (Acted c n v sends) t next = refl
+  again_as (Swapped v) t next = refl
+  again_as (Broke at) t next = refl
+
+  passes_as : (k : EventKind) → passes d k R ≡ passes_by (rerun_as k) d R
+  passes_as (Retry since c cause.Outdated) = refl
+  passes_as (Retry since c cause.Held) = refl
+  passes_as (Retry since c (cause.Commuted at)) = refl
+  passes_as (Commit at view writes sent) = refl
+  passes_as (Fail at view) = refl
+  passes_as (Refused at view agent) = refl
+  passes_as (Read c) = refl
+  passes_as (Sent a) = refl
+  passes_as (SendRefused c) = refl
+  passes_as (Acted c n v sends) = refl
+  passes_as (Swapped v) = refl
+  passes_as (Broke at) = refl
+
+  module _ (k : EventKind) (r : Rerun) (is : r ≡ rerun_as k) where
+    again_is : (t : ThreadState) (next : Completion ThreadState Value) → again d k R t next ≡ again_by r d R t next
+    again_is t next = again_as k t next ∙ ap (λ q. again_by q d R t next) (sym is)
+
+    passes_is : passes d k R ≡ passes_by r d R
+    passes_is = passes_as k ∙ ap (λ q. passes_by q d R) (sym is)
+
+    pub rerun_outdated : {U : Type 0} (u : U) → r ≡ Outdated → Reruns d k R (Ok u)
+    rerun_outdated u old = (passes_is ∙ ap (λ q. passes_by q d R) old, λ t next. again_is t next ∙ ap (λ q. again_by q d R t next) old)
+
+    pub rerun_other : (U : Type 0) → r ≡ Other → Reruns {U = U} d k R (Err Wrong)
+    rerun_other U other = (passes_is ∙ ap (λ q. passes_by q d R) other, λ t next. again_is t next ∙ ap (λ q. again_by q d R t next) other)
+
+    -- the body on the world at the try's read point
+    module _ (j : Touch) (did : r ≡ Touched j) where
+      again_did : (t : ThreadState) (next : Completion ThreadState Value) → again d k R t next ≡ over t (d.on R) (λ v x. allowed (touched j x.done) next) (λ g. Invalid)
+      again_did t next = again_is t next ∙ ap (λ q. again_by q d R t next) did
+
+      passes_did : passes d k R ≡ ended_with (λ w. touched j w) (d.on R)
+      passes_did = passes_is ∙ ap (λ q. passes_by q d R) did
+
+      -- it gives no value
+      rerun_stopped : (U : Type 0) (y : ThreadStop) → BodyStops y (d.on R) → Reruns {U = U} d k R (Err (stop_without_fault y))
+      rerun_stopped U (Fault f) h = (passes_did ∙ ap (λ c. ended_with (λ w. touched j w) c) h.1, λ t next. again_did t next ∙ ap (λ c. over t c (λ v x. allowed (touched j x.done) next) (λ g. Invalid)) h.1)
+      rerun_stopped U Event h = absurd h
+      rerun_stopped U Wrong h = absurd h
+      rerun_stopped U Turns h = (passes_did ∙ ap (λ c. ended_with (λ w. touched j w) c) h.1, λ t next. again_did t next ∙ ap (λ c. over t c (λ v x. allowed (touched j x.done) next) (λ g. Invalid)) h.1)
+      rerun_stopped U Memory h = tt
+
+      pub rerun_stop : (U : Type 0) (y z : ThreadStop) → z ≡ stop_without_fault y → BodyStops y (d.on R) → Reruns {U = U} d k R (Err z)
+      rerun_stop U y z is_z h = subst (λ q. Reruns {U = U} d k R (Err q)) (sym is_z) (rerun_stopped U y h)
+
+      -- it gives one
+      module _ (v : Value) (x : TxState) (run : d.on R ≡ Completes v x) where
+        passes_run : passes d k R ≡ touched j x.done
+        passes_run = passes_did ∙ ap (λ c. ended_with (λ w. touched j w) c) run
+
+        again_run : (b : Bool) → touched j x.done ≡ b → (t : ThreadState) (next : Completion ThreadState Value) → again d k R t next ≡ allowed b next
+        again_run b there t next = again_did t next ∙ ap (λ c. over t c (λ v x. allowed (touched j x.done) next) (λ g. Invalid)) run ∙ ap (λ (c : Bool). allowed c next) there
+
+        pub rerun_run : {U : Type 0} (res : Result U ThreadStop) → Allows res (touched j x.done) → Reruns d k R res
+        rerun_run (Ok u) h = (passes_run ∙ h, λ t next. again_run true h t next)
+        rerun_run (Err (Fault f)) h = absurd h
+        rerun_run (Err Event) h = absurd h
+        rerun_run (Err Wrong) h = (passes_run ∙ h, λ t next. again_run false h t next)
+        rerun_run (Err Turns) h = absurd h
+        rerun_run (Err Memory) h = tt
+
+-- the retries that are left to eat
+module _ (d : Transacting) (k : ℕ) (e : Seen) (t : ThreadState) (h : Comes 0 e t) where
+  abbrev world : World
+  world = world_of (plain_view e.start)
+
+  retried_at : (b p : Bool) → is_retry e.kind.now ≡ b → passes d e.kind.now world ≡ p → retried (suc k) d t ≡ with_todo (if b then (if p then behind_retries k d h.0 else seen_event e ∷ h.0) else seen_event e ∷ h.0) t
+  retried_at b p is pass =
+      ap (λ es. with_todo (behind_retries (suc k) d es) t) h.1
+      ∙ ap (λ (c : Bool). with_todo (if c then (if is_retry e.kind.now then (if passes d e.kind.now world then behind_retries k d h.0 else seen_event e ∷ h.0) else seen_event e ∷ h.0) else seen_event e ∷ h.0) t) h.2
+      ∙ ap (λ (c : Bool). with_todo (if c then (if passes d e.kind.now world then behind_retries k d h.0 else seen_event e ∷ h.0) else seen_event e ∷ h.0) t) is
+      ∙ ap (λ (c : Bool). with_todo (if b then (if c then behind_retries k d h.0 else seen_event e ∷ h.0) else seen_event e ∷ h.0) t) pass
+
+  pub retried_end : is_retry e.kind.now ≡ false → retried (suc k) d t ≡ t
+  retried_end is = retried_at false (passes d e.kind.now world) is refl ∙ ap (λ l. with_todo l t) (sym h.1)
+
+  -- one without its cause stays
+  pub retried_stays : is_retry e.kind.now ≡ true → passes d e.kind.now world ≡ false → retried (suc k) d t ≡ t
+  retried_stays is pass = retried_at true false is pass ∙ ap (λ l. with_todo l t) (sym h.1)
+
+  pub retried_more : (u : ThreadState) → u ≡ with_todo h.0 t → is_retry e.kind.now ≡ true → passes d e.kind.now world ≡ true → retried (suc k) d t ≡ retried k d u
+  retried_more u rest is pass = retried_at true true is pass ∙ ap (λ s. retried k d s) (sym rest)
+
 module _ (d : Transacting) (f : Applies ThreadState) where
   -- what stands in the state of events to come counts for nothing here
   eats_same : (k : ℕ) (es us : List SeenEvent) (t : ThreadState) → eats_tx k d f es (record t { todo = us }) ≡ eats_tx k d f es t
@@ -322,51 +437,56 @@ module _ (d : Transacting) (f : Applies ThreadState) where
   eats_same (suc k) [] us t = refl
   eats_same (suc k) (e ∷ es) us t =
       let end = uneaten (e ∷ es) (ends_tx d f e.kind e.R e.Q e.C (record t { todo = es })) in
-      ap (λ r. if e.book == 0 then (if is_retry e.kind then r else end) else Invalid) (eats_same k es us t)
+      ap (λ r. if e.book == 0 then (if is_retry e.kind then again d e.kind e.R (record t { todo = e ∷ es }) r else end) else Invalid) (eats_same k es us t)
 
   -- what the transaction means at its end's event, behind which these come
   abbrev ending : Seen → List SeenEvent → ThreadState → Completion ThreadState Value
   ending e es t = uneaten (seen_event e ∷ es) (ends_tx d f e.kind.now (world_of (plain_view e.start)) (world_of (plain_view e.view)) (world_of (plain_view e.here)) (with_todo es t))
 
-  eaten : (k : ℕ) (e : Seen) (t : ThreadState) (b : Bool) (h : Comes 0 e t) → is_retry e.kind.now ≡ b → eats_tx (suc k) d f t.todo t ≡ (if b then eats_tx k d f h.0 t else ending e h.0 t)
+  -- what it means at a retry's
+  abbrev rerunning : ℕ → Seen → List SeenEvent → ThreadState → Completion ThreadState Value
+  rerunning k e es t = again d e.kind.now (world_of (plain_view e.start)) (with_todo (seen_event e ∷ es) t) (eats_tx k d f es t)
+
+  eaten : (k : ℕ) (e : Seen) (t : ThreadState) (b : Bool) (h : Comes 0 e t) → is_retry e.kind.now ≡ b → eats_tx (suc k) d f t.todo t ≡ (if b then rerunning k e h.0 t else ending e h.0 t)
   eaten k e t b h is =
       let a = seen_event e in
       let end = ending e h.0 t in
-      ap (λ es. eats_tx (suc k) d f es t) h.1 ∙ ap (λ (c : Bool). if c then (if is_retry a.kind then eats_tx k d f h.0 t else end) else Invalid) h.2 ∙ ap (λ (c : Bool). if c then eats_tx k d f h.0 t else end) is
+      let more = rerunning k e h.0 t in
+      ap (λ es. eats_tx (suc k) d f es t) h.1 ∙ ap (λ (c : Bool). if c then (if is_retry a.kind then more else end) else Invalid) h.2 ∙ ap (λ (c : Bool). if c then more else end) is
 
-  pub eats_more : (k : ℕ) (e : Seen) (t u : ThreadState) (h : Comes 0 e t) → u ≡ with_todo h.0 t → is_retry e.kind.now ≡ true → eats_tx (suc k) d f t.todo t ≡ eats_tx k d f u.todo u
-  eats_more k e t u h rest is = eaten k e t true h is ∙ sym (eats_same k h.0 h.0 t) ∙ ap (λ s. eats_tx k d f s.todo s) (sym rest)
+  pub eats_more : (k : ℕ) (e : Seen) (t u : ThreadState) (h : Comes 0 e t) → u ≡ with_todo h.0 t → is_retry e.kind.now ≡ true → ((s : ThreadState) (next : Completion ThreadState Value) → again d e.kind.now (world_of (plain_view e.start)) s next ≡ next)
+      → eats_tx (suc k) d f t.todo t ≡ eats_tx k d f u.todo u
+  eats_more k e t u h rest is goes = eaten k e t true h is ∙ goes (with_todo (seen_event e ∷ h.0) t) (eats_tx k d f h.0 t) ∙ sym (eats_same k h.0 h.0 t) ∙ ap (λ s. eats_tx k d f s.todo s) (sym rest)
+
+  -- where a try had no such cause, or turns don't suffice for its body
+  pub eats_unrun : (U : Type 0) (k : ℕ) (y : ThreadStop) (e : Seen) (w t : ThreadState) (h : Comes 0 e t) → w ≡ retried (suc k) d t → is_retry e.kind.now ≡ true → Reruns {U = U} d e.kind.now (world_of (plain_view e.start)) (Err y)
+      → Stops false y t (up_to w (eats_tx (suc k) d f t.todo t))
+  eats_unrun U k (Fault g) e w t h is retry no_cause = absurd no_cause
+  eats_unrun U k Event e w t h is retry no_cause = absurd no_cause
+  eats_unrun U k Wrong e w t h is retry no_cause = (
+    refl,
+    ap (λ c. up_to w c) (eaten k e t true h retry ∙ no_cause.1 (with_todo (seen_event e ∷ h.0) t) (eats_tx k d f h.0 t)) ∙ ap (λ s. Waits s) (is ∙ retried_stays d k e t h retry no_cause.0),
+  )
+  eats_unrun U k Turns e w t h is retry no_cause =
+      ap (λ c. up_to w c) (eaten k e t true h retry ∙ no_cause.1 (with_todo (seen_event e ∷ h.0) t) (eats_tx k d f h.0 t)) ∙ ap (λ l. OutOfTurns (with_todo l t)) (sym h.1)
+  eats_unrun U k Memory e w t h is retry no_cause = tt
 
   pub eats_end : (k : ℕ) (e : Seen) (t : ThreadState) (h : Comes 0 e t) → is_retry e.kind.now ≡ false → eats_tx (suc k) d f t.todo t ≡ ending e h.0 t
   eats_end k e t h is = eaten k e t false h is
 
-  pub eats_none : (k : ℕ) (y : ThreadStop) (w t : ThreadState) → w ≡ retried (suc k) t → ComesNone 0 y t → Stops false y t (up_to w (eats_tx (suc k) d f t.todo t))
-  eats_none k Event w t is h = (refl, ap (λ es. up_to w (eats_tx (suc k) d f es t)) h ∙ ap (λ l. Waits (record t { todo = l })) (sym h))
-  eats_none k Wrong w t is h =
+  pub eats_none : (k : ℕ) (y : ThreadStop) (w t u : ThreadState) → w ≡ retried (suc k) d t → ComesNone 0 y t u → Stops false y u (up_to w (eats_tx (suc k) d f t.todo t))
+  eats_none k Event w t u is h = (refl, ap (λ es. up_to w (eats_tx (suc k) d f es t)) h.0 ∙ ap (λ l. Waits (record t { todo = l; asks = Some 0 })) (sym h.0) ∙ ap (λ s. Waits s) (sym h.1))
+  eats_none k Wrong w t u is h =
       let e = h.0 in
-      let end = uneaten (e ∷ h.1) (ends_tx d f e.kind e.R e.Q e.C (record t { todo = h.1 })) in
-      let stays : w ≡ t = is ∙ ap (λ es. with_todo (behind_retries (suc k) es) t) h.2 ∙ ap (λ (b : Bool). with_todo (if b then (if is_retry e.kind then behind_retries k h.1 else e ∷ h.1) else e ∷ h.1) t) h.3 ∙ ap (λ l. with_todo l t) (sym h.2) in (
+      let back = e ∷ h.1 in
+      let end = uneaten back (ends_tx d f e.kind e.R e.Q e.C (record t { todo = h.1 })) in
+      let stays : w ≡ t = is ∙ ap (λ es. with_todo (behind_retries (suc k) d es) t) h.2 ∙ ap (λ (b : Bool). with_todo (if b then (if is_retry e.kind then (if passes d e.kind e.R then behind_retries k d h.1 else back) else back) else back) t) h.3 ∙ ap (λ l. with_todo l t) (sym h.2) in (
         refl,
-        ap (λ es. up_to w (eats_tx (suc k) d f es t)) h.2 ∙ ap (λ (b : Bool). up_to w (if b then (if is_retry e.kind then eats_tx k d f h.1 t else end) else Invalid)) h.3 ∙ ap (λ s. Waits s) stays,
+        ap (λ es. up_to w (eats_tx (suc k) d f es t)) h.2 ∙ ap (λ (b : Bool). up_to w (if b then (if is_retry e.kind then again d e.kind e.R (record t { todo = back }) (eats_tx k d f h.1 t) else end) else Invalid)) h.3 ∙ ap (λ s. Waits s) (stays ∙ sym h.4),
       )
-  eats_none k (Fault g) w t is h = absurd h
-  eats_none k Turns w t is h = absurd h
-  eats_none k Memory w t is h = absurd h
-
--- the retries that are left to eat
-pub retried_end : (k : ℕ) (e : Seen) (t : ThreadState) (h : Comes 0 e t) → is_retry e.kind.now ≡ false → retried (suc k) t ≡ t
-retried_end k e t h is =
-    ap (λ es. with_todo (behind_retries (suc k) es) t) h.1
-    ∙ ap (λ (b : Bool). with_todo (if b then (if is_retry e.kind.now then behind_retries k h.0 else seen_event e ∷ h.0) else seen_event e ∷ h.0) t) h.2
-    ∙ ap (λ (b : Bool). with_todo (if b then behind_retries k h.0 else seen_event e ∷ h.0) t) is
-    ∙ ap (λ l. with_todo l t) (sym h.1)
-
-pub retried_more : (k : ℕ) (e : Seen) (t u : ThreadState) (h : Comes 0 e t) → u ≡ with_todo h.0 t → is_retry e.kind.now ≡ true → retried (suc k) t ≡ retried k u
-retried_more k e t u h rest is =
-    ap (λ es. with_todo (behind_retries (suc k) es) t) h.1
-    ∙ ap (λ (b : Bool). with_todo (if b then (if is_retry e.kind.now then behind_retries k h.0 else seen_event e ∷ h.0) else seen_event e ∷ h.0) t) h.2
-    ∙ ap (λ (b : Bool). with_todo (if b then behind_retries k h.0 else seen_event e ∷ h.0) t) is
-    ∙ ap (λ s. retried k s) (sym rest)
+  eats_none k (Fault g) w t u is h = absurd h
+  eats_none k Turns w t u is h = absurd h
+  eats_none k Memory w t u is h = absurd h
 
 -- ---- a dosync in a transaction, or outside
 

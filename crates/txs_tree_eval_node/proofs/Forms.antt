@@ -398,13 +398,13 @@ comes : {A : Type 0} (book : ℕ) (go : SeenEvent → ThreadState → Completion
 comes book go e t h =
     ap (λ es. eats book go es t) h.1 ∙ ap (λ (b : Bool). if b then uneaten (seen_event e ∷ h.0) (go (seen_event e) (with_todo h.0 t)) else Invalid) h.2
 
-pub comes_none : (book : ℕ) (go : SeenEvent → ThreadState → Completion ThreadState Value) (y : ThreadStop) (t : ThreadState) → ComesNone book y t → Stops false y t (up_to t (eats book go t.todo t))
-comes_none book go Event t h = (refl, ap (λ es. up_to t (eats book go es t)) h)
-comes_none book go Wrong t h =
-    (refl, ap (λ es. up_to t (eats book go es t)) h.2 ∙ ap (λ (b : Bool). up_to t (if b then uneaten (h.0 ∷ h.1) (go h.0 (with_todo h.1 t)) else Invalid)) h.3)
-comes_none book go (Fault f) t h = absurd h
-comes_none book go Turns t h = absurd h
-comes_none book go Memory t h = absurd h
+pub comes_none : (book : ℕ) (go : SeenEvent → ThreadState → Completion ThreadState Value) (y : ThreadStop) (t u : ThreadState) → ComesNone book y t u → Stops false y u (up_to t (eats book go t.todo t))
+comes_none book go Event t u h = (refl, ap (λ es. up_to t (eats book go es t)) h.0 ∙ ap (λ s. Waits s) (sym h.1))
+comes_none book go Wrong t u h =
+    (refl, ap (λ es. up_to t (eats book go es t)) h.2 ∙ ap (λ (b : Bool). up_to t (if b then uneaten (h.0 ∷ h.1) (go h.0 (with_todo h.1 t)) else Invalid)) h.3 ∙ ap (λ s. Waits s) (sym h.4))
+comes_none book go (Fault f) t u h = absurd h
+comes_none book go Turns t u h = absurd h
+comes_none book go Memory t u h = absurd h
 
 -- whether the event isn't one that the thread allows
 abbrev pub IsOther : {A : Type 0} → Result A ThreadStop → Type 0
@@ -524,16 +524,16 @@ MeetsEvent (a_send callee) = ⊥
 MeetsEvent _ = Unit {0}
 
 -- where there was no such event
-module _ (x : Setting) (sound : SoundFunctions [] (functions_of x.functions)) (cells : SoundCells (callable (deepest x)) x.cells) (m : Mark) (v : Value) (t : ThreadState) (cell : CellId) where
+module _ (x : Setting) (sound : SoundFunctions [] (functions_of x.functions)) (cells : SoundCells (callable (deepest x)) x.cells) (m : Mark) (v : Value) (t u : ThreadState) (cell : CellId) where
   pub none_outside : (act : Act) (vs : List Value) (y : ThreadStop) (book : ℕ) → MeetsEvent act → book ≡ home x.cells cell → ReadyIn (callable x) in_thread act (length vs) → Told (Ok cell) (result_of (cell_of (rule (form_of_act act)) false v) m.span tt) → PutAccepted (deepest x) act cell m.span vs
-      → ComesNone book y t → Stops false y t (outside_means x act m v vs t)
-  none_outside (a_look form) vs y book meets is ready told ok none = look_outside x m v t cell (Err y) t form vs ready told (subst (λ b. Stops false y t (up_to t (eats b (λ e s. reads cell e.kind e.C s) t.todo t))) is (comes_none book (λ e s. reads cell e.kind e.C s) y t none))
+      → ComesNone book y t u → Stops false y u (outside_means x act m v vs t)
+  none_outside (a_look form) vs y book meets is ready told ok none = look_outside x m v t cell (Err y) u form vs ready told (subst (λ b. Stops false y u (up_to t (eats b (λ e s. reads cell e.kind e.C s) t.todo t))) is (comes_none book (λ e s. reads cell e.kind e.C s) y t u none))
   none_outside (a_put form) [] y book meets is ready told ok none = absurd (omega (arith, ready.1))
   none_outside (a_put form) (w ∷ ws) y book meets is ready told ok none =
-      put_outside x sound cells m v t cell (Err y) t form (w ∷ ws) ready told ok (subst (λ b. Stops false y t (up_to t (eats b (λ e s. resets w e.kind s) t.todo t))) is (comes_none book (λ e s. resets w e.kind s) y t none))
+      put_outside x sound cells m v t cell (Err y) u form (w ∷ ws) ready told ok (subst (λ b. Stops false y u (up_to t (eats b (λ e s. resets w e.kind s) t.todo t))) is (comes_none book (λ e s. resets w e.kind s) y t u none))
   none_outside (an_update form callee) vs y book meets is ready told ok none =
       let go : SeenEvent → ThreadState → Completion ThreadState Value = λ e s. swap_means x callee cell vs m.span e s in
-      update_outside x m v t cell (Err y) t form callee vs ready told (subst (λ b. Stops false y t (up_to t (eats b go t.todo t))) is (comes_none book go y t none))
+      update_outside x m v t cell (Err y) u form callee vs ready told (subst (λ b. Stops false y u (up_to t (eats b go t.todo t))) is (comes_none book go y t u none))
   none_outside (a_send callee) vs y book meets is ready told ok none = absurd meets
 
 -- what a swap makes of what the callee gave

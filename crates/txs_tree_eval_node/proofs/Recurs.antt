@@ -4,9 +4,10 @@ use Rattle.std.proofs.Common.{ℕ, zero, suc, ◌==◌, ◌&&◌, ◌-◌, ◌�
 use Rattle.std.proofs.lemmas.Bool.{false≢true}
 use Rattle.txs_world_protocol.specs.Ask.{same_writes, same_cell, same_value, same_action, same_actions}
 use Rattle.txs_world_protocol.specs.SeenEvent.{SeenEvent, home}
+use Rattle.txs_world_protocol.specs.declared.event.Cause.TheVariants as cause
 use Rattle.txs_world_protocol.specs.declared.event.EventKind.{EventKind}
 use Rattle.txs_world_protocol.specs.declared.event.EventKind.TheVariants.{Read, Commit, Retry, Fail, Refused, Send as Sent, SendRefused, Act, Swap as Swapped, Broke}
-use Rattle.txs_frame.specs.Frame.{PlainTxFrame, is_commuted, set_ref, sends_of_commit}
+use Rattle.txs_frame.specs.Frame.{PlainTxFrame, is_commuted, has_number, commuted, set_ref, sends_of_commit}
 use Rattle.txs_frame.specs.declared.frame.Commute as frame
 use Rattle.txs_value_cell.specs.Cells.{World}
 use Rattle.txs_value_cell.specs.Forms.{rule, may_stand, cell_of}
@@ -38,7 +39,7 @@ use Rattle.txs_tree_meaning.specs.Meaning.{Completion, Completes, Recurs, Faults
 use Rattle.txs_tree_eval_node.specs.Setting.{Setting, callable, zone_on, on_view}
 use Rattle.txs_tree_meaning.specs.Sound.{SoundCall, SoundCallee, SoundTree, SoundAll, SoundLet, SoundDo, SoundFunctions, in_dosync}
 use Rattle.txs_tree_meaning.specs.Right.{up_to, behind_retries, on_right}
-use Rattle.txs_tree_meaning.specs.Thread.{ThreadState, Surroundings, Transacting, on_events, with_tx, holding, uneaten, eats, meant, reads, resets, swaps, faulted, faultless, sends, sends_or_holds, over, run_of, ends_tx, is_retry, eats_tx, accepts, thread_look, thread_put, thread_update, outside_form}
+use Rattle.txs_tree_meaning.specs.Thread.{ThreadState, Surroundings, Transacting, on_events, with_tx, holding, uneaten, eats, meant, reads, resets, swaps, faulted, faultless, sends, sends_or_holds, over, run_of, ends_tx, is_retry, is_held, again as rerun, eats_tx, accepts, thread_look, thread_put, thread_update, outside_form}
 use Rattle.txs_tree_meaning.specs.Transaction.{TxState, in_transaction, on_cell, own, current, noted, tx_look, tx_put, tx_update, done_as, final_writes}
 use Rattle.txs_tree_meaning.specs.Tree.{Mark, Tree, Const, Local, If, Do, Let, Loop, Recur, Core, Call, VectorOf, Println, Dosync, Look, Put, Update, Send, Trees, none, more, count, PlainFunction}
 use Rattle.txs_tree_meaning.specs.View.{functions_of}
@@ -233,13 +234,34 @@ module _ (tail : Option ℕ) where
   ends_tx_as d f (Swapped new) R Q C t = tt
   ends_tx_as d f (Broke at) R Q C t = tt
 
+  if_allowed : (b : Bool) (c : Completion ThreadState Value) → RecursAs tail c → RecursAs tail (allowed b c)
+  if_allowed true c h = h
+  if_allowed false c h = tt
+
+  rerun_as : (d : Transacting) (k : EventKind) (R : World) (t : ThreadState) (next : Completion ThreadState Value) → RecursAs tail next → RecursAs tail (rerun d k R t next)
+  rerun_as d (Retry since c cause.Outdated) R t next h = h
+  rerun_as d (Retry since c cause.Held) R t next h =
+      over_as t (d.on R) (λ v x. allowed (is_held x.done c.number) next) (λ g. Invalid) (λ v x. if_allowed (is_held x.done c.number) next h) (λ g. tt)
+  rerun_as d (Retry since c (cause.Commuted at)) R t next h =
+      over_as t (d.on R) (λ v x. allowed (has_number (commuted x.done) c.number) next) (λ g. Invalid) (λ v x. if_allowed (has_number (commuted x.done) c.number) next h) (λ g. tt)
+  rerun_as d (Read c) R t next h = tt
+  rerun_as d (Commit at view writes sent) R t next h = tt
+  rerun_as d (Fail at view) R t next h = tt
+  rerun_as d (Refused at view g) R t next h = tt
+  rerun_as d (Sent a) R t next h = tt
+  rerun_as d (SendRefused g) R t next h = tt
+  rerun_as d (Act g n new sends) R t next h = tt
+  rerun_as d (Swapped new) R t next h = tt
+  rerun_as d (Broke at) R t next h = tt
+
   eats_tx_as : (k : ℕ) (d : Transacting) (f : Applies ThreadState) (es : List SeenEvent) (t : ThreadState) → RecursAs tail (eats_tx k d f es t)
   eats_tx_as zero d f es t = tt
   eats_tx_as (suc k) d f [] t = tt
   eats_tx_as (suc k) d f (e ∷ es) t =
       let end = ends_tx d f e.kind e.R e.Q e.C (record t { todo = es }) in
-      if_as (e.book == 0) (if is_retry e.kind then eats_tx k d f es t else uneaten (e ∷ es) end) Invalid
-      (if_as (is_retry e.kind) (eats_tx k d f es t) (uneaten (e ∷ es) end) (eats_tx_as k d f es t) (uneaten_as (e ∷ es) end (ends_tx_as d f e.kind e.R e.Q e.C (record t { todo = es })))) tt
+      let more = rerun d e.kind e.R (record t { todo = e ∷ es }) (eats_tx k d f es t) in
+      if_as (e.book == 0) (if is_retry e.kind then more else uneaten (e ∷ es) end) Invalid
+      (if_as (is_retry e.kind) more (uneaten (e ∷ es) end) (rerun_as d e.kind e.R (record t { todo = e ∷ es }) (eats_tx k d f es t) (eats_tx_as k d f es t)) (uneaten_as (e ∷ es) end (ends_tx_as d f e.kind e.R e.Q e.C (record t { todo = es })))) tt
 
   thread_look_as : (x : Surroundings) (form : LookForm) (c : CellId) (t : ThreadState) → RecursAs tail (thread_look x form c t)
   thread_look_as x Deref c t = eats_as (home x.cells c) (λ e t1. reads c e.kind e.C t1) t.todo t (λ e t1. reads_as c e.kind e.C t1)
@@ -494,7 +516,7 @@ module _ (top : Option (List Known)) (x : Surroundings) (d : ℕ) (tail : Option
 
   dosync_fine : (o : Option World) (m : Mark) (body : Tree) (env : List Value) (run : Part (shape o) → Completion (Part (shape o)) Value) (f : Applies (Part (shape o))) (s : Part (shape o))
       → (is_on (shape o) ≡ true → Fine (KeepsOn o top) tail (run s)) → Fine (KeepsOn o top) tail ((forms_at o x d).dosync (is_on (shape o)) m body env run f s)
-  dosync_fine None m body env run f s each = right tail (record s { todo = behind_retries x.tries s.todo }) ((on_events x d).dosync false m body env run (wholly x m.span) s) (eats_tx_as tail x.tries _ (wholly x m.span) s.todo s)
+  dosync_fine None m body env run f s each = right tail (record s { todo = behind_retries x.tries _ s.todo }) ((on_events x d).dosync false m body env run (wholly x m.span) s) (eats_tx_as tail x.tries _ (wholly x m.span) s.todo s)
   dosync_fine (Some R) m body env run f s each = each refl
 
 -- in a transaction

@@ -3,9 +3,10 @@ use Rattle.std.specs.Prelude.{◌≡◌, ◌&&◌, ◌==◌, ℕ, suc, Bool, tru
 use Rattle.std.specs.Global.{Global}
 use Rattle.txs_world_protocol.specs.Ask.{Writes, same_cell, same_value, same_writes, same_action, same_actions}
 use Rattle.txs_world_protocol.specs.SeenEvent.{SeenEvent}
+use Rattle.txs_world_protocol.specs.declared.event.Cause.TheVariants as cause
 use Rattle.txs_world_protocol.specs.declared.event.EventKind.{EventKind}
-use Rattle.txs_world_protocol.specs.declared.event.EventKind.TheVariants.{Read, Commit as Committed, Fail as Failing, Refused as Refusing, Send as Sent, SendRefused, Swap as Swapped, Broke}
-use Rattle.txs_frame.specs.Frame.{PlainTxFrame, sends_of_commit}
+use Rattle.txs_world_protocol.specs.declared.event.EventKind.TheVariants.{Read, Commit as Committed, Retry as Again, Fail as Failing, Refused as Refusing, Send as Sent, SendRefused, Swap as Swapped, Broke}
+use Rattle.txs_frame.specs.Frame.{PlainTxFrame, has_number, commuted, sends_of_commit}
 use Rattle.txs_frame.specs.declared.frame.Commute.{Commute}
 use Rattle.txs_value_apply.specs.Core.{core, vector_of, takes}
 use Rattle.txs_value_apply.specs.Truth.{choose}
@@ -15,8 +16,8 @@ use Rattle.txs_tree_meaning.specs.Meaning.{Completion, Completes, Recurs, Faults
 use Rattle.txs_tree_meaning.specs.Pure.{pure_calls}
 use Rattle.txs_tree_eval_node.specs.Setting.{Setting, callable, zone_in}
 use Rattle.txs_tree_meaning.specs.Sound.{Zone, MayStand, SoundCall, SoundCallee}
-use Rattle.txs_tree_meaning.specs.Right.{up_to, behind_retries, on_right}
-use Rattle.txs_tree_meaning.specs.Thread.{TxRun, ThreadState, Surroundings, Transacting, swaps, faultless, faulted, meant, with_tx, holding, run_of, ends_tx, uneaten, eats_tx, accepts}
+use Rattle.txs_tree_meaning.specs.Right.{up_to, passes, behind_retries, on_right}
+use Rattle.txs_tree_meaning.specs.Thread.{TxRun, ThreadState, Surroundings, Transacting, swaps, faultless, faulted, meant, with_tx, holding, run_of, ends_tx, is_held, again, uneaten, eats_tx, accepts}
 use Rattle.txs_tree_meaning.specs.Transaction.{TxState, in_transaction, tx_update, tx_meaning, redone, validated, accepted, final_writes}
 use Rattle.txs_tree_meaning.specs.Tree.{Mark, Tree, Trees, count}
 use Rattle.txs_tree_meaning.specs.View.{tree_of, functions_of}
@@ -26,6 +27,10 @@ use Rattle.txs_tree_eval_node.specs.declared.closing.Closing.{Closing}
 use Rattle.txs_tree_eval_node.specs.declared.closing.Closing.TheVariants.{Refused as ARefused, Committed as ACommitted, Stopped as AStopped}
 use Rattle.txs_tree_eval_node.specs.declared.thread.Sending.{Sending}
 use Rattle.txs_tree_eval_node.specs.declared.thread.Sending.TheVariants.{Sent as WasSent, Refused as WasRefused, Other as NotSent}
+use Rattle.txs_tree_eval_node.specs.declared.thread.Rerun.{Rerun}
+use Rattle.txs_tree_eval_node.specs.declared.thread.Rerun.TheVariants.{Outdated as WasOutdated, Touched as HadTouched, Other as NoRerun}
+use Rattle.txs_tree_eval_node.specs.declared.thread.Touch.{Touch}
+use Rattle.txs_tree_eval_node.specs.declared.thread.Touch.TheVariants.{Held as WasHeld, Redone as WasRedone}
 use Rattle.txs_tree_eval_node.specs.declared.shape.Act.{Act}
 use Rattle.txs_tree_eval_node.specs.declared.shape.Act.TheVariants.{Look as a_look, Put as a_put, Update as an_update, Send as a_send}
 use Rattle.txs_tree_eval_node.specs.declared.evaluate.Step.{Step}
@@ -38,7 +43,7 @@ use Rattle.txs_tree_eval_node.specs.declared.state.Transacted.{Transacted}
 use Rattle.txs_tree_eval_transaction.specs.declared.stop.ThreadStop.{ThreadStop}
 use Rattle.txs_tree_eval_transaction.specs.declared.stop.ThreadStop.TheVariants.{Fault, Event as NoEvent, Wrong as OtherEvent, Turns as NoTurns, Memory}
 use Rattle.txs_tree_eval_node.specs.declared.seen.Seen.{Seen}
-use Rattle.txs_value_cell.specs.Cells.{validators_of, validator_at}
+use Rattle.txs_value_cell.specs.Cells.{World, validators_of, validator_at}
 use Rattle.txs_value_cell.specs.Forms.{rule}
 use Rattle.txs_value_data.specs.Limits.{reruns}
 use Rattle.txs_value_base.specs.Places.{fault_at}
@@ -57,7 +62,7 @@ use Rattle.txs_value_data.specs.declared.value.Value.TheVariants.{Cell}
 
 -- before a thread on these events
 abbrev pub idle : List SeenEvent → ThreadState
-idle es = record { todo = es; printed = []; held = None; txs = [] }
+idle es = record { todo = es; printed = []; held = None; txs = []; asks = None }
 
 -- ---- what an evaluation has done
 
@@ -72,7 +77,7 @@ held_of (Some v) = Some v.items
 
 -- how far a thread is
 abbrev pub thread_state : Progress → ThreadState
-thread_state p = record { todo = drop p.eaten (seen_events p.events.now); printed = p.printed.items; held = held_of p.held; txs = map tx_run p.txs.items }
+thread_state p = record { todo = drop p.eaten (seen_events p.events.now); printed = p.printed.items; held = held_of p.held; txs = map tx_run p.txs.items; asks = p.asks }
 
 -- what counts while this transaction runs, or none
 abbrev pub Part : Option PlainView → Type 0
@@ -193,13 +198,13 @@ swap_gives (Err y) o = Err (swap_stop o y)
 abbrev pub Comes : ℕ → Seen → ThreadState → Type 0
 Comes book e t = (es : List SeenEvent) × (t.todo ≡ seen_event e ∷ es) × ((e.book == book) ≡ true)
 
--- no event is there, or the next one is of another book
-abbrev pub ComesNone : ℕ → ThreadStop → ThreadState → Type 0
-ComesNone book NoEvent t = t.todo ≡ []
-ComesNone book OtherEvent t = (e : SeenEvent) × (es : List SeenEvent) × (t.todo ≡ e ∷ es) × ((e.book == book) ≡ false)
-ComesNone book (Fault f) t = ⊥
-ComesNone book NoTurns t = ⊥
-ComesNone book Memory t = ⊥
+-- no event is there, and it waits for one; or the next one is of another book
+abbrev pub ComesNone : ℕ → ThreadStop → ThreadState → ThreadState → Type 0
+ComesNone book NoEvent t u = (t.todo ≡ []) × (u ≡ record t { asks = Some book })
+ComesNone book OtherEvent t u = (e : SeenEvent) × (es : List SeenEvent) × (t.todo ≡ e ∷ es) × ((e.book == book) ≡ false) × (u ≡ t)
+ComesNone book (Fault f) t u = ⊥
+ComesNone book NoTurns t u = ⊥
+ComesNone book Memory t u = ⊥
 
 -- with other events to come
 abbrev pub with_todo : List SeenEvent → ThreadState → ThreadState
@@ -219,22 +224,52 @@ after (Err Memory) es t = with_todo es t
 abbrev pub Eats : Result Value ThreadStop → ThreadState → ThreadState → Type 0
 Eats r t u = (e : SeenEvent) (es : List SeenEvent) → t.todo ≡ e ∷ es → u ≡ after r es t
 
+-- why a body had to run again, as the event says
+abbrev pub rerun_as : EventKind → Rerun
+rerun_as (Again since c cause.Outdated) = WasOutdated
+rerun_as (Again since c cause.Held) = HadTouched (WasHeld c.number)
+rerun_as (Again since c (cause.Commuted at)) = HadTouched (WasRedone c.number)
+rerun_as _ = NoRerun
+
+-- whether a transaction did this
+abbrev pub touched : Touch → PlainTxFrame → Bool
+touched (WasHeld k) w = is_held w k
+touched (WasRedone k) w = has_number (commuted w) k
+
+-- it goes on where this is so, and else it is wrong
+abbrev pub Allows : {U : Type 0} → Result U ThreadStop → Bool → Type 0
+Allows (Ok u) b = b ≡ true
+Allows (Err (Fault f)) b = ⊥
+Allows (Err NoEvent) b = ⊥
+Allows (Err OtherEvent) b = b ≡ false
+Allows (Err NoTurns) b = ⊥
+Allows (Err Memory) b = ⊤
+
+-- A try that had to run again for the cause that its event says. Else that isn't allowed, or turns don't suffice for its body.
+abbrev pub Reruns : {U : Type 0} → Transacting → EventKind → World → Result U ThreadStop → Type 0
+Reruns d k R (Ok u) = (passes d k R ≡ true) × ((t : ThreadState) (next : Completion ThreadState Value) → again d k R t next ≡ next)
+Reruns d k R (Err (Fault f)) = ⊥
+Reruns d k R (Err NoEvent) = ⊥
+Reruns d k R (Err OtherEvent) = (passes d k R ≡ false) × ((t : ThreadState) (next : Completion ThreadState Value) → again d k R t next ≡ Invalid)
+Reruns d k R (Err NoTurns) = (passes d k R ≡ false) × ((t : ThreadState) (next : Completion ThreadState Value) → again d k R t next ≡ OutOfTurns t)
+Reruns d k R (Err Memory) = ⊤
+
 -- where the retries of a transaction were eaten
-abbrev pub retried : ℕ → ThreadState → ThreadState
-retried k t = with_todo (behind_retries k t.todo) t
+abbrev pub retried : ℕ → Transacting → ThreadState → ThreadState
+retried k d t = with_todo (behind_retries k d t.todo) t
 
 -- they were eaten, and the event of its end comes next
-abbrev pub EndComes : Seen → ThreadState → ThreadState → Type 0
-EndComes e t u =
+abbrev pub EndComes : Transacting → Seen → ThreadState → ThreadState → Type 0
+EndComes d e t u =
     (es : List SeenEvent)
     × (u.todo ≡ seen_event e ∷ es)
-    × (retried (suc reruns) t ≡ u)
-    × ((d : Transacting) (f : Applies ThreadState)
+    × (retried (suc reruns) d t ≡ u)
+    × ((f : Applies ThreadState)
     → eats_tx (suc reruns) d f t.todo t ≡ uneaten (seen_event e ∷ es) (ends_tx d f e.kind.now (world_of (plain_view e.start)) (world_of (plain_view e.view)) (world_of (plain_view e.here)) (with_todo es u)))
 
--- there is no such event, or there are too many retries
-abbrev pub EndsNone : Span → ThreadStop → ThreadState → ThreadState → Type 0
-EndsNone span y t u = (d : Transacting) (f : Applies ThreadState) → d.mark.span ≡ span → Stops false y u (up_to (retried (suc reruns) t) (eats_tx (suc reruns) d f t.todo t))
+-- there is no such event, a retry has no cause, or there are too many of them
+abbrev pub EndsNone : Transacting → ThreadStop → ThreadState → ThreadState → Type 0
+EndsNone d y t u = (f : Applies ThreadState) → Stops false y u (up_to (retried (suc reruns) d t) (eats_tx (suc reruns) d f t.todo t))
 
 -- what a swap makes of what its callee gave, where the event names a value, or is a broken swap
 abbrev pub swap_ends : Option Value → Completion ThreadState Value → Completion ThreadState Value
@@ -483,7 +518,7 @@ dosync_means x m body env s =
 
 -- one outside, at most k events; the thread waits before an end that it doesn't allow
 abbrev pub eat_means : Setting → ℕ → Mark → Tree → List Value → ThreadState → Completion ThreadState Value
-eat_means x k m body env t = up_to (retried k t) (eats_tx k (transacting x m body env) (at_end x m.span) t.todo t)
+eat_means x k m body env t = up_to (retried k (transacting x m body env) t) (eats_tx k (transacting x m body env) (at_end x m.span) t.todo t)
 
 -- its body on a world
 abbrev pub body_means : Setting → Tree → List Value → PlainView → Completion TxState Value

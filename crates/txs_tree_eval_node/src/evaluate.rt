@@ -3,7 +3,7 @@
 ghost use Rattle.std.specs.Prelude.{true, false, ◌≡◌, ◌≤◌, ◌-◌, ◌+◌, ◌++◌, ◌∷◌, [], suc, Bool, length, take, drop, None, Some, IsTrue, IfOk, OnOk, MatchResult};
 ghost use Rattle.txs_frame.specs.Frame.{commuted, phase_work, set_writes};
 ghost use Rattle.txs_tree_eval_node.specs.Events.{seen_event};
-ghost use Rattle.txs_tree_eval_node.specs.Evaluated.{AnswersAt, Steps, Yields, GivesAll, FirstAccepted, FirstStops, PutAccepted, PutStops, Ready, ReadyIn, Finishes, Runs, SoundCommutes, means, all_mean, do_means, if_means, let_means, locals_mean, loop_means, turns_mean, call_means, applies_means, finish_means, strict_means, form_means, inside_means, outside_means, update_means, swap_means, applied, accept_means, accepted_means, made_means, dosync_means, eat_means, body_means, final_means, redone_means, step_of, thread_state};
+ghost use Rattle.txs_tree_eval_node.specs.Evaluated.{AnswersAt, EndComes, EndsNone, Reruns, transacting, Steps, Yields, GivesAll, FirstAccepted, FirstStops, PutAccepted, PutStops, Ready, ReadyIn, Finishes, Runs, SoundCommutes, means, all_mean, do_means, if_means, let_means, locals_mean, loop_means, turns_mean, call_means, applies_means, finish_means, strict_means, form_means, inside_means, outside_means, update_means, swap_means, applied, accept_means, accepted_means, made_means, dosync_means, eat_means, body_means, final_means, redone_means, step_of, thread_state};
 ghost use Rattle.txs_tree_eval_transaction.specs.Worked.{Told, ToldOf, Gives, RefCell, UpdatesRef, tx_state};
 ghost use Rattle.txs_tree_eval_node.specs.declared.evaluate.Step.TheVariants.{Value as AValue};
 ghost use Rattle.txs_tree_eval_transaction.specs.declared.stop.ThreadStop.TheVariants.{Memory};
@@ -22,7 +22,9 @@ use crate::context::Context;
 use crate::seen::Seen;
 use crate::shape::{Act, Shape, Strict, shape_of};
 use crate::state::{Progress, State, Transacted};
-use crate::thread::{end_swap, read_at, reset_at, swap_at};
+use crate::thread::{
+    Rerun, TRIES, end_swap, has_touched, is_retry, read_at, rerun_as, reset_at, swap_at,
+};
 use std::alloc::{AllocError, Global};
 use txs_frame::{Commute, TxFrame, validator_of};
 use txs_tree_eval_transaction::{
@@ -661,7 +663,7 @@ fn eat_dosync<'a>(
     ensures kept { OnOk result (locals.new.items ≡ locals.old.items) }
 {
     context.is_sound();
-    let event = thread.end_of_tx(dosync.span)?;
+    let event = end_of_tx(alloc, context, dosync, locals, thread)?;
     let world = match end_view(event) {
         Some(world) => world,
         None => return Err(ThreadStop::Wrong),
@@ -674,6 +676,63 @@ fn eat_dosync<'a>(
     let last = final_writes(alloc, &inner, &run.work.done, world, dosync.span);
     let given = close(alloc, event.kind, run, last, dosync.span, thread);
     thread.eat(given)
+}
+
+/// A transaction eats retries, each with its cause. The next event is that of its end; it faults where it is tried too often.
+#[cycle(evaluate)]
+fn end_of_tx<'a>(
+    alloc: Global,
+    context: &Context<'a>,
+    dosync: Dosync<'a>,
+    locals: &mut Vec<Value>,
+    thread: &mut Progress<'a>,
+) -> Result<&'a Seen<'a>, ThreadStop>
+    requires { SoundTree (callable context.now) in_dosync (length locals.old.items) None (tree_of dosync.body.now) }
+    ensures value { MatchResult result
+        (λ e. EndComes (transacting context.now (mark_of dosync.entry.span dosync.entry.wanted) (tree_of dosync.entry.body.now) locals.old.items) e.now (thread_state thread.old) (thread_state thread.new))
+        (λ y. EndsNone (transacting context.now (mark_of dosync.entry.span dosync.entry.wanted) (tree_of dosync.entry.body.now) locals.old.items) y (thread_state thread.old) (thread_state thread.new)) }
+    ensures kept { OnOk result (locals.new.items ≡ locals.old.items) }
+{
+    for _try in 0..TRIES {
+        let event = thread.next(0)?;
+        if !is_retry(event.kind) {
+            return Ok(event);
+        }
+        rerun(alloc, context, dosync, event, locals)?;
+        thread.skip();
+    }
+    Err(ThreadStop::Fault(Fault {
+        kind: FaultKind::RetryLimit,
+        span: dosync.span,
+    }))
+}
+
+/// A try that had to run again has the cause that its event says: the journal tells that a value was no longer kept, and the body
+/// the rest.
+#[cycle(evaluate)]
+fn rerun<'a>(
+    alloc: Global,
+    context: &Context<'a>,
+    dosync: Dosync<'a>,
+    event: &Seen<'a>,
+    locals: &mut Vec<Value>,
+) -> Result<(), ThreadStop>
+    requires { SoundTree (callable context.now) in_dosync (length locals.old.items) None (tree_of dosync.body.now) }
+    ensures value { Reruns (transacting context.now (mark_of dosync.entry.span dosync.entry.wanted) (tree_of dosync.entry.body.now) locals.old.items) event.now.kind.now (world_of (plain_view event.now.start)) result }
+    ensures kept { OnOk result (locals.new.items ≡ locals.old.items) }
+{
+    let touch = match rerun_as(event.kind) {
+        Rerun::Outdated => return Ok(()),
+        Rerun::Other => return Err(ThreadStop::Wrong),
+        Rerun::Touched(touch) => touch,
+    };
+    let run = match run_body(alloc, context, dosync, event.start, locals) {
+        Ok(run) => run,
+        Err(stop) => return Err(stop.without_fault()),
+    };
+    let given = has_touched(touch, &run.work);
+    drop(run);
+    given
 }
 
 /// The body of a dosync on a world, as if it ran alone.

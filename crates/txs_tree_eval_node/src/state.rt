@@ -1,6 +1,6 @@
 //! What an evaluation has done so far.
 
-ghost use Rattle.std.specs.Prelude.{◌≡◌, ◌<◌, ◌∷◌, ◌++◌, [], Some, List, length, MatchResult, OnOk};
+ghost use Rattle.std.specs.Prelude.{◌≡◌, ◌<◌, ◌∷◌, ◌++◌, [], Some, List, length, IfOk, MatchResult, OnOk};
 ghost use Rattle.txs_frame.specs.Frame.{sends_of_commit};
 ghost use Rattle.txs_tree_eval_node.specs.Evaluated.{AnswersAt, Comes, ComesNone, Eats, with_todo, held_of, thread_state, tx_run, idle};
 ghost use Rattle.txs_tree_eval_transaction.specs.Worked.{tx_state};
@@ -33,7 +33,8 @@ pub struct Transacted<'a> {
 }
 
 /// How far a thread is: its events and how many of them it ate, the bytes that it printed, the sends that an action holds, and its
-/// transactions that were committed or refused. A thread holds no sends, and an action is run as a thread is.
+/// transactions that were committed or refused. Where it waits, also which book's event it waits for. A thread holds no sends, and
+/// an action is run as a thread is.
 #[derive(Drop)]
 pub struct Progress<'a> {
     pub events: &'a [Seen<'a>],
@@ -41,6 +42,7 @@ pub struct Progress<'a> {
     pub printed: Vec<u8>,
     pub held: Option<Vec<Action>>,
     pub txs: Vec<Transacted<'a>>,
+    pub asks: Option<usize>,
 }
 
 /// What an evaluation has done: outside transactions the thread's part counts, in one the transaction's.
@@ -79,6 +81,7 @@ impl<'a> State<'a> {
                 printed: Vec::new(alloc),
                 held,
                 txs: Vec::new(alloc),
+                asks: None,
             },
             tx: TxWork {
                 done: TxFrame::new(alloc),
@@ -114,12 +117,14 @@ fn push_actions(alloc: Global, held: &mut Vec<Action>, sends: &[Action]) -> Resu
 }
 
 impl<'a> Progress<'a> {
-    /// The next event, which has to be of this book.
-    pub(crate) fn next(&self, book: usize) -> Result<&'a Seen<'a>, ThreadStop>
-        ensures { MatchResult result (λ e. Comes book e.now (thread_state self.now)) (λ y. ComesNone book y (thread_state self.now)) }
+    /// The next event, which has to be of this book; where there is none, it waits for one.
+    pub(crate) fn next(&mut self, book: usize) -> Result<&'a Seen<'a>, ThreadStop>
+        ensures comes { MatchResult result (λ e. Comes book e.now (thread_state self.old)) (λ y. ComesNone book y (thread_state self.old) (thread_state self.new)) }
+        ensures same { IfOk result (λ _. thread_state self.new ≡ thread_state self.old) }
     {
         let events = self.events;
         let Some(event) = events.get(self.eaten) else {
+            self.asks = Some(book);
             return Err(ThreadStop::Event);
         };
         if event.book != book {

@@ -1,7 +1,7 @@
 //! What the forms on cells do outside every transaction, at the events that they eat, but for applying callees.
 
-ghost use Rattle.std.specs.Prelude.{◌≡◌, false, length, option_copied, MatchResult};
-ghost use Rattle.txs_tree_eval_node.specs.Evaluated.{AnswersAt, EndComes, EndsNone, IsSwap, IsNoSwap, thread_state, is_swap_to, sending, swap_gives};
+ghost use Rattle.std.specs.Prelude.{◌≡◌, false, length, option_copied, IfOk, MatchResult};
+ghost use Rattle.txs_tree_eval_node.specs.Evaluated.{Allows, AnswersAt, IsSwap, IsNoSwap, rerun_as, touched, thread_state, is_swap_to, sending, swap_gives};
 ghost use Rattle.txs_tree_eval_node.specs.Events.{seen_event};
 ghost use Rattle.txs_tree_eval_transaction.specs.Views.{plain_view, world_of};
 ghost use Rattle.txs_tree_eval_transaction.specs.Worked.{Gives, of_one};
@@ -10,22 +10,79 @@ ghost use Rattle.txs_tree_meaning.specs.Thread.{ThreadState, reads, resets, send
 
 use crate::seen::Seen;
 use crate::state::Progress;
-use txs_tree_eval_transaction::{RefView, ThreadStop};
+use std::alloc::AllocError;
+use txs_tree_eval_transaction::{RefView, ThreadStop, TxWork};
 use txs_value_base::{Callee, Fault, FaultKind, Span};
 use txs_value_cell::Action;
 use txs_value_data::{CellId, Listed, Value};
-use txs_world_protocol::{EventKind, same_action, same_cell, same_value};
+use txs_world_protocol::{Cause, EventKind, same_action, same_cell, same_value};
 
 /// How often a transaction is tried.
-const TRIES: u16 = 10_000;
+pub(crate) const TRIES: u16 = 10_000;
 
 /// Whether an event says that a transaction had to run again.
-fn is_retry(kind: &EventKind) -> bool
+pub(crate) fn is_retry(kind: &EventKind) -> bool
     ensures { result ≡ is_retry kind.now }
 {
     match kind {
         EventKind::Retry { .. } => true,
         _ => false,
+    }
+}
+
+/// What a body did with the ref of this number.
+#[derive(Clone, Copy)]
+pub(crate) enum Touch {
+    /// It set or ensured it.
+    Held(u16),
+    /// It commuted it, and didn't set it.
+    Redone(u16),
+}
+
+/// Why a body had to run again.
+#[derive(Clone, Copy)]
+pub(crate) enum Rerun {
+    /// The value at its read point was no longer kept.
+    Outdated,
+    /// For what it did.
+    Touched(Touch),
+    /// The event says something else.
+    Other,
+}
+
+/// Why a body had to run again, as the event says.
+pub(crate) fn rerun_as(kind: &EventKind) -> Rerun
+    ensures { result ≡ rerun_as kind.now }
+{
+    match kind {
+        EventKind::Retry { cell, cause, .. } => match cause {
+            Cause::Outdated => Rerun::Outdated,
+            Cause::Held => Rerun::Touched(Touch::Held(cell.number)),
+            Cause::Commuted { .. } => Rerun::Touched(Touch::Redone(cell.number)),
+        },
+        _ => Rerun::Other,
+    }
+}
+
+/// Whether a body did this.
+fn is_touched(touch: Touch, work: &TxWork) -> Result<bool, AllocError>
+    ensures { IfOk result (λ b. b ≡ touched touch work.now.done) }
+{
+    match touch {
+        Touch::Held(number) => work.is_held(number),
+        Touch::Redone(number) => work.is_redone(number),
+    }
+}
+
+/// A body that had to run again for this did it.
+pub(crate) fn has_touched(touch: Touch, work: &TxWork) -> Result<(), ThreadStop>
+    ensures { Allows result (touched touch work.now.done) }
+{
+    let there = is_touched(touch, work)?;
+    if there {
+        Ok(())
+    } else {
+        Err(ThreadStop::Wrong)
     }
 }
 
@@ -90,23 +147,6 @@ pub(crate) fn end_swap(
 }
 
 impl<'a> Progress<'a> {
-    /// A transaction eats retries. The next event is that of its end; it faults where it is tried too often.
-    pub(crate) fn end_of_tx(&mut self, span: Span) -> Result<&'a Seen<'a>, ThreadStop>
-        ensures { MatchResult result (λ e. EndComes e.now (thread_state self.old) (thread_state self.new)) (λ y. EndsNone span y (thread_state self.old) (thread_state self.new)) }
-    {
-        for _try in 0..TRIES {
-            let event = self.next(0)?;
-            if !is_retry(event.kind) {
-                return Ok(event);
-            }
-            self.skip();
-        }
-        Err(ThreadStop::Fault(Fault {
-            kind: FaultKind::RetryLimit,
-            span,
-        }))
-    }
-
     /// `send` of this callee with these arguments: a thread's is at its event, an action's is held and gives the agent.
     pub(crate) fn send(
         &mut self,

@@ -2,9 +2,10 @@
 
 ghost use Rattle.std.specs.Prelude.{true, ◌≡◌, ◌||◌, length, OnOk, IfOk, option_copied};
 ghost use Rattle.txs_world_protocol.specs.Ask.{buffered};
-ghost use Rattle.txs_frame.specs.Frame.{with_cell, has_number, set_ref, commute_ref, hold_send};
+ghost use Rattle.txs_frame.specs.Frame.{with_cell, has_number, commuted, set_ref, commute_ref, hold_send};
 ghost use Rattle.txs_tree_eval_transaction.specs.Worked.{Gives, Finds, Told, RefCell, UpdatesRef, of_one, tx_state, update_begins, update_ends, with_work, with_use};
 ghost use Rattle.txs_tree_meaning.specs.Meaning.{Completes, result_of};
+ghost use Rattle.txs_tree_meaning.specs.Thread.{is_held};
 ghost use Rattle.txs_tree_meaning.specs.Transaction.{own, current, value_or, noted, taken, tx_look, done_as};
 ghost use Rattle.txs_tree_meaning.specs.View.{mark_of};
 ghost use Rattle.txs_tree_eval_transaction.specs.Views.{plain_view, world_of};
@@ -249,6 +250,25 @@ impl TxWork {
             },
             Value::Cell(agent),
         )
+    }
+
+    /// Whether the ref with this number was set or ensured.
+    pub fn is_held(&self, number: u16) -> Result<bool, AllocError>
+        ensures { IfOk result (λ b. b ≡ is_held self.now.done number) }
+    {
+        let sets = self.done.sets()?;
+        if has_number(sets.as_slice(), number) {
+            return Ok(true);
+        }
+        Ok(has_number(self.done.ensured(), number))
+    }
+
+    /// Whether the ref with this number was commuted and not set.
+    pub fn is_redone(&self, number: u16) -> Result<bool, AllocError>
+        ensures { IfOk result (λ b. b ≡ has_number (commuted self.now.done) number) }
+    {
+        let refs = self.done.commuted()?;
+        Ok(has_number(refs.as_slice(), number))
     }
 
     /// A send is held until the commit, and gives the agent.

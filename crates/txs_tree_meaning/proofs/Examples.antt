@@ -3,6 +3,8 @@ use Rattle.std.proofs.Common.{ℕ, suc, Bool, true, false, List, [], ◌∷◌, 
 use Rattle.std.specs.Fmt.{digits}
 use Rattle.std.specs.Prelude.{pos, negsuc}
 use Rattle.txs_world_protocol.specs.SeenEvent.{SeenEvent}
+use Rattle.txs_world_protocol.specs.declared.event.Cause.{Cause}
+use Rattle.txs_world_protocol.specs.declared.event.Cause.TheVariants.{Outdated, Held, Commuted}
 use Rattle.txs_world_protocol.specs.declared.event.EventKind.{EventKind}
 use Rattle.txs_world_protocol.specs.declared.event.EventKind.TheVariants.{Read, Commit, Retry, Fail, Refused, Send as Sent, SendRefused, Swap as Swapped, Broke}
 use Rattle.txs_frame.specs.Frame.{PlainTxFrame}
@@ -11,9 +13,9 @@ use Rattle.txs_value_apply.specs.Core.{core}
 use Rattle.txs_tree_meaning.specs.Meaning.{Completion, Completes, Recurs, Faults, Retries, Waits, OutOfTurns, Invalid, apply}
 use Rattle.txs_tree_meaning.specs.Pure.{pure_calls, pure_meaning, nowhere}
 use Rattle.txs_tree_meaning.specs.Sound.{SoundTree, in_thread}
-use Rattle.txs_tree_meaning.specs.Right.{eats_right, right_meaning}
+use Rattle.txs_tree_meaning.specs.Right.{behind_retries, right_events, eats_right, right_meaning}
 use Rattle.txs_tree_meaning.specs.Thread.{ThreadState, Surroundings, thread_in, thread_meaning, action_in}
-use Rattle.txs_tree_meaning.specs.Transaction.{tx_meaning, final_writes}
+use Rattle.txs_tree_meaning.specs.Transaction.{tx_start, tx_meaning, final_writes}
 use Rattle.txs_tree_meaning.specs.Tree.{Mark, Tree, Const, Local, Do, Loop, Recur, Call, Core, VectorOf, Println, Dosync, Look, Put, Update, Send, none, more, PlainFunction, ThreadSource}
 use Rattle.txs_value_cell.specs.Cells.{World}
 use Rattle.txs_value_base.specs.Places.{fault_at}
@@ -345,19 +347,57 @@ atom_altered = refl
 
 -- ---- tries
 
-abbrev retry : Bool → SeenEvent
-retry commute = seen (Retry 0 (ref_of 0) commute) (all_are 0) (all_are 0) (all_are 0)
+abbrev retry : Cause → SeenEvent
+retry why = seen (Retry 0 (ref_of 0) why) (all_are 0) (all_are 0) (all_are 0)
 
 -- with three tries the third retry is the last event, and one of the commutes alone counts too
-limit_reached : run one_commute (retry false ∷ retry true ∷ retry false ∷ []) ≡ Faults (fault_at RetryLimit (at 0 30)) 0
+limit_reached : run one_commute (retry Outdated ∷ retry (Commuted 0) ∷ retry Outdated ∷ []) ≡ Faults (fault_at RetryLimit (at 0 30)) 0
+unfolding core
 limit_reached = refl
 
-limit_spared : run one_commute (retry false ∷ retry true ∷ seen (Commit 0 1 ((ref_of 0, int 1) ∷ []) []) (all_are 0) (all_are 0) (all_are 0) ∷ []) ≡ Completes (int 1) 0
+limit_spared : run one_commute (retry Outdated ∷ retry (Commuted 0) ∷ seen (Commit 0 1 ((ref_of 0, int 1) ∷ []) []) (all_are 0) (all_are 0) (all_are 0) ∷ []) ≡ Completes (int 1) 0
 unfolding core
 limit_spared = refl
 
-waits_for_its_end : run one_commute (retry false ∷ []) ≡ Waits 0
+waits_for_its_end : run one_commute (retry Outdated ∷ []) ≡ Waits 0
+unfolding core
 waits_for_its_end = refl
+
+-- a commute is no cause to run the body again, and what was set none to redo the commutes; the ref is the try's own
+commute_as_held : run one_commute (retry Held ∷ []) ≡ Invalid
+unfolding core
+commute_as_held = refl
+
+set_as_commuted : run alter_commute (retry (Commuted 0) ∷ []) ≡ Invalid
+unfolding core
+set_as_commuted = refl
+
+set_as_held : run alter_commute (retry Held ∷ []) ≡ Waits 0
+unfolding core
+set_as_held = refl
+
+other_as_commuted : run one_commute (seen (Retry 0 (ref_of 1) (Commuted 0)) (all_are 0) (all_are 0) (all_are 0) ∷ []) ≡ Invalid
+unfolding core
+other_as_commuted = refl
+
+ensured_as_held : run (Dosync (Look Ensure (constant (Cell (ref_of 0))) (unwanted 0 0)) (unwanted 0 0)) (retry Held ∷ []) ≡ Waits 0
+ensured_as_held = refl
+
+read_as_held : run (Dosync (Look Deref (constant (Cell (ref_of 0))) (unwanted 0 0)) (unwanted 0 0)) (retry Held ∷ []) ≡ Invalid
+read_as_held = refl
+
+-- a body that faults comes to no end that a retry could be of
+faulted_as_held : run (commute_alter (CoreOp Quot)) (retry Held ∷ []) ≡ Invalid
+unfolding core
+faulted_as_held = refl
+
+-- a thread waits behind the retries that it allows
+one_retry_is_right : right_events (λ es. thread_in (with_tries 3) one_commute es) [] (retry Outdated ∷ retry Held ∷ retry Outdated ∷ []) ≡ 1
+unfolding core
+one_retry_is_right = refl
+
+behind_them : behind_retries 3 (record { mark = unwanted 0 30; body = one_commute; locals = []; on = λ R. Completes Nil tx_start; validators = [] }) (retry Outdated ∷ retry Held ∷ retry Outdated ∷ []) ≡ retry Held ∷ retry Outdated ∷ []
+behind_them = refl
 
 -- ---- turns
 
@@ -373,14 +413,21 @@ sets_by_loop = Dosync (Put RefSet (constant (Cell (ref_of 0))) (Loop none (const
 abbrev commit_of : ℕ → SeenEvent
 commit_of n = seen (Commit 0 0 ((ref_of 0, int n) ∷ []) []) (all_are 0) (all_are 0) (all_are 0)
 
-commit_stays_to_come : brief (thread_in (with_turns 0 []) sets_by_loop (retry false ∷ commit_of 5 ∷ [])) ≡ OutOfTurns 1
+commit_stays_to_come : brief (thread_in (with_turns 0 []) sets_by_loop (retry Outdated ∷ commit_of 5 ∷ [])) ≡ OutOfTurns 1
 commit_stays_to_come = refl
 
-commit_is_read : brief (thread_in (with_turns 1 []) sets_by_loop (retry false ∷ commit_of 5 ∷ [])) ≡ Invalid
+commit_is_read : brief (thread_in (with_turns 1 []) sets_by_loop (retry Outdated ∷ commit_of 5 ∷ [])) ≡ Invalid
 commit_is_read = refl
 
-commit_is_right : brief (thread_in (with_turns 1 []) sets_by_loop (retry false ∷ commit_of 1 ∷ [])) ≡ Completes (int 1) 0
+commit_is_right : brief (thread_in (with_turns 1 []) sets_by_loop (retry Outdated ∷ commit_of 1 ∷ [])) ≡ Completes (int 1) 0
 commit_is_right = refl
+
+-- a retry of that try stays to come too, and is not asked for more than turns
+retry_stays_to_come : brief (thread_in (with_turns 0 []) sets_by_loop (retry Outdated ∷ retry Held ∷ commit_of 5 ∷ [])) ≡ OutOfTurns 2
+retry_stays_to_come = refl
+
+retry_is_right : brief (thread_in (with_turns 1 []) sets_by_loop (retry Outdated ∷ retry Held ∷ commit_of 1 ∷ [])) ≡ Completes (int 1) 0
+retry_is_right = refl
 
 -- a swap by a function that has no turn for its loop
 abbrev gives_one_by_loop : PlainFunction
@@ -409,11 +456,38 @@ recurs_are_turns : pure_meaning 2 (recurs_forever ∷ []) (Function 0) [] ≡ Ou
 recurs_are_turns = refl
 
 -- a read outside takes the value at its own place, of its own cell
-one_read : run (Look Deref (constant (Cell (ref_of 0))) (wanted 0 0)) (seen (Read (ref_of 0)) (all_are 1) (all_are 1) (all_are 2) ∷ retry false ∷ []) ≡ Completes (int 2) 1
+one_read : run (Look Deref (constant (Cell (ref_of 0))) (wanted 0 0)) (seen (Read (ref_of 0)) (all_are 1) (all_are 1) (all_are 2) ∷ retry Outdated ∷ []) ≡ Completes (int 2) 1
 one_read = refl
 
 read_of_another : run (Look Deref (constant (Cell (ref_of 0))) (wanted 0 0)) (seen (Read (ref_of 1)) (all_are 1) (all_are 1) (all_are 2) ∷ []) ≡ Invalid
 read_of_another = refl
+
+-- ---- what is waited for
+
+-- which book's event a thread waits for
+abbrev waits_for : Completion ThreadState Value → Option ℕ
+waits_for (Completes v t) = t.asks
+waits_for (Recurs vs t) = t.asks
+waits_for (Faults f t) = t.asks
+waits_for (Retries t) = t.asks
+waits_for (Waits t) = t.asks
+waits_for (OutOfTurns t) = t.asks
+waits_for Invalid = None
+
+waits_for_a_commit : waits_for (thread_in (with_tries 3) one_commute (retry Outdated ∷ [])) ≡ Some 0
+waits_for_a_commit = refl
+
+abbrev sends_and_resets : Tree
+sends_and_resets = in_turn one_send (Put Reset (constant (Cell an_atom)) (constant (int 7)) (wanted 0 0))
+
+waits_for_a_send : waits_for (thread_in (with_tries 3) sends_and_resets []) ≡ Some 0
+waits_for_a_send = refl
+
+waits_for_a_swap : waits_for (thread_in (with_tries 3) sends_and_resets (seen (Sent (record { agent = an_agent; callee = CoreOp Inc; args = []; span = at 4 9 })) (all_are 0) (all_are 0) (all_are 0) ∷ [])) ≡ Some 1
+waits_for_a_swap = refl
+
+waits_for_none : waits_for (thread_in (with_tries 3) one_send (seen (Sent (record { agent = an_agent; callee = CoreOp Inc; args = []; span = at 4 9 })) (all_are 0) (all_are 0) (all_are 0) ∷ [])) ≡ None
+waits_for_none = refl
 
 -- ---- whole scripts
 
@@ -429,7 +503,7 @@ second_of_two_commutes : run commutes_once (seen (Commit 0 1 ((ref_of 0, int 2) 
 unfolding core
 second_of_two_commutes = refl
 
-second_of_two_commutes_redone : run commutes_once (seen (Retry 0 (ref_of 0) true) (all_are 0) (all_are 0) (all_are 1) ∷ seen (Commit 0 2 ((ref_of 0, int 2) ∷ []) []) (all_are 0) (all_are 1) (all_are 1) ∷ []) ≡ Completes (int 1) 0
+second_of_two_commutes_redone : run commutes_once (seen (Retry 0 (ref_of 0) (Commuted 0)) (all_are 0) (all_are 0) (all_are 1) ∷ seen (Commit 0 2 ((ref_of 0, int 2) ∷ []) []) (all_are 0) (all_are 1) (all_are 1) ∷ []) ≡ Completes (int 1) 0
 unfolding core
 second_of_two_commutes_redone = refl
 
@@ -521,10 +595,11 @@ values_printed = refl
 abbrev alters_once : Tree
 alters_once = Dosync (Update Alter (constant (Cell (ref_of 0))) (CoreOp Inc) none (wanted 32 45)) (wanted 24 46)
 
-always_written_between : run alters_once (retry false ∷ retry false ∷ retry false ∷ []) ≡ Faults (fault_at RetryLimit (at 24 46)) 0
+always_written_between : run alters_once (retry Held ∷ retry Held ∷ retry Held ∷ []) ≡ Faults (fault_at RetryLimit (at 24 46)) 0
+unfolding core
 always_written_between = refl
 
-written_between_twice : run alters_once (retry false ∷ retry false ∷ seen (Commit 2 2 ((ref_of 0, int 3) ∷ []) []) (all_are 2) (all_are 2) (all_are 2) ∷ []) ≡ Completes (int 3) 0
+written_between_twice : run alters_once (retry Held ∷ retry Held ∷ seen (Commit 2 2 ((ref_of 0, int 3) ∷ []) []) (all_are 2) (all_are 2) (all_are 2) ∷ []) ≡ Completes (int 3) 0
 unfolding core
 written_between_twice = refl
 
@@ -566,7 +641,7 @@ unfolding core
 commit_sends_nothing = refl
 
 -- those of a try that ran again are dropped
-tried_again : held_at (acts held_send (retry false ∷ commits [] ∷ [])) ≡ Some (an_increment ∷ [])
+tried_again : held_at (acts held_send (seen (Retry 0 (ref_of 1) Held) (all_are 0) (all_are 0) (all_are 0) ∷ commits [] ∷ [])) ≡ Some (an_increment ∷ [])
 unfolding core
 tried_again = refl
 

@@ -1,9 +1,15 @@
 -- How far a thread's events are right: up to the first one that its meaning doesn't allow.
 use Rattle.std.specs.Prelude.{ℕ, zero, suc, Bool, true, false, List, [], ◌∷◌, ◌++◌, ◌==◌, length, take, if◌then◌else◌}
 use Rattle.txs_world_protocol.specs.SeenEvent.{SeenEvent}
+use Rattle.txs_world_protocol.specs.declared.event.Cause.TheVariants as cause
+use Rattle.txs_world_protocol.specs.declared.event.EventKind.{EventKind}
+use Rattle.txs_world_protocol.specs.declared.event.EventKind.TheVariants.{Retry}
+use Rattle.txs_frame.specs.Frame.{PlainTxFrame, has_number, commuted}
 use Rattle.txs_tree_meaning.specs.Meaning.{Completion, Completes, Recurs, Faults, Retries, Waits, OutOfTurns, Invalid, Effects}
-use Rattle.txs_tree_meaning.specs.Thread.{ThreadState, is_retry, Surroundings, on_events, thread_meaning}
+use Rattle.txs_tree_meaning.specs.Thread.{ThreadState, Transacting, is_retry, is_held, Surroundings, on_events, thread_meaning}
+use Rattle.txs_tree_meaning.specs.Transaction.{TxState, tx_meaning}
 use Rattle.txs_tree_meaning.specs.Tree.{ThreadSource}
+use Rattle.txs_value_cell.specs.Cells.{World, validators_of}
 use Rattle.txs_value_data.specs.declared.value.Value.{Value}
 
 -- whether there is no meaning: some event isn't one that the thread allows
@@ -42,11 +48,28 @@ up_to s (Waits t) = Waits t
 up_to s (OutOfTurns t) = OutOfTurns t
 up_to s Invalid = Waits s
 
--- the events behind those that say that a transaction had to run again, at most k of them
-abbrev pub behind_retries : ℕ → List SeenEvent → List SeenEvent
-behind_retries zero es = es
-behind_retries (suc k) [] = []
-behind_retries (suc k) (e ∷ es) = if e.book == 0 then (if is_retry e.kind then behind_retries k es else e ∷ es) else e ∷ es
+-- whether a body came to its end, and this holds of what it did
+abbrev pub ended_with : (PlainTxFrame → Bool) → Completion TxState Value → Bool
+ended_with p (Completes v x) = p x.done
+ended_with p (Recurs vs x) = false
+ended_with p (Faults f x) = false
+ended_with p (Retries x) = false
+ended_with p (Waits x) = false
+ended_with p (OutOfTurns x) = false
+ended_with p Invalid = false
+
+-- whether a try had to run again for the cause that this says
+abbrev pub passes : Transacting → EventKind → World → Bool
+passes d (Retry since c cause.Outdated) R = true
+passes d (Retry since c cause.Held) R = ended_with (λ w. is_held w c.number) (d.on R)
+passes d (Retry since c (cause.Commuted at)) R = ended_with (λ w. has_number (commuted w) c.number) (d.on R)
+passes d _ R = false
+
+-- the events behind those that say that a transaction had to run again, each with its cause, at most k of them
+abbrev pub behind_retries : ℕ → Transacting → List SeenEvent → List SeenEvent
+behind_retries zero d es = es
+behind_retries (suc k) d [] = []
+behind_retries (suc k) d (e ∷ es) = if e.book == 0 then (if is_retry e.kind then (if passes d e.kind e.R then behind_retries k d es else e ∷ es) else e ∷ es) else e ∷ es
 
 -- the forms of a thread on its events, which waits before one that it doesn't allow
 abbrev pub on_right : Surroundings → ℕ → Effects ThreadState
@@ -56,5 +79,7 @@ on_right x d = record {
   put = λ form inside m v w f t. up_to t ((on_events x d).put form inside m v w f t);
   update = λ form inside m v callee vs f t. up_to t ((on_events x d).update form inside m v callee vs f t);
   send = λ inside m v callee vs t. up_to t ((on_events x d).send inside m v callee vs t);
-  dosync = λ inside m node env body f t. up_to (record t { todo = behind_retries x.tries t.todo }) ((on_events x d).dosync inside m node env body f t);
+  dosync = λ inside m node env body f t.
+      up_to (record t { todo = behind_retries x.tries (record { mark = m; body = node; locals = env; on = tx_meaning x.turns x.functions d node env; validators = validators_of x.cells }) t.todo })
+      ((on_events x d).dosync inside m node env body f t);
 }

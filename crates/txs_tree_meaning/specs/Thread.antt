@@ -1,7 +1,8 @@
 -- What a thread means on a list of events, each with its worlds.
-use Rattle.std.specs.Prelude.{ℕ, zero, suc, Bool, true, false, List, [], ◌∷◌, ◌++◌, ◌==◌, ◌&&◌, length, if◌then◌else◌, Option, Some, None}
+use Rattle.std.specs.Prelude.{ℕ, zero, suc, Bool, true, false, List, [], ◌∷◌, ◌++◌, ◌==◌, ◌&&◌, ◌||◌, length, if◌then◌else◌, Option, Some, None}
 use Rattle.txs_world_protocol.specs.Ask.{same_writes, same_cell, same_value, same_action, same_actions}
 use Rattle.txs_world_protocol.specs.SeenEvent.{SeenEvent, home}
+use Rattle.txs_world_protocol.specs.declared.event.Cause.TheVariants as cause
 use Rattle.txs_world_protocol.specs.declared.event.EventKind.{EventKind}
 use Rattle.txs_world_protocol.specs.declared.event.EventKind.TheVariants.{Read, Commit, Retry, Fail, Refused, Send as Sent, SendRefused, Swap as Swapped, Broke}
 use Rattle.txs_tree_meaning.specs.Meaning.{Completion, Completes, Recurs, Faults, Retries, Waits, OutOfTurns, Invalid, closed, allowed, Applies, Effects, eval, call_at, bind, apply}
@@ -29,7 +30,7 @@ use Rattle.txs_value_base.specs.declared.op.Callee.{Callee}
 use Rattle.txs_value_data.specs.declared.value.CellId.{CellId}
 use Rattle.txs_value_data.specs.declared.value.Value.{Value}
 use Rattle.txs_value_data.specs.declared.value.Value.TheVariants.{Nil, Cell}
-use Rattle.txs_frame.specs.Frame.{sends_of_commit, with_sends}
+use Rattle.txs_frame.specs.Frame.{PlainTxFrame, has_number, commuted, sends_of_commit, with_sends}
 
 -- a transaction that came to its end: its body with its locals, whether its result is wanted, and its meaning at its read point
 pub record TxRun : Type 0 where
@@ -46,6 +47,8 @@ pub record ThreadState : Type 0 where
   -- the sends that an action holds; a thread holds none
   pub held : Option (List Action)
   pub txs : List TxRun
+  -- which book's event it waits for, where it waits
+  pub asks : Option ℕ
 
 -- a transaction that came to its end is noted
 abbrev pub with_tx : TxRun → ThreadState → ThreadState
@@ -61,9 +64,9 @@ uneaten es (Waits t) = Waits t
 uneaten es (OutOfTurns t) = OutOfTurns (record t { todo = es })
 uneaten es Invalid = Invalid
 
--- the next event is eaten, if it is of this book
+-- the next event is eaten, if it is of this book; where there is none, it waits for one
 abbrev pub eats : {A : Type 0} → ℕ → (SeenEvent → ThreadState → Completion ThreadState A) → List SeenEvent → ThreadState → Completion ThreadState A
-eats book go [] t = Waits t
+eats book go [] t = Waits (record t { asks = Some book })
 eats book go (e ∷ es) t = if e.book == book then uneaten (e ∷ es) (go e (record t { todo = es })) else Invalid
 
 -- a value that an event names is the one that is meant
@@ -159,16 +162,29 @@ ends_tx d f _ R Q C t = Invalid
 
 -- whether an event says that a transaction had to run again
 abbrev pub is_retry : EventKind → Bool
-is_retry (Retry since c commute) = true
+is_retry (Retry since c why) = true
 is_retry _ = false
 
--- a dosync runs again until it commits or faults (Clojure's docstring of `dosync`): it eats retries, and then the event of its end, at most k events
+-- whether a transaction set or ensured the ref with this number
+abbrev pub is_held : PlainTxFrame → ℕ → Bool
+is_held w k = has_number w.sets k || has_number w.ensures k
+
+-- A try that had to run again, and what follows. Where a value was no longer kept, the journal tells the cause. Else the body came to its end on R,
+-- and the ref is one that it set or ensured, or that it commuted and didn't set.
+abbrev pub again : Transacting → EventKind → World → ThreadState → Completion ThreadState Value → Completion ThreadState Value
+again d (Retry since c cause.Outdated) R t next = next
+again d (Retry since c cause.Held) R t next = over t (d.on R) (λ v x. allowed (is_held x.done c.number) next) (λ g. Invalid)
+again d (Retry since c (cause.Commuted at)) R t next = over t (d.on R) (λ v x. allowed (has_number (commuted x.done) c.number) next) (λ g. Invalid)
+again d _ R t next = Invalid
+
+-- a dosync runs again until it commits or faults (Clojure's docstring of `dosync`): it eats retries, each with its cause, and then the event of its end,
+-- at most k events; a retry for which turns don't suffice stays to come
 abbrev pub eats_tx : ℕ → Transacting → Applies ThreadState → List SeenEvent → ThreadState → Completion ThreadState Value
 eats_tx zero d f es t = Faults (fault_at RetryLimit d.mark.span) (record t { todo = es })
-eats_tx (suc k) d f [] t = Waits (record t { todo = [] })
+eats_tx (suc k) d f [] t = Waits (record t { todo = []; asks = Some 0 })
 eats_tx (suc k) d f (e ∷ es) t =
     if e.book == 0
-    then (if is_retry e.kind then eats_tx k d f es t else uneaten (e ∷ es) (ends_tx d f e.kind e.R e.Q e.C (record t { todo = es })))
+    then (if is_retry e.kind then again d e.kind e.R (record t { todo = e ∷ es }) (eats_tx k d f es t) else uneaten (e ∷ es) (ends_tx d f e.kind e.R e.Q e.C (record t { todo = es })))
     else Invalid
 
 -- what a thread's meaning is given: the cells' definitions, how many tries a transaction has, how many turns a loop, and the functions
@@ -219,7 +235,7 @@ on_events x d = record {
 
 -- where a body begins, with these events to come: an action's holds its sends, of which there are none yet, and a thread's holds none
 abbrev pub from_events : Option (List Action) → List SeenEvent → ThreadState
-from_events held es = record { todo = es; printed = []; held = held; txs = [] }
+from_events held es = record { todo = es; printed = []; held = held; txs = []; asks = None }
 
 -- a body with its locals in its surroundings, outside every transaction, on these events, where sends are held or not
 abbrev pub body_in : Surroundings → Option (List Action) → Tree → List Value → List SeenEvent → Completion ThreadState Value

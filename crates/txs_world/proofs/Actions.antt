@@ -58,7 +58,7 @@ state_unwritten k g (Err f) e = refl
 unwritten_by : (cells : List StoreCell) (done : List Event) (a : ℕ) (d : EventKind) (g : CellId) → LegalKind cells done a d → has_agent cells g ≡ true → acts_for g.number d ≡ false → writes_to d g.number ≡ false
 unwritten_by cells done a (Read c) g l has e = refl
 unwritten_by cells done a (Commit at view ws sends) g l has e = unwritten_agent cells 0 ws g has l.0
-unwritten_by cells done a (Retry since c commute) g l has e = refl
+unwritten_by cells done a (Retry since c cause) g l has e = refl
 unwritten_by cells done a (Fail at view) g l has e = refl
 unwritten_by cells done a (Refused at view h) g l has e = refl
 unwritten_by cells done a (Send x) g l has e = refl
@@ -81,7 +81,7 @@ Runs m n x = (first_action (is_there m.fault) m.actions ≡ Some x) × (m.acts �
 runs_changed : (goes : Bool) (k : ℕ) (d : EventKind) (m : Mail) (n : ℕ) (x : Action) → acts_for k d ≡ false → Runs m n x → Runs (mail_changed goes k d m) n x
 runs_changed goes k (Read c) m n x e h = h
 runs_changed goes k (Commit at view ws sends) m n x e h = (first_more (is_there m.fault) m.actions (sent_to k sends) x h.0, h.1)
-runs_changed goes k (Retry since c commute) m n x e h = h
+runs_changed goes k (Retry since c cause) m n x e h = h
 runs_changed goes k (Fail at view) m n x e h = h
 runs_changed goes k (Refused at view g) m n x e h = h
 runs_changed goes k (Send y) m n x e h = (first_more (is_there m.fault) m.actions (sent_to k (y ∷ [])) x h.0, h.1)

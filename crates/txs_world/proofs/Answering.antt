@@ -8,6 +8,8 @@ use Rattle.txs_world_protocol.specs.declared.ask.Ask.TheVariants as ask
 use Rattle.txs_world_protocol.specs.declared.ask.Reply.{Reply}
 use Rattle.txs_world_protocol.specs.declared.ask.Reply.TheVariants as reply
 use Rattle.txs_world_protocol.specs.declared.event.Event.{Event}
+use Rattle.txs_world_protocol.specs.declared.event.Cause.{Cause}
+use Rattle.txs_world_protocol.specs.declared.event.Cause.TheVariants as cause
 use Rattle.txs_world_protocol.specs.declared.event.EventKind.{EventKind}
 use Rattle.txs_world_protocol.specs.declared.event.EventKind.TheVariants.{Commit, Retry, Refused, Act}
 use Rattle.txs_value_cell.specs.Cells.{World}
@@ -19,13 +21,13 @@ use Rattle.txs_value_base.specs.declared.fault.FaultKind.TheVariants.{AgentFaile
 use Rattle.txs_value_base.specs.declared.fault.Span.{Span}
 use Rattle.txs_value_data.specs.declared.value.CellId.{CellId}
 use Rattle.txs_value_data.specs.declared.value.Value.{Value}
-use Rattle.txs_world_book.specs.Book.{actors, is_empty, cells_in, opening, after, newest, written, is_outdated, is_there, value_or, least_written, first_failed, is_failed, mail_after, LegalKind, Guarded}
+use Rattle.txs_world_book.specs.Book.{actors, has_ref, may_name, is_empty, cells_in, opening, after, newest, is_outdated, is_there, value_or, least_written, first_failed, is_failed, mail_after, LegalKind, Guarded}
 use Rattle.txs_world.specs.Kept.{IsEnd, kept_at, end_reply, Ends}
 use Rattle.txs_world.specs.Store.{PlainStore, store_with, merged, is_lawful, looks, commits, first_action, next_action, takes, span_of, finishes, hands_out, is_over, serve, store_after, TakesMemory, sends_to, Answers, Replies}
 use Rattle.txs_world_book.specs.Served.{Served, served, adds, event_of}
 use Rattle.txs_world.specs.declared.commit.End.{End}
 use Rattle.txs_world.specs.declared.commit.End.TheVariants.{Reruns, Redoes, Refuses, Commits}
-use Rattle.txs_world.proofs.Merging.{ltb_yes, ltb_no, refs_has, Finds, finds, untouched_parts}
+use Rattle.txs_world.proofs.Merging.{joined, ltb_yes, ltb_no, refs_has, Finds, finds, untouched_parts}
 use Rattle.txs_world_book.proofs.Older.{ends, outdated_written}
 use Rattle.txs_world.proofs.Serves.{actor_in, sender_in, Lawful, lawful_commit, refs_tested, legal_commit, guarded_commit, FindsFailed, finds_failed}
 
@@ -48,7 +50,7 @@ looked_not s w a c p v is = go (is_outdated c.number p s.book) is
     go false q = (tt, refl)
 
 -- a value that isn't kept
-pub looked_lost : (s : PlainStore) (w : World) (a : ℕ) (c : CellId) (p : ℕ) (r : Reply) (t : PlainStore) → kept_at w c.number p s.book ≡ None → Replies s (adds a (Retry p c false) (reply.Retry c) s.book) r t
+pub looked_lost : (s : PlainStore) (w : World) (a : ℕ) (c : CellId) (p : ℕ) (r : Reply) (t : PlainStore) → kept_at w c.number p s.book ≡ None → Replies s (adds a (Retry p c cause.Outdated) (reply.Retry c) s.book) r t
     → Replies s (looks (is_outdated c.number p s.book) w a c p s.book) r t
 looked_lost s w a c p r t is h = go (is_outdated c.number p s.book) is
   where
@@ -56,11 +58,12 @@ looked_lost s w a c p r t is h = go (is_outdated c.number p s.book) is
     go true q = h
     go false q = absurd (false≢true (sym (ap is_there q)))
 
-pub lost_written : (w : World) (k p : ℕ) (book : List Event) → kept_at w k p book ≡ None → written k p book ≡ true
-lost_written w k p book is = go (is_outdated k p book) refl is
+-- the retry for it may stand
+pub lost_legal : (s : PlainStore) (w : World) (a : ℕ) (c : CellId) (p : ℕ) → has_ref s.cells c ≡ true → may_name false s.book a p ≡ true → kept_at w c.number p s.book ≡ None → LegalKind s.cells s.book a (Retry p c cause.Outdated)
+lost_legal s w a c p has named is = go (is_outdated c.number p s.book) refl is
   where
-    go : (b : Bool) → is_outdated k p book ≡ b → (if b then None else Some (after w book p k)) ≡ None → written k p book ≡ true
-    go true e q = outdated_written k p book e
+    go : (b : Bool) → is_outdated c.number p s.book ≡ b → (if b then None else Some (after w s.book p c.number)) ≡ None → LegalKind s.cells s.book a (Retry p c cause.Outdated)
+    go true e q = (has, joined (may_name false s.book a p) (is_outdated c.number p s.book) named e, outdated_written c.number p s.book e)
     go false e q = absurd (false≢true (sym (ap is_there q)))
 
 -- ---- an event that the book may have room for
@@ -168,8 +171,8 @@ sends_so s t a x r b e h = subst (λ f. Replies s (sends_to f a x s.book) r t) (
 
 -- what a commit's tests come to
 abbrev pub Ended : PlainStore → ℕ → ℕ → ℕ → Writes → Writes → List Action → End → Type 0
-Ended s a at view sets commuted sends (Reruns c) = LegalKind s.cells s.book a (Retry at c false)
-Ended s a at view sets commuted sends (Redoes c) = LegalKind s.cells s.book a (Retry view c true)
+Ended s a at view sets commuted sends (Reruns c) = LegalKind s.cells s.book a (Retry at c cause.Held)
+Ended s a at view sets commuted sends (Redoes c) = LegalKind s.cells s.book a (Retry view c (cause.Commuted at))
 Ended s a at view sets commuted sends (Refuses g) = LegalKind s.cells s.book a (Refused at view g)
 Ended s a at view sets commuted sends Commits = LegalKind s.cells s.book a (Commit at view (merged sets commuted) sends) × Guarded s.book (Commit at view (merged sets commuted) sends)
 
@@ -180,7 +183,7 @@ ended_by s a at view sets commuted ensured sends o1 o2 o3 (Reruns c) l f1 f2 f3 
     (f.0, (ends s.book a at view l.end).tried, f.1)
 ended_by s a at view sets commuted ensured sends o1 o2 o3 (Redoes c) l f1 f2 f3 e =
     let f = subst (Finds s.cells s.book view (cells_in commuted)) e.1 f2 in
-    (f.0, (ends s.book a at view l.end).viewed, f.1)
+    (f.0, l.end, f.1)
 ended_by s a at view sets commuted ensured sends o1 o2 o3 (Refuses g) l f1 f2 f3 e =
     let f = subst (FindsFailed s.cells s.book sends) e.2 f3 in
     (f.0, l.end, f.1)
@@ -220,8 +223,8 @@ ended_by_actor s a at view sets commuted ensured sends h = actor_in s.cells s.th
 
 -- what is served then
 abbrev pub by_end : End → ℕ → ℕ → ℕ → Writes → List Action → List Event → Served
-by_end (Reruns c) a at view ws sends book = adds a (Retry at c false) (reply.Retry c) book
-by_end (Redoes c) a at view ws sends book = adds a (Retry view c true) (reply.Changed c) book
+by_end (Reruns c) a at view ws sends book = adds a (Retry at c cause.Held) (reply.Retry c) book
+by_end (Redoes c) a at view ws sends book = adds a (Retry view c (cause.Commuted at)) (reply.Changed c) book
 by_end (Refuses g) a at view ws sends book = adds a (Refused at view g) (reply.AgentIsFailed g) book
 by_end Commits a at view ws sends book = adds a (Commit at view ws sends) reply.Done book
 

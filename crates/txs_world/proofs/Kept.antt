@@ -121,7 +121,7 @@ kept_more cells threads slots now inboxes boxes views tries vs ts book more a d 
 quiet_slots : (slots : List Slot) (book : List Event) (d : EventKind) → ChangesNothing d → SlotsMove slots slots book d
 quiet_slots slots book (Read c) q k lt = refl
 quiet_slots slots book (Commit at view ws sends) q k lt = absurd q
-quiet_slots slots book (Retry since c commute) q k lt = refl
+quiet_slots slots book (Retry since c cause) q k lt = refl
 quiet_slots slots book (Fail at view) q k lt = refl
 quiet_slots slots book (Refused at view g) q k lt = refl
 quiet_slots slots book (Send x) q k lt = absurd q
@@ -133,7 +133,7 @@ quiet_slots slots book (Broke at) q k lt = absurd q
 quiet_inboxes : (cells : List StoreCell) (boxes : List PlainInbox) (book : List Event) (d : EventKind) → ChangesNothing d → InboxMoves cells boxes boxes book d
 quiet_inboxes cells boxes book (Read c) q k lt h = h
 quiet_inboxes cells boxes book (Commit at view ws sends) q k lt h = absurd q
-quiet_inboxes cells boxes book (Retry since c commute) q k lt h = h
+quiet_inboxes cells boxes book (Retry since c cause) q k lt h = h
 quiet_inboxes cells boxes book (Fail at view) q k lt h = h
 quiet_inboxes cells boxes book (Refused at view g) q k lt h = h
 quiet_inboxes cells boxes book (Send x) q k lt h = absurd q
@@ -145,7 +145,7 @@ quiet_inboxes cells boxes book (Broke at) q k lt h = absurd q
 quiet_guarded : (book : List Event) (d : EventKind) → ChangesNothing d → Guarded book d
 quiet_guarded book (Read c) q = tt
 quiet_guarded book (Commit at view ws sends) q = absurd q
-quiet_guarded book (Retry since c commute) q = tt
+quiet_guarded book (Retry since c cause) q = tt
 quiet_guarded book (Fail at view) q = tt
 quiet_guarded book (Refused at view g) q = tt
 quiet_guarded book (Send x) q = tt

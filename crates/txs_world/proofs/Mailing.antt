@@ -174,7 +174,7 @@ taken_mailed bs (x ∷ xs) =
 acts_changed : (goes : Bool) (k : ℕ) (d : EventKind) (m : Mail) → (mail_changed goes k d m).acts ≤ suc m.acts
 acts_changed goes k (Read c) m = omega arith
 acts_changed goes k (Commit at view ws sends) m = omega arith
-acts_changed goes k (Retry since c commute) m = omega arith
+acts_changed goes k (Retry since c cause) m = omega arith
 acts_changed goes k (Fail at view) m = omega arith
 acts_changed goes k (Refused at view g) m = omega arith
 acts_changed goes k (Send x) m = omega arith

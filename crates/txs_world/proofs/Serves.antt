@@ -8,6 +8,8 @@ use Rattle.txs_world_protocol.specs.declared.ask.Ask.TheVariants as ask
 use Rattle.txs_world_protocol.specs.declared.ask.Reply.{Reply}
 use Rattle.txs_world_protocol.specs.declared.ask.Reply.TheVariants as reply
 use Rattle.txs_world_protocol.specs.declared.event.Event.{Event}
+use Rattle.txs_world_protocol.specs.declared.event.Cause.{Cause}
+use Rattle.txs_world_protocol.specs.declared.event.Cause.TheVariants as cause
 use Rattle.txs_world_protocol.specs.declared.event.EventKind.{EventKind}
 use Rattle.txs_world_protocol.specs.declared.event.EventKind.TheVariants.{Read, Commit, Retry, Fail, Refused, Send, SendRefused, Act, Swap, Broke}
 use Rattle.txs_value_cell.specs.declared.action.Action.{Action}
@@ -26,7 +28,7 @@ use Rattle.txs_world_book.specs.declared.cell.StoreCell.{StoreCell}
 use Rattle.txs_world_book.proofs.Growth.{each_more, mail_last}
 use Rattle.txs_world.proofs.Mailing.{equal, unequal}
 use Rattle.txs_world_book.proofs.Outcomes.{both}
-use Rattle.txs_world.proofs.Merging.{ltb_yes, Finds, finds, refs_has, refs_joined, untouched_parts, refs_merged, untouched_merged, untouched_later}
+use Rattle.txs_world.proofs.Merging.{joined, ltb_yes, Finds, finds, refs_has, refs_joined, untouched_parts, refs_merged, untouched_merged, untouched_later}
 use Rattle.txs_world_book.proofs.Older.{ends, outdated_written}
 
 abbrev pub Kept : List StoreCell → ℕ → List Event → Type 0
@@ -54,7 +56,7 @@ adds_kept cells threads book a d r h by l g = go (nat_lt (length book) most_even
 
 looks_kept : (cells : List StoreCell) (threads : ℕ) (b : Bool) (a : ℕ) (c : CellId) (p : ℕ) (book : List Event) → is_outdated c.number p book ≡ b → has_ref cells c ≡ true → may_name false book a p ≡ true → nat_lt a (actors threads cells) ≡ true → Kept cells threads book
     → Kept cells threads (looks b (opening cells) a c p book).book
-looks_kept cells threads true a c p book e has n by h = adds_kept cells threads book a (Retry p c false) _ h by (has, n, outdated_written c.number p book e) tt
+looks_kept cells threads true a c p book e has n by h = adds_kept cells threads book a (Retry p c cause.Outdated) _ h by (has, joined (may_name false book a p) (is_outdated c.number p book) n e, outdated_written c.number p book e) tt
 looks_kept cells threads false a c p book e has n by h = h
 
 -- who makes a commit with sends or without is an actor
@@ -133,9 +135,9 @@ commits_kept : (s : PlainStore) (a at view : ℕ) (sets commuted : Writes) (ensu
     → Finds s.cells s.book at (cells_in sets ++ ensured) o1 → Finds s.cells s.book view (cells_in commuted) o2 → FindsFailed s.cells s.book sends o3 → Kept s.cells s.threads s.book
     → Kept s.cells s.threads (commits o1 o2 o3 a at view (merged sets commuted) sends s.book).book
 commits_kept s a at view sets commuted ensured sends (Some c) o2 o3 l f1 f2 f3 h =
-    adds_kept s.cells s.threads s.book a (Retry at c false) _ h (actor_in s.cells s.threads a (is_empty sends) l.maker) (f1.0, (ends s.book a at view l.end).tried, f1.1) tt
+    adds_kept s.cells s.threads s.book a (Retry at c cause.Held) _ h (actor_in s.cells s.threads a (is_empty sends) l.maker) (f1.0, (ends s.book a at view l.end).tried, f1.1) tt
 commits_kept s a at view sets commuted ensured sends None (Some c) o3 l f1 f2 f3 h =
-    adds_kept s.cells s.threads s.book a (Retry view c true) _ h (actor_in s.cells s.threads a (is_empty sends) l.maker) (f2.0, (ends s.book a at view l.end).viewed, f2.1) tt
+    adds_kept s.cells s.threads s.book a (Retry view c (cause.Commuted at)) _ h (actor_in s.cells s.threads a (is_empty sends) l.maker) (f2.0, l.end, f2.1) tt
 commits_kept s a at view sets commuted ensured sends None None (Some g) l f1 f2 f3 h =
     adds_kept s.cells s.threads s.book a (Refused at view g) _ h (sender_in s.cells s.threads a (is_empty sends) l.maker f3.2) (f3.0, l.end, f3.1) tt
 commits_kept s a at view sets commuted ensured sends None None None l f1 f2 f3 h =
@@ -217,7 +219,7 @@ waits_more (x ∷ xs) ys h = refl
 held_changed : (goes : Bool) (k : ℕ) (d : EventKind) (m : Mail) → no_act d k ≡ true → (is_there m.fault ≡ false) × (waits m.actions ≡ true) → (is_there (mail_changed goes k d m).fault ≡ false) × (waits (mail_changed goes k d m).actions ≡ true)
 held_changed goes k (Read c) m n h = h
 held_changed goes k (Commit at view ws sends) m n h = (h.0, waits_more m.actions (sent_to k sends) h.1)
-held_changed goes k (Retry since c commute) m n h = h
+held_changed goes k (Retry since c cause) m n h = h
 held_changed goes k (Fail at view) m n h = h
 held_changed goes k (Refused at view g) m n h = h
 held_changed goes k (Send x) m n h = (h.0, waits_more m.actions (sent_to k (x ∷ [])) h.1)
@@ -243,12 +245,12 @@ held_adds cells book a d r k n h = go (nat_lt (length book) most_events)
     go false = h
 
 looks_waits : (s : PlainStore) (b : Bool) (a : ℕ) (c : CellId) (p : ℕ) → TakenWait s → TakenWait (store_with s.cells s.threads (looks b (opening s.cells) a c p s.book).book s.taken)
-looks_waits s true a c p h k t = held_adds s.cells s.book a (Retry p c false) _ k refl (h k t)
+looks_waits s true a c p h k t = held_adds s.cells s.book a (Retry p c cause.Outdated) _ k refl (h k t)
 looks_waits s false a c p h k t = h k t
 
 commits_waits : (s : PlainStore) (o1 o2 o3 : Option CellId) (a at view : ℕ) (ws : Writes) (sends : List Action) → TakenWait s → TakenWait (store_with s.cells s.threads (commits o1 o2 o3 a at view ws sends s.book).book s.taken)
-commits_waits s (Some c) o2 o3 a at view ws sends h k t = held_adds s.cells s.book a (Retry at c false) _ k refl (h k t)
-commits_waits s None (Some c) o3 a at view ws sends h k t = held_adds s.cells s.book a (Retry view c true) _ k refl (h k t)
+commits_waits s (Some c) o2 o3 a at view ws sends h k t = held_adds s.cells s.book a (Retry at c cause.Held) _ k refl (h k t)
+commits_waits s None (Some c) o3 a at view ws sends h k t = held_adds s.cells s.book a (Retry view c (cause.Commuted at)) _ k refl (h k t)
 commits_waits s None None (Some g) a at view ws sends h k t = held_adds s.cells s.book a (Refused at view g) _ k refl (h k t)
 commits_waits s None None None a at view ws sends h k t = held_adds s.cells s.book a (Commit at view ws sends) _ k refl (h k t)
 
@@ -351,8 +353,8 @@ done_is_undisturbed cells a at view sets commuted ensured sends book h = go (lea
   where
     go : (o1 o2 o3 : Option CellId) → least_written book at (cells_in sets ++ ensured) ≡ o1 → least_written book view (cells_in commuted) ≡ o2
         → (commits o1 o2 o3 a at view (merged sets commuted) sends book).reply ≡ reply.Done → Untouched book at (cells_in sets) × Untouched book at ensured × Untouched book view (cells_in commuted)
-    go (Some c) o2 o3 e f g = absurd (not_done a (Retry at c false) (reply.Retry c) book refl g)
-    go None (Some c) o3 e f g = absurd (not_done a (Retry view c true) (reply.Changed c) book refl g)
+    go (Some c) o2 o3 e f g = absurd (not_done a (Retry at c cause.Held) (reply.Retry c) book refl g)
+    go None (Some c) o3 e f g = absurd (not_done a (Retry view c (cause.Commuted at)) (reply.Changed c) book refl g)
     go None None o3 e f g =
         let l = untouched_parts book at (cells_in sets) ensured (done_none book at (cells_in sets ++ ensured) e) in
         (l.0, l.1, done_none book view (cells_in commuted) f)
@@ -388,8 +390,8 @@ refused_is_undisturbed cells a at view sets commuted ensured sends book g h = go
   where
     go : (o1 o2 o3 : Option CellId) → least_written book at (cells_in sets ++ ensured) ≡ o1 → least_written book view (cells_in commuted) ≡ o2 → first_failed cells book sends ≡ o3
         → (commits o1 o2 o3 a at view (merged sets commuted) sends book).reply ≡ reply.AgentIsFailed g → Untouched book at (cells_in sets) × Untouched book at ensured × Untouched book view (cells_in commuted) × (first_failed cells book sends ≡ Some g)
-    go (Some c) o2 o3 e f i h = absurd (not_refused a (Retry at c false) (reply.Retry c) book g refl h)
-    go None (Some c) o3 e f i h = absurd (not_refused a (Retry view c true) (reply.Changed c) book g refl h)
+    go (Some c) o2 o3 e f i h = absurd (not_refused a (Retry at c cause.Held) (reply.Retry c) book g refl h)
+    go None (Some c) o3 e f i h = absurd (not_refused a (Retry view c (cause.Commuted at)) (reply.Changed c) book g refl h)
     go None None (Some c) e f i h =
         let l = untouched_parts book at (cells_in sets) ensured (done_none book at (cells_in sets ++ ensured) e) in
         (l.0, l.1, done_none book view (cells_in commuted) f, i ∙ refused_agent a (Refused at view c) book c g h)

@@ -105,7 +105,7 @@ IsInbox goes m b = b ≡ inbox_of goes b.mailbox.is_taken m
 abbrev pub ChangesNothing : EventKind → Type 0
 ChangesNothing (Read c) = Unit {0}
 ChangesNothing (Commit at view ws sends) = ⊥
-ChangesNothing (Retry since c commute) = Unit {0}
+ChangesNothing (Retry since c cause) = Unit {0}
 ChangesNothing (Fail at view) = Unit {0}
 ChangesNothing (Refused at view g) = Unit {0}
 ChangesNothing (Send x) = ⊥

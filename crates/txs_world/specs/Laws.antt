@@ -48,7 +48,7 @@ RefusedIsUndisturbed =
 abbrev pub acts_for : ℕ → EventKind → Bool
 acts_for k (event.Read c) = false
 acts_for k (event.Commit at view ws sends) = false
-acts_for k (event.Retry since c commute) = false
+acts_for k (event.Retry since c cause) = false
 acts_for k (event.Fail at view) = false
 acts_for k (event.Refused at view g) = false
 acts_for k (event.Send x) = false

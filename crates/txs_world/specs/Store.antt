@@ -12,6 +12,8 @@ use Rattle.txs_value_cell.specs.declared.cell.CellDefinition.{CellDefinition}
 use Rattle.txs_value_cell.specs.declared.cell.ErrorMode.{ErrorMode}
 use Rattle.txs_value_cell.specs.declared.cell.ErrorMode.TheVariants as mode
 use Rattle.txs_world_protocol.specs.declared.event.Event.{Event}
+use Rattle.txs_world_protocol.specs.declared.event.Cause.{Cause}
+use Rattle.txs_world_protocol.specs.declared.event.Cause.TheVariants as cause
 use Rattle.txs_world_protocol.specs.declared.event.EventKind.{EventKind}
 use Rattle.txs_world_protocol.specs.declared.event.EventKind.TheVariants.{Read, Commit, Retry, Fail, Refused, Send, SendRefused, Act}
 use Rattle.txs_value_data.specs.declared.value.CellId.{CellId}
@@ -98,13 +100,13 @@ is_lawful s a q = may_ask s.cells s.threads a q && has_named s a q
 
 -- a read in a transaction: that it has to run again where the value at the read point is no longer kept, else that value
 abbrev pub looks : Bool → World → ℕ → CellId → ℕ → List Event → Served
-looks true w a c at book = adds a (Retry at c false) (reply.Retry c) book
+looks true w a c at book = adds a (Retry at c cause.Outdated) (reply.Retry c) book
 looks false w a c at book = served (reply.Is (after w book at c.number)) book
 
 -- the end of a transaction, by its tests in their order: a ref that was set or ensured, a commuted ref, an agent that has failed; else its writes
 abbrev pub commits : Option CellId → Option CellId → Option CellId → ℕ → ℕ → ℕ → Writes → List Action → List Event → Served
-commits (Some c) o g a at view ws sends book = adds a (Retry at c false) (reply.Retry c) book
-commits None (Some c) g a at view ws sends book = adds a (Retry view c true) (reply.Changed c) book
+commits (Some c) o g a at view ws sends book = adds a (Retry at c cause.Held) (reply.Retry c) book
+commits None (Some c) g a at view ws sends book = adds a (Retry view c (cause.Commuted at)) (reply.Changed c) book
 commits None None (Some g) a at view ws sends book = adds a (Refused at view g) (reply.AgentIsFailed g) book
 commits None None None a at view ws sends book = adds a (Commit at view ws sends) reply.Done book
 

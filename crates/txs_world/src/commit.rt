@@ -19,7 +19,7 @@ use std::alloc::{AllocError, Global};
 use std::collections::VecDeque;
 use txs_value_cell::Action;
 use txs_value_data::{CellId, Listed, Value};
-use txs_world_protocol::{EventKind, Reply};
+use txs_world_protocol::{Cause, EventKind, Reply};
 
 /// What the tests of a commit come to.
 #[derive(Clone, Copy)]
@@ -96,12 +96,12 @@ impl Store {
             sends.as_slice(),
         );
         match end {
-            End::Reruns(cell) => self.rerun(actor, cell, at),
+            End::Reruns(cell) => self.rerun(actor, cell, at, Cause::Held),
             End::Redoes(cell) => {
                 let kind = EventKind::Retry {
                     since: view,
                     cell,
-                    commute: true,
+                    cause: Cause::Commuted { at },
                 };
                 self.tell(actor, kind, Reply::Changed(cell))
             }
@@ -208,16 +208,16 @@ impl Store {
         self.failure(agent).is_some()
     }
 
-    /// The transaction has to run again, since the ref was written after its read point.
-    pub(crate) fn rerun(&mut self, actor: u16, cell: CellId, at: u32) -> Reply
+    /// The transaction has to run again for this cause, since the ref was written after its read point.
+    pub(crate) fn rerun(&mut self, actor: u16, cell: CellId, at: u32, cause: Cause) -> Reply
         requires actor { nat_lt actor (actors self.old.threads self.old.cells) ≡ true }
-        requires legal { LegalKind self.old.cells self.old.book actor (event.Retry at cell false) }
-        ensures { Replies self.old (adds actor (event.Retry at cell false) (reply.Retry cell) self.old.book) result self.new }
+        requires legal { LegalKind self.old.cells self.old.book actor (event.Retry at cell cause) }
+        ensures { Replies self.old (adds actor (event.Retry at cell cause) (reply.Retry cell) self.old.book) result self.new }
     {
         let kind = EventKind::Retry {
             since: at,
             cell,
-            commute: false,
+            cause,
         };
         self.tell(actor, kind, Reply::Retry(cell))
     }

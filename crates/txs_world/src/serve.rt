@@ -13,7 +13,7 @@ use crate::store::Store;
 use std::alloc::AllocError;
 use txs_value_data::limits::MOST_EVENTS;
 use txs_value_data::{CellId, Listed, Value, copy_value};
-use txs_world_protocol::{Ask, Event, EventKind, Reply};
+use txs_world_protocol::{Ask, Cause, Event, EventKind, Reply};
 
 impl Store {
     /// Answers an ask of an actor, as a whole. The reply is `Full` exactly where the book has as many events as it may have and
@@ -117,7 +117,7 @@ impl Store {
                 Ok(value) => Reply::Is(value),
                 Err(_) => Reply::Memory,
             },
-            None => self.rerun(actor, cell, at),
+            None => self.rerun(actor, cell, at, Cause::Outdated),
         }
     }
 

@@ -68,7 +68,7 @@ atom_opened c v views book no_views empty =
 no_value : (d : EventKind) → is_swap d ≡ false → swapped_to d ≡ None
 no_value (Read c) e = refl
 no_value (Commit at view ws sends) e = refl
-no_value (Retry since c commute) e = refl
+no_value (Retry since c cause) e = refl
 no_value (Fail at view) e = refl
 no_value (Refused at view g) e = refl
 no_value (Send x) e = refl

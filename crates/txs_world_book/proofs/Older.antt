@@ -5,6 +5,8 @@ use Rattle.std.proofs.lemmas.Bool.Decides.{nat_tests}
 use Rattle.txs_world_protocol.specs.Ask.{buffered}
 use Rattle.txs_value_cell.specs.Cells.{World}
 use Rattle.txs_world_protocol.specs.declared.event.Event.{Event}
+use Rattle.txs_world_protocol.specs.declared.event.Cause.{Cause}
+use Rattle.txs_world_protocol.specs.declared.event.Cause.TheVariants.{Outdated, Held, Commuted}
 use Rattle.txs_world_protocol.specs.declared.event.EventKind.{EventKind}
 use Rattle.txs_world_protocol.specs.declared.event.EventKind.TheVariants.{Read, Commit, Retry, Fail, Refused, Send, SendRefused, Act, Swap, Broke}
 use Rattle.txs_value_data.specs.declared.value.Value.{Value}
@@ -99,7 +101,12 @@ ended_worlds w a at view done rest d r q h =
 same_event : (cells : List StoreCell) (w : World) (a : ℕ) (done rest : List Event) (d : EventKind) → LegalKind cells done a d → past_of w done d ≡ past_at w (done ++ rest) (length done) d
 same_event cells w a done rest (Read c) h = same_worlds w done rest (Read c) (omega arith) (omega arith)
 same_event cells w a done rest (Commit at view ws sends) h = ended_worlds w a at view done rest (Commit at view ws sends) refl refl h.2
-same_event cells w a done rest (Retry p c commute) h = same_worlds w done rest (Retry p c commute) (omega arith) (omega arith)
+same_event cells w a done rest (Retry p c Outdated) h =
+    let n = both (may_name false done a p) (is_outdated c.number p done) h.1 in
+    same_worlds w done rest (Retry p c Outdated) (named false done a p n.0) (omega arith)
+same_event cells w a done rest (Retry p c Held) h = same_worlds w done rest (Retry p c Held) (named false done a p h.1) (omega arith)
+same_event cells w a done rest (Retry p c (Commuted at)) h =
+    same_worlds w done rest (Retry p c (Commuted at)) (named false done a at (ends done a at p h.1).tried) (omega arith)
 same_event cells w a done rest (Fail at view) h = ended_worlds w a at view done rest (Fail at view) refl refl h
 same_event cells w a done rest (Refused at view g) h = ended_worlds w a at view done rest (Refused at view g) refl refl h.1
 same_event cells w a done rest (Send x) h = same_worlds w done rest (Send x) (omega arith) (omega arith)

@@ -28,7 +28,7 @@ atom_with s book = record { cell = s.cell; opening = s.opening; book = book }
 abbrev pub swapped_to : EventKind → Option Value
 swapped_to (Read c) = None
 swapped_to (Commit at view ws sends) = None
-swapped_to (Retry since c commute) = None
+swapped_to (Retry since c cause) = None
 swapped_to (Fail at view) = None
 swapped_to (Refused at view g) = None
 swapped_to (Send x) = None
@@ -51,7 +51,7 @@ atom_newest s = atom_after s.opening s.book (length s.book)
 abbrev pub is_swap : EventKind → Bool
 is_swap (Read c) = false
 is_swap (Commit at view ws sends) = false
-is_swap (Retry since c commute) = false
+is_swap (Retry since c cause) = false
 is_swap (Fail at view) = false
 is_swap (Refused at view g) = false
 is_swap (Send x) = false
@@ -70,7 +70,7 @@ swapped_since (suc p) (e ∷ es) = swapped_since p es
 abbrev pub LegalAtomKind : CellId → List Event → ℕ → EventKind → Type 0
 LegalAtomKind cell done a (Read c) = c ≡ cell
 LegalAtomKind cell done a (Commit at view ws sends) = ⊥
-LegalAtomKind cell done a (Retry since c commute) = ⊥
+LegalAtomKind cell done a (Retry since c cause) = ⊥
 LegalAtomKind cell done a (Fail at view) = ⊥
 LegalAtomKind cell done a (Refused at view g) = ⊥
 LegalAtomKind cell done a (Send x) = ⊥

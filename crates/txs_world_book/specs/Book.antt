@@ -6,6 +6,8 @@ use Rattle.txs_value_cell.specs.Cells.{World}
 use Rattle.txs_value_cell.specs.Forms.{same_kind}
 use Rattle.txs_value_base.specs.Places.{nth}
 use Rattle.txs_world_protocol.specs.declared.event.Event.{Event}
+use Rattle.txs_world_protocol.specs.declared.event.Cause.{Cause}
+use Rattle.txs_world_protocol.specs.declared.event.Cause.TheVariants.{Outdated, Held, Commuted}
 use Rattle.txs_world_protocol.specs.declared.event.EventKind.{EventKind}
 use Rattle.txs_world_protocol.specs.declared.event.EventKind.TheVariants.{Read, Commit, Retry, Fail, Refused, Send, SendRefused, Act, Swap, Broke}
 use Rattle.txs_value_cell.specs.declared.action.Action.{Action}
@@ -103,7 +105,7 @@ state_of g (Err f) = []
 abbrev pub writes_of : EventKind → Writes
 writes_of (Read c) = []
 writes_of (Commit at view ws sends) = ws
-writes_of (Retry since c commute) = []
+writes_of (Retry since c cause) = []
 writes_of (Fail at view) = []
 writes_of (Refused at view g) = []
 writes_of (Send x) = []
@@ -197,7 +199,7 @@ acted false (Err f) m = record { actions = drop 1 m.actions; fault = Some f; act
 abbrev pub mail_changed : Bool → ℕ → EventKind → Mail → Mail
 mail_changed goes k (Read c) m = m
 mail_changed goes k (Commit at view ws sends) m = mailed (sent_to k sends) m
-mail_changed goes k (Retry since c commute) m = m
+mail_changed goes k (Retry since c cause) m = m
 mail_changed goes k (Fail at view) m = m
 mail_changed goes k (Refused at view g) m = m
 mail_changed goes k (Send x) m = mailed (sent_to k (x ∷ [])) m
@@ -246,7 +248,7 @@ may_send (Err f) sends = is_empty sends
 abbrev pub makes : List StoreCell → ℕ → ℕ → EventKind → Bool
 makes cells threads a (Read c) = nat_lt a (actors threads cells)
 makes cells threads a (Commit at view ws sends) = nat_lt a threads || (is_empty sends && nat_lt a (actors threads cells))
-makes cells threads a (Retry since c commute) = nat_lt a (actors threads cells)
+makes cells threads a (Retry since c cause) = nat_lt a (actors threads cells)
 makes cells threads a (Fail at view) = nat_lt a (actors threads cells)
 makes cells threads a (Refused at view g) = nat_lt a threads
 makes cells threads a (Send x) = nat_lt a threads
@@ -255,11 +257,17 @@ makes cells threads a (Act g n new sends) = a == actor_of threads cells g
 makes cells threads a (Swap new) = nat_lt a (actors threads cells)
 makes cells threads a (Broke at) = nat_lt a (actors threads cells)
 
+-- whether the commutes alone are made again
+abbrev pub is_again : Cause → Bool
+is_again Outdated = false
+is_again Held = false
+is_again (Commuted at) = true
+
 -- whether an event is the end of a commute phase that has to be made again
 abbrev pub is_redo : EventKind → Bool
 is_redo (Read c) = false
 is_redo (Commit at view ws sends) = false
-is_redo (Retry since c commute) = commute
+is_redo (Retry since c cause) = is_again cause
 is_redo (Fail at view) = false
 is_redo (Refused at view g) = false
 is_redo (Send x) = false
@@ -286,12 +294,19 @@ may_name all done a p = nat_le p (length done) && all_before all a p done
 abbrev pub may_end : List Event → ℕ → ℕ → ℕ → Bool
 may_end done a at view = nat_le at view && (may_name false done a at && may_name true done a view)
 
+-- whether the actor may have had to run again for this after these events: for a value that is no longer kept, for a ref that it set or ensured, and from
+-- a read point and a view on where its commutes alone are made again
+abbrev pub may_rerun : List Event → ℕ → ℕ → CellId → Cause → Bool
+may_rerun done a since c Outdated = may_name false done a since && is_outdated c.number since done
+may_rerun done a since c Held = may_name false done a since
+may_rerun done a since c (Commuted at) = may_end done a at since
+
 -- what an actor may have done after these events; an action sends to agents that haven't failed, and nothing where it faults
 abbrev pub LegalKind : List StoreCell → List Event → ℕ → EventKind → Type 0
 LegalKind cells done a (Read c) = has_readable cells c ≡ true
 LegalKind cells done a (Commit at view ws sends) =
     (are_refs cells 0 (cells_in ws) ≡ true) × (are_sends cells sends ≡ true) × (may_end done a at view ≡ true) × (first_failed cells done sends ≡ None)
-LegalKind cells done a (Retry since c commute) = (has_ref cells c ≡ true) × (may_name commute done a since ≡ true) × (written c.number since done ≡ true)
+LegalKind cells done a (Retry since c cause) = (has_ref cells c ≡ true) × (may_rerun done a since c cause ≡ true) × (written c.number since done ≡ true)
 LegalKind cells done a (Fail at view) = may_end done a at view ≡ true
 LegalKind cells done a (Refused at view g) = (has_agent cells g ≡ true) × (may_end done a at view ≡ true) × (is_failed cells done g ≡ true)
 LegalKind cells done a (Send x) = (has_agent cells x.agent ≡ true) × (is_failed cells done x.agent ≡ false)
@@ -322,7 +337,7 @@ Untouched done p (c ∷ cs) = (written c.number p done ≡ false) × Untouched d
 abbrev pub Guarded : List Event → EventKind → Type 0
 Guarded done (Read c) = Unit {0}
 Guarded done (Commit at view ws sends) = Untouched done view (cells_in ws)
-Guarded done (Retry since c commute) = Unit {0}
+Guarded done (Retry since c cause) = Unit {0}
 Guarded done (Fail at view) = Unit {0}
 Guarded done (Refused at view g) = Unit {0}
 Guarded done (Send x) = Unit {0}

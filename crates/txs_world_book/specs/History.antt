@@ -3,15 +3,23 @@ use Rattle.std.specs.Prelude.{ℕ, suc, Bool, true, false, ◌==◌, List, [], �
 use Rattle.txs_world_protocol.specs.SeenEvent.{SeenEvent}
 use Rattle.txs_value_cell.specs.Cells.{World}
 use Rattle.txs_world_protocol.specs.declared.event.Event.{Event}
+use Rattle.txs_world_protocol.specs.declared.event.Cause.{Cause}
+use Rattle.txs_world_protocol.specs.declared.event.Cause.TheVariants.{Outdated, Held, Commuted}
 use Rattle.txs_world_protocol.specs.declared.event.EventKind.{EventKind}
 use Rattle.txs_world_protocol.specs.declared.event.EventKind.TheVariants.{Read, Commit, Retry, Fail, Refused, Send, SendRefused, Act, Swap, Broke}
 use Rattle.txs_world_book.specs.Book.{after}
+
+-- where a transaction began that had to run again
+abbrev pub began_at : Cause → ℕ → ℕ
+began_at Outdated since = since
+began_at Held since = since
+began_at (Commuted at) since = at
 
 -- an event's read point: its own place where it has none
 abbrev pub at_of : EventKind → ℕ → ℕ
 at_of (Read c) k = k
 at_of (Commit at view ws sends) k = at
-at_of (Retry since c commute) k = k
+at_of (Retry since c cause) k = began_at cause since
 at_of (Fail at view) k = at
 at_of (Refused at view g) k = at
 at_of (Send x) k = k
@@ -24,7 +32,7 @@ at_of (Broke at) k = at
 abbrev pub view_of : EventKind → ℕ → ℕ
 view_of (Read c) k = k
 view_of (Commit at view ws sends) k = view
-view_of (Retry since c commute) k = k
+view_of (Retry since c cause) k = k
 view_of (Fail at view) k = view
 view_of (Refused at view g) k = view
 view_of (Send x) k = k

@@ -2,12 +2,12 @@
 
 ghost use Rattle.std.specs.Prelude.{◌≡◌, ◌<◌, ◌++◌, ◌∷◌, [], suc, length, slice_index, true, false, vec_capacity, IfOk, OnErr, OnOk};
 ghost use Rattle.txs_value_data.specs.Limits.{most_events};
-ghost use Rattle.txs_world_book.specs.Book.{counts};
+ghost use Rattle.txs_world_book.specs.Book.{is_again, counts};
 ghost use Rattle.txs_world_book.specs.Stands.{Marked, StandAsBefore};
 ghost use Rattle.txs_world_book.specs.Served.{event_of};
 
 use std::alloc::{AllocError, Global};
-use txs_world_protocol::{Event, EventKind};
+use txs_world_protocol::{Cause, Event, EventKind};
 
 /// The events; of each actor how many there are up to its last one, and up to its last one that isn't a commute phase to be made
 /// again.
@@ -103,8 +103,18 @@ fn is_no_redo(kind: &EventKind) -> bool
     ensures { result ≡ counts false kind.now }
 {
     match kind {
-        EventKind::Retry { commute, .. } => !*commute,
+        EventKind::Retry { cause, .. } => !is_again(*cause),
         _ => true,
+    }
+}
+
+/// Whether the commutes alone are made again.
+fn is_again(cause: Cause) -> bool
+    ensures { result ≡ is_again cause }
+{
+    match cause {
+        Cause::Outdated | Cause::Held => false,
+        Cause::Commuted { .. } => true,
     }
 }
 

@@ -163,14 +163,10 @@ fn copy_kind(alloc: Global, kind: &EventKind) -> Result<EventKind, AllocError>
                 sends,
             })
         }
-        EventKind::Retry {
-            since,
-            cell,
-            commute,
-        } => Ok(EventKind::Retry {
+        EventKind::Retry { since, cell, cause } => Ok(EventKind::Retry {
             since: *since,
             cell: *cell,
-            commute: *commute,
+            cause: *cause,
         }),
         EventKind::Fail { at, view } => Ok(EventKind::Fail {
             at: *at,

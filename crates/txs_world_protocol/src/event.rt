@@ -4,6 +4,17 @@ use txs_value_base::Fault;
 use txs_value_cell::Action;
 use txs_value_data::{CellId, Listed, Value};
 
+/// Why a transaction has to run again.
+#[derive(Clone, Copy)]
+pub enum Cause {
+    /// The value that the ref had at the read point is no longer kept.
+    Outdated,
+    /// The ref was set or ensured, and written since the read point.
+    Held,
+    /// The ref was commuted, and written since the view: the commutes alone are made again. The transaction's read point.
+    Commuted { at: u32 },
+}
+
 /// What an actor did to the shared state. Places are numbers of events of the same book. Swaps and broken swaps are in the book
 /// of their atom, and so are its reads; all else is in the store's.
 #[derive(Drop)]
@@ -20,11 +31,12 @@ pub enum EventKind {
         writes: Listed<(CellId, Value)>,
         sends: Listed<Action>,
     },
-    /// A transaction has to run again, or its commutes alone: the ref was written at `since` or later.
+    /// A transaction has to run again, or its commutes alone: the ref was written at `since` or later. That is the read point; where the commutes
+    /// alone are made again it is the view.
     Retry {
         since: u32,
         cell: CellId,
-        commute: bool,
+        cause: Cause,
     },
     /// A transaction with this read point and last view ended with a fault.
     Fail {

@@ -11,7 +11,7 @@ pub mod same;
 
 pub use ask::{Ask, Reply};
 pub use copy::{copy_ask, copy_event, copy_reply, copy_writes};
-pub use event::{Event, EventKind, Outcome, Place};
+pub use event::{Cause, Event, EventKind, Outcome, Place};
 pub use report::{ActorReport, Report};
 pub use same::{
     same_action, same_actions, same_cell, same_fault, same_new, same_value, same_values,

@@ -61,7 +61,17 @@ fn meets<R: Threads + Wait + Sync>(
         gave_up: AtomicU64::new(0),
         passed: AtomicU64::new(0),
     };
-    let answer = audit_gated(rt, alloc, &case.program, &case.report, workers, 100, &gate);
+    let terms = case.terms();
+    let answer = audit_gated(
+        rt,
+        alloc,
+        &case.program,
+        &case.report,
+        terms,
+        workers,
+        100,
+        &gate,
+    );
     drop(case);
     matches!(answer, Ok(Verdict::Agrees { serial: true }))
         && gate.gave_up.load(Ordering::SeqCst) == gives_up

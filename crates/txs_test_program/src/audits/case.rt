@@ -8,7 +8,8 @@ use std::alloc::{AllocError, Global};
 use std::mem;
 use std::sync::Wait;
 use std::thread::Threads;
-use txs_audit::{AuditError, Verdict, audit};
+use txs_audit::audit;
+use txs_audit_answer::{AuditError, Terms, Verdict};
 use txs_code_meaning::Verified;
 use txs_compile::compile;
 use txs_machine::{Play, run_schedule};
@@ -16,11 +17,22 @@ use txs_tree_meaning::Program;
 use txs_world_protocol::Report;
 use txs_world_shared::SharedState;
 
-/// A program, and a report of its run.
+/// A program, a report of its run, and how many steps each actor might make.
 #[derive(Drop)]
 pub struct Case {
     pub program: Program,
     pub report: Report,
+    pub steps: u64,
+}
+
+impl Case {
+    /// What the run was to do.
+    pub fn terms(&self) -> Terms {
+        Terms {
+            finishes: true,
+            steps: self.steps,
+        }
+    }
 }
 
 /// The state of the code's cells, with empty books.
@@ -54,7 +66,11 @@ pub fn case_within(alloc: Global, script: &str, plays: &[Play], steps: u64) -> O
     let report = reported(alloc, &code, plays, steps);
     drop(code);
     match report {
-        Some(report) => Some(Case { program, report }),
+        Some(report) => Some(Case {
+            program,
+            report,
+            steps,
+        }),
         None => None,
     }
 }
@@ -84,7 +100,16 @@ pub fn answers<R: Threads + Wait + Sync>(
     turns: u32,
     wanted: Result<Verdict, AuditError>,
 ) -> bool {
-    audit(rt, alloc, &case.program, &case.report, workers, turns) == wanted
+    let terms = case.terms();
+    audit(
+        rt,
+        alloc,
+        &case.program,
+        &case.report,
+        terms,
+        workers,
+        turns,
+    ) == wanted
 }
 
 /// Whether it answers this by one worker, by two and by five.

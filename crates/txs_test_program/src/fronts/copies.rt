@@ -1,8 +1,8 @@
 // Copies of actions, asks, replies and events.
 use std::alloc::Global;
 use txs_value::{
-    Action, Ask, Callee, CellId, CellKind, Event, EventKind, Fault, FaultKind, Listed, Op, Reply,
-    Span, Value, copy_action, copy_ask, copy_event, copy_reply, copy_writes,
+    Action, Ask, Callee, Cause, CellId, CellKind, Event, EventKind, Fault, FaultKind, Listed, Op,
+    Reply, Span, Value, copy_action, copy_ask, copy_event, copy_reply, copy_writes,
 };
 
 const REF: CellId = CellId {
@@ -120,9 +120,22 @@ fn is_reply_copied(alloc: Global, reply: Reply) -> bool {
     is
 }
 
-// Whether an event of the third actor is copied, as a retry of that ref, or as that agent's first action, which came to that fault
-// and sent that action.
-fn is_event_copied(alloc: Global, kind: EventKind) -> bool {
+// Whether two causes are the same.
+fn is_same(cause: Cause, other: Cause) -> bool {
+    match (cause, other) {
+        (Cause::Outdated, Cause::Outdated) | (Cause::Held, Cause::Held) => true,
+        (Cause::Commuted { at }, Cause::Commuted { at: other }) => at == other,
+        _ => false,
+    }
+}
+
+// Whether a retry of that ref for this cause is copied, of the third actor.
+fn is_retry_copied(alloc: Global, cause: Cause) -> bool {
+    let kind = EventKind::Retry {
+        since: 4,
+        cell: REF,
+        cause,
+    };
     let event = Event { actor: 2, kind };
     let copy = copy_event(alloc, &event);
     drop(event);
@@ -131,8 +144,30 @@ fn is_event_copied(alloc: Global, kind: EventKind) -> bool {
             EventKind::Retry {
                 since,
                 cell,
-                commute,
-            } => *since == 4 && *cell == REF && *commute,
+                cause: copied,
+            } => *since == 4 && *cell == REF && is_same(*copied, cause),
+            _ => false,
+        },
+        _ => false,
+    };
+    drop(copy);
+    is
+}
+
+// Whether such retries are copied, one for each cause.
+fn are_retries_copied(alloc: Global) -> bool {
+    is_retry_copied(alloc, Cause::Outdated)
+        && is_retry_copied(alloc, Cause::Held)
+        && is_retry_copied(alloc, Cause::Commuted { at: 3 })
+}
+
+// Whether an event of the third actor is copied, as that agent's first action, which came to that fault and sent that action.
+fn is_act_copied(alloc: Global, kind: EventKind) -> bool {
+    let event = Event { actor: 2, kind };
+    let copy = copy_event(alloc, &event);
+    drop(event);
+    let is = match &copy {
+        Ok(Event { actor: 2, kind }) => match kind {
             EventKind::Act {
                 agent,
                 number,
@@ -165,12 +200,7 @@ fn copies_replies(rt: HostRuntime) {
 
 #[test]
 fn copies_events(rt: HostRuntime) {
-    let retry = EventKind::Retry {
-        since: 4,
-        cell: REF,
-        commute: true,
-    };
-    let is = is_event_copied(rt.alloc(), retry);
+    let is = are_retries_copied(rt.alloc());
     let mut sends = Vec::new(rt.alloc());
     let _pushed = sends.push(quotient(rt.alloc(), AGENT, FAULT.span));
     let act = EventKind::Act {
@@ -179,5 +209,5 @@ fn copies_events(rt: HostRuntime) {
         new: Err(FAULT),
         sends: Listed::from_vec(sends),
     };
-    assert!(rt; is_event_copied(rt.alloc(), act) && is);
+    assert!(rt; is_act_copied(rt.alloc(), act) && is);
 }

@@ -4,7 +4,7 @@ ghost use Rattle.txs_cli_audit.specs.Audit.{IsRight};
 use std::alloc::{AllocError, Global};
 use std::sync::Wait;
 use std::thread::Threads;
-use txs_cli::{AuditError, Request, Verdict, parse_words, play};
+use txs_cli::{AuditError, Request, Terms, Verdict, parse_words, play};
 use txs_machine::Report;
 use txs_program::play_by_workers;
 use txs_tree::Program;
@@ -59,11 +59,11 @@ fn written<T: Threads + Wait + Sync>(
     play_by_workers(
         threads,
         alloc,
-        &|_alloc: Global, program: &Program, report: &Report, turns: u32, _workers: usize| -> Result<
+        &|_alloc: Global, program: &Program, report: &Report, terms: Terms, _workers: usize| -> Result<
             Verdict,
             AuditError,
         >
-            ensures { IsRight program.now report.now turns result }
+            ensures { IsRight program.now report.now terms result }
         { Err(AuditError::NoThread) },
         request,
         &mut reader,

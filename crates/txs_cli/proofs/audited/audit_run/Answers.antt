@@ -1,6 +1,6 @@
 use Rattle.std.proofs.Common.{arith, ◌≡◌, ◌≤◌, ◌++◌, ◌∙◌, ℕ, List, ap, length, subst, sym}
 use Rattle.txs_code_load.proofs.Formed.{few_cells, few_threads}
-use Rattle.txs_cli_audit.specs.Audit.{AuditTells, HasNoAnswer}
+use Rattle.txs_cli_audit.specs.Audit.{HasNoAnswer}
 use Rattle.txs_audit_answer.specs.declared.verdict.AuditError.{AuditError}
 use Rattle.txs_cli_report.specs.Lent.{lines_of, script_of}
 use Rattle.txs_cli_report.specs.Lines.{all_printed}
@@ -15,7 +15,8 @@ use Rattle.txs_world_protocol.specs.declared.report.ActorReport.{ActorReport}
 use Rattle.txs_world_protocol.specs.declared.report.Report.{Report}
 use Rattle.txs_cli.proofs.Audits.{audit_behind}
 use Rattle.txs_cli.proofs.audited.audit_run.Goals as goal
-use Rattle.txs_cli.specs.Audited.{AuditedRunTells, audit_turns}
+use Rattle.txs_cli.specs.Audited.{AuditedRunTells}
+use Rattle.txs_audit_answer.specs.Answered.{audit_turns, finishing, terms_as}
 
 -- code that has a form has no more threads and cells than the limits allow
 pub report_lines-requires-clause-few_threads : goal.report_lines-requires-clause-few_threads
@@ -54,17 +55,15 @@ returns g c =
     let made = c.in_ok-report.ensures in
     let more = lines_of c.add_audit.new.told in
     let told = behind_bytes printed more in
-    let unaudited : Report → AuditError → Type 0 = λ r e. HasNoAnswer (goal.A-post g c.args.auditor.now) parts r (audit_turns o.steps) working.workers e in
-    let why : ℕ → AuditError → Type 0 = λ n e. HasNoAnswer (goal.A-post g c.args.auditor.now) parts report n working.workers e in
-    let answered : ℕ → Verdict = λ n. verdict (program_of parts) (report_as report) n in
-    let audited : AuditTells (why (audit_turns o.steps)) script (answered (audit_turns o.steps)) lines more = subst (λ n. AuditTells (why n) script (answered n) lines more) c.turns_of-turns.ensures c.in_ok-add_audit.ensures.told in
+    let unaudited : Report → AuditError → Type 0 = λ r e. HasNoAnswer (goal.A-post g c.args.auditor.now) parts r (finishing o.steps) working.workers e in
+    let answered : Verdict = verdict (program_of parts) (terms_as (finishing o.steps)) (report_as report) (audit_turns o.steps) in
     let is : AuditedRunTells unaudited parts code script o shared entries told = record {
       worked = c.requires.worked;
       ran = ran;
       told = subst (λ (d : PlainCode). ReportTells d script shared entries o.cells o.events ran) c.code-code.ensures.value c.in_ok-told.ensures;
       report = report;
       of = record { threads = made.threads; agents = made.agents; books = made.report.books; cells = made.report.cells; failed = made.report.failed };
-      audited = audit_behind (why (audit_turns o.steps)) script (answered (audit_turns o.steps)) printed lines more audited;
+      audited = audit_behind (unaudited report) script answered printed lines more c.in_ok-add_audit.ensures.told;
     }
     in
     let threads : entries.threads.items ≡ c.swap.new.x.items = ap (λ v. v.items) (sym (c.swap.ensures.x_after ∙ made.threads)) in

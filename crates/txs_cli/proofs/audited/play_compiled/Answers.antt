@@ -8,7 +8,8 @@ use Rattle.txs_machine.specs.Scheduled.{IsScheduledRun}
 use Rattle.txs_machine.specs.declared.schedule.ScheduleError.TheVariants.{NoActor}
 use Rattle.txs_cli.proofs.Audits.{of_audited}
 use Rattle.txs_cli.proofs.audited.play_compiled.Goals as goal
-use Rattle.txs_cli.specs.Audited.{AuditedRunTells, AuditedTells, IsPlayed, by_plays, audit_turns, of_unrun}
+use Rattle.txs_cli.specs.Audited.{AuditedRunTells, AuditedTells, IsPlayed, by_plays, of_unrun}
+use Rattle.txs_audit_answer.specs.Answered.{finishing}
 use Rattle.txs_cli_audit.specs.Audit.{HasNoAnswer}
 use Rattle.txs_audit_answer.specs.declared.verdict.AuditError.{AuditError}
 use Rattle.txs_tree_meaning.specs.View.{Parts}
@@ -16,7 +17,7 @@ use Rattle.txs_world_protocol.specs.declared.report.Report.{Report}
 
 pub returns-in-Ok : goal.returns-in-Ok
 returns-in-Ok g c =
-    let unaudited : Parts → Report → AuditError → Type 0 = λ p r e. HasNoAnswer (goal.A-post g c.args.auditor.now) p r (audit_turns c.args.working.options.steps) c.args.working.workers e in
+    let unaudited : Parts → Report → AuditError → Type 0 = λ p r e. HasNoAnswer (goal.A-post g c.args.auditor.now) p r (finishing c.args.working.options.steps) c.args.working.workers e in
     let parts = c.args.compiled.now.0 in
     let code = c.args.compiled.now.1 in
     let o = c.args.working.options in
@@ -34,7 +35,7 @@ returns-in-Ok g c =
 -- a play names no actor
 pub returns-in-Err-NoActor : goal.returns-in-Err-NoActor
 returns-in-Err-NoActor g c =
-    let unaudited : Parts → Report → AuditError → Type 0 = λ p r e. HasNoAnswer (goal.A-post g c.args.auditor.now) p r (audit_turns c.args.working.options.steps) c.args.working.workers e in
+    let unaudited : Parts → Report → AuditError → Type 0 = λ p r e. HasNoAnswer (goal.A-post g c.args.auditor.now) p r (finishing c.args.working.options.steps) c.args.working.workers e in
     let parts = c.args.compiled.now.0 in
     let code = c.args.compiled.now.1 in
     let plays = spread c.args.plays.now in

@@ -5,7 +5,8 @@ use Rattle.txs_cli.proofs.Audits.{of_audited}
 use Rattle.txs_cli.proofs.Failing.{failed_so}
 use Rattle.txs_cli.proofs.audited.work_compiled.Goals as goal
 use Rattle.txs_cli.specs.RunTold.{FailureTells}
-use Rattle.txs_cli.specs.Audited.{AuditedRunTells, AuditedTells, by_workers, audit_turns, of_unrun}
+use Rattle.txs_cli.specs.Audited.{AuditedRunTells, AuditedTells, by_workers, of_unrun}
+use Rattle.txs_audit_answer.specs.Answered.{finishing}
 use Rattle.txs_cli.specs.Runner.{FailsAs, HasFailed}
 use Rattle.txs_cli_audit.specs.Audit.{HasNoAnswer}
 use Rattle.txs_audit_answer.specs.declared.verdict.AuditError.{AuditError}
@@ -17,7 +18,7 @@ use Rattle.txs_world_protocol.specs.declared.report.Report.{Report}
 pub returns-in-Ok : goal.returns-in-Ok
 returns-in-Ok g c =
     let failed : PlainCode → RunError → Type 0 = λ d. HasFailed (goal.X-post g c.args.runner.now) d c.args.working.workers c.args.working.options.steps in
-    let unaudited : Parts → Report → AuditError → Type 0 = λ p r e. HasNoAnswer (goal.A-post g c.args.auditor.now) p r (audit_turns c.args.working.options.steps) c.args.working.workers e in
+    let unaudited : Parts → Report → AuditError → Type 0 = λ p r e. HasNoAnswer (goal.A-post g c.args.auditor.now) p r (finishing c.args.working.options.steps) c.args.working.workers e in
     let parts = c.args.compiled.now.0 in
     let code = c.args.compiled.now.1 in
     let o = c.args.working.options in
@@ -29,7 +30,7 @@ returns-in-Ok g c =
 pub returns-in-Err : goal.returns-in-Err
 returns-in-Err g c =
     let failed : PlainCode → RunError → Type 0 = λ d. HasFailed (goal.X-post g c.args.runner.now) d c.args.working.workers c.args.working.options.steps in
-    let unaudited : Parts → Report → AuditError → Type 0 = λ p r e. HasNoAnswer (goal.A-post g c.args.auditor.now) p r (audit_turns c.args.working.options.steps) c.args.working.workers e in
+    let unaudited : Parts → Report → AuditError → Type 0 = λ p r e. HasNoAnswer (goal.A-post g c.args.auditor.now) p r (finishing c.args.working.options.steps) c.args.working.workers e in
     let parts = c.args.compiled.now.0 in
     let code = c.args.compiled.now.1 in
     let script = script_of c.args.script in

@@ -6,7 +6,8 @@ use Rattle.txs_cli_report.specs.Told.{Told, Written, front}
 use Rattle.txs_machine.specs.Schedule.{spread}
 use Rattle.txs_cli.proofs.Answered.{stream_written, unread_told}
 use Rattle.txs_cli.proofs.audited_stream.play_stream.Goals as goal
-use Rattle.txs_cli.specs.Audited.{AuditedTells, StreamAuditedTells, Way, audit_turns, by_plays, of_memory, of_script, of_unread}
+use Rattle.txs_cli.specs.Audited.{AuditedTells, StreamAuditedTells, Way, by_plays, of_memory, of_script, of_unread}
+use Rattle.txs_audit_answer.specs.Answered.{finishing}
 use Rattle.txs_cli_audit.specs.Audit.{HasNoAnswer}
 use Rattle.txs_audit_answer.specs.declared.verdict.AuditError.{AuditError}
 use Rattle.txs_code_meaning.specs.PlainCode.{PlainCode}
@@ -15,7 +16,7 @@ use Rattle.txs_world_protocol.specs.declared.report.Report.{Report}
 
 pub returns-in-Ok : goal.returns-in-Ok
 returns-in-Ok g c =
-    let unaudited : Parts → Report → AuditError → Type 0 = λ p r e. HasNoAnswer (goal.A-post g c.args.auditor.now) p r (audit_turns c.args.working.options.steps) c.args.working.workers e in
+    let unaudited : Parts → Report → AuditError → Type 0 = λ p r e. HasNoAnswer (goal.A-post g c.args.auditor.now) p r (finishing c.args.working.options.steps) c.args.working.workers e in
     let known = g.R.Read.remaining c.args.reader.now in
     let o = c.args.working.options in
     let told = c.play_audited-told.result in
@@ -33,7 +34,7 @@ returns-in-Ok g c =
 
 pub returns-in-Err : goal.returns-in-Err
 returns-in-Err g c =
-    let unaudited : Parts → Report → AuditError → Type 0 = λ p r e. HasNoAnswer (goal.A-post g c.args.auditor.now) p r (audit_turns c.args.working.options.steps) c.args.working.workers e in
+    let unaudited : Parts → Report → AuditError → Type 0 = λ p r e. HasNoAnswer (goal.A-post g c.args.auditor.now) p r (finishing c.args.working.options.steps) c.args.working.workers e in
     let known = g.R.Read.remaining c.args.reader.now in
     let o = c.args.working.options in
     let told = c.unread.result in

@@ -9,7 +9,8 @@ use Rattle.txs_cli_report.specs.Told as list
 use Rattle.txs_cli_report.specs.Told.{Told, Written, front}
 use Rattle.txs_cli_report.proofs.Fronts.{some_maps, some_always}
 use Rattle.txs_cli.proofs.audited_stream.schedule_stream.Goals as goal
-use Rattle.txs_cli.specs.Audited.{by_plays, ScheduleAuditedTells, StreamAuditedTells, audit_turns, of_list, of_plays}
+use Rattle.txs_cli.specs.Audited.{by_plays, ScheduleAuditedTells, StreamAuditedTells, of_list, of_plays}
+use Rattle.txs_audit_answer.specs.Answered.{finishing}
 use Rattle.txs_cli_audit.specs.Audit.{HasNoAnswer}
 use Rattle.txs_audit_answer.specs.declared.verdict.AuditError.{AuditError}
 use Rattle.txs_tree_meaning.specs.View.{Parts}
@@ -17,7 +18,7 @@ use Rattle.txs_world_protocol.specs.declared.report.Report.{Report}
 
 pub returns-in-Ok : goal.returns-in-Ok
 returns-in-Ok g c =
-    let unaudited : Parts → Report → AuditError → Type 0 = λ p r e. HasNoAnswer (goal.A-post g c.args.auditor.now) p r (audit_turns c.args.working.options.steps) c.args.working.workers e in
+    let unaudited : Parts → Report → AuditError → Type 0 = λ p r e. HasNoAnswer (goal.A-post g c.args.auditor.now) p r (finishing c.args.working.options.steps) c.args.working.workers e in
     let known = g.R.Read.remaining c.args.reader.now in
     let o = c.args.working.options in
     let script : List ℕ → Script = λ input. record { text = front input; file = text_in c.args.file } in
@@ -32,7 +33,7 @@ returns-in-Ok g c =
 -- the list is wrong, whatever the input is
 pub returns-in-Err-Wrong : goal.returns-in-Err-Wrong
 returns-in-Err-Wrong g c =
-    let unaudited : Parts → Report → AuditError → Type 0 = λ p r e. HasNoAnswer (goal.A-post g c.args.auditor.now) p r (audit_turns c.args.working.options.steps) c.args.working.workers e in
+    let unaudited : Parts → Report → AuditError → Type 0 = λ p r e. HasNoAnswer (goal.A-post g c.args.auditor.now) p r (finishing c.args.working.options.steps) c.args.working.workers e in
     let known = g.R.Read.remaining c.args.reader.now in
     let script : List ℕ → Script = λ input. record { text = front input; file = text_in c.args.file } in
     let writes : Told → Type 0 = λ t. Written (g.W.Write.contents c.args.writer.now) (g.W.Write.contents c.refuse_list.new.writer) (g.F.Write.contents c.args.faults.now) (g.F.Write.contents c.refuse_list.new.faults) t c.refuse_list.result in
@@ -41,7 +42,7 @@ returns-in-Err-Wrong g c =
 
 pub returns-in-Err-Memory : goal.returns-in-Err-Memory
 returns-in-Err-Memory g c =
-    let unaudited : Parts → Report → AuditError → Type 0 = λ p r e. HasNoAnswer (goal.A-post g c.args.auditor.now) p r (audit_turns c.args.working.options.steps) c.args.working.workers e in
+    let unaudited : Parts → Report → AuditError → Type 0 = λ p r e. HasNoAnswer (goal.A-post g c.args.auditor.now) p r (finishing c.args.working.options.steps) c.args.working.workers e in
     let known = g.R.Read.remaining c.args.reader.now in
     let script : List ℕ → Script = λ input. record { text = front input; file = text_in c.args.file } in
     let writes : Told → Type 0 = λ t. Written (g.W.Write.contents c.args.writer.now) (g.W.Write.contents c.write_told.new.writer) (g.F.Write.contents c.args.faults.now) (g.F.Write.contents c.write_told.new.faults) t c.write_told.result in

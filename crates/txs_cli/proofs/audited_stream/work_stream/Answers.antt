@@ -5,7 +5,8 @@ use Rattle.txs_cli_report.specs.Lines.{Script}
 use Rattle.txs_cli_report.specs.Told.{Told, Written, front}
 use Rattle.txs_cli.proofs.Answered.{stream_written, unread_told}
 use Rattle.txs_cli.proofs.audited_stream.work_stream.Goals as goal
-use Rattle.txs_cli.specs.Audited.{AuditedTells, StreamAuditedTells, Way, audit_turns, by_workers, of_memory, of_script, of_unread}
+use Rattle.txs_cli.specs.Audited.{AuditedTells, StreamAuditedTells, Way, by_workers, of_memory, of_script, of_unread}
+use Rattle.txs_audit_answer.specs.Answered.{finishing}
 use Rattle.txs_cli.specs.Runner.{HasFailed}
 use Rattle.txs_cli_audit.specs.Audit.{HasNoAnswer}
 use Rattle.txs_audit_answer.specs.declared.verdict.AuditError.{AuditError}
@@ -17,7 +18,7 @@ use Rattle.txs_world_protocol.specs.declared.report.Report.{Report}
 pub returns-in-Ok : goal.returns-in-Ok
 returns-in-Ok g c =
     let failed : PlainCode → RunError → Type 0 = λ d. HasFailed (goal.X-post g c.args.runner.now) d c.args.working.workers c.args.working.options.steps in
-    let unaudited : Parts → Report → AuditError → Type 0 = λ p r e. HasNoAnswer (goal.A-post g c.args.auditor.now) p r (audit_turns c.args.working.options.steps) c.args.working.workers e in
+    let unaudited : Parts → Report → AuditError → Type 0 = λ p r e. HasNoAnswer (goal.A-post g c.args.auditor.now) p r (finishing c.args.working.options.steps) c.args.working.workers e in
     let known = g.R.Read.remaining c.args.reader.now in
     let o = c.args.working.options in
     let told = c.work_audited-told.result in
@@ -36,7 +37,7 @@ returns-in-Ok g c =
 pub returns-in-Err : goal.returns-in-Err
 returns-in-Err g c =
     let failed : PlainCode → RunError → Type 0 = λ d. HasFailed (goal.X-post g c.args.runner.now) d c.args.working.workers c.args.working.options.steps in
-    let unaudited : Parts → Report → AuditError → Type 0 = λ p r e. HasNoAnswer (goal.A-post g c.args.auditor.now) p r (audit_turns c.args.working.options.steps) c.args.working.workers e in
+    let unaudited : Parts → Report → AuditError → Type 0 = λ p r e. HasNoAnswer (goal.A-post g c.args.auditor.now) p r (finishing c.args.working.options.steps) c.args.working.workers e in
     let known = g.R.Read.remaining c.args.reader.now in
     let o = c.args.working.options in
     let told = c.unread.result in

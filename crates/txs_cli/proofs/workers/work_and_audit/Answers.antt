@@ -5,7 +5,8 @@ use Rattle.txs_cli.specs.Telling.{WorkAuditTells}
 use Rattle.txs_cli_report.specs.Lines.{Script}
 use Rattle.txs_cli_report.specs.Told.{Told, Written, front}
 use Rattle.std.specs.Option.{IfSome}
-use Rattle.txs_cli.specs.Audited.{by_workers, StreamAuditedTells, audit_turns}
+use Rattle.txs_cli.specs.Audited.{by_workers, StreamAuditedTells}
+use Rattle.txs_audit_answer.specs.Answered.{finishing}
 use Rattle.txs_cli.specs.Runner.{HasFailed}
 use Rattle.txs_cli_audit.specs.Audit.{HasNoAnswer}
 use Rattle.txs_audit_answer.specs.declared.verdict.AuditError.{AuditError}
@@ -17,7 +18,7 @@ use Rattle.txs_world_protocol.specs.declared.report.Report.{Report}
 pub returns-then-input : goal.returns-then-input
 returns-then-input g c =
     let failed : PlainCode → RunError → Type 0 = λ d. HasFailed (goal.X-post g c.args.runner.now) d c.args.working.workers c.args.working.options.steps in
-    let unaudited : Parts → Report → AuditError → Type 0 = λ p r e. HasNoAnswer (goal.A-post g c.args.auditor.now) p r (audit_turns c.args.working.options.steps) c.args.working.workers e in
+    let unaudited : Parts → Report → AuditError → Type 0 = λ p r e. HasNoAnswer (goal.A-post g c.args.auditor.now) p r (finishing c.args.working.options.steps) c.args.working.workers e in
     let tells : Bool → List ℕ → Told → Type 0 = λ b bytes t. WorkAuditTells failed unaudited b bytes c.args.input.now c.args.working.options t in
     let writes : Told → Type 0 = λ t. Written (g.W.Write.contents c.args.writer.now) (g.W.Write.contents c.refuse_use.new.writer) (g.F.Write.contents c.args.faults.now) (g.F.Write.contents c.refuse_use.new.faults) t c.refuse_use.result in
     where_asked (g.R.Read.remaining c.args.reader.now) tells writes c.args.input.now.code c.if-input.true (wrongly_used (g.R.Read.remaining c.args.reader.now) (tells true) writes (λ bytes. refl) c.refuse_use.ensures)
@@ -25,7 +26,7 @@ returns-then-input g c =
 pub returns : goal.returns
 returns g c =
     let failed : PlainCode → RunError → Type 0 = λ d. HasFailed (goal.X-post g c.args.runner.now) d c.args.working.workers c.args.working.options.steps in
-    let unaudited : Parts → Report → AuditError → Type 0 = λ p r e. HasNoAnswer (goal.A-post g c.args.auditor.now) p r (audit_turns c.args.working.options.steps) c.args.working.workers e in
+    let unaudited : Parts → Report → AuditError → Type 0 = λ p r e. HasNoAnswer (goal.A-post g c.args.auditor.now) p r (finishing c.args.working.options.steps) c.args.working.workers e in
     let known = g.R.Read.remaining c.args.reader.now in
     let o = c.args.working.options in
     let tells : Bool → List ℕ → Told → Type 0 = λ b bytes t. WorkAuditTells failed unaudited b bytes c.args.input.now o t in

@@ -21,6 +21,7 @@ returns c =
         eaten = eaten ∙ ap (λ l. c.args.events - l) left;
         txs = c.in_ok-txs.ensures ∙ told_each t.txs.items;
         needs = refl;
+        asks = c.asked.ensures;
         result = refl;
         sends = refl;
       },

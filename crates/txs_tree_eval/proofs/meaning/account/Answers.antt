@@ -10,5 +10,6 @@ returns c =
       eaten = refl;
       txs = c.in_ok-txs.ensures ∙ told_each t.txs.items;
       needs = refl;
+      asks = c.asked.ensures;
       outcome = refl;
     }

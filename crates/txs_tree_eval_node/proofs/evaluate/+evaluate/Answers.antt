@@ -10,21 +10,21 @@ use Rattle.txs_value_data.specs.Limits.{reruns}
 use Rattle.txs_value_base.specs.Places.{nth}
 use Rattle.txs_value_data.specs.declared.value.CellId.{CellId}
 use Rattle.txs_value_data.specs.declared.value.Value.{Value}
-use Rattle.txs_tree_eval_node.specs.Evaluated.{AnswersAt, Finishes, ReadyIn, retried, SoundCommutes, part, is_on, forms_in, calls_in, Yields, GivesAll, Steps, means, all_mean, do_means, let_means, locals_mean, if_means, strict_means, loop_means, turns_mean, form_means, inside_means, outside_means, update_means, swap_means, applied, redone_means, final_means, dosync_means, transacting, at_end, eat_means, ended, closing, closes, end_stop, with_todo, thread_state, tx_run, PutAccepted, PutStops, accept_means, accepted_means, made_means}
-use Rattle.txs_tree_eval_transaction.specs.Worked.{Gives, Told, ToldOf, of_one, tx_state}
+use Rattle.txs_tree_eval_node.specs.Evaluated.{after, BodyStops, Runs, Reruns, EndComes, EndsNone, body_means, AnswersAt, Finishes, ReadyIn, retried, SoundCommutes, part, is_on, forms_in, calls_in, Yields, GivesAll, Steps, means, all_mean, do_means, let_means, locals_mean, if_means, strict_means, loop_means, turns_mean, form_means, inside_means, outside_means, update_means, swap_means, applied, redone_means, final_means, dosync_means, transacting, at_end, eat_means, ended, closing, closes, end_stop, with_todo, thread_state, tx_run, PutAccepted, PutStops, accept_means, accepted_means, made_means}
+use Rattle.txs_tree_eval_transaction.specs.Worked.{Gives, Stops, Told, ToldOf, of_one, tx_state}
 use Rattle.txs_tree_meaning.specs.Meaning.{Completes, Waits, result_of}
 use Rattle.txs_tree_eval_node.specs.Setting.{callable, deepest, zone_in, zone_on, on_view}
 use Rattle.txs_tree_meaning.specs.Sound.{SoundCall, SoundCallee, SoundCells, SoundValidator, SoundTree, SoundAll, SoundDo, SoundLet, nodes, nodes_in, in_thread, in_dosync}
 use Rattle.txs_tree_meaning.specs.Right.{up_to}
-use Rattle.txs_tree_meaning.specs.Thread.{uneaten, reads, resets, sends_or_holds}
+use Rattle.txs_tree_meaning.specs.Thread.{is_retry, eats_tx, uneaten, reads, resets, sends_or_holds}
 use Rattle.txs_tree_meaning.specs.Transaction.{merged}
 use Rattle.txs_tree_meaning.specs.Tree.{count}
 use Rattle.txs_tree_meaning.specs.View.{tree_of, trees_of, mark_of, function_of, functions_of}
-use Rattle.txs_tree_eval_transaction.specs.Views.{PlainView, or_nil, plain_view, plain_world}
+use Rattle.txs_tree_eval_transaction.specs.Views.{PlainView, or_nil, plain_view, plain_world, world_of}
 use Rattle.txs_tree_eval_node.proofs.Acting.{redone_made, redone_unmade, acted_inside, acted_outside, sound_at, redone_stop, redone_more, phase_sound, finals_stop, finals_full, finals_refused, finals_done, commutes_deepest, accept_stop, accept_answer, accepted_stop, accepted_more, made_stop, made_then}
 use Rattle.txs_tree_eval_node.proofs.Called.{in_room, room, room-deeper, room_on, room_deepest, callee_deepest, validator_sound, depth_left, is_function, as_many, called_body, pure_here}
 use Rattle.txs_tree_eval_node.proofs.Counting.{item_smaller, nodes-some, nodes-last}
-use Rattle.txs_tree_eval_node.proofs.Ending.{closes_todo, closes_other, zone_running, body_stop, body_done, body_keeps, ended_unrun, ended_closed, ends_viewed, ends_unviewed, end_stops, running, nowhere_running, joined, begun}
+use Rattle.txs_tree_eval_node.proofs.Ending.{unmatched, eats_none, eats_end, eats_more, eats_unrun, retried_end, retried_more, rerun_outdated, rerun_other, rerun_stop, rerun_run, closes_todo, closes_other, zone_running, body_stop, body_done, body_keeps, ended_unrun, ended_closed, ends_viewed, ends_unviewed, end_stops, running, nowhere_running, joined, begun}
 use Rattle.txs_tree_eval_node.proofs.Evaluation.{halts_answers, StopsAt, collects, collects-start, cell_stop, if_stop, strict_stop, strict_done, rebound, stops_steps, stops_gives, local_done, all_more, all_stop, do_stop, do_done, locals_more, locals_stop, let_stop, let_done, loop_stop, loop_done, turn_value, turn_stop, turn_recur, take_kept, called, if_goes, args_stop, acted, const_done}
 use Rattle.txs_tree_eval_node.proofs.Forms.{IsOther, MeetsEvent, untaken_inside, untaken_outside, none_outside, refused_outside, answered, gives_at, reset_eaten, updates_ref, update_takes, update_unbegun, update_stop, update_done, update_inside, called_alone, core_done, vector_done, call_done, print_done, swap_stop, swap_done, put_inside, send_inside, put_outside, update_outside, put_takes, look_inside, look_outside, send_outside}
 use Rattle.txs_tree_eval_node.proofs.Leaf.{event_left}
@@ -367,8 +367,8 @@ act_outside-returns-in_err-event-in-Look t c =
     let told = subst (λ f. Told (Ok cell) (result_of (cell_of (rule f) false c.args.value.now) c.args.span tt)) c.form.ensures c.in_ok-cell.ensures in
     let stopped : c.from_residual-in_err-event-in-Look.result ≡ Err y = halted c.from_residual-in_err-event-in-Look.result y c.from_residual-in_err-event-in-Look.ensures.1 in
     let put = subst (λ z. PutAccepted z c.args.act cell c.args.span c.args.args.items) c.deepest-inner.ensures.value c.in_ok-values.ensures.1 in
-    λ wanted. stops_gives (λ v. v) false c.from_residual-in_err-event-in-Look.result y before (outside_means x c.args.act (mark_of c.args.span wanted) c.args.value.now c.args.args.items before) stopped
-    (none_outside x c.is_sound.ensures c.deepest-inner.ensures.sound (mark_of c.args.span wanted) c.args.value.now before cell c.args.act c.args.args.items y c.home-book.result (subst MeetsEvent (sym c.in-Look.is) tt) c.home-book.ensures c.requires.ready told put c.in_err-event-in-Look.ensures)
+    λ wanted. stops_gives (λ v. v) false c.from_residual-in_err-event-in-Look.result y (thread_state c.next.new.self) (outside_means x c.args.act (mark_of c.args.span wanted) c.args.value.now c.args.args.items before) stopped
+    (none_outside x c.is_sound.ensures c.deepest-inner.ensures.sound (mark_of c.args.span wanted) c.args.value.now before (thread_state c.next.new.self) cell c.args.act c.args.args.items y c.home-book.result (subst MeetsEvent (sym c.in-Look.is) tt) c.home-book.ensures c.requires.ready told put c.in_err-event-in-Look.ensures.comes)
 
 pub act_outside-returns-in_err-event-in-Put : goal.act_outside-returns-in_err-event-in-Put
 act_outside-returns-in_err-event-in-Put t c =
@@ -379,8 +379,8 @@ act_outside-returns-in_err-event-in-Put t c =
     let told = subst (λ f. Told (Ok cell) (result_of (cell_of (rule f) false c.args.value.now) c.args.span tt)) c.form.ensures c.in_ok-cell.ensures in
     let stopped : c.from_residual-in_err-event-in-Put.result ≡ Err y = halted c.from_residual-in_err-event-in-Put.result y c.from_residual-in_err-event-in-Put.ensures.1 in
     let put = subst (λ z. PutAccepted z c.args.act cell c.args.span c.args.args.items) c.deepest-inner.ensures.value c.in_ok-values.ensures.1 in
-    λ wanted. stops_gives (λ v. v) false c.from_residual-in_err-event-in-Put.result y before (outside_means x c.args.act (mark_of c.args.span wanted) c.args.value.now c.args.args.items before) stopped
-    (none_outside x c.is_sound.ensures c.deepest-inner.ensures.sound (mark_of c.args.span wanted) c.args.value.now before cell c.args.act c.args.args.items y c.home-book.result (subst MeetsEvent (sym c.in-Put.is) tt) c.home-book.ensures c.requires.ready told put c.in_err-event-in-Put.ensures)
+    λ wanted. stops_gives (λ v. v) false c.from_residual-in_err-event-in-Put.result y (thread_state c.next-in-Put.new.self) (outside_means x c.args.act (mark_of c.args.span wanted) c.args.value.now c.args.args.items before) stopped
+    (none_outside x c.is_sound.ensures c.deepest-inner.ensures.sound (mark_of c.args.span wanted) c.args.value.now before (thread_state c.next-in-Put.new.self) cell c.args.act c.args.args.items y c.home-book.result (subst MeetsEvent (sym c.in-Put.is) tt) c.home-book.ensures c.requires.ready told put c.in_err-event-in-Put.ensures.comes)
 
 pub act_outside-returns-in_err-event-in-Update : goal.act_outside-returns-in_err-event-in-Update
 act_outside-returns-in_err-event-in-Update t c =
@@ -391,8 +391,8 @@ act_outside-returns-in_err-event-in-Update t c =
     let told = subst (λ f. Told (Ok cell) (result_of (cell_of (rule f) false c.args.value.now) c.args.span tt)) c.form.ensures c.in_ok-cell.ensures in
     let stopped : c.from_residual-in_err-event-in-Update.result ≡ Err y = halted c.from_residual-in_err-event-in-Update.result y c.from_residual-in_err-event-in-Update.ensures.1 in
     let put = subst (λ z. PutAccepted z c.args.act cell c.args.span c.args.args.items) c.deepest-inner.ensures.value c.in_ok-values.ensures.1 in
-    λ wanted. stops_gives (λ v. v) false c.from_residual-in_err-event-in-Update.result y before (outside_means x c.args.act (mark_of c.args.span wanted) c.args.value.now c.args.args.items before) stopped
-    (none_outside x c.is_sound.ensures c.deepest-inner.ensures.sound (mark_of c.args.span wanted) c.args.value.now before cell c.args.act c.args.args.items y c.home-book.result (subst MeetsEvent (sym c.in-Update.is) tt) c.home-book.ensures c.requires.ready told put c.in_err-event-in-Update.ensures)
+    λ wanted. stops_gives (λ v. v) false c.from_residual-in_err-event-in-Update.result y (thread_state c.next-in-Update.new.self) (outside_means x c.args.act (mark_of c.args.span wanted) c.args.value.now c.args.args.items before) stopped
+    (none_outside x c.is_sound.ensures c.deepest-inner.ensures.sound (mark_of c.args.span wanted) c.args.value.now before (thread_state c.next-in-Update.new.self) cell c.args.act c.args.args.items y c.home-book.result (subst MeetsEvent (sym c.in-Update.is) tt) c.home-book.ensures c.requires.ready told put c.in_err-event-in-Update.ensures.comes)
 
 pub apply_callee-call-given-requires : goal.apply_callee-call-given-requires
 apply_callee-call-given-requires t c =
@@ -636,7 +636,8 @@ act_outside-returns-in_ok-event-in-Put t c =
     let form = c.in-Put.field-0 in
     let cell = c.in_ok-cell.cell in
     let e = c.in_ok-event-in-Put.event.now in
-    let h = c.in_ok-event-in-Put.ensures in
+    let h = c.in_ok-event-in-Put.ensures.comes in
+    let same = c.in_ok-event-in-Put.ensures.same in
     let before = thread_state c.args.thread.now in
     let later = thread_state c.eat-in-Put.new.self in
     let ready = subst (λ a. ReadyIn (callable x) in_thread a (length c.args.args.items)) c.in-Put.is c.requires.ready in
@@ -645,14 +646,14 @@ act_outside-returns-in_ok-event-in-Put t c =
     let put = subst (λ z. PutAccepted z c.args.act cell c.args.span c.args.args.items) c.deepest-inner.ensures.value c.in_ok-values.ensures.1 in
     let ok = subst (λ a. PutAccepted (deepest x) a cell c.args.span c.args.args.items) c.in-Put.is put in
     let reset = subst (λ vs. AnswersAt r (with_todo h.0 before) (of_one (λ w. resets w e.kind.now (with_todo h.0 before)) vs)) c.in_ok-values.ensures.0 (c.reset_at.ensures (with_todo h.0 before)) in
-    let given = reset_eaten c.home-book.result (home x.cells cell) c.home-book.ensures e before later h r (c.eat-in-Put.ensures.eaten (seen_event e) h.0 h.1) c.args.args.items ready.1 reset in
+    let given = reset_eaten c.home-book.result (home x.cells cell) c.home-book.ensures e before later h r (c.eat-in-Put.ensures.eaten (seen_event e) h.0 (ap (λ s. s.todo) same ∙ h.1) ∙ ap (λ s. after r h.0 s) same) c.args.args.items ready.1 reset in
     λ wanted. subst₂ (λ a q. Gives false q later (outside_means x a (mark_of c.args.span wanted) c.args.value.now c.args.args.items before)) (sym c.in-Put.is) (sym c.eat-in-Put.ensures.same)
     (put_outside x c.is_sound.ensures c.deepest-inner.ensures.sound (mark_of c.args.span wanted) c.args.value.now before cell r later form c.args.args.items ready told ok given)
 
 pub act_outside-eat-requires-in-Put : goal.act_outside-eat-requires-in-Put
 act_outside-eat-requires-in-Put t c =
-    let h = c.in_ok-event-in-Put.ensures in
-    event_left c.args.thread.now (seen_event c.in_ok-event-in-Put.event.now) h.0 h.1
+    let h = c.in_ok-event-in-Put.ensures.comes in
+    event_left c.next-in-Put.new.self (seen_event c.in_ok-event-in-Put.event.now) h.0 (ap (λ s. s.todo) c.in_ok-event-in-Put.ensures.same ∙ h.1)
 
 pub evaluate_let-returns-clause-value : goal.evaluate_let-returns-clause-value
 evaluate_let-returns-clause-value t c =
@@ -754,11 +755,11 @@ eat_dosync-returns-in-None-clause-value t c =
     let env = c.args.locals.now.items in
     let e = c.in_ok-event.event.now in
     let r = plain_view e.start in
-    let h = c.in_ok-event.ensures in
-    let before = with_todo h.0 (thread_state c.end_of_tx.new.self) in
+    let h = c.in_ok-event.ensures.value in
+    let before = with_todo h.0 (thread_state c.end_of_tx.new.thread) in
     let other = sym c.end_view.ensures ∙ ap plain_world c.in-None.is in
-    let w = retried (suc reruns) (thread_state c.args.thread.now) in
-    let none = h.3 (transacting x m body env) (at_end x m.span) ∙ ap (λ o. uneaten (seen_event e ∷ h.0) o) (ends_unviewed x m body env before r (plain_view e.view) (plain_view e.here) r e.kind.now other) in
+    let w = retried (suc reruns) (transacting x m body env) (thread_state c.args.thread.now) in
+    let none = h.3 (at_end x m.span) ∙ ap (λ o. uneaten (seen_event e ∷ h.0) o) (ends_unviewed x m body env before r (plain_view e.view) (plain_view e.here) r e.kind.now other) in
     (refl, ap (λ o. up_to w o) none ∙ ap (λ s. Waits s) h.2)
 
 pub eat_dosync-returns-in-Err-clause-value : goal.eat_dosync-returns-in-Err-clause-value
@@ -769,17 +770,17 @@ eat_dosync-returns-in-Err-clause-value t c =
     let env = c.args.locals.now.items in
     let e = c.in_ok-event.event.now in
     let r = plain_view e.start in
-    let h = c.in_ok-event.ensures in
-    let now = thread_state c.end_of_tx.new.self in
+    let h = c.in_ok-event.ensures.value in
+    let now = thread_state c.end_of_tx.new.thread in
     let before = with_todo h.0 now in
     let later = thread_state c.eat.new.self in
     let w = plain_view c.in-Some.world in
     let viewed = sym c.end_view.ensures ∙ ap plain_world c.in-Some.is in
     let end = closes e.kind.now m.span (ended x m body env r w before) in
-    let whole = h.3 (transacting x m body env) (at_end x m.span) ∙ ap (λ o. uneaten (seen_event e ∷ h.0) o) (ends_viewed x m body env before r (plain_view e.view) (plain_view e.here) w e.kind.now viewed) in
-    let stops = end_stops e.kind.now m.span c.in-Err.stop before (ended x m body env r w before) (ended_unrun x m body env r w before c.in-Err.stop c.in-Err.ensures.value) in
+    let whole = h.3 (at_end x m.span) ∙ ap (λ o. uneaten (seen_event e ∷ h.0) o) (ends_viewed x m body env before r (plain_view e.view) (plain_view e.here) w e.kind.now viewed) in
+    let stops = end_stops e.kind.now m.span c.in-Err.stop before (ended x m body env r w before) (ended_unrun x m body env r w before c.in-Err.stop (subst (λ l. BodyStops c.in-Err.stop (body_means x body l r)) c.in_ok-event.ensures.kept c.in-Err.ensures.value)) in
     let given = subst (λ z. AnswersAt {A = Value} (Err z) before end) (sym c.end_stop.ensures) stops in
-    let start = retried (suc reruns) (thread_state c.args.thread.now) in
+    let start = retried (suc reruns) (transacting x m body env) (thread_state c.args.thread.now) in
     subst₂ (λ q o. Gives false q later (up_to start o)) (sym c.eat.ensures.same) (sym whole) (answered (Err c.end_stop.result) (seen_event e) h.0 start now later end h.1 (λ o. h.2) (c.eat.ensures.eaten (seen_event e) h.0 h.1) given)
 
 pub eat_dosync-returns-in_err-event-clause-value : goal.eat_dosync-returns-in_err-event-clause-value
@@ -789,7 +790,7 @@ eat_dosync-returns-in_err-event-clause-value t c =
     let body = tree_of c.args.dosync.body.now in
     let env = c.args.locals.now.items in
     let y = c.in_err-event.field-0.0 in
-    stops_gives (λ v. v) false c.from_residual.result y (thread_state c.end_of_tx.new.self) (eat_means x (suc reruns) m body env (thread_state c.args.thread.now)) (halted c.from_residual.result y c.from_residual.ensures.1) (c.in_err-event.ensures (transacting x m body env) (at_end x m.span) refl)
+    stops_gives (λ v. v) false c.from_residual.result y (thread_state c.end_of_tx.new.thread) (eat_means x (suc reruns) m body env (thread_state c.args.thread.now)) (halted c.from_residual.result y c.from_residual.ensures.1) (c.in_err-event.ensures.value (at_end x m.span))
 
 pub update_inside-returns-in_err-value : goal.update_inside-returns-in_err-value
 update_inside-returns-in_err-value t c =
@@ -892,7 +893,8 @@ act_outside-returns-in_ok-event-in-Update t c =
     let callee = c.in-Update.callee in
     let cell = c.in_ok-cell.cell in
     let e = c.in_ok-event-in-Update.event.now in
-    let h = c.in_ok-event-in-Update.ensures in
+    let h = c.in_ok-event-in-Update.ensures.comes in
+    let same = c.in_ok-event-in-Update.ensures.same in
     let before = thread_state c.args.thread.now in
     let later = thread_state c.eat-in-Update.new.self in
     let vs = c.args.args.items in
@@ -900,14 +902,14 @@ act_outside-returns-in_ok-event-in-Update t c =
     let told = subst (λ f. Told (Ok cell) (result_of (cell_of (rule f) false c.args.value.now) c.args.span tt)) (c.form.ensures ∙ ap form_of_act c.in-Update.is) c.in_ok-cell.ensures in
     let r = c.swap.result in
     let swapped = subst (λ l. AnswersAt r (with_todo h.0 before) (swap_means x callee cell l c.args.span (seen_event e) (with_todo h.0 before))) (c.as_slice-args.ensures.value ∙ c.in_ok-values.ensures.0) (c.swap.ensures (with_todo h.0 before)) in
-    let given = gives_at c.home-book.result (home x.cells cell) c.home-book.ensures (λ a s. swap_means x callee cell vs c.args.span a s) e before later h r (c.eat-in-Update.ensures.eaten (seen_event e) h.0 h.1) swapped in
+    let given = gives_at c.home-book.result (home x.cells cell) c.home-book.ensures (λ a s. swap_means x callee cell vs c.args.span a s) e before later h r (c.eat-in-Update.ensures.eaten (seen_event e) h.0 (ap (λ s. s.todo) same ∙ h.1) ∙ ap (λ s. after r h.0 s) same) swapped in
     λ wanted. subst₂ (λ a q. Gives false q later (outside_means x a (mark_of c.args.span wanted) c.args.value.now vs before)) (sym c.in-Update.is) (sym c.eat-in-Update.ensures.same)
     (update_outside x (mark_of c.args.span wanted) c.args.value.now before cell r later form callee vs ready told given)
 
 pub act_outside-eat-requires-in-Update : goal.act_outside-eat-requires-in-Update
 act_outside-eat-requires-in-Update t c =
-    let h = c.in_ok-event-in-Update.ensures in
-    event_left c.args.thread.now (seen_event c.in_ok-event-in-Update.event.now) h.0 h.1
+    let h = c.in_ok-event-in-Update.ensures.comes in
+    event_left c.next-in-Update.new.self (seen_event c.in_ok-event-in-Update.event.now) h.0 (ap (λ s. s.todo) c.in_ok-event-in-Update.ensures.same ∙ h.1)
 
 pub eat_dosync-returns-clause-value : goal.eat_dosync-returns-clause-value
 eat_dosync-returns-clause-value t c =
@@ -917,13 +919,13 @@ eat_dosync-returns-clause-value t c =
     let env = c.args.locals.now.items in
     let e = c.in_ok-event.event.now in
     let r = plain_view e.start in
-    let h = c.in_ok-event.ensures in
-    let now = thread_state c.end_of_tx.new.self in
+    let h = c.in_ok-event.ensures.value in
+    let now = thread_state c.end_of_tx.new.thread in
     let before = with_todo h.0 now in
     let w = plain_view c.in-Some.world in
     let viewed = sym c.end_view.ensures ∙ ap plain_world c.in-Some.is in
     let end = closes e.kind.now m.span (ended x m body env r w before) in
-    let whole = h.3 (transacting x m body env) (at_end x m.span) ∙ ap (λ o. uneaten (seen_event e ∷ h.0) o) (ends_viewed x m body env before r (plain_view e.view) (plain_view e.here) w e.kind.now viewed) in
+    let whole = h.3 (at_end x m.span) ∙ ap (λ o. uneaten (seen_event e ∷ h.0) o) (ends_viewed x m body env before r (plain_view e.view) (plain_view e.here) w e.kind.now viewed) in
     let shut = thread_state c.close-given.new.thread in
     let later = thread_state c.eat-2.new.self in
     let res = c.close-given.result in
@@ -932,20 +934,20 @@ eat_dosync-returns-clause-value t c =
     let closed = closes_todo (closing items e.kind.now c.final_writes-last.result (sends_of_commit now.held run.work.done.sends)) m.span (tx_run run) h.0 res now shut c.close-given.ensures.value in
     let calm = commutes_deepest x run.work.done.commutes c.in-Ok.ensures.sound in
     let last = subst (λ z. ToldOf items c.final_writes-last.result (final_means z run.work.done w m.span)) c.deepest-inner.ensures.value c.final_writes-last.ensures in
-    let given = ended_closed x m body env r w before c.is_sound.ensures c.deepest-inner.ensures.sound run c.in-Ok.ensures.value calm items c.final_writes-last.result e.kind.now res (with_todo h.0 shut) last closed in
+    let given = ended_closed x m body env r w before c.is_sound.ensures c.deepest-inner.ensures.sound run (subst (λ l. Runs (Ok run) m body l (body_means x body l r)) c.in_ok-event.ensures.kept c.in-Ok.ensures.value) calm items c.final_writes-last.result e.kind.now res (with_todo h.0 shut) last closed in
     let left = c.close-given.ensures.kept ∙ h.1 in
-    let start = retried (suc reruns) (thread_state c.args.thread.now) in
+    let start = retried (suc reruns) (transacting x m body env) (thread_state c.args.thread.now) in
     let as_before : IsOther res → start ≡ shut = λ o. h.2 ∙ closes_other (closing items e.kind.now c.final_writes-last.result (sends_of_commit now.held run.work.done.sends)) m.span (tx_run run) res now shut c.close-given.ensures.value o in
     subst₂ (λ q o. Gives false q later (up_to start o)) (sym c.eat-2.ensures.same) (sym whole) (answered res (seen_event e) h.0 start shut later end left as_before (c.eat-2.ensures.eaten (seen_event e) h.0 left) given)
 
 pub eat_dosync-eat-requires : goal.eat_dosync-eat-requires
 eat_dosync-eat-requires t c =
-    let h = c.in_ok-event.ensures in
-    event_left c.end_of_tx.new.self (seen_event c.in_ok-event.event.now) h.0 h.1
+    let h = c.in_ok-event.ensures.value in
+    event_left c.end_of_tx.new.thread (seen_event c.in_ok-event.event.now) h.0 h.1
 
 pub eat_dosync-eat-requires-2 : goal.eat_dosync-eat-requires-2
 eat_dosync-eat-requires-2 t c =
-    let h = c.in_ok-event.ensures in
+    let h = c.in_ok-event.ensures.value in
     event_left c.close-given.new.thread (seen_event c.in_ok-event.event.now) h.0 (c.close-given.ensures.kept ∙ h.1)
 
 pub final_writes-redo-requires : goal.final_writes-redo-requires
@@ -1022,20 +1024,21 @@ act_outside-returns-in_ok-event-in-Look t c =
     let form = c.in-Look.field-0 in
     let cell = c.in_ok-cell.cell in
     let e = c.in_ok-event-in-Look.event.now in
-    let h = c.in_ok-event-in-Look.ensures in
+    let h = c.in_ok-event-in-Look.ensures.comes in
+    let same = c.in_ok-event-in-Look.ensures.same in
     let before = thread_state c.args.thread.now in
     let later = thread_state c.eat.new.self in
     let ready = subst (λ a. ReadyIn (callable x) in_thread a (length c.args.args.items)) c.in-Look.is c.requires.ready in
     let told = subst (λ f. Told (Ok cell) (result_of (cell_of (rule f) false c.args.value.now) c.args.span tt)) (c.form.ensures ∙ ap form_of_act c.in-Look.is) c.in_ok-cell.ensures in
     let r = c.read_at.result in
-    let given = gives_at c.home-book.result (home x.cells cell) c.home-book.ensures (λ a s. reads cell a.kind a.C s) e before later h r (c.eat.ensures.eaten (seen_event e) h.0 h.1) (c.read_at.ensures (with_todo h.0 before)) in
+    let given = gives_at c.home-book.result (home x.cells cell) c.home-book.ensures (λ a s. reads cell a.kind a.C s) e before later h r (c.eat.ensures.eaten (seen_event e) h.0 (ap (λ s. s.todo) same ∙ h.1) ∙ ap (λ s. after r h.0 s) same) (c.read_at.ensures (with_todo h.0 before)) in
     λ wanted. subst₂ (λ a q. Gives false q later (outside_means x a (mark_of c.args.span wanted) c.args.value.now c.args.args.items before)) (sym c.in-Look.is) (sym c.eat.ensures.same)
     (look_outside x (mark_of c.args.span wanted) c.args.value.now before cell r later form c.args.args.items ready told given)
 
 pub act_outside-eat-requires : goal.act_outside-eat-requires
 act_outside-eat-requires t c =
-    let h = c.in_ok-event-in-Look.ensures in
-    event_left c.args.thread.now (seen_event c.in_ok-event-in-Look.event.now) h.0 h.1
+    let h = c.in_ok-event-in-Look.ensures.comes in
+    event_left c.next.new.self (seen_event c.in_ok-event-in-Look.event.now) h.0 (ap (λ s. s.todo) c.in_ok-event-in-Look.ensures.same ∙ h.1)
 
 pub act_outside-returns-in-Send : goal.act_outside-returns-in-Send
 act_outside-returns-in-Send t c =
@@ -1154,7 +1157,7 @@ pub evaluate_dosync-returns-clause-kept : goal.evaluate_dosync-returns-clause-ke
 evaluate_dosync-returns-clause-kept t c = kept_as (c.eat_dosync.new.locals.items ≡ c.args.locals.now.items) c.eat_dosync.result c.as_step-2.result c.as_step-2.ensures c.eat_dosync.ensures.kept
 
 pub eat_dosync-returns-clause-kept : goal.eat_dosync-returns-clause-kept
-eat_dosync-returns-clause-kept t c = kept_by c.eat-2.result c.in-Ok.ensures.kept
+eat_dosync-returns-clause-kept t c = kept_by c.eat-2.result (c.in-Ok.ensures.kept ∙ c.in_ok-event.ensures.kept)
 
 pub evaluate_all-returns-clause-kept : goal.evaluate_all-returns-clause-kept
 evaluate_all-returns-clause-kept t c = c.loop-node.invariant.0
@@ -1253,7 +1256,145 @@ evaluate_tail-evaluate_if-requires t c =
 pub eat_dosync-run_body-requires : goal.eat_dosync-run_body-requires
 eat_dosync-run_body-requires t c =
     let smaller : 16 * nodes (tree_of c.args.dosync.body.now) + 2 < 16 * nodes (tree_of c.args.dosync.body.now) + 9 = omega arith in
+    (search (rules, in_room c.args.context.now _ _ smaller), subst (λ l. SoundTree (callable c.args.context.now) in_dosync (length l) None (tree_of c.args.dosync.body.now)) (sym c.in_ok-event.ensures.kept) c.requires.body)
+
+-- ---- the tries of a transaction that had to run again
+
+pub eat_dosync-end_of_tx-requires : goal.eat_dosync-end_of_tx-requires
+eat_dosync-end_of_tx-requires t c =
+    let smaller : 16 * nodes (tree_of c.args.dosync.body.now) + 8 < 16 * nodes (tree_of c.args.dosync.body.now) + 9 = omega arith in
     (search (rules, in_room c.args.context.now _ _ smaller), c.requires.body)
+
+pub end_of_tx-rerun-requires : goal.end_of_tx-rerun-requires
+end_of_tx-rerun-requires t c =
+    let smaller : 16 * nodes (tree_of c.args.dosync.body.now) + 7 < 16 * nodes (tree_of c.args.dosync.body.now) + 8 = omega arith in
+    (search (rules, in_room c.args.context.now _ _ smaller), subst (λ l. SoundTree (callable c.args.context.now) in_dosync (length l) None (tree_of c.args.dosync.body.now)) (sym c.loop-try.invariant.0) c.requires)
+
+pub rerun-run_body-requires : goal.rerun-run_body-requires
+rerun-run_body-requires t c =
+    let smaller : 16 * nodes (tree_of c.args.dosync.body.now) + 2 < 16 * nodes (tree_of c.args.dosync.body.now) + 7 = omega arith in
+    (search (rules, in_room c.args.context.now _ _ smaller), c.requires)
+
+tries_are : suc reruns ≡ 10000
+unfolding reruns
+tries_are = refl
+
+pub end_of_tx-loop-try-init : goal.end_of_tx-loop-try-init
+end_of_tx-loop-try-init t c =
+    let d = transacting c.args.context.now (mark_of c.args.dosync.span c.args.dosync.wanted) (tree_of c.args.dosync.body.now) c.args.locals.now.items in
+    let now = thread_state c.args.thread.now in
+    (refl, λ f. ap (λ k. eats_tx k d f now.todo now) tries_are, ap (λ k. retried k d now) tries_are)
+
+pub end_of_tx-returns-in_err-event-clause-value : goal.end_of_tx-returns-in_err-event-clause-value
+end_of_tx-returns-in_err-event-clause-value t c =
+    let d = transacting c.args.context.now (mark_of c.args.dosync.span c.args.dosync.wanted) (tree_of c.args.dosync.body.now) c.args.locals.now.items in
+    let now = thread_state c.loop-try.thread in
+    let later = thread_state c.next.new.self in
+    let k = 10000 - (c.loop-try._try + 1) in
+    let left : 10000 - c.loop-try._try ≡ suc k = omega (arith, c.loop-try-test.true) in
+    let y = c.in_err-event.field-0.0 in
+    let first = thread_state c.args.thread.now in
+    let start = retried (suc reruns) d first in
+    let eaten : start ≡ retried (suc k) d now = c.loop-try.invariant.2 ∙ ap (λ j. retried j d now) left in
+    unmatched _ (λ z. EndsNone d z first later) c.from_residual.result y (halted c.from_residual.result y c.from_residual.ensures.1)
+    (λ f. subst (λ m. Stops false y later (up_to start m)) (sym (c.loop-try.invariant.1 f ∙ ap (λ j. eats_tx j d f now.todo now) left)) (eats_none d f k y start now later eaten c.in_err-event.ensures.comes))
+
+pub end_of_tx-returns-then-not-is_retry-clause-value : goal.end_of_tx-returns-then-not-is_retry-clause-value
+end_of_tx-returns-then-not-is_retry-clause-value t c =
+    let d = transacting c.args.context.now (mark_of c.args.dosync.span c.args.dosync.wanted) (tree_of c.args.dosync.body.now) c.args.locals.now.items in
+    let now = thread_state c.loop-try.thread in
+    let later = thread_state c.next.new.self in
+    let same : later ≡ now = c.in_ok-event.ensures.same in
+    let k = 10000 - (c.loop-try._try + 1) in
+    let left : 10000 - c.loop-try._try ≡ suc k = omega (arith, c.loop-try-test.true) in
+    let first = thread_state c.args.thread.now in
+    let e = c.in_ok-event.event.now in
+    let h = c.in_ok-event.ensures.comes in
+    let ends : is_retry e.kind.now ≡ false = search rules in
+    subst (λ s. EndComes d e first s) (sym same)
+    (h.0, h.1, c.loop-try.invariant.2 ∙ ap (λ j. retried j d now) left ∙ retried_end d k e now h ends, λ f. c.loop-try.invariant.1 f ∙ ap (λ j. eats_tx j d f now.todo now) left ∙ eats_end d f k e now h ends)
+
+pub end_of_tx-returns-then-not-is_retry-clause-kept : goal.end_of_tx-returns-then-not-is_retry-clause-kept
+end_of_tx-returns-then-not-is_retry-clause-kept t c = c.loop-try.invariant.0
+
+pub end_of_tx-returns-in_err-rerun-clause-value : goal.end_of_tx-returns-in_err-rerun-clause-value
+end_of_tx-returns-in_err-rerun-clause-value t c =
+    let d = transacting c.args.context.now (mark_of c.args.dosync.span c.args.dosync.wanted) (tree_of c.args.dosync.body.now) c.args.locals.now.items in
+    let now = thread_state c.loop-try.thread in
+    let later = thread_state c.next.new.self in
+    let same : later ≡ now = c.in_ok-event.ensures.same in
+    let k = 10000 - (c.loop-try._try + 1) in
+    let left : 10000 - c.loop-try._try ≡ suc k = omega (arith, c.loop-try-test.true) in
+    let y = c.in_err-rerun.field-0.0 in
+    let first = thread_state c.args.thread.now in
+    let start = retried (suc reruns) d first in
+    let eaten : start ≡ retried (suc k) d now = c.loop-try.invariant.2 ∙ ap (λ j. retried j d now) left in
+    let e = c.in_ok-event.event.now in
+    let h = c.in_ok-event.ensures.comes in
+    let retry : is_retry e.kind.now ≡ true = search rules in
+    let unrun = subst (λ l. Reruns {U = Unit {0}} (transacting c.args.context.now (mark_of c.args.dosync.span c.args.dosync.wanted) (tree_of c.args.dosync.body.now) l) e.kind.now (world_of (plain_view e.start)) (Err y)) c.loop-try.invariant.0 c.in_err-rerun.ensures.value in
+    unmatched _ (λ z. EndsNone d z first later) c.from_residual-in_err-rerun.result y (halted c.from_residual-in_err-rerun.result y c.from_residual-in_err-rerun.ensures.1)
+    (λ f. subst₂ (λ s m. Stops false y s (up_to start m)) (sym same) (sym (c.loop-try.invariant.1 f ∙ ap (λ j. eats_tx j d f now.todo now) left)) (eats_unrun d f (Unit {0}) k y e start now h eaten retry unrun))
+
+pub end_of_tx-loop-try-preserved : goal.end_of_tx-loop-try-preserved
+end_of_tx-loop-try-preserved t c =
+    let d = transacting c.args.context.now (mark_of c.args.dosync.span c.args.dosync.wanted) (tree_of c.args.dosync.body.now) c.args.locals.now.items in
+    let now = thread_state c.loop-try.thread in
+    let same : thread_state c.next.new.self ≡ now = c.in_ok-event.ensures.same in
+    let behind = thread_state c.skip.new.self in
+    let k = 10000 - (c.loop-try._try + 1) in
+    let left : 10000 - c.loop-try._try ≡ suc k = omega (arith, c.loop-try-test.true) in
+    let e = c.in_ok-event.event.now in
+    let h = c.in_ok-event.ensures.comes in
+    let retry : is_retry e.kind.now ≡ true = search rules in
+    let cause = subst (λ l. Reruns {U = Unit {0}} (transacting c.args.context.now (mark_of c.args.dosync.span c.args.dosync.wanted) (tree_of c.args.dosync.body.now) l) e.kind.now (world_of (plain_view e.start)) (Ok tt)) c.loop-try.invariant.0 c.in_ok-rerun.ensures.value in
+    let rest = c.skip.ensures (seen_event e) h.0 (ap (λ s. s.todo) same ∙ h.1) ∙ ap (λ s. with_todo h.0 s) same in (
+      c.in_ok-rerun.ensures.kept ∙ c.loop-try.invariant.0,
+      λ f. c.loop-try.invariant.1 f ∙ ap (λ j. eats_tx j d f now.todo now) left ∙ eats_more d f k e now behind h rest retry cause.1,
+      c.loop-try.invariant.2 ∙ ap (λ j. retried j d now) left ∙ retried_more d k e now h behind rest retry cause.0,
+    )
+
+pub end_of_tx-skip-requires : goal.end_of_tx-skip-requires
+end_of_tx-skip-requires t c =
+    let h = c.in_ok-event.ensures.comes in
+    event_left c.next.new.self (seen_event c.in_ok-event.event.now) h.0 (ap (λ s. s.todo) c.in_ok-event.ensures.same ∙ h.1)
+
+pub end_of_tx-returns-clause-value : goal.end_of_tx-returns-clause-value
+end_of_tx-returns-clause-value t c =
+    let m = mark_of c.args.dosync.span c.args.dosync.wanted in
+    let d = transacting c.args.context.now m (tree_of c.args.dosync.body.now) c.args.locals.now.items in
+    let now = thread_state c.loop-try.thread in
+    let none : 10000 - c.loop-try._try ≡ 0 = omega (arith, c.loop-try-test.false) in
+    let start = retried (suc reruns) d (thread_state c.args.thread.now) in
+    λ f. ap (λ s. up_to start s) (c.loop-try.invariant.1 f ∙ ap (λ j. eats_tx j d f now.todo now) none)
+
+pub rerun-returns-in-Outdated-clause-value : goal.rerun-returns-in-Outdated-clause-value
+rerun-returns-in-Outdated-clause-value t c =
+    let d = transacting c.args.context.now (mark_of c.args.dosync.span c.args.dosync.wanted) (tree_of c.args.dosync.body.now) c.args.locals.now.items in
+    let e = c.args.event.now in
+    rerun_outdated d (world_of (plain_view e.start)) e.kind.now c.rerun_as.result c.rerun_as.ensures {U = Unit {0}} tt c.in-Outdated.is
+
+pub rerun-returns-in-Other-clause-value : goal.rerun-returns-in-Other-clause-value
+rerun-returns-in-Other-clause-value t c =
+    let d = transacting c.args.context.now (mark_of c.args.dosync.span c.args.dosync.wanted) (tree_of c.args.dosync.body.now) c.args.locals.now.items in
+    let e = c.args.event.now in
+    rerun_other d (world_of (plain_view e.start)) e.kind.now c.rerun_as.result c.rerun_as.ensures (Unit {0}) c.in-Other.is
+
+pub rerun-returns-in-Err-clause-value : goal.rerun-returns-in-Err-clause-value
+rerun-returns-in-Err-clause-value t c =
+    let d = transacting c.args.context.now (mark_of c.args.dosync.span c.args.dosync.wanted) (tree_of c.args.dosync.body.now) c.args.locals.now.items in
+    let e = c.args.event.now in
+    rerun_stop d (world_of (plain_view e.start)) e.kind.now c.rerun_as.result c.rerun_as.ensures c.in-Touched.touch c.in-Touched.is (Unit {0}) c.in-Err.stop c.without_fault.result c.without_fault.ensures c.in-Err.ensures.value
+
+pub rerun-returns-clause-value : goal.rerun-returns-clause-value
+rerun-returns-clause-value t c =
+    let d = transacting c.args.context.now (mark_of c.args.dosync.span c.args.dosync.wanted) (tree_of c.args.dosync.body.now) c.args.locals.now.items in
+    let e = c.args.event.now in
+    let run = c.in-Ok.run' in
+    rerun_run d (world_of (plain_view e.start)) e.kind.now c.rerun_as.result c.rerun_as.ensures c.in-Touched.touch c.in-Touched.is run.result (tx_state run.work) c.in-Ok.ensures.value.0 c.has_touched-given.result c.has_touched-given.ensures
+
+pub rerun-returns-clause-kept : goal.rerun-returns-clause-kept
+rerun-returns-clause-kept t c = kept_by c.has_touched-given.result c.in-Ok.ensures.kept
 
 pub evaluate_dosync-eat_dosync-requires : goal.evaluate_dosync-eat_dosync-requires
 evaluate_dosync-eat_dosync-requires t c =

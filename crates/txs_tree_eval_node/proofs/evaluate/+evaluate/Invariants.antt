@@ -1,10 +1,13 @@
-use Rattle.std.proofs.Common.{◌≡◌, ◌+◌, ◌-◌, ◌*◌, length, take, drop}
-use Rattle.txs_tree_eval_node.specs.Evaluated.{part, is_on, forms_in, calls_in, all_mean, locals_mean, turns_mean, accepted_means, redone_means}
+use Rattle.std.proofs.Common.{suc, ◌≡◌, ◌+◌, ◌-◌, ◌*◌, length, take, drop}
+use Rattle.txs_tree_eval_node.specs.Evaluated.{transacting, retried, thread_state, part, is_on, forms_in, calls_in, all_mean, locals_mean, turns_mean, accepted_means, redone_means}
 use Rattle.txs_tree_eval_node.specs.Setting.{callable, zone_in}
 use Rattle.txs_frame.specs.Frame.{phase_work}
 use Rattle.txs_tree_meaning.specs.Sound.{SoundAll, SoundLet, nodes, nodes_in}
+use Rattle.txs_tree_meaning.specs.Meaning.{Applies}
+use Rattle.txs_tree_meaning.specs.Thread.{ThreadState, eats_tx}
+use Rattle.txs_value_data.specs.Limits.{reruns}
 use Rattle.txs_tree_meaning.specs.Tree.{count}
-use Rattle.txs_tree_meaning.specs.View.{tree_of, trees_of}
+use Rattle.txs_tree_meaning.specs.View.{tree_of, trees_of, mark_of}
 use Rattle.txs_tree_eval_node.proofs.Called.{room}
 use Rattle.txs_tree_eval_node.proofs.Evaluation.{collects}
 use Rattle.txs_tree_eval_node.proofs.evaluate.+evaluate.Given as goal
@@ -69,6 +72,12 @@ decreases-evaluate_dosync l = room l.context.now + (16 * nodes (tree_of l.dosync
 abbrev pub decreases-eat_dosync : goal.decreases-eat_dosync
 decreases-eat_dosync l = room l.context.now + (16 * nodes (tree_of l.dosync.body.now) + 9)
 
+abbrev pub decreases-end_of_tx : goal.decreases-end_of_tx
+decreases-end_of_tx l = room l.context.now + (16 * nodes (tree_of l.dosync.body.now) + 8)
+
+abbrev pub decreases-rerun : goal.decreases-rerun
+decreases-rerun l = room l.context.now + (16 * nodes (tree_of l.dosync.body.now) + 7)
+
 abbrev pub decreases-run_body : goal.decreases-run_body
 decreases-run_body l = room l.context.now + (16 * nodes (tree_of l.dosync.body.now) + 2)
 
@@ -132,3 +141,11 @@ invariant-redo-loop-commute l = redone_means l.context l.span (phase_work l.done
 -- the writes that are left
 abbrev pub invariant-accept_all-loop-write : goal.invariant-accept_all-loop-write
 invariant-accept_all-loop-write l = accepted_means l.context l.span l.writes ≡ accepted_means l.context l.span (drop l.write-index l.writes)
+
+-- the tries that are left
+abbrev pub invariant-end_of_tx-loop-try : goal.invariant-end_of_tx-loop-try
+invariant-end_of_tx-loop-try l =
+    let d = transacting l.context (mark_of l.dosync.span l.dosync.wanted) (tree_of l.dosync.body.now) l.fn.locals.items in
+    (l.locals.items ≡ l.fn.locals.items)
+    × ((f : Applies ThreadState) → eats_tx (suc reruns) d f (thread_state l.fn.thread).todo (thread_state l.fn.thread) ≡ eats_tx (10000 - l._try) d f (thread_state l.thread).todo (thread_state l.thread))
+    × (retried (suc reruns) d (thread_state l.fn.thread) ≡ retried (10000 - l._try) d (thread_state l.thread))

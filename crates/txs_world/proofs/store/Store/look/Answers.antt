@@ -1,12 +1,12 @@
 use Rattle.std.proofs.Common.{◌∙◌, Some, sym, ap}
 use Rattle.txs_world_book.specs.Book.{opening}
-use Rattle.txs_world.proofs.Answering.{looked, looked_not, looked_lost, lost_written}
+use Rattle.txs_world.proofs.Answering.{looked, looked_not, looked_lost, lost_legal}
 use Rattle.txs_world.proofs.store.Store.look.Goals as goal
 
 pub rerun-requires-clause-legal : goal.rerun-requires-clause-legal
 rerun-requires-clause-legal c =
     let s = c.args.self.now in
-    (c.requires.cell, c.requires.place, lost_written (opening s.cells) c.args.cell.number c.args.at s.book (sym c.in-None.ensures))
+    lost_legal s (opening s.cells) c.args.actor c.args.cell c.args.at c.requires.cell c.requires.place (sym c.in-None.ensures)
 
 pub returns-in-Ok : goal.returns-in-Ok
 returns-in-Ok c =

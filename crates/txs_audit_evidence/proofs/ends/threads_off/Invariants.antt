@@ -1,0 +1,10 @@
+use Rattle.std.proofs.Common.{◌≡◌, drop}
+use Rattle.std.specs.Prelude.{map}
+use Rattle.txs_theorem_audit.specs.Audited.{ran_as}
+use Rattle.txs_theorem_audit.specs.Verdict.{threads_over}
+use Rattle.txs_audit_answer.specs.Answered.{terms_as}
+use Rattle.txs_audit_evidence.proofs.ends.threads_off.Given as goal
+
+-- what is found is what the other threads give
+abbrev pub invariant-loop-i : goal.invariant-loop-i
+invariant-loop-i l = threads_over (terms_as l.terms) l.full l.i (map ran_as (drop l.i l.threads)) ≡ threads_over (terms_as l.terms) l.full 0 (map ran_as l.threads)

@@ -1,0 +1,5 @@
+pub mod Going
+pub mod Linked
+pub mod Ordered
+pub mod Sent
+pub mod Waiting
