@@ -51,6 +51,10 @@ def journals(t, count, is_long):
     ran = t.run(["schedule", "--cells", "--events"], fills.encode())
     is_well = (ran.err.decode(), ran.status) == ("agent g stopped: JournalFull\n", 4) and ran.out.startswith(b"r 999999\ng 5\n0 0 send\n")
     count.take("an action that fills it", is_well and events_of(ran) == {b"send": 1, b"commit": MOST - 1}, ran)
+    # an audit finds that each needs an event of the full journal, or is to hand its action in to it
+    for who, script, words in (("a thread", goes, ["--turns", TEN]), ("an agent", busy, ["--turns", "1x2," + TEN]), ("an action", fills, [])):
+        ran = t.run(["schedule", "--audit", *words], script.encode())
+        count.take(f"a full journal audited: {who}", ran.status == 4 and ran.out.endswith(b"audit agrees serial\n"), ran)
     for _ in range(20 if is_long else 2):
         ran = t.run(["run", "--cells", "--events", "--workers", "2"], READS.encode())
         events, left = events_of(ran), ran.out[:4]

@@ -36,10 +36,10 @@ use Rattle.txs_theorem_threads.specs.FollowsAgent.{SoundAction}
 use Rattle.txs_theorem_threads.specs.Noted.{txs_of}
 use Rattle.txs_theorem_runs.specs.Told.{Place, seen_before, seen_of}
 use Rattle.txs_theorem_audit.specs.Audited.{PlainReport, books_of, Finding, Fine, Off, and_then}
-use Rattle.txs_theorem_audit.specs.Verdict.{act_ends, action_covered, action_found, action_prints, begins, covered_all, is_sent_call, is_sent_known, least_of, noted_in, printed_by, part_printed, still_ends, still_found}
+use Rattle.txs_theorem_audit.specs.Verdict.{act_ends, action_covered, action_found, action_prints, begins, covered_all, full_ends, is_full_book, is_sent_call, is_sent_known, least_of, noted_in, printed_by, part_printed, rest_ends, same_numbers, still_ends, still_found}
 use Rattle.txs_theorem_audit.proofs.Agreeing.{sent_of}
 use Rattle.txs_theorem_audit.proofs.Findings.{not_there}
-use Rattle.txs_theorem_audit_eval.specs.Evaluated.{ActBy, ActionEnd, ActionNotedBy, CalmBy, CoveredBy, StillBy, act_by, calm_found_by, covered_all_by, means_on, prints_by, still_by}
+use Rattle.txs_theorem_audit_eval.specs.Evaluated.{ActBy, ActionEnd, ActionGives, ActionNotedBy, CalmBy, CoveredBy, RestFullBy, StillBy, act_by, calm_found_by, covered_all_by, means_on, prints_by, rest_full_by, still_by}
 use Rattle.txs_audit_piece.proofs.Sources.{all_but_last}
 use Rattle.txs_audit_piece.specs.Judged.{EndsBy, is_fine}
 use Rattle.txs_audit_evidence.specs.Acted.{acted, calm_since, covered_since, waited}
@@ -83,11 +83,6 @@ seen_few cells books (p ∷ ps) = go (nth (books p.book) p.at) (seen_few cells b
     go : (o : Option Event) → length (seen_of cells books ps) ≤ length ps → length (seen_before cells books p o (seen_of cells books ps)) ≤ suc (length ps)
     go None h = omega (arith, h)
     go (Some e) h = omega (arith, h)
-
--- as many events are told of as there are
-pub many_seen : (es : List Seen) → length (seen_events es) ≡ length es
-many_seen [] = refl
-many_seen (e ∷ es) = ap suc (many_seen es)
 
 -- an action eats no more events than there are
 right_few : (m : List SeenEvent → Completion ThreadState Value) (done es : List SeenEvent) → right_events m done es ≤ length done + length es
@@ -160,6 +155,15 @@ act_right cells done span a i k m es new sends (Waits t) h = refl
 act_right cells done span a i k m es new sends (OutOfTurns t) h = refl
 act_right cells done span a i k m es new sends Invalid h = absurd cc
 
+full_right : (books : ℕ → List Event) (a i k : ℕ) (m : List SeenEvent → Completion ThreadState Value) (es : List SeenEvent) (out : List ℕ) (c : Completion ThreadState Value) → full_ends books a i k m es out c ≡ Fine → is_wrong c ≡ false
+full_right books a i k m es out (Completes v t) h = refl
+full_right books a i k m es out (Recurs vs t) h = absurd cc
+full_right books a i k m es out (Faults f t) h = refl
+full_right books a i k m es out (Retries t) h = absurd cc
+full_right books a i k m es out (Waits t) h = refl
+full_right books a i k m es out (OutOfTurns t) h = refl
+full_right books a i k m es out Invalid h = absurd cc
+
 still_right : (a i k : ℕ) (m : List SeenEvent → Completion ThreadState Value) (es : List SeenEvent) (out : List ℕ) (c : Completion ThreadState Value) → still_ends a i k m es out c ≡ Fine → is_wrong c ≡ false
 still_right a i k m es out (Completes v t) h = refl
 still_right a i k m es out (Recurs vs t) h = absurd cc
@@ -168,6 +172,10 @@ still_right a i k m es out (Retries t) h = absurd cc
 still_right a i k m es out (Waits t) h = refl
 still_right a i k m es out (OutOfTurns t) h = refl
 still_right a i k m es out Invalid h = absurd cc
+
+rest_right : (books : ℕ → List Event) (full : Bool) (a i k : ℕ) (m : List SeenEvent → Completion ThreadState Value) (es : List SeenEvent) (out : List ℕ) (c : Completion ThreadState Value) → rest_ends books full a i k m es out c ≡ Fine → is_wrong c ≡ false
+rest_right books true a i k m es out c h = full_right books a i k m es out c h
+rest_right books false a i k m es out c h = still_right a i k m es out c h
 
 module _ (p : PlainProgram) (r : PlainReport) (n : ℕ) (x : Action) (v : Value) (since : List Place) (sound : Sound p) (sent : is_sent_call (known p.functions) x.callee (suc (length x.args)) ≡ true)
     (m : ActionMeaning) (tells : TellsAction m p x.callee x.span (v ∷ x.args) n (seen_of p.cells (books_of r) since)) where
@@ -214,17 +222,37 @@ module _ (p : PlainProgram) (r : PlainReport) (n : ℕ) (x : Action) (v : Value)
     act_covered covered noted fine = covered_is covered noted (act_right (cells_of p.cells) done x.span a i k means es new sends (means es) (sym act_is ∙ fine))
 
   -- that of one that isn't
-  module _ (law : StillBy) (a i k : ℕ) (out : List ℕ) (end : ActionEnd) (ends : EndsBy p n x m end) (part : Bool) (printed : part ≡ part_printed means es out m.printed) (f : Finding) (count : ℕ) (many : count ≡ length es)
-      (is : f ≡ still_by a i k count m.eaten part end) where
-    pub still_is : f ≡ still_ends a i k means es out (means es)
-    still_is =
-        is ∙ ap (λ c. still_by a i k c m.eaten part end) many
-        ∙ ap (λ b. still_by a i k (length es) m.eaten b end) printed
-        ∙ ap (still_by a i k (length es) m.eaten (part_printed means es out m.printed)) ends.1
-        ∙ sym (law p n a i k x v es out m ends.0 sound fits (record { tells = tells; validator = λ w there. ends.2 w (value_needs p x.callee x.span (v ∷ x.args) n es m tells w there) there }))
+  pub rest_covered : CoveredBy → ActionNotedBy → (full : Bool) (a i k : ℕ) (out : List ℕ) (f : Finding) → f ≡ rest_ends (books_of r) full a i k means es out (means es) → f ≡ Fine
+      → covered_all_by (books_of r) since m.txs ≡ covered_since p r n x v since
+  rest_covered covered noted full a i k out f is fine = covered_is covered noted (rest_right (books_of r) full a i k means es out (means es) (sym is ∙ fine))
 
-    pub still_covered : CoveredBy → ActionNotedBy → f ≡ Fine → covered_all_by (books_of r) since m.txs ≡ covered_since p r n x v since
-    still_covered covered noted fine = covered_is covered noted (still_right a i k means es out (means es) (sym still_is ∙ fine))
+-- ---- the end of an action that isn't over
+
+module _ (p : PlainProgram) (n : ℕ) (x : Action) (v : Value) (es : List SeenEvent) (sound : Sound p) (sent : is_sent_call (known p.functions) x.callee (suc (length x.args)) ≡ true) (m : ActionMeaning)
+    (tells : TellsAction m p x.callee x.span (v ∷ x.args) n es) (a i k : ℕ) (out : List ℕ) (end : ActionEnd) (ends : EndsBy p n x m end) (f : Finding) (count : ℕ) (many : count ≡ length es) where
+  fits_here : SoundAction p.functions x
+  fits_here = sent_of (known p.functions) x.callee (suc (length x.args)) sent
+
+  gives : ActionGives p n x v es m ends.0
+  gives = record { tells = tells; validator = λ w there. ends.2 w (value_needs p x.callee x.span (v ∷ x.args) n es m tells w there) there }
+
+  -- by whether it printed a part
+  pub still_is : StillBy → (part : Bool) → part ≡ part_printed (means_on p n x v) es out m.printed → f ≡ still_by a i k count m.eaten part end → f ≡ still_ends a i k (means_on p n x v) es out (means_on p n x v es)
+  still_is law part printed is =
+      is ∙ ap (λ c. still_by a i k c m.eaten part end) many
+      ∙ ap (λ b. still_by a i k (length es) m.eaten b end) printed
+      ∙ ap (still_by a i k (length es) m.eaten (part_printed (means_on p n x v) es out m.printed)) ends.1
+      ∙ sym (law p n a i k x v es out m ends.0 sound fits_here gives)
+
+  -- by whether the books are full
+  pub full_is : RestFullBy → (books : ℕ → List Event) (store full : Bool) → store ≡ is_full_book books (Some 0) → full ≡ is_full_book books m.asks → f ≡ rest_full_by a i k count m.eaten store full (same_numbers out m.printed) end
+      → f ≡ full_ends books a i k (means_on p n x v) es out (means_on p n x v es)
+  full_is law books store full store_is asked_is is =
+      is ∙ ap (λ c. rest_full_by a i k c m.eaten store full (same_numbers out m.printed) end) many
+      ∙ ap (λ b. rest_full_by a i k (length es) m.eaten b full (same_numbers out m.printed) end) store_is
+      ∙ ap (λ b. rest_full_by a i k (length es) m.eaten (is_full_book books (Some 0)) b (same_numbers out m.printed) end) asked_is
+      ∙ ap (rest_full_by a i k (length es) m.eaten (is_full_book books (Some 0)) (is_full_book books m.asks) (same_numbers out m.printed)) ends.1
+      ∙ sym (law books p n a i k x v es out m ends.0 sound fits_here gives)
 
 -- what an action prints on these events
 pub action_printed : (p : PlainProgram) (n : ℕ) (x : Action) (v : Value) (es : List SeenEvent) → Sound p → is_sent_call (known p.functions) x.callee (suc (length x.args)) ≡ true → (m : ActionMeaning) → TellsAction m p x.callee x.span (v ∷ x.args) n es
@@ -293,20 +321,20 @@ module _ (p : PlainProgram) (r : PlainReport) (n : ℕ) (done : List Event) (g :
   nothing_covered None = refl
   nothing_covered (Some x) = refl
 
-module _ (p : PlainProgram) (r : PlainReport) (n a i k : ℕ) (g : CellId) (since : List Place) (out : List ℕ) where
+module _ (p : PlainProgram) (r : PlainReport) (n : ℕ) (full : Bool) (a i k : ℕ) (g : CellId) (since : List Place) (out : List ℕ) where
   abbrev last_state : Value
   last_state = newest (opening (cells_of p.cells)) r.book g.number
 
-  pub none_still : (o : Option Action) → None ≡ o → Off a i ≡ still_found p r n a i k g since out o
-  none_still o is = ap (still_found p r n a i k g since out) is
+  pub none_still : (o : Option Action) → None ≡ o → Off a i ≡ still_found p r n full a i k g since out o
+  none_still o is = ap (still_found p r n full a i k g since out) is
 
-  pub unsent_still : (o : Option Action) (x : Action) → Some x ≡ o → is_sent_call (known p.functions) x.callee (suc (length x.args)) ≡ false → Off a i ≡ still_found p r n a i k g since out o
-  unsent_still o x is not = sym (ap (λ b. if b then waited p r n a i k x last_state since out else Off a i) not) ∙ ap (still_found p r n a i k g since out) is
+  pub unsent_still : (o : Option Action) (x : Action) → Some x ≡ o → is_sent_call (known p.functions) x.callee (suc (length x.args)) ≡ false → Off a i ≡ still_found p r n full a i k g since out o
+  unsent_still o x is not = sym (ap (λ b. if b then waited p r n full a i k x last_state since out else Off a i) not) ∙ ap (still_found p r n full a i k g since out) is
 
-  pub sent_still : (o : Option Action) (x : Action) → Some x ≡ o → (v : Value) → Some v ≡ Some last_state → is_sent_call (known p.functions) x.callee (suc (length x.args)) ≡ true → waited p r n a i k x v since out ≡ still_found p r n a i k g since out o
+  pub sent_still : (o : Option Action) (x : Action) → Some x ≡ o → (v : Value) → Some v ≡ Some last_state → is_sent_call (known p.functions) x.callee (suc (length x.args)) ≡ true → waited p r n full a i k x v since out ≡ still_found p r n full a i k g since out o
   sent_still o x is v its may =
-      ap (λ w. waited p r n a i k x w since out) (some_value v last_state its)
-      ∙ sym (ap (λ b. if b then waited p r n a i k x last_state since out else Off a i) may) ∙ ap (still_found p r n a i k g since out) is
+      ap (λ w. waited p r n full a i k x w since out) (some_value v last_state its)
+      ∙ sym (ap (λ b. if b then waited p r n full a i k x last_state since out else Off a i) may) ∙ ap (still_found p r n full a i k g since out) is
     where
       some_value : (v w : Value) → Some v ≡ Some w → v ≡ w
       some_value v w e = cc

@@ -60,9 +60,9 @@ pub act_stays : ActionStays → (p : PlainProgram) (r : PlainReport) → Sound p
 act_stays law p r sound a i k done g since new sends x n m le decided = let z = law p r n m a i k done g since new sends x sound le decided in (z.0, λ fine. (z.1 fine).1)
 
 -- of what an agent's actor did behind its last act
-pub still_stays : RestStays → (p : PlainProgram) (r : PlainReport) → Sound p → (a i k : ℕ) (g : CellId) (since : List Place) (out : List ℕ)
-    → StaysFound (λ n. rest_found p r n a i k g since out) (λ n. action_covered p r n r.book g since (next_action (cells_of p.cells) r.book g))
-still_stays law p r sound a i k g since out n m le decided = law p r n m a i k g since out sound le decided
+pub still_stays : RestStays → (p : PlainProgram) (r : PlainReport) → Sound p → (full : Bool) (a i k : ℕ) (g : CellId) (since : List Place) (out : List ℕ)
+    → StaysFound (λ n. rest_found p r n full a i k g since out) (λ n. action_covered p r n r.book g since (next_action (cells_of p.cells) r.book g))
+still_stays law p r sound full a i k g since out n m le decided = law p r n m a i k full g since out sound le decided
 
 -- ---- what an action prints
 

@@ -1,5 +1,6 @@
 -- What the actions of a trace print, one entry after the other.
 use Rattle.std.proofs.Common.{◌≡◌, ◌≤◌, ◌<◌, ◌+◌, ◌-◌, ◌==◌, ◌&&◌, ◌⊎◌, inl, inr, ℕ, zero, suc, Bool, true, false, List, [], ◌∷◌, ◌++◌, append_assoc, append-nil, length, take, drop, get_or, Option, Some, None, refl, sym, ap, ◌∙◌, arith}
+use Rattle.std.specs.Prelude.{not}
 use Rattle.std.proofs.lemmas.Bool.{eqb-true, false≢true}
 use Rattle.std.proofs.lemmas.List.{drop-append-le, drop_all, length-drop, length-map}
 use Rattle.txs_value_base.specs.Places.{nth}
@@ -17,7 +18,7 @@ use Rattle.txs_theorem_runs.specs.Told.{Place}
 use Rattle.txs_theorem_serial.specs.Whole.{is_act, is_act_kind}
 use Rattle.txs_theorem_audit.specs.Audited.{PlainActorReport, PlainReport, books_of, place_of, Finding, Fine, Off, and_then, check}
 use Rattle.txs_theorem_audit.specs.Pieces.{act_finding, acts_print, end_finding, end_serial, event_serial, kind_finding, kind_prints, kind_serial, part_of, prints_at}
-use Rattle.txs_theorem_audit.specs.Verdict.{action_covered, action_found, action_prints, agent_end, begins, is_stopped, rest_found, still_found}
+use Rattle.txs_theorem_audit.specs.Verdict.{action_covered, action_found, action_prints, agent_end, begins, is_full_stop, is_stopped, rest_found, still_found}
 use Rattle.txs_theorem_audit.proofs.Findings.{not_there}
 use Rattle.txs_audit_evidence.specs.Acted.{NamesAct, PrintsOn}
 use Rattle.txs_audit_evidence.specs.Evidence.{PlainBooks}
@@ -248,17 +249,20 @@ begins_few (x ∷ xs) (y ∷ ys) h = (let le = begins_few xs ys (second (x == y)
     second true b e = e
     second false b e = absurd (false≢true e)
 
--- where there is something behind the last act
-pub rest_still : (p : PlainProgram) (r : PlainReport) (n a i k : ℕ) (g : CellId) (since : List Place) (out : List ℕ) → (length since == 0 && length out == 0) ≡ false
-    → still_found p r n a i k g since out (next_action (cells_of p.cells) r.book g) ≡ rest_found p r n a i k g since out
-rest_still p r n a i k g [] [] h = absurd (false≢true (sym h))
-rest_still p r n a i k g [] (o ∷ os) h = refl
-rest_still p r n a i k g (q ∷ qs) out h = refl
+-- where there is something behind the last act, or its actor was stopped for a full book
+pub rest_still : (p : PlainProgram) (r : PlainReport) (n : ℕ) (full : Bool) (a i k : ℕ) (g : CellId) (since : List Place) (out : List ℕ) → (not full && (length since == 0 && length out == 0)) ≡ false
+    → still_found p r n full a i k g since out (next_action (cells_of p.cells) r.book g) ≡ rest_found p r n full a i k g since out
+rest_still p r n true a i k g since out h = refl
+rest_still p r n false a i k g [] [] h = absurd (false≢true (sym h))
+rest_still p r n false a i k g [] (o ∷ os) h = refl
+rest_still p r n false a i k g (q ∷ qs) out h = refl
 
-pub rest_nothing : (p : PlainProgram) (r : PlainReport) (n a i k : ℕ) (g : CellId) (since : List Place) (out : List ℕ) → (length since == 0 && length out == 0) ≡ true → (since ≡ []) × (Fine ≡ rest_found p r n a i k g since out)
-rest_nothing p r n a i k g [] [] h = (refl, refl)
-rest_nothing p r n a i k g [] (o ∷ os) h = (let z = eqb-true (length (o ∷ os)) 0 h in absurd (omega (arith, z)))
-rest_nothing p r n a i k g (q ∷ qs) out h = (let z = eqb-true (length (q ∷ qs)) 0 (both (length (q ∷ qs) == 0) (length out == 0) h).0 in absurd (omega (arith, z)))
+pub rest_nothing : (p : PlainProgram) (r : PlainReport) (n : ℕ) (full : Bool) (a i k : ℕ) (g : CellId) (since : List Place) (out : List ℕ) → (not full && (length since == 0 && length out == 0)) ≡ true
+    → (since ≡ []) × (Fine ≡ rest_found p r n full a i k g since out)
+rest_nothing p r n true a i k g since out h = absurd (false≢true h)
+rest_nothing p r n false a i k g [] [] h = (refl, refl)
+rest_nothing p r n false a i k g [] (o ∷ os) h = (let z = eqb-true (length (o ∷ os)) 0 h in absurd (omega (arith, z)))
+rest_nothing p r n false a i k g (q ∷ qs) out h = (let z = eqb-true (length (q ∷ qs)) 0 (both (length (q ∷ qs) == 0) (length out == 0) h).0 in absurd (omega (arith, z)))
 
 pub and_no : (b : Bool) → (b && false) ≡ false
 and_no true = refl
@@ -267,7 +271,7 @@ and_no false = refl
 -- the end of an agent that ended, or printed something else; and of one that didn't
 module _ (p : PlainProgram) (r : PlainReport) (n a : ℕ) (g : CellId) (since : List Place) (outs : List ℕ) (ran : PlainActorReport) where
   abbrev rest_of : Finding
-  rest_of = rest_found p r n a (length ran.trace - length since) (length ran.trace) g since (drop (length outs) ran.printed)
+  rest_of = rest_found p r n (is_full_stop ran.outcome) a (length ran.trace - length since) (length ran.trace) g since (drop (length outs) ran.printed)
 
   pub end_off : (is_stopped ran.outcome && begins outs ran.printed) ≡ false → Off a (length ran.trace) ≡ agent_end p r n a g since outs ran
   end_off not = sym (ap (λ t. and_then (check t a (length ran.trace)) rest_of) not)
@@ -276,8 +280,8 @@ module _ (p : PlainProgram) (r : PlainReport) (n a : ℕ) (g : CellId) (since : 
   end_holds both_so = sym (ap (λ t. and_then (check t a (length ran.trace)) rest_of) both_so)
 
 -- whether there is nothing, by another spelling of the entries
-pub nothing_is : (ps : List event.Place) (since : List Place) → plain_trace ps ≡ since → (out : List ℕ) (none : Bool) → none ≡ (length ps == 0 && length out == 0) → (length since == 0 && length out == 0) ≡ none
-nothing_is ps since same out none is = sym (is ∙ ap (λ m. m == 0 && length out == 0) (sym (length-map ps place_of) ∙ ap (λ (l : List Place). length l) same))
+pub nothing_is : (ps : List event.Place) (since : List Place) → plain_trace ps ≡ since → (full : Bool) (out : List ℕ) (none : Bool) → none ≡ (not full && (length ps == 0 && length out == 0)) → (not full && (length since == 0 && length out == 0)) ≡ none
+nothing_is ps since same full out none is = sym (is ∙ ap (λ m. not full && (m == 0 && length out == 0)) (sym (length-map ps place_of) ∙ ap (λ (l : List Place). length l) same))
 
 -- from an index on a trace has as many entries as are left
 pub left_long : (trace : List Place) (i : ℕ) → i ≤ length trace → length trace - length (drop i trace) ≡ i

@@ -12,11 +12,14 @@ use Rattle.txs_world_book.specs.Served.{cells_of}
 use Rattle.txs_world_book.specs.declared.cell.StoreCell.{StoreCell}
 use Rattle.txs_tree_meaning.specs.Meaning.{Completion, Completes, Recurs, Faults, Retries, Waits, OutOfTurns, Invalid}
 use Rattle.txs_tree_meaning.specs.Right.{is_wrong, right_meaning}
+use Rattle.txs_tree_meaning.specs.Sound.{Sound}
 use Rattle.txs_tree_meaning.specs.Thread.{ThreadState, thread_meaning}
 use Rattle.txs_tree_meaning.specs.Tree.{PlainProgram, PlainThread, ThreadSource}
 use Rattle.txs_tree_meaning.specs.View.{Parts, program_of, threads_of}
 use Rattle.txs_tree_meaning.specs.declared.node.Thread.{Thread}
 use Rattle.txs_tree_eval.specs.Told.{Tells, thread_source}
+use Rattle.txs_tree_eval_node.specs.Events.{seen_events}
+use Rattle.txs_tree_eval_node.specs.declared.seen.Seen.{Seen}
 use Rattle.txs_tree_eval.specs.declared.meaning.ThreadMeaning.{ThreadMeaning}
 use Rattle.txs_tree_eval.specs.declared.transaction.TxMeaning.{TxMeaning}
 use Rattle.txs_theorem_runs.specs.Told.{seen_of}
@@ -24,10 +27,10 @@ use Rattle.txs_theorem_threads.specs.FollowsAll.{source_of}
 use Rattle.txs_theorem_threads.specs.Noted.{txs_of}
 use Rattle.txs_theorem_audit.specs.Audited.{PlainActorReport, PlainReport, books_of, place_of, ran_as, report_as, Finding, Fine, Off, Short, and_then}
 use Rattle.txs_theorem_audit.specs.Pieces.{OfThread, piece_finding, piece_serial, thread_finding, thread_serial}
-use Rattle.txs_theorem_audit.specs.Verdict.{calm_found, covered_all, end_found, fits_sizes, noted_by, thread_found}
-use Rattle.txs_theorem_audit_eval.specs.Evaluated.{CalmBy, CoveredBy, NotedBy, calm_found_by, covered_all_by}
+use Rattle.txs_theorem_audit.specs.Verdict.{calm_found, covered_all, end_found, fits_sizes, full_found, is_full_book, is_full_stop, noted_by, thread_ends, thread_found}
+use Rattle.txs_theorem_audit_eval.specs.Evaluated.{CalmBy, CoveredBy, FullBy, NotedBy, calm_found_by, covered_all_by, full_by}
 use Rattle.txs_audit_piece.specs.Judged.{is_fine}
-use Rattle.txs_audit_piece.proofs.Sources.{source_told}
+use Rattle.txs_audit_piece.proofs.Sources.{source_sound, source_told}
 
 -- ---- findings
 
@@ -49,6 +52,15 @@ first_found (Off a i) g e = refl
 first_found (Short a i) g e = refl
 
 -- a thread whose end is fine has a meaning
+full_means : (books : ℕ → List Event) (s : ThreadSource) (n a : ℕ) (es : List SeenEvent) (out : List ℕ) (m : Completion ThreadState Value) → full_found books s n a es out m ≡ Fine → is_wrong m ≡ false
+full_means books s n a es out (Completes v t) e = refl
+full_means books s n a es out (Recurs vs t) e = absurd cc
+full_means books s n a es out (Faults f t) e = refl
+full_means books s n a es out (Retries t) e = absurd cc
+full_means books s n a es out (Waits t) e = refl
+full_means books s n a es out (OutOfTurns t) e = refl
+full_means books s n a es out Invalid e = absurd cc
+
 end_means : (s : ThreadSource) (n a : ℕ) (es : List SeenEvent) (ran : PlainActorReport) (m : Completion ThreadState Value) → end_found s n a es ran m ≡ Fine → is_wrong m ≡ false
 end_means s n a es ran (Completes v t) e = refl
 end_means s n a es ran (Recurs vs t) e = absurd cc
@@ -57,6 +69,13 @@ end_means s n a es ran (Retries t) e = absurd cc
 end_means s n a es ran (Waits t) e = refl
 end_means s n a es ran (OutOfTurns t) e = refl
 end_means s n a es ran Invalid e = absurd cc
+
+ends_mean : (books : ℕ → List Event) (s : ThreadSource) (n a : ℕ) (es : List SeenEvent) (ran : PlainActorReport) (m : Completion ThreadState Value) → thread_ends books s n a es ran m ≡ Fine → is_wrong m ≡ false
+ends_mean books s n a es ran m = go (is_full_stop ran.outcome)
+  where
+    go : (b : Bool) → (if b then full_found books s n a es ran.printed m else end_found s n a es ran m) ≡ Fine → is_wrong m ≡ false
+    go true = full_means books s n a es ran.printed m
+    go false = end_means s n a es ran m
 
 -- what is found of transactions by another spelling of the trace and of what is answered
 pub told_found : (cells : List StoreCell) (books : ℕ → List Event) (a : ℕ) (f : Finding) (ps qs : List event.Place) (ms ns : List TxMeaning) → ps ≡ qs → ms ≡ ns
@@ -90,29 +109,56 @@ module _ (p : PlainProgram) (r : PlainReport) (n a : ℕ) (t : PlainThread) (ran
       → f ≡ thread_found p r n a t ran
   off_found calm noted m tells f is not =
       let all = is ∙ sym (calm_is calm noted m tells) in
-      all ∙ sym (first_found (calm_found (cells_of p.cells) (books_of r) a 0 ran.trace (noted_by source n events meaning)) (end_found source n a events ran meaning) (ap is_fine (sym all) ∙ not))
+      all ∙ sym (first_found (calm_found (cells_of p.cells) (books_of r) a 0 ran.trace (noted_by source n events meaning)) (thread_ends (books_of r) source n a events ran meaning) (ap is_fine (sym all) ∙ not))
 
   -- where they are, it is what is found of its end
   pub end_found_last : CalmBy → NotedBy → (m : ThreadMeaning) → Tells m source n events → (f : Finding) → f ≡ calm_found_by (cells_of p.cells) (books_of r) a 0 ran.trace m.txs → is_fine f ≡ true
-      → (g : Finding) → g ≡ end_found source n a events ran meaning → g ≡ thread_found p r n a t ran
+      → (g : Finding) → g ≡ thread_ends (books_of r) source n a events ran meaning → g ≡ thread_found p r n a t ran
   end_found_last calm noted m tells f is fine g ends =
-      ends ∙ ap (λ h. and_then h (end_found source n a events ran meaning)) (sym (fine_is f fine) ∙ is ∙ sym (calm_is calm noted m tells))
+      ends ∙ ap (λ h. and_then h (thread_ends (books_of r) source n a events ran meaning)) (sym (fine_is f fine) ∙ is ∙ sym (calm_is calm noted m tells))
 
   -- where that is fine, its commits are covered if those are that are answered
-  pub covered_found : CoveredBy → NotedBy → (m : ThreadMeaning) → Tells m source n events → (g : Finding) → g ≡ end_found source n a events ran meaning → g ≡ Fine
+  pub covered_found : CoveredBy → NotedBy → (m : ThreadMeaning) → Tells m source n events → (g : Finding) → g ≡ thread_ends (books_of r) source n a events ran meaning → g ≡ Fine
       → covered_all_by (books_of r) ran.trace m.txs ≡ covered_all (books_of r) ran.trace (txs_of meaning)
   covered_found covered noted m tells g ends fine =
       ap (λ ms. covered_all_by (books_of r) ran.trace ms) (noted source n events m tells)
       ∙ sym (covered (books_of r) ran.trace (noted_by source n events meaning))
-      ∙ ap (λ b. covered_all (books_of r) ran.trace (if b then txs_of (right_meaning source n events) else txs_of meaning)) (end_means source n a events ran meaning (sym ends ∙ fine))
+      ∙ ap (λ b. covered_all (books_of r) ran.trace (if b then txs_of (right_meaning source n events) else txs_of meaning)) (ends_mean (books_of r) source n a events ran meaning (sym ends ∙ fine))
 
--- an end that is found by another spelling of the program and the events
-pub end_so : (p q : Parts) → p ≡ q → (es ds : List SeenEvent) → es ≡ ds → (n a : ℕ) (ran : PlainActorReport) (m : ThreadMeaning) (g : Finding)
+-- ---- ends
+
+-- as many events are told of as there are
+pub many_seen : (es : List Seen) → length (seen_events es) ≡ length es
+many_seen [] = refl
+many_seen (e ∷ es) = ap suc (many_seen es)
+
+-- that of one that wasn't stopped for a full book, by another spelling of the program
+pub other_end : (p q : Parts) → p ≡ q → (books : ℕ → List Event) (es : List SeenEvent) (n a : ℕ) (ran : PlainActorReport) → is_full_stop ran.outcome ≡ false → (m : ThreadMeaning) (g : Finding)
     → ((t : PlainThread) → nth (program_of p).threads a ≡ Some t → Tells m (source_of (program_of p) t) n es → g ≡ end_found (source_of (program_of p) t) n a es ran (thread_meaning (source_of (program_of p) t) n es))
-    → (t : PlainThread) → nth (program_of q).threads a ≡ Some t → Tells m (source_of (program_of q) t) n es → g ≡ end_found (source_of (program_of q) t) n a ds ran (thread_meaning (source_of (program_of q) t) n ds)
-end_so p q same es ds are n a ran m g ends t there tells =
+    → (t : PlainThread) → nth (program_of q).threads a ≡ Some t → Tells m (source_of (program_of q) t) n es → g ≡ thread_ends books (source_of (program_of q) t) n a es ran (thread_meaning (source_of (program_of q) t) n es)
+other_end p q same books es n a ran other m g ends t there tells =
+    let s = source_of (program_of q) t in
     subst (λ (x : Parts). (u : PlainThread) → nth (program_of x).threads a ≡ Some u → Tells m (source_of (program_of x) u) n es → g ≡ end_found (source_of (program_of x) u) n a es ran (thread_meaning (source_of (program_of x) u) n es)) same ends t there tells
-    ∙ ap (λ l. end_found (source_of (program_of q) t) n a l ran (thread_meaning (source_of (program_of q) t) n l)) are
+    ∙ sym (ap (λ b. if b then full_found books s n a es ran.printed (thread_meaning s n es) else end_found s n a es ran (thread_meaning s n es)) other)
+
+-- that of one that was, by what is answered of it
+pub full_end_is : FullBy → (books : ℕ → List Event) (p : PlainProgram) → Sound p → (n a : ℕ) (t : PlainThread) → nth p.threads a ≡ Some t → (es : List Seen) (ran : PlainActorReport) → is_full_stop ran.outcome ≡ true
+    → (m : ThreadMeaning) (full : Bool) → full ≡ is_full_book books m.asks → (out : List ℕ) → out ≡ ran.printed → Tells m (source_of p t) n (seen_events es)
+    → full_by a (length es) out m.needs full m.printed m.eaten ≡ thread_ends books (source_of p t) n a (seen_events es) ran (thread_meaning (source_of p t) n (seen_events es))
+full_end_is law books p sound n a t there es ran stop m full is out printed tells =
+    let s = source_of p t in
+    let ds = seen_events es in
+    ap (λ l. full_by a (length es) l m.needs full m.printed m.eaten) printed
+    ∙ ap (λ b. full_by a (length es) ran.printed m.needs b m.printed m.eaten) is
+    ∙ ap (λ q. full_by a q ran.printed m.needs (is_full_book books m.asks) m.printed m.eaten) (sym (many_seen es))
+    ∙ sym (law books s n a ds ran.printed m (source_sound p sound a t there) tells)
+    ∙ sym (ap (λ b. if b then full_found books s n a ds ran.printed (thread_meaning s n ds) else end_found s n a ds ran (thread_meaning s n ds)) stop)
+
+-- an end that is found by another spelling of the events
+pub end_so : (p : PlainProgram) (books : ℕ → List Event) (es ds : List SeenEvent) → es ≡ ds → (n a : ℕ) (ran : PlainActorReport) (m : ThreadMeaning) (g : Finding)
+    → ((t : PlainThread) → nth p.threads a ≡ Some t → Tells m (source_of p t) n es → g ≡ thread_ends books (source_of p t) n a es ran (thread_meaning (source_of p t) n es))
+    → (t : PlainThread) → nth p.threads a ≡ Some t → Tells m (source_of p t) n es → g ≡ thread_ends books (source_of p t) n a ds ran (thread_meaning (source_of p t) n ds)
+end_so p books es ds are n a ran m g ends t there tells = ends t there tells ∙ ap (λ l. thread_ends books (source_of p t) n a l ran (thread_meaning (source_of p t) n l)) are
 
 -- ---- a piece
 

@@ -14,7 +14,7 @@ use Rattle.txs_theorem_runs.specs.Told.{Place, seen_of}
 use Rattle.txs_theorem_serial.specs.Whole.{is_act, is_act_kind}
 use Rattle.txs_theorem_audit.specs.Audited.{PlainReport, books_of, Finding, and_then}
 use Rattle.txs_theorem_audit.specs.Pieces.{acts_print, part_of}
-use Rattle.txs_theorem_audit.specs.Verdict.{act_ends, calm_found, covered_all, noted_in, still_ends}
+use Rattle.txs_theorem_audit.specs.Verdict.{act_ends, calm_found, covered_all, noted_in, rest_ends}
 use Rattle.txs_theorem_audit_eval.specs.Evaluated.{means_on}
 use Rattle.txs_audit_evidence.specs.Evidence.{PlainBooks}
 use Rattle.txs_audit_evidence.specs.declared.acts.Act.{Act}
@@ -46,13 +46,14 @@ acted_end p r n a i k done x v since new sends =
 abbrev pub acted : PlainProgram → PlainReport → ℕ → ℕ → ℕ → ℕ → List Event → Action → Value → List Place → Result Value Fault → List Action → Finding
 acted p r n a i k done x v since new sends = and_then (calm_since p r n a i x v since) (acted_end p r n a i k done x v since new sends)
 
--- the end of an action that isn't over and has printed this
-abbrev pub waited_end : PlainProgram → PlainReport → ℕ → ℕ → ℕ → ℕ → Action → Value → List Place → List ℕ → Finding
-waited_end p r n a i k x v since out = still_ends a i k (means_on p n x v) (seen_of p.cells (books_of r) since) out (means_on p n x v (seen_of p.cells (books_of r) since))
+-- the end of an action that isn't over and has printed this, by whether its agent's actor was stopped for a full book
+abbrev pub waited_end : PlainProgram → PlainReport → ℕ → Bool → ℕ → ℕ → ℕ → Action → Value → List Place → List ℕ → Finding
+waited_end p r n full a i k x v since out =
+    rest_ends (books_of r) full a i k (means_on p n x v) (seen_of p.cells (books_of r) since) out (means_on p n x v (seen_of p.cells (books_of r) since))
 
 -- all that is found of it
-abbrev pub waited : PlainProgram → PlainReport → ℕ → ℕ → ℕ → ℕ → Action → Value → List Place → List ℕ → Finding
-waited p r n a i k x v since out = and_then (calm_since p r n a i x v since) (waited_end p r n a i k x v since out)
+abbrev pub waited : PlainProgram → PlainReport → ℕ → Bool → ℕ → ℕ → ℕ → Action → Value → List Place → List ℕ → Finding
+waited p r n full a i k x v since out = and_then (calm_since p r n a i x v since) (waited_end p r n full a i k x v since out)
 
 -- whether its commits are covered
 abbrev pub covered_since : PlainProgram → PlainReport → ℕ → Action → Value → List Place → Bool

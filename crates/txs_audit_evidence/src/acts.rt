@@ -1,6 +1,6 @@
 //! The actions of agents, and how agents end.
 
-ghost use Rattle.std.specs.Prelude.{◌≡◌, ◌==◌, ◌&&◌, ◌≤◌, ◌<◌, ◌+◌, ◌^◌, ◌-◌, ◌∷◌, [], length, suc, true, take, drop, IfOk, Some, option_copied};
+ghost use Rattle.std.specs.Prelude.{◌≡◌, ◌==◌, ◌&&◌, ◌≤◌, ◌<◌, ◌+◌, ◌^◌, ◌-◌, ◌∷◌, [], length, not, suc, true, take, drop, IfOk, Some, option_copied};
 ghost use Rattle.txs_value_base.specs.Places.{nth};
 ghost use Rattle.txs_value_cell.specs.Agents.{agents_from};
 ghost use Rattle.txs_world.specs.Store.{next_action};
@@ -13,7 +13,7 @@ ghost use Rattle.txs_tree_eval_node.specs.Events.{seen_events};
 ghost use Rattle.txs_theorem_runs.specs.Told.{seen_of};
 ghost use Rattle.txs_theorem_audit.specs.Audited.{Fine, Off, books_of, place_of, ran_as};
 ghost use Rattle.txs_theorem_audit.specs.Pieces.{OfAct, OfEnd, act_finding, act_finding_at, acts_print, end_finding, end_serial, event_serial, part_of, piece_finding, piece_serial, serial_at};
-ghost use Rattle.txs_theorem_audit.specs.Verdict.{action_covered, action_found, action_prints, agent_end, begins, is_sent_call, least_of, part_printed, printed_by, rest_found, still_found};
+ghost use Rattle.txs_theorem_audit.specs.Verdict.{action_covered, action_found, action_prints, agent_end, begins, is_full_stop, is_sent_call, least_of, part_printed, printed_by, rest_ends, rest_found, still_found};
 ghost use Rattle.txs_theorem_audit_eval.specs.Evaluated.{means_on, prints_by};
 ghost use Rattle.txs_audit_piece.specs.Judged.{as_found};
 ghost use Rattle.txs_audit_evidence.specs.Acted.{HasAct, IsAct, NamesAct, PrintsOn, acted, covered_since, waited};
@@ -24,11 +24,12 @@ use crate::bounds::{first_bound, is_short, next_bound, wants_turns};
 use crate::numbers::agents_of;
 use crate::transactions::{Found, first_failed, transactions_found};
 use std::alloc::{AllocError, Global};
-use txs_audit_piece::ends::{begins, is_stopped};
-use txs_audit_piece::{Finding, Stretch, act_ends, action_end, still_ends};
+use txs_audit_piece::ends::{begins, is_full_stop, is_stopped};
+use txs_audit_piece::{Finding, Stretch, act_ends, action_end, full_ends, still_ends};
 use txs_theorem_audit::{action_stays, rest_stays};
 use txs_theorem_audit_eval::{
-    act_is_answered, action_is_answered, calm_is_answered, covered_is_answered, still_is_answered,
+    act_is_answered, action_is_answered, calm_is_answered, covered_is_answered,
+    rest_full_is_answered, still_is_answered,
 };
 use txs_tree_eval::{ActionMeaning, Needs, Seen, eval_action};
 use txs_value_base::{Callee, Fault};
@@ -41,12 +42,12 @@ const MOST_ITEMS: usize = 65_535;
 
 /// An act: its agent, what the action came to, what it sent, and how many events the store's book has before it.
 #[derive(Clone, Copy)]
-struct Act<'a> {
-    agent: CellId,
-    number: u32,
-    new: &'a Result<Value, Fault>,
-    sends: &'a [Action],
-    at: u32,
+pub struct Act<'a> {
+    pub agent: CellId,
+    pub number: u32,
+    pub new: &'a Result<Value, Fault>,
+    pub sends: &'a [Action],
+    pub at: u32,
 }
 
 /// The act that this event is, if it is one. The store's book has so many events before it.
@@ -71,7 +72,7 @@ fn act_in(event: &Event, at: u32) -> Option<Act<'_>>
 }
 
 /// The act that the entry names, if it is one. In the book of an atom there is none.
-fn act_of<'a>(books: &Books<'a>, place: Place) -> Option<Act<'a>>
+pub fn act_of<'a>(books: &Books<'a>, place: Place) -> Option<Act<'a>>
     ensures { NamesAct books.now (place_of place) result }
 {
     books.are_legal();
@@ -96,7 +97,7 @@ fn least(a: usize, b: usize) -> usize
 }
 
 /// The action that is over with this act.
-fn action_of<'b>(books: &'b Books<'_>, act: Act<'_>) -> Option<&'b Action>
+pub fn action_of<'b>(books: &'b Books<'_>, act: Act<'_>) -> Option<&'b Action>
     requires { HasAct books.now act }
     ensures { option_copied result ≡ next_action (cells_of books.now.program.cells) (take act.entry.at books.now.report.book) act.entry.agent }
 {
@@ -105,7 +106,7 @@ fn action_of<'b>(books: &'b Books<'_>, act: Act<'_>) -> Option<&'b Action>
 }
 
 /// The state of its agent before this act.
-fn state_of<'b>(books: &'b Books<'_>, act: Act<'_>) -> Option<&'b Value>
+pub fn state_of<'b>(books: &'b Books<'_>, act: Act<'_>) -> Option<&'b Value>
     requires { HasAct books.now act }
     ensures { option_copied result ≡ Some (newest (opening (cells_of books.now.program.cells)) (take act.entry.at books.now.report.book) act.entry.agent.number) }
 {
@@ -114,7 +115,7 @@ fn state_of<'b>(books: &'b Books<'_>, act: Act<'_>) -> Option<&'b Value>
 }
 
 /// The entries of a trace from one index up to another.
-fn part_of(trace: &[Place], from: usize, to: usize) -> &[Place]
+pub fn part_of(trace: &[Place], from: usize, to: usize) -> &[Place]
     requires order { from ≤ to }
     requires within { to ≤ length trace.now }
     ensures part { plain_trace result.now ≡ part_of from to (plain_trace trace.now) }
@@ -149,7 +150,7 @@ fn is_sent_call(books: &Books<'_>, callee: Callee, count: usize) -> bool
 }
 
 /// Whether this action may be applied to its agent's state and its arguments.
-fn is_sent(books: &Books<'_>, action: &Action) -> bool
+pub fn is_sent(books: &Books<'_>, action: &Action) -> bool
     ensures { result ≡ is_sent_call (known (functions_of books.now.program.functions)) action.now.callee (suc (length action.now.args)) }
 {
     let count = action.args.as_slice().len() + 1;
@@ -157,7 +158,7 @@ fn is_sent(books: &Books<'_>, action: &Action) -> bool
 }
 
 /// What is answered of this action on this state and these events of its agent's actor.
-fn answered<'b>(
+pub fn answered<'b>(
     alloc: Global,
     books: &'b Books<'_>,
     turns: u32,
@@ -361,7 +362,7 @@ fn ran_found(
 }
 
 /// The actor of the agent with this number among the agents: the threads come first.
-pub(crate) fn actor_of(books: &Books<'_>, agent: u16) -> u16
+pub fn actor_of(books: &Books<'_>, agent: u16) -> u16
     requires { agent < length books.now.report.agents }
     ensures { result ≡ length (program_of books.now.program).threads + agent }
 {
@@ -373,7 +374,7 @@ pub(crate) fn actor_of(books: &Books<'_>, agent: u16) -> u16
 }
 
 /// The entry of the agent with this number among the agents, if there is one.
-fn entry_of<'a>(books: &Books<'a>, agent: u16) -> Option<&'a ActorReport>
+pub fn entry_of<'a>(books: &Books<'a>, agent: u16) -> Option<&'a ActorReport>
     ensures { plain_entry (option_copied result) ≡ nth books.now.report.agents agent }
 {
     let report = books.report();
@@ -381,7 +382,7 @@ fn entry_of<'a>(books: &Books<'a>, agent: u16) -> Option<&'a ActorReport>
 }
 
 /// The agent with this number among the agents, if there is one.
-fn cell_of(alloc: Global, books: &Books<'_>, agent: u16) -> Result<Option<CellId>, AllocError>
+pub fn cell_of(alloc: Global, books: &Books<'_>, agent: u16) -> Result<Option<CellId>, AllocError>
     ensures { IfOk result (λ o. o ≡ nth (agents_from 0 books.now.program.cells) agent) }
 {
     let program = books.program();
@@ -481,7 +482,7 @@ fn printed_of(alloc: Global, meaning: ActionMeaning) -> Listed<u8>
 }
 
 /// What this action prints on this state and these events: with few turns first, and with more only where these don't suffice.
-fn prints_within<'b>(
+pub fn prints_within<'b>(
     alloc: Global,
     books: &'b Books<'_>,
     turns: u32,
@@ -569,7 +570,7 @@ fn print_next(
 }
 
 /// What the actions of this trace print that are over, one after another.
-fn acts_print(
+pub fn acts_print(
     alloc: Global,
     books: &Books<'_>,
     turns: u32,
@@ -587,11 +588,11 @@ fn acts_print(
 
 // ---- ends
 
-/// Whether there are neither entries nor bytes.
-fn is_nothing(since: &[Place], out: &[u8]) -> bool
-    ensures { result ≡ (length since.now == 0 && length out.now == 0) }
+/// Whether an actor that wasn't stopped for a full book has neither entries nor bytes left.
+fn is_nothing(full: bool, since: &[Place], out: &[u8]) -> bool
+    ensures { result ≡ (not full && (length since.now == 0 && length out.now == 0)) }
 {
-    since.is_empty() && out.is_empty()
+    !full && (since.is_empty() && out.is_empty())
 }
 
 /// Whether these bytes begin with what this action prints on all of these events but the last.
@@ -639,11 +640,47 @@ fn printed_part<'b>(
     prints_least(alloc, books, turns, action, state, seen, out)
 }
 
+/// What is found of the end of this action on this state, which isn't over and has printed this, where its events are these and this is
+/// answered of it. Where its agent's actor was stopped for a full book, the store's book and the one that the action needs are looked at.
+fn rest_ends<'b>(
+    alloc: Global,
+    books: &'b Books<'_>,
+    turns: u32,
+    full: bool,
+    stretch: Stretch,
+    action: &Action,
+    state: &Value,
+    out: &[u8],
+    seen: &'b [Seen<'b>],
+    meaning: &ActionMeaning,
+) -> Result<Finding, AllocError>
+    requires sent { is_sent_call (known (functions_of books.now.program.functions)) action.now.callee (suc (length action.now.args)) ≡ true }
+    requires fits { stretch.first + length seen.now < 2 ^ 64 }
+    requires many { stretch.events ≡ length seen.now }
+    requires tells { TellsAction meaning.now (program_of books.now.program) action.now.callee action.now.span (state.now ∷ action.now.args) turns (seen_events seen.now) }
+    ensures { IfOk result (λ f. as_found f ≡ rest_ends (books_of books.now.report) full stretch.actor stretch.first stretch.index (means_on (program_of books.now.program) turns action.now state.now) (seen_events seen.now) out.now (means_on (program_of books.now.program) turns action.now state.now (seen_events seen.now))) }
+{
+    // Laws and a step of the proof, which do nothing when they run.
+    still_is_answered();
+    rest_full_is_answered();
+    books.program().is_sound();
+    let end = action_end(alloc, books.program(), turns, action, meaning)?;
+    if full {
+        let store = books.is_full(Some(0));
+        let needed = books.is_full(meaning.asks);
+        return Ok(full_ends(stretch, meaning, &end, out, store, needed));
+    }
+    let whole = meaning.printed.as_slice();
+    let part = printed_part(alloc, books, turns, action, state, seen, whole, out)?;
+    Ok(still_ends(stretch, meaning, &end, part))
+}
+
 /// What is found of this action on this state, which isn't over and has printed this, where its events are these and this is answered of it.
 fn judge_wait<'b>(
     alloc: Global,
     books: &'b Books<'_>,
     turns: u32,
+    full: bool,
     stretch: Stretch,
     since: &[Place],
     action: &Action,
@@ -657,11 +694,10 @@ fn judge_wait<'b>(
     requires many { stretch.events ≡ length seen.now }
     requires events { seen_events seen.now ≡ seen_of books.now.program.cells (books_of books.now.report) (plain_trace since.now) }
     requires tells { TellsAction meaning.now (program_of books.now.program) action.now.callee action.now.span (state.now ∷ action.now.args) turns (seen_events seen.now) }
-    ensures finding { IfOk result (λ f. as_found f.finding ≡ waited (program_of books.now.program) books.now.report turns stretch.actor stretch.first stretch.index action.now state.now (plain_trace since.now) out.now) }
+    ensures finding { IfOk result (λ f. as_found f.finding ≡ waited (program_of books.now.program) books.now.report turns full stretch.actor stretch.first stretch.index action.now state.now (plain_trace since.now) out.now) }
     ensures serial { IfOk result (λ f. as_found f.finding ≡ Fine → f.serial ≡ covered_since (program_of books.now.program) books.now.report turns action.now state.now (plain_trace since.now)) }
 {
     // Laws that the proof uses; they do nothing when they run.
-    still_is_answered();
     action_is_answered();
     calm_is_answered();
     covered_is_answered();
@@ -671,11 +707,11 @@ fn judge_wait<'b>(
     if !calm.finding.is_fine() {
         return Ok(calm);
     }
-    let end = action_end(alloc, books.program(), turns, action, meaning)?;
-    let whole = meaning.printed.as_slice();
-    let part = printed_part(alloc, books, turns, action, state, seen, whole, out)?;
+    let finding = rest_ends(
+        alloc, books, turns, full, stretch, action, state, out, seen, meaning,
+    )?;
     Ok(Found {
-        finding: still_ends(stretch, meaning, &end, part),
+        finding,
         serial: calm.serial,
     })
 }
@@ -685,6 +721,7 @@ fn waited<'b>(
     alloc: Global,
     books: &'b Books<'_>,
     turns: u32,
+    full: bool,
     stretch: Stretch,
     since: &[Place],
     action: &Action,
@@ -695,7 +732,7 @@ fn waited<'b>(
     requires sent { is_sent_call (known (functions_of books.now.program.functions)) action.now.callee (suc (length action.now.args)) ≡ true }
     requires fits { stretch.first + length since.now < 2 ^ 64 }
     requires events { seen_events seen.now ≡ seen_of books.now.program.cells (books_of books.now.report) (plain_trace since.now) }
-    ensures finding { IfOk result (λ f. as_found f.finding ≡ waited (program_of books.now.program) books.now.report turns stretch.actor stretch.first stretch.index action.now state.now (plain_trace since.now) out.now) }
+    ensures finding { IfOk result (λ f. as_found f.finding ≡ waited (program_of books.now.program) books.now.report turns full stretch.actor stretch.first stretch.index action.now state.now (plain_trace since.now) out.now) }
     ensures serial { IfOk result (λ f. as_found f.finding ≡ Fine → f.serial ≡ covered_since (program_of books.now.program) books.now.report turns action.now state.now (plain_trace since.now)) }
 {
     let meaning = answered(alloc, books, turns, action, state, seen)?;
@@ -706,7 +743,7 @@ fn waited<'b>(
         index: stretch.index,
     };
     judge_wait(
-        alloc, books, turns, its, since, action, state, out, seen, &meaning,
+        alloc, books, turns, full, its, since, action, state, out, seen, &meaning,
     )
 }
 
@@ -716,6 +753,7 @@ fn still_found<'b>(
     alloc: Global,
     books: &'b Books<'_>,
     turns: u32,
+    full: bool,
     stretch: Stretch,
     since: &[Place],
     agent: CellId,
@@ -725,7 +763,7 @@ fn still_found<'b>(
     requires there { agent.number < length books.now.program.cells }
     requires fits { stretch.first + length since.now < 2 ^ 64 }
     requires events { seen_events seen.now ≡ seen_of books.now.program.cells (books_of books.now.report) (plain_trace since.now) }
-    ensures finding { IfOk result (λ f. as_found f.finding ≡ still_found (program_of books.now.program) books.now.report turns stretch.actor stretch.first stretch.index agent (plain_trace since.now) out.now (next_action (cells_of books.now.program.cells) books.now.report.book agent)) }
+    ensures finding { IfOk result (λ f. as_found f.finding ≡ still_found (program_of books.now.program) books.now.report turns full stretch.actor stretch.first stretch.index agent (plain_trace since.now) out.now (next_action (cells_of books.now.program.cells) books.now.report.book agent)) }
     ensures serial { IfOk result (λ f. as_found f.finding ≡ Fine → f.serial ≡ action_covered (program_of books.now.program) books.now.report turns books.now.report.book agent (plain_trace since.now) (next_action (cells_of books.now.program.cells) books.now.report.book agent)) }
 {
     books.are_legal();
@@ -740,16 +778,17 @@ fn still_found<'b>(
         return Ok(off(stretch.actor, stretch.first));
     }
     waited(
-        alloc, books, turns, stretch, since, action, state, out, seen,
+        alloc, books, turns, full, stretch, since, action, state, out, seen,
     )
 }
 
 /// What is found of what an agent's actor did behind its last act, and has printed since, where its events are these and each loop makes at
-/// most so many turns: nothing, or what the first action that waits means.
+/// most so many turns: nothing, or what the first action that waits means. One that was stopped for a full book has such an action.
 fn rest_with<'b>(
     alloc: Global,
     books: &'b Books<'_>,
     turns: u32,
+    full: bool,
     stretch: Stretch,
     since: &[Place],
     agent: CellId,
@@ -759,13 +798,13 @@ fn rest_with<'b>(
     requires there { agent.number < length books.now.program.cells }
     requires fits { stretch.first + length since.now < 2 ^ 64 }
     requires events { seen_events seen.now ≡ seen_of books.now.program.cells (books_of books.now.report) (plain_trace since.now) }
-    ensures finding { IfOk result (λ f. as_found f.finding ≡ rest_found (program_of books.now.program) books.now.report turns stretch.actor stretch.first stretch.index agent (plain_trace since.now) out.now) }
+    ensures finding { IfOk result (λ f. as_found f.finding ≡ rest_found (program_of books.now.program) books.now.report turns full stretch.actor stretch.first stretch.index agent (plain_trace since.now) out.now) }
     ensures serial { IfOk result (λ f. as_found f.finding ≡ Fine → f.serial ≡ action_covered (program_of books.now.program) books.now.report turns books.now.report.book agent (plain_trace since.now) (next_action (cells_of books.now.program.cells) books.now.report.book agent)) }
 {
-    if is_nothing(since, out) {
+    if is_nothing(full, since, out) {
         return Ok(fine());
     }
-    still_found(alloc, books, turns, stretch, since, agent, out, seen)
+    still_found(alloc, books, turns, full, stretch, since, agent, out, seen)
 }
 
 /// The same where each loop makes at most `turns` turns: with few turns first, and with more only where these don't suffice.
@@ -773,6 +812,7 @@ fn rest_within<'b>(
     alloc: Global,
     books: &'b Books<'_>,
     turns: u32,
+    full: bool,
     stretch: Stretch,
     since: &[Place],
     agent: CellId,
@@ -782,7 +822,7 @@ fn rest_within<'b>(
     requires there { agent.number < length books.now.program.cells }
     requires fits { stretch.first + length since.now < 2 ^ 64 }
     requires events { seen_events seen.now ≡ seen_of books.now.program.cells (books_of books.now.report) (plain_trace since.now) }
-    ensures finding { IfOk result (λ f. as_found f.finding ≡ rest_found (program_of books.now.program) books.now.report turns stretch.actor stretch.first stretch.index agent (plain_trace since.now) out.now) }
+    ensures finding { IfOk result (λ f. as_found f.finding ≡ rest_found (program_of books.now.program) books.now.report turns full stretch.actor stretch.first stretch.index agent (plain_trace since.now) out.now) }
     ensures serial { IfOk result (λ f. as_found f.finding ≡ Fine → f.serial ≡ action_covered (program_of books.now.program) books.now.report turns books.now.report.book agent (plain_trace since.now) (next_action (cells_of books.now.program.cells) books.now.report.book agent)) }
 {
     // A law and a step of the proof, which do nothing when they run.
@@ -790,7 +830,7 @@ fn rest_within<'b>(
     books.program().is_sound();
     let mut bound = first_bound(turns);
     loop {
-        let found = rest_with(alloc, books, bound, stretch, since, agent, out, seen)?;
+        let found = rest_with(alloc, books, bound, full, stretch, since, agent, out, seen)?;
         if !is_short(found.finding, bound, turns) {
             return Ok(found);
         }
@@ -803,6 +843,7 @@ fn rest_found(
     alloc: Global,
     books: &Books<'_>,
     turns: u32,
+    full: bool,
     actor: u16,
     agent: CellId,
     from: usize,
@@ -811,7 +852,7 @@ fn rest_found(
 ) -> Result<Found, AllocError>
     requires there { agent.number < length books.now.program.cells }
     requires within { from ≤ length trace.now }
-    ensures finding { IfOk result (λ f. as_found f.finding ≡ rest_found (program_of books.now.program) books.now.report turns actor from (length trace.now) agent (drop from (plain_trace trace.now)) out.now) }
+    ensures finding { IfOk result (λ f. as_found f.finding ≡ rest_found (program_of books.now.program) books.now.report turns full actor from (length trace.now) agent (drop from (plain_trace trace.now)) out.now) }
     ensures serial { IfOk result (λ f. as_found f.finding ≡ Fine → f.serial ≡ action_covered (program_of books.now.program) books.now.report turns books.now.report.book agent (drop from (plain_trace trace.now)) (next_action (cells_of books.now.program.cells) books.now.report.book agent)) }
 {
     let (_, since) = trace.split_at(from);
@@ -823,7 +864,9 @@ fn rest_found(
     };
     let seen = books.see_all(alloc, since)?;
     let events = seen.as_slice();
-    rest_within(alloc, books, turns, stretch, since, agent, out, events)
+    rest_within(
+        alloc, books, turns, full, stretch, since, agent, out, events,
+    )
 }
 
 /// What is found of the end of an agent with this entry, whose actor began at this index what comes behind its last act: it was stopped
@@ -852,7 +895,8 @@ fn ended(
         return Ok(off(actor, trace.len()));
     }
     let (_, out) = printed.split_at(outs.len());
-    rest_found(alloc, books, turns, actor, agent, from, trace, out)
+    let full = is_full_stop(ran.outcome);
+    rest_found(alloc, books, turns, full, actor, agent, from, trace, out)
 }
 
 /// What is found of the end of the agent with this number among the agents, which has this entry. What its actor did behind its last act

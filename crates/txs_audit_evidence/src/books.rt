@@ -7,6 +7,7 @@ ghost use Rattle.txs_world.specs.Store.{next_action};
 ghost use Rattle.txs_world_book.specs.Book.{is_there, mail_after, written};
 ghost use Rattle.txs_world_book.specs.Served.{cells_of};
 ghost use Rattle.txs_theorem_audit.specs.Audited.{books_of, report_as};
+ghost use Rattle.txs_theorem_audit.specs.Verdict.{is_full_book};
 ghost use Rattle.txs_audit_book.specs.Replayed.{IsRun, WorldsAre, value_there};
 ghost use Rattle.txs_audit_evidence.specs.Evidence.{AreLegal, SwapsIn, replay_in};
 
@@ -17,6 +18,7 @@ use txs_tree_eval::History;
 use txs_tree_meaning::Program;
 use txs_value_cell::Action;
 use txs_value_data::Value;
+use txs_value_data::limits::MOST_EVENTS;
 use txs_world_protocol::{Event, Place, Report};
 
 /// A program, with the table of its functions; a report that has the right sizes; and the report's books gone through: the store's,
@@ -86,6 +88,30 @@ impl<'a> Books<'a> {
         match self.report.atom_books.get(place.book as usize - 1) {
             Some(book) => book.as_slice().get(place.at as usize),
             None => None,
+        }
+    }
+
+    /// How many events the book with this number has: none where there is no such book.
+    pub fn events_in(&self, book: usize) -> usize
+        ensures { result ≡ length (books_of self.now.report book) }
+    {
+        if book == 0 {
+            return self.report.book.len();
+        }
+        match self.report.atom_books.get(book - 1) {
+            Some(events) => events.as_slice().len(),
+            None => 0,
+        }
+    }
+
+    /// Whether the book that is needed, if any is, is full.
+    #[tactic(auto, unfolding(txs_value_data::specs::Limits::most_events))]
+    pub fn is_full(&self, book: Option<usize>) -> bool
+        ensures { result ≡ is_full_book (books_of self.now.report) book }
+    {
+        match book {
+            Some(book) => MOST_EVENTS <= self.events_in(book),
+            None => false,
         }
     }
 

@@ -9,7 +9,7 @@ use txs_audit_piece::Finding;
 use txs_tree_eval::Needs;
 
 /// The first bound: one turn, where one is allowed.
-pub(crate) fn first_bound(turns: u32) -> u32
+pub fn first_bound(turns: u32) -> u32
     ensures { result ≤ turns }
 {
     if turns == 0 {
@@ -19,7 +19,7 @@ pub(crate) fn first_bound(turns: u32) -> u32
 }
 
 /// The bound behind this one: twice as many turns, but no more than are allowed.
-pub(crate) fn next_bound(bound: u32, turns: u32) -> u32
+pub fn next_bound(bound: u32, turns: u32) -> u32
     requires { bound < turns }
     ensures more { bound < result }
     ensures most { result ≤ turns }
@@ -34,7 +34,7 @@ pub(crate) fn next_bound(bound: u32, turns: u32) -> u32
 }
 
 /// Whether this was found only for want of turns, and more of them are allowed than this bound.
-pub(crate) fn is_short(finding: Finding, bound: u32, turns: u32) -> bool
+pub fn is_short(finding: Finding, bound: u32, turns: u32) -> bool
     requires { bound ≤ turns }
     ensures more { IsTrue result → bound < turns }
     ensures enough { IsFalse result → (bound ≡ turns) ⊎ IsDecided (as_found finding) }
@@ -46,7 +46,7 @@ pub(crate) fn is_short(finding: Finding, bound: u32, turns: u32) -> bool
 }
 
 /// Whether an evaluation of which this is answered wants turns, and more of them are allowed than this bound.
-pub(crate) fn wants_turns(needs: &Needs, bound: u32, turns: u32) -> bool
+pub fn wants_turns(needs: &Needs, bound: u32, turns: u32) -> bool
     requires { bound ≤ turns }
     ensures more { IsTrue result → bound < turns }
     ensures enough { IsFalse result → (bound ≡ turns) ⊎ (needs.now ≡ Turns → ⊥) }

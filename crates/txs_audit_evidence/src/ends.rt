@@ -1,15 +1,14 @@
-//! How actors ended. A stop for steps or for a full book is true, and where the run was to go on up to its end, each thread has ended, and each agent's
-//! actor has ended or has nothing to do.
+//! How actors ended. A stop for steps is true, and where the run was to go on up to its end, each thread has ended, and each agent's actor has ended
+//! or has nothing to do.
 
-ghost use Rattle.std.specs.Prelude.{◌≡◌, ◌≤◌, ◌<◌, ◌==◌, ◌&&◌, ◌||◌, not, suc, length, map, IfOk};
+ghost use Rattle.std.specs.Prelude.{◌≡◌, ◌≤◌, ◌<◌, ◌&&◌, ◌||◌, not, length, map, IfOk};
 ghost use Rattle.txs_value_cell.specs.Agents.{agents_from};
-ghost use Rattle.txs_value_data.specs.Limits.{most_events};
 ghost use Rattle.txs_world.specs.Store.{next_action};
 ghost use Rattle.txs_world_book.specs.Book.{is_there};
 ghost use Rattle.txs_world_book.specs.Served.{cells_of};
 ghost use Rattle.txs_tree_meaning.specs.View.{program_of};
-ghost use Rattle.txs_theorem_audit.specs.Audited.{books_of, ran_as, report_as};
-ghost use Rattle.txs_theorem_audit.specs.Verdict.{agents_over, ends_found, is_full, is_true_stop, threads_over};
+ghost use Rattle.txs_theorem_audit.specs.Audited.{ran_as};
+ghost use Rattle.txs_theorem_audit.specs.Verdict.{agents_over, ends_found, is_true_stop, threads_over};
 ghost use Rattle.txs_audit_answer.specs.Answered.{terms_as};
 ghost use Rattle.txs_audit_trace.specs.Named.{off_in};
 
@@ -19,45 +18,16 @@ use crate::numbers::agents_of;
 use std::alloc::{AllocError, Global};
 use txs_audit_answer::Terms;
 use txs_value_data::CellId;
-use txs_value_data::limits::MOST_EVENTS;
-use txs_world_protocol::{ActorReport, Outcome, Report};
+use txs_world_protocol::{ActorReport, Outcome};
 
-/// Whether a book of so many events is full.
-#[tactic(auto, unfolding(txs_value_data::specs::Limits::most_events))]
-fn is_most(events: usize) -> bool
-    ensures { result ≡ (events == most_events) }
-{
-    events == MOST_EVENTS
-}
-
-/// Whether one of them holds. A call, so that no branch joins in a loop.
-fn either(first: bool, second: bool) -> bool
-    ensures { result ≡ (first || second) }
-{
-    first || second
-}
-
-/// Whether one of a report's books is full.
-fn is_full(report: &Report) -> bool
-    ensures { result ≡ is_full (books_of (report_as report.now)) (suc (length report.now.atom_books.items)) }
-{
-    let mut full = is_most(report.book.len());
-    let books = report.atom_books.as_slice();
-    for book in books {
-        full = either(is_most(book.as_slice().len()), full);
-    }
-    full
-}
-
-/// Whether a stop is true: an actor that was stopped for its steps has made as many as it may, and where one was stopped for a full book,
-/// one is full.
-fn is_true_stop(limit: u64, full: bool, outcome: Option<Outcome>, steps: u64) -> bool
-    ensures { result ≡ is_true_stop limit full outcome steps }
+/// Whether a stop for steps is true: the actor has made as many as it may.
+fn is_true_stop(limit: u64, outcome: Option<Outcome>, steps: u64) -> bool
+    ensures { result ≡ is_true_stop limit outcome steps }
 {
     match outcome {
         Some(Outcome::StepsSpent) => steps == limit,
-        Some(Outcome::JournalFull) => full,
-        Some(Outcome::Done | Outcome::Failed(_) | Outcome::Memory) | None => true,
+        Some(Outcome::Done | Outcome::Failed(_) | Outcome::JournalFull | Outcome::Memory) | None =>
+            true,
     }
 }
 
@@ -75,22 +45,22 @@ fn may_be(finishes: bool, outcome: Option<Outcome>, idle: bool) -> bool
 }
 
 /// Whether the end of an actor is right that has nothing to do, or may have.
-fn is_right(terms: Terms, full: bool, idle: bool, ran: &ActorReport) -> bool
-    ensures { result ≡ ((not terms.finishes || (is_there ran.now.outcome || idle)) && is_true_stop terms.steps full ran.now.outcome ran.now.steps) }
+fn is_right(terms: Terms, idle: bool, ran: &ActorReport) -> bool
+    ensures { result ≡ ((not terms.finishes || (is_there ran.now.outcome || idle)) && is_true_stop terms.steps ran.now.outcome ran.now.steps) }
 {
     if !may_be(terms.finishes, ran.outcome, idle) {
         return false;
     }
-    is_true_stop(terms.steps, full, ran.outcome, ran.steps)
+    is_true_stop(terms.steps, ran.outcome, ran.steps)
 }
 
 /// The first thread whose end is wrong, and the index behind its trace.
-fn threads_off(terms: Terms, full: bool, threads: &[ActorReport]) -> Option<(u16, usize)>
+fn threads_off(terms: Terms, threads: &[ActorReport]) -> Option<(u16, usize)>
     requires { length threads.now ≤ 65535 }
-    ensures { off_in result ≡ threads_over (terms_as terms) full 0 (map ran_as threads.now) }
+    ensures { off_in result ≡ threads_over (terms_as terms) 0 (map ran_as threads.now) }
 {
     for (i, ran) in threads.iter().enumerate() {
-        if !is_right(terms, full, false, ran) {
+        if !is_right(terms, false, ran) {
             return Some((i as u16, ran.trace.len()));
         }
     }
@@ -112,19 +82,18 @@ fn is_idle(books: &Books<'_>, agent: CellId) -> bool
 fn agents_off(
     books: &Books<'_>,
     terms: Terms,
-    full: bool,
     agents: &[CellId],
     rans: &[ActorReport],
 ) -> Option<(u16, usize)>
     requires all { agents.now ≡ agents_from 0 books.now.program.cells }
     requires same { map ran_as rans.now ≡ books.now.report.agents }
     requires few { length agents.now ≤ 65535 }
-    ensures { off_in result ≡ agents_over (terms_as terms) full (cells_of books.now.program.cells) books.now.report.book (length (program_of books.now.program).threads) agents.now (map ran_as rans.now) }
+    ensures { off_in result ≡ agents_over (terms_as terms) (cells_of books.now.program.cells) books.now.report.book (length (program_of books.now.program).threads) agents.now (map ran_as rans.now) }
 {
     books.are_legal();
     for (i, agent) in agents.iter().enumerate() {
         let ran = &rans[i];
-        if !is_right(terms, full, is_idle(books, *agent), ran) {
+        if !is_right(terms, is_idle(books, *agent), ran) {
             return Some((actor_of(books, i as u16), ran.trace.len()));
         }
     }
@@ -148,16 +117,9 @@ pub fn ends_off(
     // A step of the proof, which does nothing when it runs.
     program.is_sound();
     let report = books.report();
-    let full = is_full(report);
     let agents = agents_of(alloc, program.cells())?;
-    match threads_off(terms, full, report.threads.as_slice()) {
+    match threads_off(terms, report.threads.as_slice()) {
         Some(off) => Ok(Some(off)),
-        None => Ok(agents_off(
-            books,
-            terms,
-            full,
-            agents.as_slice(),
-            report.agents.as_slice(),
-        )),
+        None => Ok(agents_off(books, terms, agents.as_slice(), report.agents.as_slice())),
     }
 }

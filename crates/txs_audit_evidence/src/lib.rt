@@ -6,11 +6,11 @@
 
 pub mod acts;
 pub mod books;
-mod bounds;
+pub mod bounds;
 pub mod ends;
 mod left;
 pub mod naming;
-mod numbers;
+pub mod numbers;
 pub mod opening;
 pub mod seeing;
 pub mod threads;

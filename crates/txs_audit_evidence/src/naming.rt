@@ -29,7 +29,7 @@ fn index_in(book: u32, at: usize, trace: &[Place]) -> usize
 }
 
 /// The entry of an actor: threads come first, and behind them the agents.
-fn entry_of<'a>(report: &'a Report, actor: u16) -> Option<&'a ActorReport>
+pub fn entry_of<'a>(report: &'a Report, actor: u16) -> Option<&'a ActorReport>
     ensures { plain_entry (option_copied result) ≡ entry_of (report_as report.now) actor }
 {
     let actor = usize::from(actor);
@@ -59,7 +59,7 @@ pub(crate) fn off_at(report: &Report, book: u32, actor: u16, at: usize) -> Findi
 }
 
 /// How many events the first actor's trace has.
-pub(crate) fn first_length(report: &Report) -> usize
+pub fn first_length(report: &Report) -> usize
     ensures { result ≡ length_if (entry_of (report_as report.now) 0) }
 {
     match entry_of(report, 0) {

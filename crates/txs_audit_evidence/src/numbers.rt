@@ -42,7 +42,7 @@ fn of_kind(
 }
 
 /// The atoms among these cells, in their order.
-pub(crate) fn atoms_of(alloc: Global, cells: &[CellDefinition]) -> Result<Vec<CellId>, AllocError>
+pub fn atoms_of(alloc: Global, cells: &[CellDefinition]) -> Result<Vec<CellId>, AllocError>
     requires { length cells.now ≤ most_definitions }
     ensures { IfOk result (λ found. found.items ≡ atoms_from 0 cells.now) }
 {
@@ -50,7 +50,7 @@ pub(crate) fn atoms_of(alloc: Global, cells: &[CellDefinition]) -> Result<Vec<Ce
 }
 
 /// The agents among these cells, in their order.
-pub(crate) fn agents_of(alloc: Global, cells: &[CellDefinition]) -> Result<Vec<CellId>, AllocError>
+pub fn agents_of(alloc: Global, cells: &[CellDefinition]) -> Result<Vec<CellId>, AllocError>
     requires { length cells.now ≤ most_definitions }
     ensures { IfOk result (λ found. found.items ≡ agents_from 0 cells.now) }
 {

@@ -2,26 +2,57 @@
 
 ghost use Rattle.std.specs.Prelude.{◌≡◌, ◌<◌, length, IfOk, Some};
 ghost use Rattle.txs_value_base.specs.Places.{nth};
+ghost use Rattle.txs_tree_meaning.specs.Thread.{thread_meaning};
 ghost use Rattle.txs_tree_meaning.specs.Tree.{PlainThread};
 ghost use Rattle.txs_tree_meaning.specs.View.{program_of};
 ghost use Rattle.txs_tree_eval.specs.Told.{Tells};
 ghost use Rattle.txs_tree_eval_node.specs.Events.{seen_events};
 ghost use Rattle.txs_theorem_threads.specs.FollowsAll.{source_of};
-ghost use Rattle.txs_theorem_audit.specs.Audited.{Fine, ran_as};
+ghost use Rattle.txs_theorem_audit.specs.Audited.{Fine, books_of, ran_as};
 ghost use Rattle.txs_theorem_audit.specs.Explained.{events_of};
 ghost use Rattle.txs_theorem_audit.specs.Pieces.{OfThread, piece_finding, piece_serial, thread_serial};
-ghost use Rattle.txs_theorem_audit.specs.Verdict.{thread_found};
+ghost use Rattle.txs_theorem_audit.specs.Verdict.{thread_ends, thread_found};
 ghost use Rattle.txs_audit_piece.specs.Judged.{as_found};
 
 use crate::books::Books;
 use crate::bounds::{first_bound, is_short, next_bound};
 use crate::transactions::{Found, transactions_found};
 use std::alloc::{AllocError, Global};
-use txs_audit_piece::{Finding, end_found};
+use txs_audit_piece::ends::is_full_stop;
+use txs_audit_piece::{Finding, end_found, full_end};
 use txs_theorem_audit::thread_stays;
-use txs_theorem_audit_eval::{calm_is_answered, covered_is_answered, noted_are_answered};
+use txs_theorem_audit_eval::{
+    calm_is_answered, covered_is_answered, full_is_answered, noted_are_answered,
+};
 use txs_tree_eval::{Seen, ThreadMeaning, eval_thread};
 use txs_world_protocol::ActorReport;
+
+/// What is found of the end of the program's thread with this entry, whose meaning on these events with their worlds is told so. Where
+/// it was stopped for a full book, the book that it needs is looked at.
+fn thread_ends<'b>(
+    alloc: Global,
+    books: &'b Books<'_>,
+    thread: u16,
+    turns: u32,
+    ran: &ActorReport,
+    seen: &'b [Seen<'b>],
+    meaning: &ThreadMeaning,
+) -> Result<Finding, AllocError>
+    requires { thread < length books.now.program.threads }
+    ensures { IfOk result (λ f. (t : PlainThread) → nth (program_of books.now.program).threads thread ≡ Some t
+        → Tells meaning.now (source_of (program_of books.now.program) t) turns (seen_events seen.now)
+        → as_found f ≡ thread_ends (books_of books.now.report) (source_of (program_of books.now.program) t) turns thread (seen_events seen.now) (ran_as ran.now) (thread_meaning (source_of (program_of books.now.program) t) turns (seen_events seen.now))) }
+{
+    // A law and a step of the proof, which do nothing when they run.
+    full_is_answered();
+    books.program().is_sound();
+    if is_full_stop(ran.outcome) {
+        let full = books.is_full(meaning.asks);
+        let out = ran.printed.as_slice();
+        return Ok(full_end(thread, seen.len(), out, meaning, full));
+    }
+    end_found(alloc, books.program(), thread, seen, turns, ran, meaning)
+}
 
 /// What is found of the program's thread with this entry, whose meaning on the entry's events with their worlds is told so: its
 /// transactions, and then its end.
@@ -53,7 +84,7 @@ fn judge<'b>(
     if !found.finding.is_fine() {
         return Ok(found);
     }
-    let finding = end_found(alloc, books.program(), thread, seen, turns, ran, meaning)?;
+    let finding = thread_ends(alloc, books, thread, turns, ran, seen, meaning)?;
     Ok(Found {
         finding,
         serial: found.serial,

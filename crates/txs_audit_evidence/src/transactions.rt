@@ -62,7 +62,7 @@ fn end_of(event: &Event) -> Option<&EventKind>
 }
 
 /// What the event at a place is, where it ends a transaction. Then it is one of the store's book.
-fn end_at<'a>(books: &Books<'a>, place: Place) -> Option<&'a EventKind>
+pub fn end_at<'a>(books: &Books<'a>, place: Place) -> Option<&'a EventKind>
     ensures end { option_copied result ≡ end_in (nth (books_of books.now.report place.book) place.at) }
     ensures home { IfSome result (λ k. place.book ≡ 0) }
 {
@@ -99,7 +99,7 @@ fn is_undisturbed(books: &Books<'_>, done: &TxFrame, sets: &[CellId], at: u32, e
 }
 
 /// The agent of the first of these actions whose agent has failed among the first so many events of the store's book.
-pub(crate) fn first_failed(books: &Books<'_>, sends: &[Action], events: u32) -> Option<CellId>
+pub fn first_failed(books: &Books<'_>, sends: &[Action], events: u32) -> Option<CellId>
     ensures { result ≡ first_failed (cells_of books.now.program.cells) (take events books.now.report.book) sends.now }
 {
     for action in sends {

@@ -16,11 +16,11 @@ ghost use Rattle.txs_world_book.specs.Book.{first_failed};
 ghost use Rattle.txs_world_book.specs.declared.cell.StoreCell.{StoreCell};
 ghost use Rattle.txs_world_protocol.specs.declared.event.Event.{Event as PlainEvent};
 ghost use Rattle.txs_theorem_audit.specs.Audited.{and_then, check};
-ghost use Rattle.txs_theorem_audit.specs.Verdict.{is_booked};
-ghost use Rattle.txs_theorem_audit_eval.specs.Evaluated.{act_by, answer_in, end_of_state, fault_in, judged_by, still_by};
+ghost use Rattle.txs_theorem_audit.specs.Verdict.{is_booked, same_numbers};
+ghost use Rattle.txs_theorem_audit_eval.specs.Evaluated.{act_by, answer_in, end_of_state, fault_in, judged_by, rest_full_by, still_by};
 ghost use Rattle.txs_audit_piece.specs.Judged.{AcceptedBy, CalleeGives, EndsBy, ValueEnds, as_end, as_found, is_no_memory, new_value, new_fault};
 
-use crate::ends::same_fault;
+use crate::ends::{same_bytes, same_fault};
 use crate::finding::{Finding, check};
 use std::alloc::{AllocError, Global};
 use txs_frame::validator_of;
@@ -346,5 +346,29 @@ pub fn still_ends(stretch: Stretch, meaning: &ActionMeaning, end: &ActionEnd, pa
             Finding::Short(stretch.actor, at)
         }
         ActionEnd::Disallows => Finding::Off(stretch.actor, at),
+    }
+}
+
+/// The same where its agent's actor was stopped for a full book and printed this. The store's book is full or not, and the event that
+/// the action lacks, if it does, would be one of a full book or not.
+pub fn full_ends(
+    stretch: Stretch,
+    meaning: &ActionMeaning,
+    end: &ActionEnd,
+    out: &[u8],
+    store: bool,
+    full: bool,
+) -> Finding
+    requires { stretch.first + meaning.now.eaten < 2 ^ 64 }
+    ensures { as_found result ≡ rest_full_by stretch.actor stretch.first stretch.index stretch.events meaning.now.eaten store full (same_numbers out.now meaning.now.printed) (as_end end.now) }
+{
+    let eaten = meaning.eaten;
+    let behind = stretch.first + eaten;
+    let just = same_bytes(out, meaning.printed.as_slice());
+    match end {
+        ActionEnd::HandedIn(_) => eaten_and(stretch, eaten, behind, store && just),
+        ActionEnd::LacksEvent => eaten_and(stretch, eaten, behind, full && just),
+        ActionEnd::LacksTurns => Finding::Short(stretch.actor, behind),
+        ActionEnd::Disallows => Finding::Off(stretch.actor, behind),
     }
 }

@@ -10,7 +10,7 @@ ghost use Rattle.txs_tree_eval_node.specs.Events.{seen_events};
 ghost use Rattle.txs_theorem_threads.specs.FollowsAll.{source_of};
 ghost use Rattle.txs_theorem_audit.specs.Audited.{ran_as};
 ghost use Rattle.txs_theorem_audit.specs.Verdict.{begins, end_found, least_printed};
-ghost use Rattle.txs_theorem_audit_eval.specs.Evaluated.{least_by, part_by};
+ghost use Rattle.txs_theorem_audit_eval.specs.Evaluated.{full_by, least_by, part_by};
 ghost use Rattle.txs_audit_piece.specs.Judged.{as_found};
 ghost use Rattle.txs_audit_piece.specs.Ended.{end_with, ended_with};
 
@@ -114,6 +114,29 @@ fn end_with(
             let ended = printed_all(ran, meaning, part);
             first.and_then(check(ended, actor, events))
         }
+    }
+}
+
+/// What is found of the end of a thread that was stopped for a full book and printed this, by its meaning on so many events. The
+/// event that it lacks, if it does, would be one of a full book or not.
+pub fn full_end(
+    actor: u16,
+    events: usize,
+    out: &[u8],
+    meaning: &ThreadMeaning,
+    full: bool,
+) -> Finding
+    ensures { as_found result ≡ full_by actor events out.now meaning.now.needs full meaning.now.printed meaning.now.eaten }
+{
+    let first = check(meaning.eaten == events, actor, meaning.eaten);
+    match meaning.needs {
+        Needs::Nothing => first.and_then(Finding::Off(actor, events)),
+        Needs::Event => {
+            let holds = full && same_bytes(out, meaning.printed.as_slice());
+            first.and_then(check(holds, actor, events))
+        }
+        Needs::Turns => Finding::Short(actor, meaning.eaten),
+        Needs::Wrong => Finding::Off(actor, meaning.eaten),
     }
 }
 

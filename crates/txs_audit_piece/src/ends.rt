@@ -3,7 +3,7 @@
 ghost use Rattle.std.specs.Prelude.{◌≡◌};
 ghost use Rattle.txs_value_base.specs.Faults.{fault_number};
 ghost use Rattle.txs_world_protocol.specs.Ask.{same_fault, same_span};
-ghost use Rattle.txs_theorem_audit.specs.Verdict.{begins, is_stopped, same_numbers};
+ghost use Rattle.txs_theorem_audit.specs.Verdict.{begins, is_full_stop, is_stopped, same_numbers};
 ghost use Rattle.txs_theorem_audit_eval.specs.Evaluated.{same_end};
 
 use txs_value_base::{Fault, FaultKind, Span};
@@ -37,6 +37,16 @@ pub fn is_stopped(outcome: Option<Outcome>) -> bool
     match outcome {
         Some(Outcome::Done | Outcome::Failed(_)) => false,
         Some(Outcome::StepsSpent | Outcome::JournalFull | Outcome::Memory) | None => true,
+    }
+}
+
+/// Whether an actor was stopped for a full book.
+pub fn is_full_stop(outcome: Option<Outcome>) -> bool
+    ensures { result ≡ is_full_stop outcome }
+{
+    match outcome {
+        Some(Outcome::JournalFull) => true,
+        _ => false,
     }
 }
 

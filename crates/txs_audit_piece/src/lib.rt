@@ -6,6 +6,6 @@ pub mod endings;
 pub mod ends;
 pub mod finding;
 
-pub use acts::{ActionEnd, Stretch, act_ends, action_end, still_ends};
-pub use endings::end_found;
+pub use acts::{ActionEnd, Stretch, act_ends, action_end, full_ends, still_ends};
+pub use endings::{end_found, full_end};
 pub use finding::Finding;

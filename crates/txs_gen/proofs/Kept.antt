@@ -471,6 +471,9 @@ module _ (P : Callee → Type 0) where
     out_of_turns_of = λ s t h. tt;
     invalid_both = tt;
     invalid_loose = λ h b. tt;
+    ahead = λ t. ⊥;
+    ahead_stops = λ t h s. absurd h;
+    ahead_invalid = λ t h. absurd h;
   }
 
   self_related : {A : Type 0} (x : Completion ActorState A) → KeptAfter P x → Related link x x

@@ -33,7 +33,7 @@ use Rattle.txs_machine.specs.RunOver.{places_of}
 use Rattle.txs_machine.specs.Scheduled.{steps_by}
 use Rattle.txs_machine.proofs.Answered.{Leaves, answer_leaves, full_stops, memory_stops, full_state, memory_state, idle_number, idle_outcome, idle_steps}
 use Rattle.txs_machine.proofs.RunOver as over
-use Rattle.txs_machine.proofs.RunOver.{Unfilled, unfilled_of, append_nil, append_length, full_at, places_append}
+use Rattle.txs_machine.proofs.RunOver.{Unfilled, unfilled_of, append_nil, append_length, full_at, adds_event, places_append}
 use Rattle.txs_history_actor.specs.Actor.{IsFollowing, IsOn, IsWaiting, noted}
 use Rattle.txs_history_actor.proofs.On.{heard_on, idle_on, stopped_on}
 
@@ -62,6 +62,8 @@ follows_longer code a tr m h g p f =
         counted = f.is.counted;
         traced = f.is.traced ∙ sym s.1;
         full = λ e. (let x = f.is.full e in let l = books_grow code.cells h g p (book_for code.cells x.ask) in record { ask = x.ask; asked = x.asked; full = long most_events ((shared_by code.cells h).books (book_for code.cells x.ask)) l.0 ((shared_by code.cells g).books (book_for code.cells x.ask)) l.1 x.full });
+        stops = λ e. (let x = f.is.stops e in let l = books_grow code.cells h g p (book_for code.cells x.ask) in
+            record { place = x.place; at = x.at; ask = x.ask; asks = x.asks; adds = x.adds; full = long most_events ((shared_by code.cells h).books (book_for code.cells x.ask)) l.0 ((shared_by code.cells g).books (book_for code.cells x.ask)) l.1 x.full });
       };
       on = f.on;
     }
@@ -214,6 +216,7 @@ module _ (laws : ActorsRun) (code : PlainCode) (a : PlainActor) (q : Ask) (tr : 
         traced = later_is ∙ ap (λ ps. ps ++ over.added code k sh.books sh.taken q lawful) w.traced ∙ sym (over.trace_grows code k sh.books sh.taken q lawful es w.hold)
             ∙ ap (λ z. trace_of code.cells next k (es ++ entry q z (length home) ∷ [])) (sym e);
         full = λ z. absurd (subst Unfilled z (unfilled_of (answered a r).outcome (unstopped_if a w.going a.pending r on)));
+        stops = λ z. absurd (subst Unfilled z (unfilled_of (answered a r).outcome (unstopped_if a w.going a.pending r on)));
       })
     where
       unless : r ≡ reply.Idle → ⊥
@@ -242,6 +245,14 @@ module _ (laws : ActorsRun) (code : PlainCode) (a : PlainActor) (q : Ask) (tr : 
         traced = traced_left left;
         full = λ y. (let n = full_at laws code k sh.books (map exchange_of es) a q refl w.going w.waits may past w.on.ran in
             record { ask = n.ask; asked = n.asked; full = subst (λ (l : List Event). most_events ≤ length l) (sym (over.left_as code k sh.books sh.taken q lawful left (book_for code.cells n.ask))) n.full });
+        stops = λ y. record {
+          place = w.from;
+          at = w.at.at;
+          ask = q;
+          asks = (record (state_of a) { wants = Some q }, w.awaits.asks, refl);
+          adds = adds_event q may;
+          full = subst (λ (l : List Event). most_events ≤ length l) (sym (over.left_as code k sh.books sh.taken q lawful left (book_for code.cells q))) past;
+        };
       })
     where
       left : v.book ≡ home
@@ -268,6 +279,7 @@ module _ (laws : ActorsRun) (code : PlainCode) (a : PlainActor) (q : Ask) (tr : 
         counted = (let less = idle_steps a q w.waits may in let c = w.counted in omega (arith, less, c)) ∙ ap (λ z. steps_by z x.turns) (sym w.at.going);
         traced = traced_left left;
         full = λ y. absurd (subst Unfilled y (subst Unfilled (sym out) tt));
+        stops = λ y. absurd (subst Unfilled y (subst Unfilled (sym out) tt));
       })
     where
       left : v.book ≡ home
@@ -316,6 +328,7 @@ memory_follows laws code a q tr m h w lives free may =
         counted = leaves.steps ∙ w.counted;
         traced = w.traced ∙ ap (λ i. trace_of code.cells (shared_by code.cells h).books i x.entries) (sym leaves.number);
         full = λ y. absurd (subst Unfilled y (subst Unfilled (sym (memory_stops a q w.waits)) tt));
+        stops = λ y. absurd (subst Unfilled y (subst Unfilled (sym (memory_stops a q w.waits)) tt));
       };
       on = own_on;
     }

@@ -197,6 +197,7 @@ new_following laws law code function_rooms thread_rooms limit a tr h well lives 
         counted = n.unused;
         traced = ap places_of none;
         full = λ x. absurd (subst Unfilled x (subst Unfilled (sym n.unended) tt));
+        stops = λ x. absurd (subst Unfilled x (subst Unfilled (sym n.unended) tt));
       };
       on = on;
     }
@@ -248,6 +249,7 @@ module _ (laws : ActorsRun) (code : PlainCode) (n : ℕ) (a b : PlainActor) (r :
             counted = counts;
             traced = f.is.traced ∙ ap (trace_of code.cells (shared_by code.cells h).books a.number) (sym e) ∙ ap (λ i. trace_of code.cells (shared_by code.cells h).books i y.entries) (sym on_b.0);
             full = λ z. absurd (full_never code n a b r going turns z);
+            stops = λ z. absurd (full_never code n a b r going turns z);
           };
           on = on;
         }

@@ -29,7 +29,7 @@ use Rattle.txs_machine.specs.Scheduled.{IsInterleaving, run_of}
 use Rattle.txs_machine.specs.declared.player.Player.{Player}
 use Rattle.txs_machine.specs.declared.player.Players.{Players}
 use Rattle.txs_machine.specs.declared.schedule.Entries.{Entries}
-use Rattle.txs_machine.proofs.Explaining.{Known, part_explained, part_printed, code_at, MeansSo, LeastSo, entry_explained, reported_at, as_many, books_stand}
+use Rattle.txs_machine.proofs.Explaining.{Known, part_explained, part_printed, code_at, part_full, MeansSo, LeastSo, FullSo, entry_explained, reported_at, as_many, books_stand}
 use Rattle.txs_machine.proofs.Scheduled.{entry_so}
 use Rattle.txs_machine.proofs.Together.{agents_done, all_explained_by, attendant_at, told_holds}
 use Rattle.txs_history_actor.specs.Actor.{IsThreadOn, PlainLogged}
@@ -46,10 +46,13 @@ thread_explained by code k limit books r d p t same follows e =
     let f : Follows (code_of code k) (source_of p t) = follows.each k (code_of code k) t (code_at code code.threads p.threads k k t follows.as_many e) e in
     let means : MeansSo p t books a.outcome a.printed tr code.cells = part_explained by code k books tr a d.waits d.over d.traced (source_of p t) same f d.undisturbed d.refused in
     let least : LeastSo p t books a.printed tr code.cells = part_printed by code k books tr a d.waits d.over d.traced (source_of p t) same f in
+    let full : FullSo p t books a.outcome a.printed tr code.cells = part_full by code k books tr a d.waits d.over d.traced (source_of p t) same f in
     entry_explained p k t books r (subst (TraceHolds books k) (sym d.traced) d.over.told.traced)
     (subst (λ o. MeansSo p t books o r.printed.items tr p.cells) d.ended
     (subst (λ out. MeansSo p t books a.outcome out tr p.cells) d.printed (subst (MeansSo p t books a.outcome a.printed tr) (sym same) means)))
     (subst (λ out. LeastSo p t books out tr p.cells) d.printed (subst (LeastSo p t books a.printed tr) (sym same) least))
+    (subst (λ o. FullSo p t books o r.printed.items tr p.cells) d.ended
+    (subst (λ out. FullSo p t books a.outcome out tr p.cells) d.printed (subst (FullSo p t books a.outcome a.printed tr) (sym same) full)))
 
 module _ (by : Known) (refused : RefusedIsUndisturbed) (traced : RunTraced) (code : PlainCode) (limit : ℕ) (s : PlainShared) where
   -- a thread's actor has done over the books what a run's has

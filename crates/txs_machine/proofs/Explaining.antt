@@ -1,6 +1,8 @@
 -- What actors did over what they share is what a report says of them, and what each program that the code follows means.
 use Rattle.std.proofs.Common.{◌≡◌, ◌≤◌, ◌+◌, ℕ, zero, suc, List, [], ◌∷◌, ◌++◌, length, map, Option, Some, None, refl, sym, ap, subst, ◌∙◌, ◌⊎◌, inl, inr, arith}
+use Rattle.txs_world_protocol.specs.Ask.{Exchange}
 use Rattle.txs_world_protocol.specs.SeenEvent.{SeenEvent}
+use Rattle.txs_world_protocol.specs.declared.ask.Ask.{Ask}
 use Rattle.txs_world_protocol.specs.declared.event.Event.{Event}
 use Rattle.txs_world_protocol.specs.declared.event.Outcome.{Outcome}
 use Rattle.txs_world_protocol.specs.declared.event.Outcome.TheVariants as outcome
@@ -10,20 +12,25 @@ use Rattle.txs_value_cell.specs.declared.cell.CellDefinition.{CellDefinition}
 use Rattle.txs_tree_meaning.specs.Meaning.{Completion}
 use Rattle.txs_tree_meaning.specs.Thread.{ThreadState, thread_meaning}
 use Rattle.txs_tree_meaning.specs.Tree.{PlainThread, PlainProgram, ThreadSource}
+use Rattle.txs_code_meaning.proofs.Acts.{stated, run_more, exec_run}
+use Rattle.txs_code_meaning.specs.ActorState.{ActorState}
+use Rattle.txs_code_meaning.specs.Machine.{ThreadCode, Asking, and_then, turn, run}
+use Rattle.txs_code_meaning.specs.Opening.{opening, target}
 use Rattle.txs_code_meaning.specs.PlainCode.{CodeBody, PlainCode, thread_code, function_codes}
 use Rattle.txs_theorem_threads.specs.Follows.{Follows}
 use Rattle.txs_theorem_threads.specs.FollowsAll.{source_of, FollowsAll}
 use Rattle.txs_theorem_threads.specs.Noted.{txs_of}
-use Rattle.txs_theorem_threads.specs.RepliesFit.{Out, RepliesFit, Explained, halted, HasWaited}
+use Rattle.txs_theorem_threads.specs.RepliesFit.{Out, RepliesFit, Explained, book_asked, halted, HasWaited, HasWaitedFor}
 use Rattle.txs_theorem_threads.specs.RepliesFitTo.{FittingToFits}
 use Rattle.txs_machine_actor.specs.PlainActor.{PlainActor, own_body, code_of, state_of, configuration_of, standing, stands_at, unanswered}
 use Rattle.txs_world_book.specs.Laws.{UnwrittenStays}
 use Rattle.txs_world.specs.Laws.{DoneIsUndisturbed, RefusedIsUndisturbed}
 use Rattle.txs_theorem_runs.specs.Explains.{BooksStand, CommitsUndisturbed}
+use Rattle.txs_theorem_runs.specs.Full.{WaitsFull}
 use Rattle.txs_theorem_runs.specs.Invariant.{SharedStands}
 use Rattle.txs_theorem_runs.specs.Laws.{ToldFits}
 use Rattle.txs_theorem_runs.specs.Refused.{RefusalsUndisturbed}
-use Rattle.txs_theorem_runs.specs.Shared.{Shared}
+use Rattle.txs_theorem_runs.specs.Shared.{Shared, book_for}
 use Rattle.txs_theorem_runs.specs.Printed.{Prints, HasPrinted, PrintedBeforeLast}
 use Rattle.txs_theorem_runs.specs.Run.{Actor}
 use Rattle.txs_theorem_runs.specs.Told.{Entry, exchange_of, trace_of, TraceHolds, seen_of}
@@ -34,7 +41,7 @@ use Rattle.txs_theorem_runs.proofs.Refused.{all_refused}
 use Rattle.txs_theorem_runs.proofs.Undisturbed.{entries_undisturbed}
 use Rattle.txs_theorem_runs.proofs.Whole.{all_undisturbed}
 use Rattle.txs_machine.specs.Followed.{ActorsExplained, told}
-use Rattle.txs_machine.specs.RunOver.{RunOver, places_of}
+use Rattle.txs_machine.specs.RunOver.{RunOver, AtFullBook, places_of}
 use Rattle.txs_machine.specs.Playing.{IsBetween, AreBetween, HaveSteps, AllEnded, IsReported, AreReported}
 use Rattle.txs_machine.specs.RunTheorem.{HasDone, ExplainsSo, HasPrintedLeast, ExplainsThread}
 use Rattle.txs_machine.specs.Schedule.{plays_of, AreDone, ArePlayed, HaveEnded, IsExplainedBy}
@@ -165,12 +172,17 @@ module _ (by : Known) (code : PlainCode) (k : ℕ) (books : ℕ → List Event) 
   past : told_by.history_of code.cells books k h.entries ≡ seen
   past = ap (seen_of code.cells books) (sym traced)
 
+  -- what the actor was answered are the events of its trace
+  fitted : RepliesFit code.cells Out (map exchange_of h.entries) seen
+  fitted =
+      subst (RepliesFit code.cells Out (map exchange_of h.entries)) past
+      (by.fit code.cells Out (map exchange_of h.entries) _ _ (by.fits code.cells (length code.threads) books k h.entries h.stage h.told.hold h.told.staged))
+
   -- the source means what the actor printed, and how it ended, and its transactions were undisturbed, where the actor's commits were
   pub part_explained : CommitsUndisturbed books h.entries → RefusalsUndisturbed code.cells books h.entries
       → (n : ℕ) × ExplainsSo a.outcome a.printed (thread_meaning p n seen) × SaidOf (undisturbed code.cells books) books (places_of trace) (txs_of (thread_meaning p n seen))
   part_explained commits refusals =
       let xs = map exchange_of h.entries in
-      let fitted : RepliesFit code.cells Out xs seen = subst (RepliesFit code.cells Out xs) past (by.fit code.cells Out xs _ _ (by.fits code.cells (length code.threads) books k h.entries h.stage h.told.hold h.told.staged)) in
       let m = by.explained code xs seen a p h.ran (subst (λ n. Follows (code_of code n) p) (sym h.number) follows) (subst (λ cs. RepliesFit cs Out xs seen) (sym same) fitted) in
       let txs = txs_of (thread_meaning p m.0 seen) in (
         m.0,
@@ -199,6 +211,32 @@ module _ (by : Known) (code : PlainCode) (k : ℕ) (books : ℕ → List Event) 
           let prints = printed_there on.0 a a.outcome on.2 in
           inr (d.0, d.1, sym past ∙ d.2, a.steps, on.0, on.1, prints.0, prints.1)
 
+  -- where it was stopped for a full book, the source needs an event of that book
+  pub part_full : a.outcome ≡ Some outcome.JournalFull → (n : ℕ) × WaitsFull books a.printed (thread_meaning p n seen)
+  part_full e = (n, (book_for code.cells q, f.full, subst (λ cs. HasWaitedFor (book_asked cs q) a.printed (halted (thread_meaning p n seen))) same waits))
+    where
+      xs : List Exchange
+      xs = map exchange_of h.entries
+
+      f : AtFullBook code.cells (code_of code k) books xs a
+      f = h.full e
+
+      q : Ask
+      q = f.ask
+
+      n : ℕ
+      n = suc f.asked.1.others
+
+      s : ActorState
+      s = record (state_of a) { wants = Some q }
+
+      asking : run (code_of code k) n (opening (code_of code k) xs) ≡ Asking s
+      asking = run_more (code_of code k) f.asked.1.others (opening (code_of code k) xs) ∙ ap (λ o. and_then o (turn (code_of code k))) f.asked.1.came ∙ f.asked.3
+
+      waits : HasWaitedFor (book_asked p.cells q) a.printed (halted (thread_meaning p n seen))
+      waits =
+          follows.asks_so xs seen n s q (subst (λ cs. RepliesFit cs Out xs seen) (sym same) fitted) (exec_run (code_of code k) n (opening (code_of code k) xs) ∙ ap (λ o. and_then o stated) asking) refl refl
+
 -- the code of a program's thread
 pub code_at : (code : PlainCode) (bs : List CodeBody) (ts : List PlainThread) (n k : ℕ) (t : PlainThread) → length (map (thread_code code) bs) ≡ length ts → nth ts k ≡ Some t
     → nth (map (thread_code code) bs) k ≡ Some (record { functions = function_codes code; validators = validators_of code.cells; main = own_body code n (nth bs k) })
@@ -222,10 +260,14 @@ MeansSo p t books o out trace cells =
 abbrev pub LeastSo : PlainProgram → PlainThread → (ℕ → List Event) → List ℕ → List Place → List CellDefinition → Type 0
 LeastSo p t books out trace cells = HasPrintedLeast p t (seen_of cells books (places_of trace)) out
 
+-- where the thread was stopped for a full book its meaning needs an event of such a book
+abbrev pub FullSo : PlainProgram → PlainThread → (ℕ → List Event) → Option Outcome → List ℕ → List Place → List CellDefinition → Type 0
+FullSo p t books o out trace cells = o ≡ Some outcome.JournalFull → (n : ℕ) × WaitsFull books out (thread_meaning (source_of p t) n (seen_of cells books (places_of trace)))
+
 -- so an entry is explained
 pub entry_explained : (p : PlainProgram) (k : ℕ) (t : PlainThread) (books : ℕ → List Event) (r : ActorReport) → TraceHolds books k (places_of r.trace.items) → MeansSo p t books r.outcome r.printed.items r.trace.items p.cells → LeastSo p t books r.printed.items r.trace.items p.cells
-    → ExplainsThread p k t books r
-entry_explained p k t books r traced means least = record { traced = traced; turns = means.0; means = means.1; calm = means.2; least = least }
+    → FullSo p t books r.outcome r.printed.items r.trace.items p.cells → ExplainsThread p k t books r
+entry_explained p k t books r traced means least full = record { traced = traced; turns = means.0; means = means.1; calm = means.2; least = least; full = full }
 
 thread_explained : Known → RefusedIsUndisturbed → (code : PlainCode) (k limit : ℕ) (books : ℕ → List Event) (x : Player) (r : ActorReport) → IsBetween code k limit books x → IsReported code x r
     → (p : PlainProgram) (t : PlainThread) → p.cells ≡ code.cells → FollowsAll (map (thread_code code) code.threads) p → nth p.threads k ≡ Some t → ExplainsThread p k t books r
@@ -237,12 +279,16 @@ thread_explained by refused code k limit books x r h rep p t same follows e =
     part_explained by code k books tr a h.free h.over.over h.over.traced (source_of p t) same f
     (all_undisturbed by.done code.cells (length code.threads) books k h.over.over.entries h.over.over.told.hold) (all_refused refused code.cells (length code.threads) books k h.over.over.entries h.over.over.told.hold) in
     let least : LeastSo p t books a.printed tr code.cells = part_printed by code k books tr a h.free h.over.over h.over.traced (source_of p t) same f in
+    let full : FullSo p t books a.outcome a.printed tr code.cells = part_full by code k books tr a h.free h.over.over h.over.traced (source_of p t) same f in
     entry_explained p k t books r (subst (λ ps. TraceHolds books k (places_of ps)) rep.traced (trace_holds code k books tr a h.over))
     (subst (λ o. MeansSo p t books o r.printed.items r.trace.items p.cells) rep.ended
     (subst (λ out. MeansSo p t books a.outcome out r.trace.items p.cells) rep.printed
     (subst (λ ps. MeansSo p t books a.outcome a.printed ps p.cells) rep.traced (subst (MeansSo p t books a.outcome a.printed tr) (sym same) means))))
     (subst (λ out. LeastSo p t books out r.trace.items p.cells) rep.printed
     (subst (λ ps. LeastSo p t books a.printed ps p.cells) rep.traced (subst (LeastSo p t books a.printed tr) (sym same) least)))
+    (subst (λ o. FullSo p t books o r.printed.items r.trace.items p.cells) rep.ended
+    (subst (λ out. FullSo p t books a.outcome out r.trace.items p.cells) rep.printed
+    (subst (λ ps. FullSo p t books a.outcome a.printed ps p.cells) rep.traced (subst (FullSo p t books a.outcome a.printed tr) (sym same) full))))
 
 -- what is shared stands: so do its books
 pub books_stand : (cells : List CellDefinition) (threads : ℕ) (sh : Shared) → SharedStands cells threads sh → BooksStand cells threads sh

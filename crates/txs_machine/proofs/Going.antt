@@ -37,7 +37,7 @@ use Rattle.txs_world_protocol.specs.declared.event.Place.{Place}
 use Rattle.txs_machine.proofs.Answered.{Leaves, answer_leaves, full_stops, memory_stops, full_state, memory_state, idle_number, idle_outcome, idle_steps}
 use Rattle.txs_machine.proofs.Limits.{NoAsk}
 use Rattle.txs_machine.proofs.RunOver as over
-use Rattle.txs_machine.proofs.RunOver.{append_nil, map_append, Unfilled, unfilled_of, move_unfilled, noted_places, full_at, state_with, as_state}
+use Rattle.txs_machine.proofs.RunOver.{append_nil, map_append, Unfilled, unfilled_of, move_unfilled, noted_places, full_at, adds_event, state_with, as_state}
 
 -- turns after others
 pub turns_append : (code : PlainCode) (xs ys : List Play) (st : State) → after_turns code (xs ++ ys) st ≡ after_turns code ys (after_turns code xs st)
@@ -408,6 +408,7 @@ module _ (code : PlainCode) (k limit : ℕ) where
           traced = noted_so g p n placed_so ∙ ap (λ ps. ps ++ over.added code k books taken q lawful) traced ∙ sym (over.trace_grows code k books taken q lawful es hold)
               ∙ ap (λ y. trace_of code.cells next k (es ++ entry q y (length home) ∷ [])) (sym e);
           full = λ y. absurd (subst Unfilled y (unfilled_of (answered a r).outcome (unstopped_if a going a.pending r on)));
+          stops = λ y. absurd (subst Unfilled y (unfilled_of (answered a r).outcome (unstopped_if a going a.pending r on)));
         }))))
       where
         unless : r ≡ reply.Idle → ⊥
@@ -437,6 +438,14 @@ module _ (code : PlainCode) (k limit : ℕ) where
           traced = ap places_of (as_before g p left placed_so) ∙ traced ∙ sym (traced_same left);
           full = λ y. (let m = full_at laws code k books (map exchange_of es) a q number going asks may past ran in
               record { ask = m.ask; asked = m.asked; full = subst (λ (l : List Event). most_events ≤ length l) (sym (over.left_as code k books taken q lawful left (book_for code.cells m.ask))) m.full });
+          stops = λ y. record {
+            place = c;
+            at = at;
+            ask = q;
+            asks = (record (state_of a) { wants = Some q }, awaits.asks, refl);
+            adds = adds_event q may;
+            full = subst (λ (l : List Event). most_events ≤ length l) (sym (over.left_as code k books taken q lawful left (book_for code.cells q))) past;
+          };
         })))
       where
         left : v.book ≡ home
@@ -463,6 +472,7 @@ module _ (code : PlainCode) (k limit : ℕ) where
           counted = leaves.steps ∙ counts;
           traced = ap places_of placed_so ∙ traced;
           full = λ y. absurd (subst Unfilled y (subst Unfilled (sym (memory_stops a q asks)) tt));
+          stops = λ y. absurd (subst Unfilled y (subst Unfilled (sym (memory_stops a q asks)) tt));
         }))
       where
         leaves : Leaves a (answered a reply.Memory)
@@ -486,6 +496,7 @@ module _ (code : PlainCode) (k limit : ℕ) where
           counted = (let less = idle_steps a q asks may in omega (arith, less, counts)) ∙ ap (λ w. steps_by w x.turns) (sym unstopped);
           traced = ap places_of (as_before g p left placed_so) ∙ traced ∙ sym (traced_same left);
           full = λ y. absurd (subst Unfilled y (subst Unfilled (sym out) tt));
+          stops = λ y. absurd (subst Unfilled y (subst Unfilled (sym out) tt));
         })))
       where
         left : v.book ≡ home
@@ -627,6 +638,7 @@ turned_goes laws code k n s a b r tr idle free quiet going turns before same hol
         counted = counts_so code k a.limit b r ((after_turns code l.turns st).actors k) quiet l.stands l.counted;
         traced = h.traced ∙ ap (trace_of code.cells (books_of s) k) (sym e);
         full = λ y. absurd (full_never code n a b r going turns y);
+        stops = λ y. absurd (full_never code n a b r going turns y);
       };
     }
 

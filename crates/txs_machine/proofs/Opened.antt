@@ -53,6 +53,7 @@ new_player laws code k limit books x n e = record {
   counted = n.unused;
   traced = ap places_of e;
   full = λ o. absurd (subst is_some (sym o ∙ n.unended) tt);
+  stops = λ o. absurd (subst is_some (sym o ∙ n.unended) tt);
 }
 
 opened_run : ActorsRun → (code : PlainCode) (limit : ℕ) (s : PlainShared) (xs : List Player) (gs : List AgentPlayer) → shared_of s ≡ untouched code.cells → AreNew code limit 0 xs → AreNew code limit (length code.threads) (attendants gs) → IsRunBy code s xs gs []

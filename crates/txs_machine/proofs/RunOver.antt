@@ -550,6 +550,21 @@ asked_last laws code xs a q e f may ran =
     wanted (Failed f s) = None
     wanted Stuck = None
 
+-- an ask that may be answered so may add an event
+pub adds_event : (q : Ask) → MayAnswer q reply.Full → may_add_event q ≡ true
+adds_event ask.Begin may = absurd may
+adds_event (ask.Look c p) may = refl
+adds_event (ask.View cs) may = absurd may
+adds_event (ask.Commit p ws es q cs xs) may = refl
+adds_event (ask.Fail p q) may = refl
+adds_event (ask.Peek c) may = refl
+adds_event (ask.Send x) may = refl
+adds_event (ask.Take g) may = absurd may
+adds_event (ask.Finish g new sends) may = refl
+adds_event (ask.OpenAt c) may = absurd may
+adds_event (ask.CloseAt c p v) may = refl
+adds_event (ask.Broke c p) may = refl
+
 -- the ask at which an actor was stopped for a full book
 pub full_at : ActorsRun → (code : PlainCode) (k : ℕ) (books : ℕ → List Event) (xs : List Exchange) (a : PlainActor) (q : Ask) → a.number ≡ k → a.outcome ≡ None → unanswered a ≡ Some q → MayAnswer q reply.Full → most_events ≤ length (books (book_for code.cells q))
     → HasRun code xs a → AtFullBook code.cells (code_of code k) books xs (answered a reply.Full)

@@ -10,8 +10,9 @@ use Rattle.txs_value_cell.specs.declared.cell.CellDefinition.{CellDefinition}
 use Rattle.txs_value_data.specs.declared.value.CellId.{CellId}
 use Rattle.txs_value_data.specs.declared.value.CellKind.{CellKind}
 use Rattle.txs_value_data.specs.declared.value.CellKind.TheVariants.{Ref, Atom, Agent}
+use Rattle.txs_tree_meaning.specs.Tree.{PlainProgram}
 use Rattle.txs_code_meaning.specs.ActorState.{ActorState}
-use Rattle.txs_code_meaning.specs.Machine.{PlainBody, ThreadCode, Configuration, Turned}
+use Rattle.txs_code_meaning.specs.Machine.{PlainBody, ThreadCode, Configuration, Turned, agent_code}
 use Rattle.txs_code_meaning.specs.PlainCode.{CodeBody, PlainCode, thread_code, function_codes, library_of}
 use Rattle.txs_machine_actor.specs.PlainActor.{PlainActor, agent_or_none, code_of, own_body}
 use Rattle.txs_value_cell.specs.Agents.{agents_from, with_agent}
@@ -20,13 +21,16 @@ use Rattle.txs_world_book.specs.Book.{agents_below, is_of_kind, has_agent}
 use Rattle.txs_world_book.specs.Book as world
 use Rattle.txs_world_book.specs.Served.{cells_of}
 use Rattle.txs_world.specs.Store.{next_action}
-use Rattle.txs_theorem_runs.specs.Agents.{AllSound, AgentsStaged, ActsInTurn, HasPrintedJust}
+use Rattle.txs_theorem_runs.specs.Agents.{AllSound, AgentsStaged, ActionDid, AtEnd, StillActs, StandsAt, ActsUpTo, HasPrintedJust}
+use Rattle.txs_theorem_runs.specs.Full.{FullStop, EndsFull}
+use Rattle.txs_theorem_runs.specs.Goes.{AsksAt}
 use Rattle.txs_theorem_runs.specs.Report.{ActorTraced, RunTraced, RunsProgram, ReportExplained, CodesStaged, RunReported}
 use Rattle.txs_theorem_runs.specs.Run as run
 use Rattle.txs_theorem_runs.specs.Run.{Stop, Actor, State, Play, plays}
 use Rattle.txs_theorem_runs.specs.Shared.{Shared, book_for}
 use Rattle.txs_theorem_runs.specs.Told.{AllHold, TraceHolds, trace_of}
 use Rattle.txs_theorem_runs.proofs.Growing.{Grown, differ, trace_stays}
+use Rattle.txs_theorem_runs.proofs.Rounds.{acts_map}
 use Rattle.txs_theorem_runs.proofs.Whole.{all_undisturbed}
 use Rattle.txs_world.specs.Laws.{DoneIsUndisturbed}
 use Rattle.txs_world_shared.specs.SharedState.{PlainShared, shared_of}
@@ -45,6 +49,7 @@ use Rattle.txs_world_protocol.specs.declared.report.ActorReport.{ActorReport}
 use Rattle.txs_machine.proofs.Explaining.{reported_at, as_many, length_map}
 use Rattle.txs_machine.proofs.Going.{turns_append, others_left, turns_of}
 use Rattle.txs_machine.proofs.RunOver.{longer}
+use Rattle.txs_machine.proofs.Stopped.{ends_full}
 use Rattle.txs_value_cell.specs.Cells.{validators_of}
 
 abbrev is_some : {A : Type 0} → Option A → Type 0
@@ -207,6 +212,7 @@ other_stays code k j books later a tr y g hold h = record {
   counted = h.counted;
   traced = h.traced ∙ sym (trace_stays code.cells (length code.threads) k j books later g y.entries hold);
   full = λ e. (let m = h.full e in let l = longer k books later g (book_for code.cells m.ask) in record { ask = m.ask; asked = m.asked; full = omega (arith, m.full, l) });
+  stops = λ e. (let m = h.stops e in let l = longer k books later g (book_for code.cells m.ask) in let most = m.full in record { place = m.place; at = m.at; ask = m.ask; asks = m.asks; adds = m.adds; full = omega (arith, most, l) });
 }
 
 -- the players of a run, after a play of one of them
@@ -366,13 +372,88 @@ module _ (traced : RunTraced) (done : DoneIsUndisturbed) (code : PlainCode) (lim
   printed_so a (Some outcome.JournalFull) at why out p g = (tt, ap (λ (u : ActorState). u.printed) (sym p.2) ∙ subst (HasPrintedJust out) p.1 g)
   printed_so a (Some outcome.Memory) at why out p g = (tt, ap (λ (u : ActorState). u.printed) (sym p.2) ∙ subst (HasPrintedJust out) p.1 g)
 
+  module _ (p : PlainProgram) (same : p.cells ≡ code.cells) (threads : length code.threads ≡ length p.threads) (whole : ReportExplained p (library_of code) (run_of code turns))
+      (i : ℕ) (g : CellId) (r : ActorReport) (x : IsEntry i r) (named : nth (agents_from 0 p.cells) i ≡ Some g) where
+    -- the actors of the run
+    abbrev st : State
+    st = run_of code turns
+
+    -- the number of the agent's actor
+    abbrev k : ℕ
+    k = world.actor_of (length p.threads) (cells_of p.cells) x.agent
+
+    -- the books of the run
+    bs : books_of s ≡ st.shared.books
+    bs = ap (λ (sh : Shared). sh.books) by_turns.shared
+
+    is : x.agent ≡ g
+    is = ap (or_else g) (sym x.named ∙ ap (λ cs. nth (agents_from 0 cs) i) (sym same) ∙ named)
+
+    place : length code.threads + i ≡ k
+    place =
+        (agent_at code i x.agent x.named).place ∙ ap (λ n. world.actor_of n (cells_of code.cells) x.agent) threads
+        ∙ ap (λ cs. world.actor_of (length p.threads) (cells_of cs) x.agent) (sym same)
+
+    has : has_agent (cells_of p.cells) x.agent ≡ true
+    has = subst (λ cs. has_agent (cells_of cs) x.agent ≡ true) (sym same) (agent_at code i x.agent x.named).has
+
+    trace : places_of r.trace.items ≡ trace_of p.cells st.shared.books k (st.actors k).entries
+    unfolding agent_done
+    trace =
+        (agent_done i r x).traced ∙ ap (λ cs. trace_of cs (books_of s) (length code.threads + i) (st.actors (length code.threads + i)).entries) (sym same)
+        ∙ ap (λ b. trace_of p.cells b (length code.threads + i) (st.actors (length code.threads + i)).entries) bs
+        ∙ ap (λ n. trace_of p.cells st.shared.books n (st.actors n).entries) place
+
+    -- what was printed
+    printed_here : (out : List ℕ) → HasPrintedJust out (st.actors k).at → NeverEnds x.player.player.actor.outcome × (x.player.player.actor.printed ≡ out)
+    printed_here out h = printed_so x.player.player.actor x.player.player.actor.outcome _ _ out x.of.placed (subst (λ n. HasPrintedJust out (st.actors n).at) (sym place) h)
+
+    -- what the actor did up to such an end, as its entry says
+    acts_here : (End : (ℕ → List Event) → CellId → AtEnd) (out : List ℕ) (ds : List ActionDid) → x.player.player.actor.printed ≡ out
+        → ActsUpTo p.cells p.functions st.shared.books x.agent (End st.shared.books x.agent) (trace_of p.cells st.shared.books k (st.actors k).entries) [] out ds
+        → ActsUpTo p.cells p.functions (books_of s) g (End (books_of s) g) (places_of r.trace.items) [] r.printed.items ds
+    acts_here End out ds e h =
+        subst (λ b. ActsUpTo p.cells p.functions b g (End b g) (places_of r.trace.items) [] r.printed.items ds) (sym bs)
+        (subst (λ l. ActsUpTo p.cells p.functions st.shared.books g (End st.shared.books g) (places_of r.trace.items) [] l ds) (sym e ∙ x.reported.printed)
+        (subst (λ ps. ActsUpTo p.cells p.functions st.shared.books g (End st.shared.books g) ps [] out ds) (sym trace)
+        (subst (λ j. ActsUpTo p.cells p.functions st.shared.books j (End st.shared.books j) (trace_of p.cells st.shared.books k (st.actors k).entries) [] out ds) is h)))
+
+    -- one that was stopped for a full book is at an ask whose book is full
+    full_here : x.player.player.actor.outcome ≡ Some outcome.JournalFull → FullStop p.cells (code_of code k) st.shared.books (st.actors k)
+    full_here e =
+        subst (λ n. FullStop p.cells (code_of code n) st.shared.books (st.actors n)) place
+        (subst (λ b. FullStop p.cells (code_of code (length code.threads + i)) b (st.actors (length code.threads + i))) bs
+        (subst (λ cs. FullStop cs (code_of code (length code.threads + i)) (books_of s) (st.actors (length code.threads + i))) (sym same) (x.of.stops e)))
+
+    -- so its last action stands so
+    stands_full : r.outcome ≡ Some outcome.JournalFull → ActsUpTo p.cells p.functions (books_of s) g (EndsFull p.cells p.functions (books_of s) g) (places_of r.trace.items) [] r.printed.items (whole.agents.agents x.agent has).did
+    stands_full e =
+        let f = full_here (x.reported.ended ∙ e) in
+        let all = whole.agents.agents x.agent has in
+        let own : code_of code k ≡ agent_code (library_of code) x.agent = subst (λ n. code_of code n ≡ agent_code (library_of code) x.agent) place (agent_at code i x.agent x.named).acts in
+        let stands = all.stands f.place f.ask f.at (subst (λ c. AsksAt c f.place f.ask) own f.asks) f.adds in
+        acts_here (EndsFull p.cells p.functions) all.printed all.did (printed_here all.printed all.goes_on).1
+        (acts_map p.cells p.functions st.shared.books x.agent (StandsAt p.cells p.functions st.shared.books x.agent f.ask) (EndsFull p.cells p.functions st.shared.books x.agent)
+        (ends_full p.cells p.functions st.shared.books x.agent f.ask f.full) (trace_of p.cells st.shared.books k (st.actors k).entries) [] all.printed all.did stands)
+
+    agent_explained : ExplainsAgent p (length p.threads + i) g (books_of s) r
+    agent_explained =
+        let all = whole.agents.agents x.agent has in
+        let so = printed_here all.printed all.goes_on in
+        record {
+          traced = subst (λ n. TraceHolds (books_of s) (n + i) (places_of r.trace.items)) threads (agent_done i r x).names;
+          unended = subst NeverEnds x.reported.ended so.0;
+          did = all.did;
+          acts = acts_here (StillActs p.cells p.functions) all.printed all.did so.1 all.acts;
+          full = stands_full;
+        }
+
   pub all_explained_by : RunReported → CodesStaged (map (thread_code code) code.threads) × AgentsStaged (library_of code) → (ts : List ActorReport) → IsExplainedBy code (shared_of s) ts → AreExplainedBy code (shared_of s) ts rs
-  unfolding agent_done
   all_explained_by law staged ts by p same follows agents sends agents_send = record {
     by_threads = by p same follows;
     one_each = agents_done.one_each ∙ ap (λ cs. length (agents_from 0 cs)) (sym same);
     sends = subst (AllSound p.functions) (sym book) whole.agents.sends;
-    each = λ i g r named e. agent_explained i g r (entry_at i r e) named;
+    each = λ i g r named e. agent_explained p same threads whole i g r (entry_at i r e) named;
   }
     where
       threads : length code.threads ≡ length p.threads
@@ -399,30 +480,3 @@ module _ (traced : RunTraced) (done : DoneIsUndisturbed) (code : PlainCode) (lim
       whole =
           subst (ReportExplained p (library_of code)) (ap (λ cs. plays cs (length p.threads) (code_of code) turns) same ∙ ap (λ n. plays code.cells n (code_of code) turns) (sym threads))
           (law p (map (thread_code code) code.threads) (library_of code) (code_of code) turns follows agents staged.0 staged.1 sends agents_send runs)
-
-      -- the books of the run
-      bs : books_of s ≡ (run_of code turns).shared.books
-      bs = ap (λ (sh : Shared). sh.books) by_turns.shared
-
-      agent_explained : (i : ℕ) (g : CellId) (r : ActorReport) → IsEntry i r → nth (agents_from 0 p.cells) i ≡ Some g → ExplainsAgent p (length p.threads + i) g (books_of s) r
-      agent_explained i g r x named =
-          let at = agent_at code i x.agent x.named in
-          let is : x.agent ≡ g = ap (or_else g) (sym x.named ∙ ap (λ cs. nth (agents_from 0 cs) i) (sym same) ∙ named) in
-          let k : ℕ = world.actor_of (length p.threads) (cells_of p.cells) x.agent in
-          let y = (run_of code turns).actors (length code.threads + i) in
-          let place : length code.threads + i ≡ k = at.place ∙ ap (λ n. world.actor_of n (cells_of code.cells) x.agent) threads ∙ ap (λ cs. world.actor_of (length p.threads) (cells_of cs) x.agent) (sym same) in
-          let all = whole.agents.agents x.agent (subst (λ cs. has_agent (cells_of cs) x.agent ≡ true) (sym same) at.has) in
-          let so = printed_so x.player.player.actor x.player.player.actor.outcome _ _ all.printed x.of.placed (subst (λ n. HasPrintedJust all.printed ((run_of code turns).actors n).at) (sym place) all.goes_on) in
-          let trace : places_of r.trace.items ≡ trace_of p.cells (run_of code turns).shared.books k ((run_of code turns).actors k).entries
-          = (agent_done i r x).traced ∙ ap (λ cs. trace_of cs (books_of s) (length code.threads + i) y.entries) (sym same)
-          ∙ ap (λ b. trace_of p.cells b (length code.threads + i) y.entries) bs
-          ∙ ap (λ n. trace_of p.cells (run_of code turns).shared.books n ((run_of code turns).actors n).entries) place in
-          record {
-            traced = subst (λ n. TraceHolds (books_of s) (n + i) (places_of r.trace.items)) threads (agent_done i r x).names;
-            unended = subst NeverEnds x.reported.ended so.0;
-            did = all.did;
-            acts = subst (λ b. ActsInTurn p.cells p.functions b g (places_of r.trace.items) [] r.printed.items all.did) (sym bs)
-                (subst (λ l. ActsInTurn p.cells p.functions (run_of code turns).shared.books g (places_of r.trace.items) [] l all.did) (sym so.1 ∙ x.reported.printed)
-                (subst (λ ps. ActsInTurn p.cells p.functions (run_of code turns).shared.books g ps [] all.printed all.did) (sym trace)
-                (subst (λ j. ActsInTurn p.cells p.functions (run_of code turns).shared.books j (trace_of p.cells (run_of code turns).shared.books k ((run_of code turns).actors k).entries) [] all.printed all.did) is all.acts)));
-          }

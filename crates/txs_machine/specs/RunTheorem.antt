@@ -19,8 +19,9 @@ use Rattle.txs_theorem_threads.specs.Noted.{txs_of}
 use Rattle.txs_theorem_threads.specs.RepliesFit.{Explained, halted, HasWaited}
 use Rattle.txs_machine_actor.specs.PlainActor.{PlainActor, unanswered, stating, standing, stopped_at}
 use Rattle.txs_value_cell.specs.Agents.{agents_from}
-use Rattle.txs_theorem_runs.specs.Agents.{ActionDid, ActsInTurn, AllSound}
+use Rattle.txs_theorem_runs.specs.Agents.{ActionDid, ActsUpTo, ActsInTurn, AllSound}
 use Rattle.txs_theorem_runs.specs.Explains.{BooksStand, CommitsUndisturbed}
+use Rattle.txs_theorem_runs.specs.Full.{WaitsFull, EndsFull}
 use Rattle.txs_theorem_runs.specs.Refused.{RefusalsUndisturbed}
 use Rattle.txs_theorem_runs.specs.Shared.{Shared}
 use Rattle.txs_theorem_runs.specs.Told.{TraceHolds, trace_of, seen_of}
@@ -85,6 +86,8 @@ pub record ExplainsThread (p : PlainProgram) (k : ℕ) (t : PlainThread) (books 
   pub calm : SaidOf (undisturbed p.cells books) books (places_of ran.trace.items) (txs_of (meant_by p t books ran.trace.items turns))
   -- what the source means on all of these events but the last was printed
   pub least : HasPrintedLeast p t (seen_of p.cells books (places_of ran.trace.items)) ran.printed.items
+  -- where the thread was stopped for a full book, the source needs an event of a full book, for some bound on its loops, and has printed just what was printed
+  pub full : ran.outcome ≡ Some outcome.JournalFull → (n : ℕ) × WaitsFull books ran.printed.items (meant_by p t books ran.trace.items n)
 
 -- A program explains a run.
 pub record Explains (p : PlainProgram) (sh : Shared) (rans : List ActorReport) : Type 0 where
@@ -116,6 +119,9 @@ pub record ExplainsAgent (p : PlainProgram) (k : ℕ) (g : CellId) (books : ℕ 
   -- did since the act before; and what it did and printed after the last act what the action means that is first then
   pub did : List ActionDid
   pub acts : ActsInTurn p.cells p.functions books g (places_of ran.trace.items) [] ran.printed.items did
+  -- Where it was stopped for a full book, that last action needs an event of a full book, or is over and is to be handed in to the store's book, which is full;
+  -- and it has printed just what was printed.
+  pub full : ran.outcome ≡ Some outcome.JournalFull → ActsUpTo p.cells p.functions books g (EndsFull p.cells p.functions books g) (places_of ran.trace.items) [] ran.printed.items did
 
 -- A program explains a run with its agents.
 pub record ExplainsAll (p : PlainProgram) (sh : Shared) (threads agents : List ActorReport) : Type 0 where

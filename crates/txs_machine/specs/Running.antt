@@ -16,6 +16,7 @@ use Rattle.txs_machine_actor.specs.PlainActor.{PlainActor, HasRun, IsActorOf, Li
 use Rattle.txs_world_book.specs.Book.{has_agent, actor_of}
 use Rattle.txs_world_book.specs.Served.{cells_of}
 use Rattle.txs_world.specs.Store.{next_action}
+use Rattle.txs_theorem_runs.specs.Full.{FullStop}
 use Rattle.txs_theorem_runs.specs.Run as run
 use Rattle.txs_theorem_runs.specs.Run.{Stop, JournalFull, Memory, TurnsSpent}
 use Rattle.txs_theorem_runs.specs.Told.{exchange_of, AllHold, trace_of}
@@ -43,7 +44,7 @@ IsPlacedAs a (Some outcome.JournalFull) at why = (c : Configuration) × (at ≡ 
 IsPlacedAs a (Some outcome.Memory) at why = (c : Configuration) × (at ≡ Unfinished c) × SameBut c.state (state_of a) × (why ≡ Some Memory)
 
 -- The k-th actor, with this trace, is a run's k-th actor: it asks nothing, is where that one is, has done what the machine does on that one's entries, has counted that one's
--- turns, and its trace has the places of the events that the entries added; where it was stopped for a full book, the book for its ask is full.
+-- turns, and its trace has the places of the events that the entries added; where it was stopped for a full book, the book for its ask is full, as that for the run's actor's is.
 pub record IsPlayerOf (code : PlainCode) (k : ℕ) (books : ℕ → List Event) (a : PlainActor) (trace : List Place) (y : run.Actor) : Type 0 where
   pub number : a.number ≡ k
   pub waits : unanswered a ≡ None
@@ -52,6 +53,7 @@ pub record IsPlayerOf (code : PlainCode) (k : ℕ) (books : ℕ → List Event) 
   pub counted : a.steps ≡ steps_by y.stopped y.turns
   pub traced : places_of trace ≡ trace_of code.cells books k y.entries
   pub full : a.outcome ≡ Some outcome.JournalFull → AtFullBook code.cells (code_of code k) books (map exchange_of y.entries) a
+  pub stops : a.outcome ≡ Some outcome.JournalFull → FullStop code.cells (code_of code k) books y
 
 -- What is shared and the k-th actor, with this trace, are those of a list of turns, whoever made the others.
 pub record IsInRun (code : PlainCode) (k : ℕ) (s : PlainShared) (a : PlainActor) (trace : List Place) : Type 0 where

@@ -70,7 +70,7 @@ module _ (cells : List CellDefinition) (fs : List PlainFunction) (n : ℕ) where
   folded_alike span =
       apply_like ThreadState K Each (call_at (on_events X) n fs (length fs) false) (call_at (on_events Y) n (folded_functions fs) (length fs) false)
       (calls_folded ThreadState K (λ j. SameTx ⊥ (λ i. Each) X (folded_functions fs) (λ i here. any_valid (validators_of cells)) j j) (on_events X) (on_events Y) n fs
-      (λ j. event_forms ⊥ (λ i. Each) X (folded_functions fs) (λ i here. any_valid (validators_of cells)) j j) (λ j e env R. tx_like n fs j e env R) (length fs) false) span
+      (λ j. event_forms ⊥ (λ i. Each) X (folded_functions fs) (λ i here. any_valid (validators_of cells)) j j) (λ j e env lack R. tx_like n fs j e env lack R) (length fs) false) span
 
   pub action_folded : (a : Action) (v : Value) (es : List SeenEvent) → observed_end (action_meaning cells (folded_functions fs) n a v es) ≡ observed_end (action_meaning cells fs n a v es)
   action_folded a v es =
@@ -97,8 +97,8 @@ module _ (weight : ℕ → ℕ) (p : ℕ) (cells : List CellDefinition) (fs : Li
   calls_alike : (j : ℕ) (vs : List Value) → weight j < length fs → (s t : ThreadState) → K.rel s t → Like K (call_at (on_events V) n fs (length fs) false j vs s) (call_at (on_events W) n G (length fs) false j vs t)
   calls_alike =
       calls_inlined ThreadState K L (lower_none weight p) (lower_more weight p) (λ s t r. refl) (λ s t u p1 q1. p1 ∙ q1) (λ j. SameTx ⊥ L V G valid j j) (λ j. SameTx ⊥ L W G valid j j) (λ j. SameTx ⊥ L W G valid j (suc j)) (on_events V) (on_events W) n fs budget (lower_bodies weight p fs under)
-      (lower_bodies weight p G (under_inlined weight p fs [] budget tt under)) (λ j. event_forms ⊥ L V G valid j j) (λ j front within c l e env low is R. tx_bodies weight p n fs budget under R j front within e env c l low is) (λ j. event_forms ⊥ L W G valid j j)
-      (λ j e env low R. tx_own weight p n fs budget under R j e env low) (λ j c i e env env1 low w R. tx_moved weight p n fs budget under R j c i e env env1 low w) (λ j. event_forms ⊥ L W G valid j (suc j)) (λ j e env low R. tx_deep weight p n fs budget under R j e env low)
+      (lower_bodies weight p G (under_inlined weight p fs [] budget tt under)) (λ j. event_forms ⊥ L V G valid j j) (λ j front within c l e env low is lack R. tx_bodies weight p n fs budget under lack R j front within e env c l low is) (λ j. event_forms ⊥ L W G valid j j)
+      (λ j e env low lack R. tx_own weight p n fs budget under lack R j e env low) (λ j c i e env env1 low w lack R. tx_moved weight p n fs budget under lack R j c i e env env1 low w) (λ j. event_forms ⊥ L W G valid j (suc j)) (λ j e env low lack R. tx_deep weight p n fs budget under lack R j e env low)
       (λ j. event_ends W j) (length fs) false
 
   inlined_alike : (span : Span) → AppliesLike ThreadState K (L (length fs)) (apply (call_at (on_events V) n fs (length fs) false) span) (apply (call_at (on_events W) n G (length fs) false) span)

@@ -27,8 +27,8 @@ use Rattle.txs_value_data.specs.declared.value.CellId.{CellId}
 use Rattle.txs_value_data.specs.declared.value.Value.{Value}
 use Rattle.txs_value_data.specs.declared.value.Value.TheVariants.{Cell}
 use Rattle.txs_tree_meaning.specs.Meaning.{Completion, Completes, Recurs, Faults, Retries, Waits, OutOfTurns, Invalid, bind, allowed, Applies}
-use Rattle.txs_tree_meaning.specs.Thread.{TxRun, ThreadState, with_tx, holding, sends_or_holds, uneaten, eats, meant, reads, resets, faulted, faultless, swaps, sends, over, Transacting, run_of, ends_tx, is_retry, is_held, again, eats_tx, Surroundings, accepts, thread_look, thread_put, thread_update, outside_form, on_events}
-use Rattle.txs_tree_meaning.specs.Transaction.{TxState, on_cell, tx_meaning, final_writes}
+use Rattle.txs_tree_meaning.specs.Thread.{TxRun, ThreadState, with_tx, holding, sends_or_holds, uneaten, eats, meant, reads, resets, faulted, faultless, swaps, sends, over, Transacting, run_of, ends_tx, is_retry, is_held, missing, again, eats_tx, Surroundings, accepts, thread_look, thread_put, thread_update, outside_form, on_events}
+use Rattle.txs_tree_meaning.specs.Transaction.{TxState, on_cell, tx_meaning, tx_meaning_lacking, final_writes}
 use Rattle.txs_tree_meaning.specs.Tree.{Mark, Tree, PlainFunction}
 use Rattle.txs_opt.specs.Observed.{observed, observed_run, observed_end}
 use Rattle.txs_opt.proofs.Below.{Kind, Fine}
@@ -227,13 +227,35 @@ module _ (loose : Type 0) where
   over_like May Invalid (OutOfTurns y) s t r h go go1 broke broke1 hg hb = h
   over_like May Invalid Invalid s t r h go go1 broke broke1 hg hb = tt
 
+  missing_like : (May : Kind) (x y : Completion TxState Value) (s t : ThreadState) → observed s ≡ observed t → Like (fine_states May loose) x y → (p q : Completion ThreadState Value) → Like K p q → Like K (missing s x p) (missing t y q)
+  missing_like May (Completes a x) (Completes b y) s t r h p q like = tt
+  missing_like May (Completes a x) _ s t r h p q like = absurd h
+  missing_like May (Recurs vs x) (Recurs ws y) s t r h p q like = tt
+  missing_like May (Recurs vs x) _ s t r h p q like = absurd h
+  missing_like May (Faults f x) (Faults g y) s t r h p q like = tt
+  missing_like May (Faults f x) _ s t r h p q like = absurd h
+  missing_like May (Retries x) (Retries y) s t r h p q like = tt
+  missing_like May (Retries x) _ s t r h p q like = absurd h
+  missing_like May (Waits x) (Waits y) s t r h p q like = like
+  missing_like May (Waits x) _ s t r h p q like = absurd h
+  missing_like May (OutOfTurns x) (OutOfTurns y) s t r h p q like = r
+  missing_like May (OutOfTurns x) _ s t r h p q like = absurd h
+  missing_like May Invalid (Completes b y) s t r h p q like = tt
+  missing_like May Invalid (Recurs ws y) s t r h p q like = tt
+  missing_like May Invalid (Faults g y) s t r h p q like = tt
+  missing_like May Invalid (Retries y) s t r h p q like = tt
+  missing_like May Invalid (Waits y) s t r h p q like = loose_any ThreadState K q h
+  missing_like May Invalid (OutOfTurns y) s t r h p q like = h
+  missing_like May Invalid Invalid s t r h p q like = tt
+
   module _ (May : Kind) (m : Mark) (va : Validators) (valid : AllValid May va) (body body1 : Tree) (env env1 : List Value) (on on1 : World → Completion TxState Value) (same : (R : World) → Like (fine_states May loose) (on R) (on1 R))
+      (lack lack1 : ℕ → World → Completion TxState Value) (same_lack : (j : ℕ) (R : World) → Like (fine_states May loose) (lack j R) (lack1 j R))
       (f g : Applies ThreadState) (h : AppliesLike ThreadState K May f g) where
     abbrev First : Transacting
-    First = record { mark = m; body = body; locals = env; on = on; validators = va }
+    First = record { mark = m; body = body; locals = env; on = on; lacking = lack; validators = va }
 
     abbrev Second : Transacting
-    Second = record { mark = m; body = body1; locals = env1; on = on1; validators = va }
+    Second = record { mark = m; body = body1; locals = env1; on = on1; lacking = lack1; validators = va }
 
     ends_like : (e : EventKind) (R Q C : World) → PartsLike ThreadState K (ends_tx First f e R Q C) (ends_tx Second g e R Q C)
     ends_like (Read d) R Q C s t r = tt
@@ -265,7 +287,7 @@ module _ (loose : Type 0) where
 
     -- a try that had to run again, and what follows
     again_like : (e : EventKind) (R : World) (s t : ThreadState) → observed s ≡ observed t → (p q : Completion ThreadState Value) → Like K p q → Like K (again First e R s p) (again Second e R t q)
-    again_like (Retry since c cause.Outdated) R s t r p q like = like
+    again_like (Retry since c cause.Outdated) R s t r p q like = missing_like May (lack c.number R) (lack1 c.number R) s t r (same_lack c.number R) p q like
     again_like (Retry since c cause.Held) R s t r p q like = over_like May (on R) (on1 R) s t r (same R) _ _ (λ x. Invalid) (λ x. Invalid) (λ v x fine. allowed_like (is_held x.done c.number) p q like) (λ x. tt)
     again_like (Retry since c (cause.Commuted at)) R s t r p q like = over_like May (on R) (on1 R) s t r (same R) _ _ (λ x. Invalid) (λ x. Invalid) (λ v x fine. allowed_like (has_number (commuted x.done) c.number) p q like) (λ x. tt)
     again_like _ R s t r p q like = tt
@@ -318,9 +340,9 @@ module _ (loose : Type 0) where
     outside_like : (form : CellForm) (a b : ThreadState → Completion ThreadState Value) → PartsLike ThreadState K a b → PartsLike ThreadState K (λ t. outside_form form (a t)) (λ t. outside_form form (b t))
     outside_like form a b h s t r = allowed_like (may_stand (rule form).stands false) (a s) (b t) (h s t r)
 
-    -- bodies that mean the same on each world, where calls go so deep
+    -- bodies that mean the same on each world, also on one that lacks a value, where calls go so deep
     abbrev pub SameTx : ℕ → ℕ → Tree → List Value → Tree → List Value → Type 0
-    SameTx d d1 e env e1 env1 = (R : World) → Like (fine_states (May d) loose) (tx_meaning x.turns x.functions d e env R) (tx_meaning x.turns fs d1 e1 env1 R)
+    SameTx d d1 e env e1 env1 = (lack : Option ℕ) (R : World) → Like (fine_states (May d) loose) (tx_meaning_lacking x.turns x.functions d e env lack R) (tx_meaning_lacking x.turns fs d1 e1 env1 lack R)
 
     pub event_forms : (d d1 : ℕ) → FormsLike ThreadState K (May d) (SameTx d d1) (on_events x d) (on_events X d1)
     event_forms d d1 = record {
@@ -336,7 +358,8 @@ module _ (loose : Type 0) where
           on_cell_like ThreadState K form_of.Send false m.span v (λ c t1. sends_or_holds t1.held (record { agent = c; callee = callee; args = vs; span = m.span }) m.span t1) (λ c t1. sends_or_holds t1.held (record { agent = c; callee = callee; args = vs; span = m.span }) m.span t1)
           (λ c s1 t1 r1. subst (λ o. Like K (sends_or_holds s1.held (record { agent = c; callee = callee; args = vs; span = m.span }) m.span s1) (sends_or_holds o (record { agent = c; callee = callee; args = vs; span = m.span }) m.span t1)) (ap (λ (u : ThreadState). u.held) r1) (holds_like (record { agent = c; callee = callee; args = vs; span = m.span }) m.span s1.held s1 t1 r1));
       dosync = λ inside m e e1 env env1 b b1 f g linked here parts h.
-          eats_tx_like (May d) m (validators_of x.cells) (valid d here) e e1 env env1 (tx_meaning x.turns x.functions d e env) (tx_meaning x.turns fs d1 e1 env1) linked f g h x.tries;
+          eats_tx_like (May d) m (validators_of x.cells) (valid d here) e e1 env env1 (tx_meaning x.turns x.functions d e env) (tx_meaning x.turns fs d1 e1 env1) (linked None)
+          (λ j. tx_meaning_lacking x.turns x.functions d e env (Some j)) (λ j. tx_meaning_lacking x.turns fs d1 e1 env1 (Some j)) (λ j. linked (Some j)) f g h x.tries;
     }
 
 -- ends that tell the same

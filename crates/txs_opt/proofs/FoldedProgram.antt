@@ -8,7 +8,7 @@ use Rattle.txs_value_data.specs.declared.value.Value.{Value}
 use Rattle.txs_tree_meaning.specs.Meaning.{bind, closed, give, Effects, turns, eval, call_at, apply}
 use Rattle.txs_tree_meaning.specs.Pure.{no_effects, nowhere, pure_calls, pure_meaning}
 use Rattle.txs_tree_meaning.specs.Thread.{ThreadState, on_events, around, thread_meaning}
-use Rattle.txs_tree_meaning.specs.Transaction.{TxState, in_transaction, tx_start, tx_meaning}
+use Rattle.txs_tree_meaning.specs.Transaction.{TxState, in_transaction_lacking, tx_start, tx_meaning, tx_meaning_lacking}
 use Rattle.txs_tree_meaning.specs.Tree.{Tree, PlainFunction, ThreadSource}
 use Rattle.txs_opt.specs.Fold.{folded, folded_function, folded_functions}
 use Rattle.txs_opt.specs.Keeps.{folded_source}
@@ -63,16 +63,16 @@ pure_folded n fs callee vs =
     (apply_like (Unit {0}) (exact (Unit {0})) Each (pure_calls n fs d false) (pure_calls n (folded_functions fs) d false)
     (λ f. calls_folded (Unit {0}) (exact (Unit {0})) (λ j. Any) (λ j. no_effects) (λ j. no_effects) n fs (λ j. pure_forms ⊥ Each) (λ j e env. tt) d false f) nowhere callee vs (any_callee callee) tt tt refl)
 
-pub tx_like : (n : ℕ) (fs : List PlainFunction) (d : ℕ) (e : Tree) (env : List Value) (R : World) → Like (fine_states Each ⊥) (tx_meaning n fs d e env R) (tx_meaning n (folded_functions fs) d (folded e) env R)
-tx_like n fs d e env R =
-    closed_like TxState (fine_states Each ⊥) (eval (in_transaction R) (call_at (λ j. in_transaction R) n fs d) n true e env tx_start) (eval (in_transaction R) (call_at (λ j. in_transaction R) n (folded_functions fs) d) n true (folded e) env tx_start)
-    (bodies_folded TxState (fine_states Each ⊥) (λ j. Any) (λ j. in_transaction R) (λ j. in_transaction R) n fs (λ j. tx_forms ⊥ Each Each (λ f h. h) R) (λ j e1 env1. tt) d true e env tx_start tx_start (refl, tt))
+pub tx_like : (n : ℕ) (fs : List PlainFunction) (d : ℕ) (e : Tree) (env : List Value) (lack : Option ℕ) (R : World) → Like (fine_states Each ⊥) (tx_meaning_lacking n fs d e env lack R) (tx_meaning_lacking n (folded_functions fs) d (folded e) env lack R)
+tx_like n fs d e env lack R =
+    closed_like TxState (fine_states Each ⊥) (eval (in_transaction_lacking lack R) (call_at (λ j. in_transaction_lacking lack R) n fs d) n true e env tx_start) (eval (in_transaction_lacking lack R) (call_at (λ j. in_transaction_lacking lack R) n (folded_functions fs) d) n true (folded e) env tx_start)
+    (bodies_folded TxState (fine_states Each ⊥) (λ j. Any) (λ j. in_transaction_lacking lack R) (λ j. in_transaction_lacking lack R) n fs (λ j. tx_forms ⊥ Each Each (λ f h. h) lack R) (λ j e1 env1. tt) d true e env tx_start tx_start (refl, tt))
 
 pub tx_folded : (n : ℕ) (fs : List PlainFunction) (d : ℕ) (e : Tree) (env : List Value) (R : World) → tx_meaning n (folded_functions fs) d (folded e) env R ≡ tx_meaning n fs d e env R
 tx_folded n fs d e env R =
     let x = tx_meaning n fs d e env R in
     let y = tx_meaning n (folded_functions fs) d (folded e) env R in
-    exactly TxState x y (forget (fine_states Each ⊥) (exact TxState) (λ s t r. r.0) (λ h. h) x y (tx_like n fs d e env R))
+    exactly TxState x y (forget (fine_states Each ⊥) (exact TxState) (λ s t r. r.0) (λ h. h) x y (tx_like n fs d e env None R))
 
 pub thread_folded : (p : ThreadSource) (n : ℕ) (es : List SeenEvent) → observed_end (thread_meaning (folded_source p) n es) ≡ observed_end (thread_meaning p n es)
 thread_folded p n es =
@@ -86,4 +86,4 @@ thread_folded p n es =
     ap (λ j. observed_end (closed (eval (gxs j) (call_at gxs n fs j) n false (folded p.main) [] start))) (length_folded p.functions)
     ∙ observing_end (thread_meaning p n es) (closed (eval (gxs d) (call_at gxs n fs d) n false (folded p.main) [] start))
     (closed_like ThreadState (observing_same ⊥) (eval (fxs d) (call_at fxs n p.functions d) n false p.main [] start) (eval (gxs d) (call_at gxs n fs d) n false (folded p.main) [] start)
-    (bodies_folded ThreadState (observing_same ⊥) (λ j. SameTx ⊥ (λ i. Each) x fs (λ i here. any_valid (validators_of x.cells)) j j) fxs gxs n p.functions (λ j. event_forms ⊥ (λ i. Each) x fs (λ i here. any_valid (validators_of x.cells)) j j) (λ j e env R. tx_like n p.functions j e env R) d false p.main [] start start refl))
+    (bodies_folded ThreadState (observing_same ⊥) (λ j. SameTx ⊥ (λ i. Each) x fs (λ i here. any_valid (validators_of x.cells)) j j) fxs gxs n p.functions (λ j. event_forms ⊥ (λ i. Each) x fs (λ i here. any_valid (validators_of x.cells)) j j) (λ j e env lack R. tx_like n p.functions j e env lack R) d false p.main [] start start refl))

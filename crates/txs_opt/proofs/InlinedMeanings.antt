@@ -9,7 +9,7 @@ use Rattle.txs_value_data.specs.declared.value.Value.{Value}
 use Rattle.txs_tree_meaning.specs.Meaning.{Invalid, bind, closed, give, Effects, turns, eval, call_at}
 use Rattle.txs_tree_meaning.specs.Pure.{no_effects, pure_calls, pure_meaning}
 use Rattle.txs_tree_meaning.specs.Thread.{ThreadState, on_events, around, thread_meaning}
-use Rattle.txs_tree_meaning.specs.Transaction.{TxState, in_transaction, tx_start, tx_meaning}
+use Rattle.txs_tree_meaning.specs.Transaction.{TxState, in_transaction_lacking, tx_start, tx_meaning, tx_meaning_lacking}
 use Rattle.txs_tree_meaning.specs.Tree.{Tree, PlainFunction, ThreadSource}
 use Rattle.txs_tree_build.specs.Shift.{shifted}
 use Rattle.txs_opt.specs.Inline.{inlined, functions_inlined}
@@ -94,41 +94,41 @@ module _ (weight : ℕ → ℕ) (p : ℕ) (m : ℕ) (fs : List PlainFunction) (b
           (λ j. pure_forms ⊥ (Low weight p j)) (λ j front within c left e env low is1. tt) (λ j. pure_forms ⊥ (Low weight p j)) (λ j e env low. tt) (λ j c i e env env1 low w. tt) (λ j. pure_forms ⊥ (Low weight p j)) (λ j e env low. tt) (λ j. pure_ends)
           (length fs) false f vs (light f fun is) tt tt refl)
 
-  module _ (R : World) where
+  module _ (lack : Option ℕ) (R : World) where
     abbrev F : ℕ → Effects TxState
-    F j = in_transaction R
+    F j = in_transaction_lacking lack R
 
-    pub tx_bodies : (d : ℕ) (front : List PlainFunction) → Within front G → (e : Tree) (env : List Value) (c left : ℕ) → Below (Low weight p d) e → length env ≡ c → Like (K weight p d) (tx_meaning m fs d e env R) (tx_meaning m G d (inlined front c left e).tree env R)
+    pub tx_bodies : (d : ℕ) (front : List PlainFunction) → Within front G → (e : Tree) (env : List Value) (c left : ℕ) → Below (Low weight p d) e → length env ≡ c → Like (K weight p d) (tx_meaning_lacking m fs d e env lack R) (tx_meaning_lacking m G d (inlined front c left e).tree env lack R)
     tx_bodies d front within e env c left low is =
-        closed_like TxState (K weight p d) (eval (in_transaction R) (call_at F m fs d) m true e env tx_start) (eval (in_transaction R) (call_at F m G d) m true (inlined front c left e).tree env tx_start)
+        closed_like TxState (K weight p d) (eval (in_transaction_lacking lack R) (call_at F m fs d) m true e env tx_start) (eval (in_transaction_lacking lack R) (call_at F m G d) m true (inlined front c left e).tree env tx_start)
         (bodies_inlined TxState (K weight p d) (Both weight p d) (both_none weight p d) (both_more weight p d) (same_fine weight p d) (trans_fine weight p d) (λ j. Any) (λ j. Any) (λ j. Any) F F m fs budget (both_bodies weight p d fs under) (both_bodies weight p d G own_under)
-        (λ j. tx_forms ⊥ (Low weight p d) (Both weight p d j) (λ f h. h.1) R) (λ j front1 within1 c1 left1 e1 env1 low1 is1. tt) (λ j. tx_forms ⊥ (Low weight p d) (Both weight p d j) (λ f h. h.1) R) (λ j e1 env1 low1. tt) (λ j c1 i e1 env1 env2 low1 w. tt)
-        (λ j. tx_forms ⊥ (Low weight p d) (Both weight p d j) (λ f h. h.1) R) (λ j e1 env1 low1. tt) (λ j. tx_ends R) d front within true e env c left (both_of weight p d e low) is tx_start tx_start (refl, tt))
+        (λ j. tx_forms ⊥ (Low weight p d) (Both weight p d j) (λ f h. h.1) lack R) (λ j front1 within1 c1 left1 e1 env1 low1 is1. tt) (λ j. tx_forms ⊥ (Low weight p d) (Both weight p d j) (λ f h. h.1) lack R) (λ j e1 env1 low1. tt) (λ j c1 i e1 env1 env2 low1 w. tt)
+        (λ j. tx_forms ⊥ (Low weight p d) (Both weight p d j) (λ f h. h.1) lack R) (λ j e1 env1 low1. tt) (λ j. tx_ends lack R) d front within true e env c left (both_of weight p d e low) is tx_start tx_start (refl, tt))
 
-    pub tx_own : (d : ℕ) (e : Tree) (env : List Value) → Below (Low weight p d) e → Like (K weight p d) (tx_meaning m G d e env R) (tx_meaning m G d e env R)
+    pub tx_own : (d : ℕ) (e : Tree) (env : List Value) → Below (Low weight p d) e → Like (K weight p d) (tx_meaning_lacking m G d e env lack R) (tx_meaning_lacking m G d e env lack R)
     tx_own d e env low =
-        closed_like TxState (K weight p d) (eval (in_transaction R) (call_at F m G d) m true e env tx_start) (eval (in_transaction R) (call_at F m G d) m true e env tx_start)
-        (own_body TxState (K weight p d) (Both weight p d) (both_none weight p d) (both_more weight p d) (λ i. Any) (λ i. Any) F m G (both_bodies weight p d G own_under) (λ i. tx_forms ⊥ (Low weight p d) (Both weight p d i) (λ f h. h.1) R) (λ i e1 env1 low1. tt)
-        (λ i. tx_forms ⊥ (Low weight p d) (Both weight p d i) (λ f h. h.1) R) (λ i e1 env1 low1. tt) (λ i. tx_ends R) d true e env (both_of weight p d e low) tx_start tx_start (refl, tt))
+        closed_like TxState (K weight p d) (eval (in_transaction_lacking lack R) (call_at F m G d) m true e env tx_start) (eval (in_transaction_lacking lack R) (call_at F m G d) m true e env tx_start)
+        (own_body TxState (K weight p d) (Both weight p d) (both_none weight p d) (both_more weight p d) (λ i. Any) (λ i. Any) F m G (both_bodies weight p d G own_under) (λ i. tx_forms ⊥ (Low weight p d) (Both weight p d i) (λ f h. h.1) lack R) (λ i e1 env1 low1. tt)
+        (λ i. tx_forms ⊥ (Low weight p d) (Both weight p d i) (λ f h. h.1) lack R) (λ i e1 env1 low1. tt) (λ i. tx_ends lack R) d true e env (both_of weight p d e low) tx_start tx_start (refl, tt))
 
-    pub tx_moved : (d c j : ℕ) (e : Tree) (env env1 : List Value) → Below (Low weight p d) e → Wider c j env env1 → Like (K weight p d) (tx_meaning m G d e env R) (tx_meaning m G d (shifted c j e) env1 R)
+    pub tx_moved : (d c j : ℕ) (e : Tree) (env env1 : List Value) → Below (Low weight p d) e → Wider c j env env1 → Like (K weight p d) (tx_meaning_lacking m G d e env lack R) (tx_meaning_lacking m G d (shifted c j e) env1 lack R)
     tx_moved d c j e env env1 low w =
-        closed_like TxState (K weight p d) (eval (in_transaction R) (call_at F m G d) m true e env tx_start) (eval (in_transaction R) (call_at F m G d) m true (shifted c j e) env1 tx_start)
-        (moved_body TxState (K weight p d) (Both weight p d) (both_none weight p d) (both_more weight p d) (λ i. Any) (λ i. Any) F m G (both_bodies weight p d G own_under) (λ i. tx_forms ⊥ (Low weight p d) (Both weight p d i) (λ f h. h.1) R) (λ i e1 env2 low1. tt)
-        (λ i. tx_forms ⊥ (Low weight p d) (Both weight p d i) (λ f h. h.1) R) (λ i e1 env2 low1. tt) (λ i. tx_ends R) (λ d1 c1 i e1 env2 env3 low1 w1. tt) d true c j e env env1 (both_of weight p d e low) w tx_start tx_start (refl, tt))
+        closed_like TxState (K weight p d) (eval (in_transaction_lacking lack R) (call_at F m G d) m true e env tx_start) (eval (in_transaction_lacking lack R) (call_at F m G d) m true (shifted c j e) env1 tx_start)
+        (moved_body TxState (K weight p d) (Both weight p d) (both_none weight p d) (both_more weight p d) (λ i. Any) (λ i. Any) F m G (both_bodies weight p d G own_under) (λ i. tx_forms ⊥ (Low weight p d) (Both weight p d i) (λ f h. h.1) lack R) (λ i e1 env2 low1. tt)
+        (λ i. tx_forms ⊥ (Low weight p d) (Both weight p d i) (λ f h. h.1) lack R) (λ i e1 env2 low1. tt) (λ i. tx_ends lack R) (λ d1 c1 i e1 env2 env3 low1 w1. tt) d true c j e env env1 (both_of weight p d e low) w tx_start tx_start (refl, tt))
 
-    pub tx_deep : (d : ℕ) (e : Tree) (env : List Value) → Below (Low weight p d) e → Like (K weight p d) (tx_meaning m G d e env R) (tx_meaning m G (suc d) e env R)
+    pub tx_deep : (d : ℕ) (e : Tree) (env : List Value) → Below (Low weight p d) e → Like (K weight p d) (tx_meaning_lacking m G d e env lack R) (tx_meaning_lacking m G (suc d) e env lack R)
     tx_deep d e env low =
-        closed_like TxState (K weight p d) (eval (in_transaction R) (call_at F m G d) m true e env tx_start) (eval (in_transaction R) (call_at F m G (suc d)) m true e env tx_start)
-        (deep_body TxState (K weight p d) (Both weight p d) (both_none weight p d) (both_more weight p d) (λ i. Any) (λ i. Any) F m G (both_bodies weight p d G own_under) (λ i. tx_forms ⊥ (Low weight p d) (Both weight p d i) (λ f h. h.1) R) (λ i e1 env2 low1. tt)
-        (λ i. tx_forms ⊥ (Low weight p d) (Both weight p d i) (λ f h. h.1) R) (λ i e1 env2 low1. tt) (λ i. tx_ends R) d true e env (both_of weight p d e low) tx_start tx_start (refl, tt))
+        closed_like TxState (K weight p d) (eval (in_transaction_lacking lack R) (call_at F m G d) m true e env tx_start) (eval (in_transaction_lacking lack R) (call_at F m G (suc d)) m true e env tx_start)
+        (deep_body TxState (K weight p d) (Both weight p d) (both_none weight p d) (both_more weight p d) (λ i. Any) (λ i. Any) F m G (both_bodies weight p d G own_under) (λ i. tx_forms ⊥ (Low weight p d) (Both weight p d i) (λ f h. h.1) lack R) (λ i e1 env2 low1. tt)
+        (λ i. tx_forms ⊥ (Low weight p d) (Both weight p d i) (λ f h. h.1) lack R) (λ i e1 env2 low1. tt) (λ i. tx_ends lack R) d true e env (both_of weight p d e low) tx_start tx_start (refl, tt))
 
   -- a transaction's body with its locals
   pub tx_inlined : (d : ℕ) (front : List PlainFunction) → Within front G → (e : Tree) (env : List Value) (c left : ℕ) (R : World) → Below (Low weight p d) e → length env ≡ c → tx_meaning m G d (inlined front c left e).tree env R ≡ tx_meaning m fs d e env R
   tx_inlined d front within e env c left R low is =
       let x = tx_meaning m fs d e env R in
       let y = tx_meaning m G d (inlined front c left e).tree env R in
-      exactly TxState x y (forget (K weight p d) (exact TxState) (λ s t r. r.0) (λ h. h) x y (tx_bodies R d front within e env c left low is))
+      exactly TxState x y (forget (K weight p d) (exact TxState) (λ s t r. r.0) (λ h. h) x y (tx_bodies None R d front within e env c left low is))
 
 -- A thread, where calls go so deep that forms stand there, and what validators weigh is less.
 pub thread_inlined : (weight : ℕ → ℕ) (p : ℕ) (q : ThreadSource) (budget left m : ℕ) (es : List SeenEvent) → Under weight p 0 q.functions → ((d : ℕ) → p ≤ d → AllValid (Low weight p d) (validators_of q.cells)) → Below (Low weight p (length q.functions)) q.main
@@ -149,6 +149,6 @@ thread_inlined weight p q budget left m es under valid low =
     ∙ observing_end (thread_meaning q m es) (closed (eval (gxs d) (call_at gxs m gs d) m false main [] start))
     (closed_like ThreadState (observing_same ⊥) (eval (fxs d) (call_at fxs m fs d) m false q.main [] start) (eval (gxs d) (call_at gxs m gs d) m false main [] start)
     (bodies_inlined ThreadState (observing_same ⊥) L (lower_none weight p) (lower_more weight p) (λ s t r. refl) (λ s t u p1 q1. p1 ∙ q1) (λ j. SameTx ⊥ L x gs valid j j) (λ j. SameTx ⊥ L y gs valid j j) (λ j. SameTx ⊥ L y gs valid j (suc j)) fxs gxs m fs budget (lower_bodies weight p fs under) (lower_bodies weight p gs own)
-    (λ j. event_forms ⊥ L x gs valid j j) (λ j front within c l e env low1 is R. tx_bodies weight p m fs budget under R j front within e env c l low1 is)
-    (λ j. event_forms ⊥ L y gs valid j j) (λ j e env low1 R. tx_own weight p m fs budget under R j e env low1) (λ j c i e env env1 low1 w R. tx_moved weight p m fs budget under R j c i e env env1 low1 w)
-    (λ j. event_forms ⊥ L y gs valid j (suc j)) (λ j e env low1 R. tx_deep weight p m fs budget under R j e env low1) (λ j. event_ends y j) d gs (λ f fun is. is) false q.main [] 0 left low refl start start refl))
+    (λ j. event_forms ⊥ L x gs valid j j) (λ j front within c l e env low1 is lack R. tx_bodies weight p m fs budget under lack R j front within e env c l low1 is)
+    (λ j. event_forms ⊥ L y gs valid j j) (λ j e env low1 lack R. tx_own weight p m fs budget under lack R j e env low1) (λ j c i e env env1 low1 w lack R. tx_moved weight p m fs budget under lack R j c i e env env1 low1 w)
+    (λ j. event_forms ⊥ L y gs valid j (suc j)) (λ j e env low1 lack R. tx_deep weight p m fs budget under lack R j e env low1) (λ j. event_ends y j) d gs (λ f fun is. is) false q.main [] 0 left low refl start start refl))

@@ -5,7 +5,7 @@ use Rattle.txs_world_protocol.specs.SeenEvent.{SeenEvent, home}
 use Rattle.txs_world_protocol.specs.declared.event.Cause.TheVariants as cause
 use Rattle.txs_world_protocol.specs.declared.event.EventKind.{EventKind}
 use Rattle.txs_world_protocol.specs.declared.event.EventKind.TheVariants.{Read, Commit, Retry, Fail, Refused, Send as Sent, SendRefused, Act, Swap as Swapped, Broke}
-use Rattle.txs_frame.specs.Frame.{PlainTxFrame, has_number, commuted, set_ref, commute_ref, sends_of_commit}
+use Rattle.txs_frame.specs.Frame.{PlainTxFrame, has_number, commuted, set_ref, ensure_ref, commute_ref, sends_of_commit}
 use Rattle.txs_value_cell.specs.Cells.{World, validators_of}
 use Rattle.txs_value_cell.specs.Forms.{rule, cell_of, may_stand}
 use Rattle.txs_value_cell.specs.declared.action.Action.{Action}
@@ -28,8 +28,8 @@ use Rattle.txs_value_data.specs.declared.value.Value.{Value}
 use Rattle.txs_value_data.specs.declared.value.Value.TheVariants.{Cell}
 use Rattle.txs_tree_meaning.specs.Meaning.{Completion, Completes, Recurs, Faults, Retries, Waits, OutOfTurns, Invalid, bind, result_of, allowed, Applies}
 use Rattle.txs_tree_meaning.specs.Pure.{no_effects}
-use Rattle.txs_tree_meaning.specs.Thread.{ThreadState, with_tx, holding, sends_or_holds, uneaten, eats, meant, reads, resets, faulted, faultless, swaps, sends, over, Transacting, run_of, ends_tx, is_retry, is_held, again, eats_tx, Surroundings, accepts, thread_look, thread_put, thread_update, on_events}
-use Rattle.txs_tree_meaning.specs.Transaction.{TxState, taken, done_as, on_cell, current, tx_look, tx_put, tx_update, in_transaction, tx_meaning, final_writes}
+use Rattle.txs_tree_meaning.specs.Thread.{ThreadState, with_tx, holding, sends_or_holds, uneaten, eats, meant, reads, resets, faulted, faultless, swaps, sends, over, Transacting, run_of, ends_tx, is_retry, is_held, missing, again, eats_tx, Surroundings, accepts, thread_look, thread_put, thread_update, on_events}
+use Rattle.txs_tree_meaning.specs.Transaction.{TxState, own, noted, lacks, looked, taken_lacking, done_as, on_cell, current, tx_look_lacking, tx_put, tx_update_lacking, in_transaction_lacking, tx_meaning, tx_meaning_lacking, final_writes}
 use Rattle.txs_tree_meaning.specs.Tree.{Mark}
 use Rattle.txs_opt.proofs.Recurring.{IsEnd, FormsEnd, CalleesEnd, bind_end}
 
@@ -51,30 +51,32 @@ on_cell_end form inside span v go s h = bind_end (result_of (cell_of (rule form)
 done_end : (r : Result PlainTxFrame FaultKind) (span : Span) (v : Value) (t : TxState) → IsEnd (done_as r span v t)
 done_end r span v t = bind_end (result_of r span t) (λ w t1. Completes v (record t1 { done = w })) (λ w t1. tt)
 
-look_end : (R : World) (form : LookForm) (c : CellId) (t : TxState) → IsEnd (tx_look R form c t)
-look_end R Deref c t = tt
-look_end R Ensure c t = tt
+taken_end : (lack : Option ℕ) (R : World) (c : CellId) (t : TxState) → IsEnd (taken_lacking lack R c t)
+taken_end lack R c t = bind_end (looked lack R c t) (λ v t1. Completes v (noted c (own t1.done c.number) t1)) (λ v t1. tt)
+
+look_end : (lack : Option ℕ) (R : World) (form : LookForm) (c : CellId) (t : TxState) → IsEnd (tx_look_lacking lack R form c t)
+look_end lack R Deref c t = taken_end lack R c t
+look_end lack R Ensure c t = bind_end (taken_lacking lack R c t) (λ v t1. Completes v (record t1 { done = ensure_ref c t1.done })) (λ v t1. tt)
 
 put_end : (form : PutForm) (span : Span) (c : CellId) (v : Value) (t : TxState) → IsEnd (tx_put form span c v t)
 put_end RefSet span c v t = done_end (set_ref c v t.done) span v t
 put_end Reset span c v t = tt
 
-update_end : (R : World) (form : UpdateForm) (m : Mark) (c : CellId) (callee : Callee) (vs : List Value) (f : Applies TxState) (t : TxState) → CalleesEnd f → IsEnd (tx_update R form m c callee vs f t)
-update_end R Alter m c callee vs f t h =
-    bind_end (taken R c t) (λ v t1. bind (f callee (v ∷ vs) t1) (λ w t2. done_as (set_ref c w t2.done) m.span w t2))
+update_end : (lack : Option ℕ) (R : World) (form : UpdateForm) (m : Mark) (c : CellId) (callee : Callee) (vs : List Value) (f : Applies TxState) (t : TxState) → CalleesEnd f → IsEnd (tx_update_lacking lack R form m c callee vs f t)
+update_end lack R Alter m c callee vs f t h =
+    bind_end (taken_lacking lack R c t) (λ v t1. bind (f callee (v ∷ vs) t1) (λ w t2. done_as (set_ref c w t2.done) m.span w t2))
     (λ v t1. bind_end (f callee (v ∷ vs) t1) (λ w t2. done_as (set_ref c w t2.done) m.span w t2) (λ w t2. done_end (set_ref c w t2.done) m.span w t2))
-update_end R Commute m c callee vs f t h = kept (f callee (current R t.done c ∷ vs) t)
-  where
-    kept : (x : Completion TxState Value) → IsEnd (bind x (λ w t1. Completes w (record t1 { done = commute_ref c callee vs w t1.done; used = t1.used || m.wanted })))
-    kept x = bind_end x (λ w t1. Completes w (record t1 { done = commute_ref c callee vs w t1.done; used = t1.used || m.wanted })) (λ w t1. tt)
-update_end R Swap m c callee vs f t h = tt
+update_end lack R Commute m c callee vs f t h =
+    bind_end (looked lack R c t) (λ v t1. bind (f callee (v ∷ vs) t1) (λ w t2. Completes w (record t2 { done = commute_ref c callee vs w t2.done; used = t2.used || m.wanted })))
+    (λ v t1. bind_end (f callee (v ∷ vs) t1) (λ w t2. Completes w (record t2 { done = commute_ref c callee vs w t2.done; used = t2.used || m.wanted })) (λ w t2. tt))
+update_end lack R Swap m c callee vs f t h = tt
 
-pub tx_ends : (R : World) → FormsEnd TxState (in_transaction R)
-tx_ends R = record {
+pub tx_ends : (lack : Option ℕ) (R : World) → FormsEnd TxState (in_transaction_lacking lack R)
+tx_ends lack R = record {
   print = λ inside vs s. tt;
-  look = λ form inside m v s. on_cell_end (form_of.Look form) true m.span v (tx_look R form) s (look_end R form);
+  look = λ form inside m v s. on_cell_end (form_of.Look form) true m.span v (tx_look_lacking lack R form) s (look_end lack R form);
   put = λ form inside m v w f s h. on_cell_end (form_of.Put form) true m.span v (λ c t1. tx_put form m.span c w t1) s (λ c t1. put_end form m.span c w t1);
-  update = λ form inside m v callee vs f s h. on_cell_end (form_of.Update form) true m.span v (λ c t1. tx_update R form m c callee vs f t1) s (λ c t1. update_end R form m c callee vs f t1 h);
+  update = λ form inside m v callee vs f s h. on_cell_end (form_of.Update form) true m.span v (λ c t1. tx_update_lacking lack R form m c callee vs f t1) s (λ c t1. update_end lack R form m c callee vs f t1 h);
   send = λ inside m v callee vs s. bind_end (result_of (cell_of (rule form_of.Send) true v) m.span s) _ (λ c t1. tt);
   dosync = λ inside m e env b f s h j. h s;
 }
@@ -207,9 +209,18 @@ allowed_end : (b : Bool) (x : Completion ThreadState Value) → IsEnd x → IsEn
 allowed_end true x h = h
 allowed_end false x h = tt
 
+missing_end : (t : ThreadState) (x : Completion TxState Value) (next : Completion ThreadState Value) → IsEnd next → IsEnd (missing t x next)
+missing_end t (Completes v y) next h = tt
+missing_end t (Recurs vs y) next h = tt
+missing_end t (Faults f y) next h = tt
+missing_end t (Retries y) next h = tt
+missing_end t (Waits y) next h = h
+missing_end t (OutOfTurns y) next h = tt
+missing_end t Invalid next h = tt
+
 -- a try that had to run again, and what follows
 again_end : (d : Transacting) (e : EventKind) (R : World) (t : ThreadState) (next : Completion ThreadState Value) → IsEnd next → IsEnd (again d e R t next)
-again_end d (Retry since c cause.Outdated) R t next h = h
+again_end d (Retry since c cause.Outdated) R t next h = missing_end t (d.lacking c.number R) next h
 again_end d (Retry since c cause.Held) R t next h = over_end t (d.on R) (λ v x. allowed (is_held x.done c.number) next) (λ g. Invalid) (λ v x. allowed_end (is_held x.done c.number) next h) (λ g. tt)
 again_end d (Retry since c (cause.Commuted at)) R t next h = over_end t (d.on R) (λ v x. allowed (has_number (commuted x.done) c.number) next) (λ g. Invalid) (λ v x. allowed_end (has_number (commuted x.done) c.number) next h) (λ g. tt)
 again_end d _ R t next h = tt
@@ -249,5 +260,5 @@ event_ends x d = record {
   update = λ form inside m v callee vs f s h. allowed_end (may_stand (rule (form_of.Update form)).stands false) (on_cell (form_of.Update form) false m.span v (λ c t1. thread_update x form m.span c callee vs f t1) s)
       (on_cell_end (form_of.Update form) false m.span v (λ c t1. thread_update x form m.span c callee vs f t1) s (λ c t1. update_on x form m.span c callee vs f t1));
   send = λ inside m v callee vs s. on_cell_end form_of.Send false m.span v (λ c t1. sends_or_holds t1.held (record { agent = c; callee = callee; args = vs; span = m.span }) m.span t1) s (λ c t1. holds_end t1.held (record { agent = c; callee = callee; args = vs; span = m.span }) m.span t1);
-  dosync = λ inside m e env b f s h j. eats_tx_end x.tries (record { mark = m; body = e; locals = env; on = tx_meaning x.turns x.functions d e env; validators = validators_of x.cells }) f s.todo s;
+  dosync = λ inside m e env b f s h j. eats_tx_end x.tries (record { mark = m; body = e; locals = env; on = tx_meaning x.turns x.functions d e env; lacking = λ j. tx_meaning_lacking x.turns x.functions d e env (Some j); validators = validators_of x.cells }) f s.todo s;
 }

@@ -1,7 +1,7 @@
--- What pure code and a transaction on one world make of the forms on cells is alike, where callees are.
+-- What pure code and a transaction on one world, which may lack a value, make of the forms on cells is alike, where callees are.
 use Rattle.std.proofs.Common.{◌≡◌, ℕ, zero, suc, Bool, true, false, ◌||◌, ◌==◌, List, [], ◌∷◌, ◌++◌, Option, Some, None, Ok, Err, if◌then◌else◌, refl, subst}
 use Rattle.txs_world_protocol.specs.Ask.{Writes, buffered, with_write}
-use Rattle.txs_frame.specs.Frame.{PlainTxFrame, with_cell, is_commuted, set_ref, commute_ref, hold_send, commuted, set_writes, commutes_of, by_ref, phase_work}
+use Rattle.txs_frame.specs.Frame.{PlainTxFrame, with_cell, is_commuted, set_ref, ensure_ref, commute_ref, hold_send, commuted, set_writes, commutes_of, by_ref, phase_work}
 use Rattle.txs_frame.specs.declared.frame.Commute.{Commute}
 use Rattle.txs_value_cell.specs.Cells.{World, Validators, validator_at}
 use Rattle.txs_value_cell.specs.Forms.{rule, cell_of}
@@ -23,7 +23,7 @@ use Rattle.txs_value_data.specs.declared.value.Value.{Value}
 use Rattle.txs_value_data.specs.declared.value.Value.TheVariants.{Nil}
 use Rattle.txs_tree_meaning.specs.Meaning.{Completion, Completes, Recurs, Faults, Retries, Waits, OutOfTurns, Invalid, bind, result_of, Applies}
 use Rattle.txs_tree_meaning.specs.Pure.{no_effects}
-use Rattle.txs_tree_meaning.specs.Transaction.{TxState, own, noted, taken, done_as, on_cell, tx_look, tx_put, tx_update, in_transaction, value_or, current, redone, commute_writes, judged, validated, accepted, if_accepted, final_writes, merged, valued}
+use Rattle.txs_tree_meaning.specs.Transaction.{TxState, own, noted, lacks, looked, taken_lacking, done_as, on_cell, tx_look_lacking, tx_put, tx_update_lacking, in_transaction_lacking, value_or, current, redone, commute_writes, judged, validated, accepted, if_accepted, final_writes, merged, valued}
 use Rattle.txs_tree_meaning.specs.Tree.{Mark, Tree}
 use Rattle.txs_opt.proofs.Below.{Kind, Fine, Each, all_fine, wider_fine}
 use Rattle.txs_opt.proofs.Like.{Likeness, Like, PartsLike, AppliesLike, bind_like, choose_like, result_like}
@@ -116,8 +116,25 @@ module _ (May : Kind) where
   noted_fine c None s h = h
   noted_fine c (Some v) s h = h
 
-  taken_fine : (R : World) (c : CellId) (s : TxState) → AllFine May s.done.commutes → EndsFine May (taken R c s)
-  taken_fine R c s h = noted_fine c (own s.done c.number) s h
+  ends_bind : {A B : Type 0} (x : Completion TxState A) (f : A → TxState → Completion TxState B) → EndsFine May x → ((a : A) (s : TxState) → AllFine May s.done.commutes → EndsFine May (f a s)) → EndsFine May (bind x f)
+  ends_bind (Completes a s) f h j = j a s h
+  ends_bind (Recurs vs s) f h j = tt
+  ends_bind (Faults g s) f h j = h
+  ends_bind (Retries s) f h j = h
+  ends_bind (Waits s) f h j = h
+  ends_bind (OutOfTurns s) f h j = h
+  ends_bind Invalid f h j = tt
+
+  -- a look, where the value may not be there
+  looked_fine : (lack : Option ℕ) (R : World) (c : CellId) (s : TxState) → AllFine May s.done.commutes → EndsFine May (looked lack R c s)
+  looked_fine lack R c s h = test (lacks lack (own s.done c.number) c.number)
+    where
+      test : (b : Bool) → EndsFine May (if b then Waits s else Completes (current R s.done c) s)
+      test true = h
+      test false = h
+
+  taken_fine : (lack : Option ℕ) (R : World) (c : CellId) (s : TxState) → AllFine May s.done.commutes → EndsFine May (taken_lacking lack R c s)
+  taken_fine lack R c s h = ends_bind (looked lack R c s) (λ v t. Completes v (noted c (own t.done c.number) t)) (looked_fine lack R c s h) (λ v t j. noted_fine c (own t.done c.number) t j)
 
   done_fine : (b : Bool) (k : FaultKind) (w : PlainTxFrame) (span : Span) (v : Value) (s : TxState) → AllFine May s.done.commutes → AllFine May w.commutes → EndsFine May (done_as (if b then Err k else Ok w) span v s)
   done_fine true k w span v s h j = h
@@ -126,9 +143,9 @@ module _ (May : Kind) where
   set_fine : (c : CellId) (w : Value) (span : Span) (v : Value) (s : TxState) → AllFine May s.done.commutes → EndsFine May (done_as (set_ref c w s.done) span v s)
   set_fine c w span v s h = done_fine (is_commuted s.done c.number) SetAfterCommute (record s.done { values = with_write s.done.values c w; sets = with_cell s.done.sets c }) span v s h h
 
-  look_fine : (R : World) (form : LookForm) (c : CellId) (s : TxState) → AllFine May s.done.commutes → EndsFine May (tx_look R form c s)
-  look_fine R Deref c s h = taken_fine R c s h
-  look_fine R Ensure c s h = noted_fine c (own s.done c.number) s h
+  look_fine : (lack : Option ℕ) (R : World) (form : LookForm) (c : CellId) (s : TxState) → AllFine May s.done.commutes → EndsFine May (tx_look_lacking lack R form c s)
+  look_fine lack R Deref c s h = taken_fine lack R c s h
+  look_fine lack R Ensure c s h = ends_bind (taken_lacking lack R c s) (λ v t. Completes v (record t { done = ensure_ref c t.done })) (taken_fine lack R c s h) (λ v t j. j)
 
   put_fine : (form : PutForm) (span : Span) (c : CellId) (v : Value) (s : TxState) → AllFine May s.done.commutes → EndsFine May (tx_put form span c v s)
   put_fine RefSet span c v s h = set_fine c v span v s h
@@ -144,29 +161,30 @@ on_cell_like S k form inside span v go go1 h s t r =
 abbrev tx_commuted : Mark → CellId → Callee → List Value → Value → TxState → Completion TxState Value
 tx_commuted m c callee vs w t = Completes w (record t { done = commute_ref c callee vs w t.done; used = t.used || m.wanted })
 
-module _ (loose : Type 0) (May Might : Kind) (among : (f : ℕ) → Might.calls f → May.calls f) (R : World) where
+module _ (loose : Type 0) (May Might : Kind) (among : (f : ℕ) → Might.calls f → May.calls f) (lack : Option ℕ) (R : World) where
   abbrev K : Likeness TxState
   K = fine_states May loose
 
-  tx_update_like : (form : UpdateForm) (m : Mark) (c : CellId) (callee : Callee) (vs : List Value) (f g : Applies TxState) → Fine Might callee → AppliesLike TxState K Might f g → PartsLike TxState K (tx_update R form m c callee vs f) (tx_update R form m c callee vs g)
+  tx_update_like : (form : UpdateForm) (m : Mark) (c : CellId) (callee : Callee) (vs : List Value) (f g : Applies TxState) → Fine Might callee → AppliesLike TxState K Might f g → PartsLike TxState K (tx_update_lacking lack R form m c callee vs f) (tx_update_lacking lack R form m c callee vs g)
   tx_update_like Alter m c callee vs f g fine h s t r =
-      bind_like TxState K (taken R c s) (taken R c t)
+      bind_like TxState K (taken_lacking lack R c s) (taken_lacking lack R c t)
       (λ v t1. bind (f callee (v ∷ vs) t1) (λ w t2. done_as (set_ref c w t2.done) m.span w t2)) (λ v t1. bind (g callee (v ∷ vs) t1) (λ w t2. done_as (set_ref c w t2.done) m.span w t2))
-      (part_fine May loose (taken R c) (taken_fine May R c) s t r)
+      (part_fine May loose (taken_lacking lack R c) (taken_fine May lack R c) s t r)
       (λ v s1 t1 r1. bind_like TxState K (f callee (v ∷ vs) s1) (g callee (v ∷ vs) t1) (λ w t2. done_as (set_ref c w t2.done) m.span w t2) (λ w t2. done_as (set_ref c w t2.done) m.span w t2) (h callee (v ∷ vs) fine s1 t1 r1)
       (λ w s2 t2 r2. part_fine May loose (λ u. done_as (set_ref c w u.done) m.span w u) (λ u j. set_fine May c w m.span w u j) s2 t2 r2))
   tx_update_like CommuteForm m c callee vs f g fine h s t r =
-      bind_like TxState K (f callee (current R s.done c ∷ vs) s) (g callee (current R t.done c ∷ vs) t) (λ w u. tx_commuted m c callee vs w u) (λ w u. tx_commuted m c callee vs w u)
-      (subst (λ u. Like K (f callee (current R s.done c ∷ vs) s) (g callee (current R u.done c ∷ vs) u)) r.0 (h callee (current R s.done c ∷ vs) fine s s (refl, r.1)))
-      (λ w s1 t1 r1. part_fine May loose (λ u. tx_commuted m c callee vs w u) (λ u j. fine_append May u.done.commutes (record { cell = c; callee = callee; args = vs } ∷ []) j (wider_fine Might May among callee fine, tt)) s1 t1 r1)
+      bind_like TxState K (looked lack R c s) (looked lack R c t) (λ v t1. bind (f callee (v ∷ vs) t1) (λ w u. tx_commuted m c callee vs w u)) (λ v t1. bind (g callee (v ∷ vs) t1) (λ w u. tx_commuted m c callee vs w u))
+      (part_fine May loose (looked lack R c) (looked_fine May lack R c) s t r)
+      (λ v s1 t1 r1. bind_like TxState K (f callee (v ∷ vs) s1) (g callee (v ∷ vs) t1) (λ w u. tx_commuted m c callee vs w u) (λ w u. tx_commuted m c callee vs w u) (h callee (v ∷ vs) fine s1 t1 r1)
+      (λ w s2 t2 r2. part_fine May loose (λ u. tx_commuted m c callee vs w u) (λ u j. fine_append May u.done.commutes (record { cell = c; callee = callee; args = vs } ∷ []) j (wider_fine Might May among callee fine, tt)) s2 t2 r2))
   tx_update_like Swap m c callee vs f g fine h s t r = tt
 
-  pub tx_forms : FormsLike TxState K Might Any (in_transaction R) (in_transaction R)
+  pub tx_forms : FormsLike TxState K Might Any (in_transaction_lacking lack R) (in_transaction_lacking lack R)
   tx_forms = record {
     print = λ inside vs s t r. tt;
-    look = λ form inside m c. on_cell_like TxState K (form_of.Look form) true m.span c (tx_look R form) (tx_look R form) (λ d. part_fine May loose (tx_look R form d) (look_fine May R form d));
+    look = λ form inside m c. on_cell_like TxState K (form_of.Look form) true m.span c (tx_look_lacking lack R form) (tx_look_lacking lack R form) (λ d. part_fine May loose (tx_look_lacking lack R form d) (look_fine May lack R form d));
     put = λ form inside m c v f g here h. on_cell_like TxState K (form_of.Put form) true m.span c (λ d t1. tx_put form m.span d v t1) (λ d t1. tx_put form m.span d v t1) (λ d. part_fine May loose (λ t1. tx_put form m.span d v t1) (put_fine May form m.span d v));
-    update = λ form inside m c callee vs f g fine here h. on_cell_like TxState K (form_of.Update form) true m.span c (λ d t1. tx_update R form m d callee vs f t1) (λ d t1. tx_update R form m d callee vs g t1) (λ d. tx_update_like form m d callee vs f g fine h);
+    update = λ form inside m c callee vs f g fine here h. on_cell_like TxState K (form_of.Update form) true m.span c (λ d t1. tx_update_lacking lack R form m d callee vs f t1) (λ d t1. tx_update_lacking lack R form m d callee vs g t1) (λ d. tx_update_like form m d callee vs f g fine h);
     send = λ inside m c callee vs.
         on_cell_like TxState K form_of.Send true m.span c (λ d t1. Completes c (record t1 { done = hold_send (record { agent = d; callee = callee; args = vs; span = m.span }) t1.done })) (λ d t1. Completes c (record t1 { done = hold_send (record { agent = d; callee = callee; args = vs; span = m.span }) t1.done }))
         (λ d. part_fine May loose (λ t1. Completes c (record t1 { done = hold_send (record { agent = d; callee = callee; args = vs; span = m.span }) t1.done })) (λ u j. j));

@@ -398,10 +398,30 @@ refused 0 0 0 = 0
 commuted 0 0 1;refused 0 2 3 = 1
 2 AgentFailed 55..95
 7
-#(def r (ref 0)) (future (println 7) (dosync (ref-set r (loop [i 0] (recur i)))))
+#(def r (ref 0)) (future (println 7) (dosync @r (ref-set r (loop [i 0] (recur i)))))
 0
 outdated 0 0 0;commit 0 0 0 = 5
 1 turns
+7
+#(def r (ref 0)) (future (println 7) (dosync (loop [i 0] (recur i)) @r))
+0
+outdated 0 0 0;commit 0 0 0
+0 turns
+7
+#(def r (ref 0)) (future (println 7) (dosync (ref-set r 1) @r))
+0 5
+outdated 0 0 1;commit 1 1 1 = 1
+0 wrong
+7
+#(def r (ref 0)) (future (println 7) (dosync (commute r quot 0)))
+0 5
+outdated 0 0 1;fail 1 1 1
+2 DivideByZero 44..62
+7
+#(def r (ref 0)) (future (println 7) (dosync (quot 1 0) @r))
+0 5
+outdated 0 0 1;fail 1 1 1
+0 wrong
 7
 #(def r (ref 0)) (future (println 7) (dosync (ref-set r (loop [i 0] (recur i)))))
 0

@@ -37,15 +37,17 @@ use Rattle.txs_tree_meaning.specs.Known.{Known, known}
 use Rattle.txs_tree_meaning.specs.Marked.{Marked, MarkedThreads, MarkedProgram}
 use Rattle.txs_tree_meaning.specs.Meaning.{Completion, Completes, Recurs, Faults, Retries, Waits, OutOfTurns, Invalid}
 use Rattle.txs_tree_meaning.specs.Right.{is_wrong, eats_right, right_meaning, right_events}
-use Rattle.txs_tree_meaning.specs.Sound.{Sound, SoundThread, SoundThreads, SoundSent, SentCall}
-use Rattle.txs_tree_meaning.specs.Thread.{TxRun, ThreadState}
+use Rattle.txs_tree_meaning.specs.Sound.{Sound, SoundSource, SoundThread, SoundThreads, SoundSent, SentCall}
+use Rattle.txs_tree_meaning.specs.Thread.{TxRun, ThreadState, thread_meaning}
 use Rattle.txs_tree_meaning.specs.Tree.{PlainFunction, PlainProgram, PlainThread, ThreadSource, Const}
 use Rattle.txs_theorem_threads.specs.FollowsAgent.{SoundAction, IsHandedIn}
 use Rattle.txs_theorem_threads.proofs.Account.{begin_of}
 use Rattle.txs_theorem_threads.specs.FollowsAll.{source_of}
 use Rattle.txs_theorem_threads.specs.Noted.{txs_of}
 use Rattle.txs_theorem_threads.specs.RepliesFit.{HasEatenAll, HasWaited, halted}
-use Rattle.txs_theorem_runs.specs.Agents.{ActionDid, meaning_after, IsBooked, ActMeans, StillMeans, EventMeans, OfEvent, ActsInTurn}
+use Rattle.txs_theorem_runs.specs.Agents.{ActionDid, meaning_after, IsBooked, ActMeans, StillMeans, EventMeans, OfEvent, AtEnd, ActsUpTo, StillActs, ActsInTurn}
+use Rattle.txs_theorem_runs.specs.Full.{WaitsFull, StandsFull, EndsFull}
+use Rattle.txs_theorem_runs.proofs.Rounds.{acts_map}
 use Rattle.txs_theorem_runs.specs.Shared.{seen_in}
 use Rattle.txs_theorem_runs.specs.Told.{Place, TraceHolds, places_in, places_by, seen_before, seen_of}
 use Rattle.txs_theorem_runs.specs.Transactions.{SaidAt, SaidIf, SaidOf, undisturbed}
@@ -59,10 +61,12 @@ use Rattle.txs_theorem_order.specs.Taken.{NoneIsOrdered, NamedOnACycle}
 use Rattle.txs_theorem_audit.specs.Audited.{PlainActorReport, PlainReport, books_of, entry_of, Finding, Fine, Off, Short, and_then, check}
 use Rattle.txs_theorem_audit.specs.Explained.{Sized, Begins, Stopped, EndsAs, events_of, meaning_of, AtomExplained, AgentExplained}
 use Rattle.txs_theorem_audit.specs.Laws.{AgreesIsExplained}
-use Rattle.txs_theorem_audit.specs.Verdict.{atoms_from, fits_sizes, begins, same_numbers, runs_right, names_all, in_books, trace_found, traces_found, is_legal_kind, is_legal_swap, book_found, has_values, same_failure, has_failed, store_found, atom_found, atoms_found, ends_found, order_found, is_value, length_if, index_if, is_untouched, is_first_failed, is_calm, is_end, with_run, calm_at, calm_found, is_stopped, is_done, has_faulted, least_printed, printed_part, end_found, noted_by, thread_found, threads_found, acts_found, agents_found, are_serial, found, printed_by, but_last, action_after, is_sent_known, is_sent_call, sends_if, held_by, noted_in, is_booked, act_ends, action_found, action_prints, least_of, part_printed, still_ends, still_found, rest_found, agent_end, kind_found, event_found, agents_serial}
+use Rattle.txs_theorem_audit.specs.Verdict.{atoms_from, fits_sizes, begins, same_numbers, runs_right, names_all, in_books, trace_found, traces_found, is_legal_kind, is_legal_swap, book_found, has_values, same_failure, has_failed, store_found, atom_found, atoms_found, ends_found, order_found, is_value, length_if, index_if, is_untouched, is_first_failed, is_calm, is_end, with_run, calm_at, calm_found, is_stopped, is_done, has_faulted, least_printed, printed_part, end_found, is_full_stop, is_full_book, full_found, thread_ends, noted_by, thread_found, threads_found, acts_found, agents_found, are_serial, found, printed_by, but_last, action_after, is_sent_known, is_sent_call, sends_if, held_by, noted_in, is_booked, act_ends, action_found, action_prints, least_of, part_printed, still_ends, full_ends, rest_ends, still_found, rest_found, agent_end, kind_found, event_found, agents_serial}
 use Rattle.txs_theorem_audit.proofs.Findings.{answer_fine, and_fine, check_fine, off_fine, short_fine, not_true, none_there, not_there, empty, same_numbers_sound, begins_sound}
-use Rattle.txs_theorem_audit.proofs.Beginning.{action_cut}
+use Rattle.txs_theorem_audit.proofs.Beginning.{cut, action_cut}
 use Rattle.txs_theorem_audit.proofs.Ends.{ends_truly}
+use Rattle.txs_theorem_audit.proofs.Least.{least_is, least_begins}
+use Rattle.txs_theorem_audit.proofs.Resuming.{thread_resumes, action_resumes}
 use Rattle.txs_theorem_audit.proofs.Timed.{in_order}
 use Rattle.txs_theorem_audit.proofs.Waiting.{HasEatenUp, eaten_up, waits_front}
 use Rattle.txs_theorem_audit.proofs.Listing.{behind, atom_listed, among, no_book}
@@ -244,6 +248,21 @@ values_are all r n (c ∷ cs) (v ∷ vs) h (suc k) d there kind =
 pub runs_whole : (functions : List PlainFunction) (vs : Validators) (held : Option (List Action)) (n : ℕ) (es todo : List SeenEvent) (txs : List TxRun) → Noted functions vs held n es todo txs → todo ≡ [] → RunsOf functions vs held n es txs
 runs_whole functions vs held n es todo txs h e = subst (λ l. RunsOf functions vs held n l txs) (sym (h.split ∙ ap (λ l. h.eaten ++ l) e ∙ append-nil h.eaten)) h.runs
 
+-- it isn't wrong, and has eaten all
+record HasEnded (m : Completion ThreadState Value) : Type 0 where
+  right : is_wrong m ≡ false
+  eaten : (functions : List PlainFunction) (vs : Validators) (held : Option (List Action)) (n : ℕ) (es : List SeenEvent) → EndsNoted functions vs held n es m → RunsOf functions vs held n es (txs_of m)
+
+-- a meaning that has eaten all isn't wrong, and each commit and refusal has its transaction
+eaten_ended : (out : List ℕ) (c : Completion ThreadState Value) → HasEatenAll out c → HasEnded c
+eaten_ended out (Completes v t) h = record { right = refl; eaten = λ fs vs held n l g. runs_whole fs vs held n l t.todo t.txs g h.0 }
+eaten_ended out (Recurs vs t) h = absurd h
+eaten_ended out (Faults f t) h = record { right = refl; eaten = λ fs vs held n l g. runs_whole fs vs held n l t.todo t.txs g h.0 }
+eaten_ended out (Retries t) h = absurd h
+eaten_ended out (Waits t) h = record { right = refl; eaten = λ fs vs held n l g. runs_whole fs vs held n l t.todo t.txs g h.0 }
+eaten_ended out (OutOfTurns t) h = record { right = refl; eaten = λ fs vs held n l g. runs_whole fs vs held n l t.todo t.txs g h.0 }
+eaten_ended out Invalid h = absurd h
+
 -- ---- threads
 
 fault_of : Result Value Fault → Fault → Fault
@@ -413,6 +432,85 @@ module _ (p : ThreadSource) (n a : ℕ) (es : List SeenEvent) (ran : PlainActorR
   runs_so vs (OutOfTurns t) h k = noted_all vs t.todo t.txs k (short_test t h).0
   runs_so vs Invalid h k = off_fine a (eats_right p n [] es) h
 
+-- ---- a stop for a full book
+
+pub full_is : (o : Option Outcome) → is_full_stop o ≡ true → o ≡ Some JournalFull
+full_is None h = absurd (false≢true h)
+full_is (Some Done) h = absurd (false≢true h)
+full_is (Some (Failed f)) h = absurd (false≢true h)
+full_is (Some StepsSpent) h = absurd (false≢true h)
+full_is (Some JournalFull) h = refl
+full_is (Some Memory) h = absurd (false≢true h)
+
+-- the book that is needed is full
+full_book : (books : ℕ → List Event) (o : Option ℕ) → is_full_book books o ≡ true → (b : ℕ) × (most_events ≤ length (books b)) × (o ≡ Some b)
+full_book books None h = absurd (false≢true h)
+full_book books (Some b) h = (b, leb-true most_events (length (books b)) h, refl)
+
+-- a meaning that needs an event of a full book, with the state in which it waits
+record IsFullWait (books : ℕ → List Event) (out : List ℕ) (m : Completion ThreadState Value) : Type 0 where
+  state : ThreadState
+  waits : m ≡ Waits state
+  left : state.todo ≡ []
+  printed : state.printed ≡ out
+  full : WaitsFull books out m
+
+module _ (books : ℕ → List Event) (p : ThreadSource) (n a : ℕ) (es : List SeenEvent) (out : List ℕ) where
+  full_wait : (m : Completion ThreadState Value) → full_found books p n a es out m ≡ Fine → IsFullWait books out m
+  full_wait (Completes v t) h = off_fine a (length es) (and_fine (check (length t.todo == 0) a (length es - length t.todo)) (Off a (length es)) h).1
+  full_wait (Recurs vs t) h = off_fine a (eats_right p n [] es) h
+  full_wait (Faults f t) h = off_fine a (length es) (and_fine (check (length t.todo == 0) a (length es - length t.todo)) (Off a (length es)) h).1
+  full_wait (Retries t) h = off_fine a (eats_right p n [] es) h
+  full_wait (Waits t) h =
+      let test = is_full_book books t.asks && same_numbers out t.printed in
+      let x = and_fine (check (length t.todo == 0) a (length es - length t.todo)) (check test a (length es)) h in
+      let left : t.todo ≡ [] = empty t.todo (check_fine (length t.todo == 0) a (length es - length t.todo) x.0) in
+      let y = both (is_full_book books t.asks) (same_numbers out t.printed) (check_fine test a (length es) x.1) in
+      let b = full_book books t.asks y.0 in
+      let printed : t.printed ≡ out = sym (same_numbers_sound out t.printed y.1) in
+      record { state = t; waits = refl; left = left; printed = printed; full = (b.0, b.1, (b.2, left, printed)) }
+  full_wait (OutOfTurns t) h = short_fine a (length es - length t.todo) h
+  full_wait Invalid h = off_fine a (eats_right p n [] es) h
+
+-- the end of a thread of which nothing is found
+record EndParts (books : ℕ → List Event) (p : ThreadSource) (n : ℕ) (es : List SeenEvent) (o : Option Outcome) (out : List ℕ) (m : Completion ThreadState Value) : Type 0 where
+  right : is_wrong m ≡ false
+  ends : EndsAs o out m
+  least : Stopped o → Begins out (least_printed p n es)
+  runs : (vs : Validators) → EndsNoted p.functions vs None n es m → RunsOf p.functions vs None n es (txs_of m)
+  full : o ≡ Some JournalFull → WaitsFull books out m
+
+module _ (books : ℕ → List Event) (p : ThreadSource) (sound : SoundSource p) (n a : ℕ) (es : List SeenEvent) (ran : PlainActorReport) where
+  abbrev meant : Completion ThreadState Value
+  meant = thread_meaning p n es
+
+  full_parts : ran.outcome ≡ Some JournalFull → full_found books p n a es ran.printed meant ≡ Fine → EndParts books p n es ran.outcome ran.printed meant
+  full_parts is h =
+      let w = full_wait books p n a es ran.printed meant h in
+      let eats : HasEatenAll (ran.printed ++ []) meant = subst (HasEatenAll (ran.printed ++ [])) (sym w.waits) (w.left, w.printed ∙ sym (append-nil ran.printed)) in
+      let ended = eaten_ended (ran.printed ++ []) meant eats in
+      let least = least_begins (thread_meaning p n) (λ l fs. cut fs p n sound l) (λ l fs. thread_resumes fs p sound n l) es (eaten_up (ran.printed ++ []) meant eats) in
+      record {
+        right = ended.right;
+        ends = subst (λ o. EndsAs o ran.printed meant) (sym is) ([], eats);
+        least = λ s. subst (λ l. Begins ran.printed l) (sym (least_is p n es)) (subst (λ l. Begins l (least_of (thread_meaning p n) es)) (ap printed_by w.waits ∙ w.printed) least);
+        runs = λ vs k. ended.eaten p.functions vs None n es k;
+        full = λ e. w.full;
+      }
+
+  end_parts : thread_ends books p n a es ran meant ≡ Fine → EndParts books p n es ran.outcome ran.printed meant
+  end_parts h = test (is_full_stop ran.outcome) refl h
+    where
+      test : (b : Bool) → is_full_stop ran.outcome ≡ b → (if b then full_found books p n a es ran.printed meant else end_found p n a es ran meant) ≡ Fine → EndParts books p n es ran.outcome ran.printed meant
+      test true is g = full_parts (full_is ran.outcome is) g
+      test false is g = record {
+        right = not_wrong p n a es ran meant g;
+        ends = ends_so p n a es ran meant g;
+        least = least_so p n a es ran meant g;
+        runs = λ vs k. runs_so p n a es ran vs meant g k;
+        full = λ e. absurd (false≢true (sym is ∙ ap is_full_stop e));
+      }
+
 untouched_of : (done : List Event) (q : ℕ) (cs : List CellId) → is_untouched done q cs ≡ true → Untouched done q cs
 untouched_of done q [] h = tt
 untouched_of done q (c ∷ cs) h =
@@ -489,22 +587,26 @@ pub record ThreadParts (p : PlainProgram) (r : PlainReport) (n : ℕ) (t : Plain
   pub least : Stopped ran.outcome → Begins ran.printed (least_printed (source_of p t) n (events_of p r ran))
   pub runs : RunsOf p.functions (validators_of p.cells) None n (events_of p r ran) (txs_of (meaning_of p r t ran n))
   pub calm : SaidOf (undisturbed p.cells (books_of r)) (books_of r) ran.trace (txs_of (meaning_of p r t ran n))
+  pub full : ran.outcome ≡ Some JournalFull → WaitsFull (books_of r) ran.printed (meaning_of p r t ran n)
 
 pub thread_parts : (p : PlainProgram) (r : PlainReport) → Sound p → MarkedProgram p → (n a i : ℕ) (t : PlainThread) (ran : PlainActorReport) → nth p.threads i ≡ Some t → thread_found p r n a t ran ≡ Fine → ThreadParts p r n t ran
 thread_parts p r sound marks n a i t ran there h =
     let s = source_of p t in
     let es = events_of p r ran in
     let m = meaning_of p r t ran n in
-    let x = and_fine (calm_found (cells_of p.cells) (books_of r) a 0 ran.trace (noted_by s n es m)) (end_found s n a es ran m) h in
-    let same : noted_by s n es m ≡ txs_of m = ap (λ b. if b then txs_of (right_meaning s n es) else txs_of m) (not_wrong s n a es ran m x.1) in
+    let x = and_fine (calm_found (cells_of p.cells) (books_of r) a 0 ran.trace (noted_by s n es m)) (thread_ends (books_of r) s n a es ran m) h in
     let main = sound_thread p.functions p.threads i t sound.threads there in
-    let noted = threads_note s n es (record { functions = sound.functions; cells = sound.cells; main = main.0 }) marks.functions (marked_thread p.threads i t marks.threads there) in
-    let runs = runs_so s n a es ran (validators_of p.cells) m x.1 noted in
+    let source : SoundSource s = record { functions = sound.functions; cells = sound.cells; main = main.0 } in
+    let parts = end_parts (books_of r) s source n a es ran x.1 in
+    let same : noted_by s n es m ≡ txs_of m = ap (λ b. if b then txs_of (right_meaning s n es) else txs_of m) parts.right in
+    let noted = threads_note s n es source marks.functions (marked_thread p.threads i t marks.threads there) in
+    let runs = parts.runs (validators_of p.cells) noted in
     record {
-      ends = ends_so s n a es ran m x.1;
-      least = least_so s n a es ran m x.1;
+      ends = parts.ends;
+      least = parts.least;
       runs = runs;
       calm = calm_said p.functions None n p.cells (books_of r) a 0 ran.trace (txs_of m) runs (subst (λ xs. calm_found (cells_of p.cells) (books_of r) a 0 ran.trace xs ≡ Fine) same x.0);
+      full = parts.full;
     }
 
 -- so it is of each thread
@@ -554,11 +656,6 @@ record HandsIn (cells : List StoreCell) (done : List Event) (span : Span) (new :
   held : List Action
   handed : IsHandedIn result held (printed_by m) m
   booked : IsBooked (first_failed cells done held) span result held new sends
-
--- it isn't wrong, and has eaten all
-record HasEnded (m : Completion ThreadState Value) : Type 0 where
-  right : is_wrong m ≡ false
-  eaten : (functions : List PlainFunction) (vs : Validators) (held : Option (List Action)) (n : ℕ) (es : List SeenEvent) → EndsNoted functions vs held n es m → RunsOf functions vs held n es (txs_of m)
 
 two_checks : (a i k : ℕ) (todo : List SeenEvent) (b : Bool) → and_then (check (length todo == 0) a i) (check b a k) ≡ Fine → (todo ≡ []) × (b ≡ true)
 two_checks a i k todo b h =
@@ -628,15 +725,42 @@ module _ (a i k : ℕ) (m : List SeenEvent → Completion ThreadState Value) (es
   still_part (OutOfTurns t) h = let x = short_part t h in part_made (OutOfTurns t) t.printed (λ l e. (x.0, e)) x.1
   still_part Invalid h = off_fine a (i + right_events m [] es) h
 
--- a meaning that has eaten all isn't wrong, and each commit and refusal has its transaction
-eaten_ended : (out : List ℕ) (c : Completion ThreadState Value) → HasEatenAll out c → HasEnded c
-eaten_ended out (Completes v t) h = record { right = refl; eaten = λ fs vs held n l g. runs_whole fs vs held n l t.todo t.txs g h.0 }
-eaten_ended out (Recurs vs t) h = absurd h
-eaten_ended out (Faults f t) h = record { right = refl; eaten = λ fs vs held n l g. runs_whole fs vs held n l t.todo t.txs g h.0 }
-eaten_ended out (Retries t) h = absurd h
-eaten_ended out (Waits t) h = record { right = refl; eaten = λ fs vs held n l g. runs_whole fs vs held n l t.todo t.txs g h.0 }
-eaten_ended out (OutOfTurns t) h = record { right = refl; eaten = λ fs vs held n l g. runs_whole fs vs held n l t.todo t.txs g h.0 }
-eaten_ended out Invalid h = absurd h
+-- an action of an agent's actor that was stopped for a full book
+module _ (books : ℕ → List Event) (a i k : ℕ) (m : List SeenEvent → Completion ThreadState Value) (es : List SeenEvent) (out : List ℕ) where
+  full_made : (c : Completion ThreadState Value) (t : ThreadState) → HasEatenAll t.printed c → t.printed ≡ out → Begins t.printed (least_of m es) → IsPart m es out c
+  full_made c t eats e least = record { rest = []; eats = subst (λ l. HasEatenAll l c) (e ∙ sym (append-nil out)) eats; least = subst (λ l. Begins l (least_of m es)) e least }
+
+  -- an action that is over, where the store's book is full
+  over_part : (c : Completion ThreadState Value) (t : ThreadState) → HasEatenAll t.printed c → Begins t.printed (least_of m es) → (is_full_book books (Some 0) && same_numbers out t.printed) ≡ true → IsPart m es out c × (most_events ≤ length (books 0)) × (t.printed ≡ out)
+  over_part c t eats least h =
+      let y = both (is_full_book books (Some 0)) (same_numbers out t.printed) h in
+      let printed : t.printed ≡ out = sym (same_numbers_sound out t.printed y.1) in
+      (full_made c t eats printed least, leb-true most_events (length (books 0)) y.0, printed)
+
+  full_part : (c : Completion ThreadState Value) → (HasEatenUp c → Begins (printed_by c) (least_of m es)) → full_ends books a i k m es out c ≡ Fine → IsPart m es out c × StandsFull books out c
+  full_part (Completes v t) least h =
+      let x = two_checks a (i + (length es - length t.todo)) k t.todo (is_full_book books (Some 0) && same_numbers out t.printed) h in
+      let z = over_part (Completes v t) t (x.0, refl) (least x.0) x.1 in
+      (z.0, (z.1, x.0, z.2))
+  full_part (Recurs vs t) least h = off_fine a (i + right_events m [] es) h
+  full_part (Faults f t) least h =
+      let x = two_checks a (i + (length es - length t.todo)) k t.todo (is_full_book books (Some 0) && same_numbers out t.printed) h in
+      let z = over_part (Faults f t) t (x.0, refl) (least x.0) x.1 in
+      (z.0, (z.1, x.0, z.2))
+  full_part (Retries t) least h = off_fine a (i + right_events m [] es) h
+  full_part (Waits t) least h =
+      let x = two_checks a (i + (length es - length t.todo)) k t.todo (is_full_book books t.asks && same_numbers out t.printed) h in
+      let y = both (is_full_book books t.asks) (same_numbers out t.printed) x.1 in
+      let printed : t.printed ≡ out = sym (same_numbers_sound out t.printed y.1) in
+      let b = full_book books t.asks y.0 in
+      (full_made (Waits t) t (x.0, refl) printed (least x.0), (b.0, b.1, (b.2, x.0, printed)))
+  full_part (OutOfTurns t) least h = short_fine a (i + (length es - length t.todo)) h
+  full_part Invalid least h = off_fine a (i + right_events m [] es) h
+
+  -- by how the actor ended
+  rest_part : (full : Bool) (c : Completion ThreadState Value) → (HasEatenUp c → Begins (printed_by c) (least_of m es)) → rest_ends books full a i k m es out c ≡ Fine → IsPart m es out c × (full ≡ true → StandsFull books out c)
+  rest_part true c least h = let z = full_part c least h in (z.0, λ e. z.1)
+  rest_part false c least h = (still_part a i k m es out c h, λ e. absurd (false≢true e))
 
 -- ---- entries that name an event
 
@@ -798,13 +922,22 @@ module _ (p : PlainProgram) (r : PlainReport) (n a : ℕ) (sound : Sound p) (mar
             let printed : least_of means (seen (q ∷ qs)) ≡ w.0.printed = ap (least_of means) all ∙ least_last means (seen hs) last.0 ∙ ap (λ l. printed_by (means l)) (but_last_of (seen hs) last.0) ∙ ap printed_by w.1 in
             inr (hs, b.1, e ∙ b.2, n, w.0.printed, waited, least.0, least.1 ∙ ap (λ l. l ++ least.0) printed)
 
-  still_means : (i k : ℕ) (x : Action) (since : List Place) (out : List ℕ) → SoundAction p.functions x → next_action (cells_of p.cells) r.book g ≡ Some x → AreNamed (books_of r) since
-      → and_then (calm_found (cells_of p.cells) (books_of r) a i since (noted_in (action_after p n r.book g x) (seen since))) (still_ends a i k (action_after p n r.book g x) (seen since) out (action_after p n r.book g x (seen since))) ≡ Fine
-      → (d : ActionDid) × (d.trace ≡ since) × (d.turns ≡ n) × StillMeans p.cells p.functions (books_of r) g d out
-  still_means i k x since out fits next named h =
+  -- what an action has printed on all events but the last
+  least_printed_of : (done : List Event) (x : Action) → SoundAction p.functions x → (es : List SeenEvent) → HasEatenUp (action_after p n done g x es) → Begins (printed_by (action_after p n done g x es)) (least_of (action_after p n done g x) es)
+  least_printed_of done x fits es up =
+      let v = newest (opening (cells_of p.cells)) done g.number in
+      let source : ThreadSource = record { functions = p.functions; cells = p.cells; main = Const Nil (record { span = x.span; wanted = false }) } in
+      let source_sound : SoundSource source = record { functions = sound.functions; cells = sound.cells; main = tt } in
+      least_begins (action_after p n done g x) (λ l fs. action_cut fs source n sound.functions x v l) (λ l fs. action_resumes fs source source_sound n x v fits l) es up
+
+  still_means : (full : Bool) (i k : ℕ) (x : Action) (since : List Place) (out : List ℕ) → SoundAction p.functions x → next_action (cells_of p.cells) r.book g ≡ Some x → AreNamed (books_of r) since
+      → and_then (calm_found (cells_of p.cells) (books_of r) a i since (noted_in (action_after p n r.book g x) (seen since))) (rest_ends (books_of r) full a i k (action_after p n r.book g x) (seen since) out (action_after p n r.book g x (seen since))) ≡ Fine
+      → (d : ActionDid) × (d.trace ≡ since) × (d.turns ≡ n) × StillMeans p.cells p.functions (books_of r) g d out × (full ≡ true → StandsFull (books_of r) out (action_after p n r.book g x (seen since)))
+  still_means full i k x since out fits next named h =
       let m = action_after p n r.book g x in
-      let y = and_fine (calm_found (cells_of p.cells) (books_of r) a i since (noted_in m (seen since))) (still_ends a i k m (seen since) out (m (seen since))) h in
-      let z = still_part a i k m (seen since) out (m (seen since)) y.1 in
+      let y = and_fine (calm_found (cells_of p.cells) (books_of r) a i since (noted_in m (seen since))) (rest_ends (books_of r) full a i k m (seen since) out (m (seen since))) h in
+      let part = rest_part (books_of r) a i k m (seen since) out full (m (seen since)) (λ up. least_printed_of r.book x fits (seen since) up) y.1 in
+      let z = part.0 in
       let ended = eaten_ended (out ++ z.rest) (m (seen since)) z.eats in (
         did r.book x since fits,
         refl,
@@ -819,14 +952,19 @@ module _ (p : PlainProgram) (r : PlainReport) (n a : ℕ) (sound : Sound p) (mar
           noted = refl;
           calm = calm_of r.book x since fits i ended y.0;
         },
+        part.1,
       )
 
   -- what an agent's trace from some entry on means
   abbrev Means : PlainActorReport → List ℕ → (List ℕ → List ActionDid → Type 0) → Type 0
   Means ran outs P = Stopped ran.outcome × (out : List ℕ) × (ran.printed ≡ outs ++ out) × (ds : List ActionDid) × P out ds × EachTurns n ds
 
-  abbrev InTurn : List Place → List Place → List ℕ → List ActionDid → Type 0
-  InTurn qs since out ds = ActsInTurn p.cells p.functions (books_of r) g qs since out ds
+  -- what is said at its end, where it was stopped for a full book and where it wasn't
+  abbrev pub EndOf : Bool → AtEnd
+  EndOf full since out ds = StillActs p.cells p.functions (books_of r) g since out ds × (full ≡ true → EndsFull p.cells p.functions (books_of r) g since out ds)
+
+  abbrev pub InTurn : Bool → List Place → List Place → List ℕ → List ActionDid → Type 0
+  InTurn full qs since out ds = ActsUpTo p.cells p.functions (books_of r) g (EndOf full) qs since out ds
 
   dropped : (outs rest : List ℕ) → drop (length outs) (outs ++ rest) ≡ rest
   dropped [] rest = refl
@@ -841,29 +979,32 @@ module _ (p : PlainProgram) (r : PlainReport) (n a : ℕ) (sound : Sound p) (mar
   stopped_of (Some Memory) h = tt
 
   -- what comes after the last act, where there is something
-  still_turn : (i k : ℕ) (since : List Place) (out : List ℕ) → AreNamed (books_of r) since → (o : Option Action) → next_action (cells_of p.cells) r.book g ≡ o → still_found p r n a i k g since out o ≡ Fine → (ds : List ActionDid) × InTurn [] since out ds × EachTurns n ds
-  still_turn i k since out named None e h = off_fine a i h
-  still_turn i k since out named (Some x) e h =
+  still_turn : (full : Bool) (i k : ℕ) (since : List Place) (out : List ℕ) → AreNamed (books_of r) since → (o : Option Action) → next_action (cells_of p.cells) r.book g ≡ o → still_found p r n full a i k g since out o ≡ Fine
+      → (ds : List ActionDid) × InTurn full [] since out ds × EachTurns n ds
+  still_turn full i k since out named None e h = off_fine a i h
+  still_turn full i k since out named (Some x) e h =
       let m = action_after p n r.book g x in
-      let rest : Finding = and_then (calm_found (cells_of p.cells) (books_of r) a i since (noted_in m (seen since))) (still_ends a i k m (seen since) out (m (seen since))) in
+      let rest : Finding = and_then (calm_found (cells_of p.cells) (books_of r) a i since (noted_in m (seen since))) (rest_ends (books_of r) full a i k m (seen since) out (m (seen since))) in
       let f = sent_first (is_sent_call (known p.functions) x.callee (suc (length x.args))) rest i h in
-      let d = still_means i k x since out (sent_of (known p.functions) x.callee (suc (length x.args)) f.0) e named f.1 in
-      (d.0 ∷ [], (d.1, d.3), (d.2, tt))
+      let d = still_means full i k x since out (sent_of (known p.functions) x.callee (suc (length x.args)) f.0) e named f.1 in
+      (d.0 ∷ [], ((d.1, d.3), λ is. (d.1, x, e, n, d.4 is)), (d.2, tt))
 
-  rest_means : (i k : ℕ) (since : List Place) (out : List ℕ) → AreNamed (books_of r) since → rest_found p r n a i k g since out ≡ Fine → (ds : List ActionDid) × InTurn [] since out ds × EachTurns n ds
-  rest_means i k [] [] named h = ([], (refl, refl), tt)
-  rest_means i k [] (o ∷ os) named h = still_turn i k [] (o ∷ os) named (next_action (cells_of p.cells) r.book g) refl h
-  rest_means i k (q ∷ qs) out named h = still_turn i k (q ∷ qs) out named (next_action (cells_of p.cells) r.book g) refl h
+  rest_means : (full : Bool) (i k : ℕ) (since : List Place) (out : List ℕ) → AreNamed (books_of r) since → rest_found p r n full a i k g since out ≡ Fine → (ds : List ActionDid) × InTurn full [] since out ds × EachTurns n ds
+  rest_means true i k since out named h = still_turn true i k since out named (next_action (cells_of p.cells) r.book g) refl h
+  rest_means false i k [] [] named h = ([], ((refl, refl), λ is. absurd (false≢true is)), tt)
+  rest_means false i k [] (o ∷ os) named h = still_turn false i k [] (o ∷ os) named (next_action (cells_of p.cells) r.book g) refl h
+  rest_means false i k (q ∷ qs) out named h = still_turn false i k (q ∷ qs) out named (next_action (cells_of p.cells) r.book g) refl h
 
-  end_means : (since : List Place) (outs : List ℕ) (ran : PlainActorReport) → AreNamed (books_of r) since → agent_end p r n a g since outs ran ≡ Fine → Means ran outs (λ out ds. InTurn [] since out ds)
+  end_means : (since : List Place) (outs : List ℕ) (ran : PlainActorReport) → AreNamed (books_of r) since → agent_end p r n a g since outs ran ≡ Fine → Means ran outs (λ out ds. InTurn (is_full_stop ran.outcome) [] since out ds)
   end_means since outs ran named h =
       let k = length ran.trace in
       let b = is_stopped ran.outcome && begins outs ran.printed in
-      let x = and_fine (check b a k) (rest_found p r n a (k - length since) k g since (drop (length outs) ran.printed)) h in
+      let full = is_full_stop ran.outcome in
+      let x = and_fine (check b a k) (rest_found p r n full a (k - length since) k g since (drop (length outs) ran.printed)) h in
       let y = both (is_stopped ran.outcome) (begins outs ran.printed) (check_fine b a k x.0) in
       let z = begins_sound outs ran.printed y.1 in
       let left : drop (length outs) ran.printed ≡ z.0 = ap (drop (length outs)) z.1 ∙ dropped outs z.0 in
-      let d = rest_means (k - length since) k since z.0 named (subst (λ l. rest_found p r n a (k - length since) k g since l ≡ Fine) left x.1) in
+      let d = rest_means full (k - length since) k since z.0 named (subst (λ l. rest_found p r n full a (k - length since) k g since l ≡ Fine) left x.1) in
       (stopped_of ran.outcome y.0, z.0, z.1, d.0, d.1, d.2)
 
   -- an act, by the action that was next
@@ -887,11 +1028,14 @@ module _ (p : PlainProgram) (r : PlainReport) (n a : ℕ) (sound : Sound p) (mar
     abbrev go_on : List Place → List ℕ → Finding
     go_on since1 outs1 = acts_found p r n a (suc k) g since1 outs1 qs ran
 
+    abbrev full : Bool
+    full = is_full_stop ran.outcome
+
     abbrev Next : Type 0
-    Next = (since1 : List Place) (outs1 : List ℕ) → AreNamed (books_of r) since1 → go_on since1 outs1 ≡ Fine → Means ran outs1 (λ out ds. InTurn qs since1 out ds)
+    Next = (since1 : List Place) (outs1 : List ℕ) → AreNamed (books_of r) since1 → go_on since1 outs1 ≡ Fine → Means ran outs1 (λ out ds. InTurn full qs since1 out ds)
 
     abbrev Here : EventKind → List ℕ → List ActionDid → Type 0
-    Here d out ds = EventMeans p.cells p.functions (books_of r) g q d since out ds (λ since1 out1 ds1. InTurn qs since1 out1 ds1)
+    Here d out ds = EventMeans p.cells p.functions (books_of r) g q d since out ds (λ since1 out1 ds1. InTurn full qs since1 out1 ds1)
 
     with_it : AreNamed (books_of r) (since ++ q ∷ [])
     with_it = named_both (books_of r) since (q ∷ []) front (named, tt)
@@ -915,19 +1059,29 @@ module _ (p : PlainProgram) (r : PlainReport) (n a : ℕ) (sound : Sound p) (mar
     kind_means (Swap new) next f = next (since ++ q ∷ []) outs with_it f
     kind_means (Broke at) next f = next (since ++ q ∷ []) outs with_it f
 
-  pub acts_mean : (k : ℕ) (qs since : List Place) (outs : List ℕ) (ran : PlainActorReport) → AreNamed (books_of r) qs → AreNamed (books_of r) since → acts_found p r n a k g since outs qs ran ≡ Fine → Means ran outs (λ out ds. InTurn qs since out ds)
+  pub acts_mean : (k : ℕ) (qs since : List Place) (outs : List ℕ) (ran : PlainActorReport) → AreNamed (books_of r) qs → AreNamed (books_of r) since → acts_found p r n a k g since outs qs ran ≡ Fine → Means ran outs (λ out ds. InTurn (is_full_stop ran.outcome) qs since out ds)
   acts_mean k [] since outs ran named front h = end_means since outs ran front h
   acts_mean k (q ∷ qs) since outs ran named front h =
       let e = named.0.0 in
       let there = named.0.1 in
       let found : kind_found p r n a k q g since outs e.kind (λ since1 outs1. acts_found p r n a (suc k) g since1 outs1 qs ran) ≡ Fine = subst (λ o. event_found p r n a k q g since outs o (λ since1 outs1. acts_found p r n a (suc k) g since1 outs1 qs ran) ≡ Fine) there h in
       let y = kind_means k q qs since outs ran named.0 front e.kind (λ since1 outs1 front1 g1. acts_mean (suc k) qs since1 outs1 ran named.1 front1 g1) found in
-      (y.0, y.1, y.2, y.3, subst (λ o. OfEvent o (λ d. EventMeans p.cells p.functions (books_of r) g q d.kind since y.1 y.3 (λ since1 out1 ds1. InTurn qs since1 out1 ds1))) (sym there) y.4, y.5)
+      (y.0, y.1, y.2, y.3, subst (λ o. OfEvent o (λ d. EventMeans p.cells p.functions (books_of r) g q d.kind since y.1 y.3 (λ since1 out1 ds1. InTurn (is_full_stop ran.outcome) qs since1 out1 ds1))) (sym there) y.4, y.5)
+
+-- what is said of an agent's trace
+module _ (p : PlainProgram) (r : PlainReport) (n a : ℕ) (sound : Sound p) (marks : MarkedProgram p) (g : CellId) (full : Bool) where
+  pub acts_told : (qs since : List Place) (out : List ℕ) (ds : List ActionDid) → InTurn p r n a sound marks g full qs since out ds → ActsInTurn p.cells p.functions (books_of r) g qs since out ds
+  acts_told qs since out ds h = acts_map p.cells p.functions (books_of r) g (EndOf p r n a sound marks g full) (StillActs p.cells p.functions (books_of r) g) (λ s o l e. e.0) qs since out ds h
+
+  pub full_told : full ≡ true → (qs since : List Place) (out : List ℕ) (ds : List ActionDid) → InTurn p r n a sound marks g full qs since out ds → ActsUpTo p.cells p.functions (books_of r) g (EndsFull p.cells p.functions (books_of r) g) qs since out ds
+  full_told is qs since out ds h = acts_map p.cells p.functions (books_of r) g (EndOf p r n a sound marks g full) (EndsFull p.cells p.functions (books_of r) g) (λ s o l e. e.1 is) qs since out ds h
 
 agent_means : (p : PlainProgram) (r : PlainReport) → Sound p → MarkedProgram p → (n a : ℕ) (g : CellId) (ran : PlainActorReport) → AreNamed (books_of r) ran.trace → acts_found p r n a 0 g [] [] ran.trace ran ≡ Fine → AgentExplained p r g ran
 agent_means p r sound marks n a g ran named h =
     let y = acts_mean p r n a sound marks g 0 ran.trace [] [] ran named tt h in
-    record { unended = y.0; did = y.3; acts = subst (λ l. ActsInTurn p.cells p.functions (books_of r) g ran.trace [] l y.3) (sym y.2) y.4 }
+    let full = is_full_stop ran.outcome in
+    let told : InTurn p r n a sound marks g full ran.trace [] ran.printed y.3 = subst (λ l. InTurn p r n a sound marks g full ran.trace [] l y.3) (sym y.2) y.4 in
+    record { unended = y.0; did = y.3; acts = acts_told p r n a sound marks g full ran.trace [] ran.printed y.3 told; full = λ e. full_told p r n a sound marks g full (ap is_full_stop e) ran.trace [] ran.printed y.3 told }
 
 -- what is found of an agent's entry
 pub agents_fine : (p : PlainProgram) (r : PlainReport) (n a : ℕ) (gs : List CellId) (rans : List PlainActorReport) → agents_found p r n a gs rans ≡ Fine → (i : ℕ) (g : CellId) (ran : PlainActorReport) → nth gs i ≡ Some g → nth rans i ≡ Some ran
@@ -998,7 +1152,7 @@ agrees_is_explained ordered cycle p w r n serial sound marks h =
       threads = λ a t ran there here.
           (let f = each_fine p r n 0 p.threads r.threads v.0 a t ran there here in
           let parts = thread_parts p r sound marks n f.0 a t ran there f.1 in
-          record { turns = n; ends = parts.ends; least = parts.least; calm = parts.calm });
+          record { turns = n; ends = parts.ends; least = parts.least; calm = parts.calm; full = λ e. (n, parts.full e) });
       agents = λ i g ran there here.
           (let f = agents_fine p r n (length p.threads) (agents_from 0 p.cells) r.agents v.1 i g ran there here in
           let entry : nth (r.threads ++ r.agents) (length r.threads + i) ≡ Some ran = behind r.threads r.agents i ∙ here in

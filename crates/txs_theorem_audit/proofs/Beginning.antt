@@ -32,8 +32,8 @@ use Rattle.txs_value_data.specs.declared.value.Value.TheVariants.{Nil, Cell}
 use Rattle.txs_tree_meaning.specs.Known.{known}
 use Rattle.txs_tree_meaning.specs.Meaning.{Completion, Completes, Recurs, Faults, Retries, Waits, OutOfTurns, Invalid, bind, allowed, result_of, Applies, apply, eval, call_at}
 use Rattle.txs_tree_meaning.specs.Sound.{in_thread, SoundFunctions, SoundSource}
-use Rattle.txs_tree_meaning.specs.Thread.{ThreadState, from_events, applies_in, action_meaning, holding, with_tx, uneaten, eats, meant, reads, resets, faulted, faultless, swaps, sends, sends_or_holds, over, Transacting, run_of, ends_tx, is_retry, is_held, again, eats_tx, Surroundings, thread_look, thread_put, thread_update, on_events, around, thread_meaning, accepts}
-use Rattle.txs_tree_meaning.specs.Transaction.{TxState, value_or, valued, merged, redone, if_accepted, commute_writes, final_writes, tx_meaning}
+use Rattle.txs_tree_meaning.specs.Thread.{ThreadState, from_events, applies_in, action_meaning, holding, with_tx, uneaten, eats, meant, reads, resets, faulted, faultless, swaps, sends, sends_or_holds, over, Transacting, run_of, ends_tx, is_retry, is_held, missing, again, eats_tx, Surroundings, thread_look, thread_put, thread_update, on_events, around, thread_meaning, accepts}
+use Rattle.txs_tree_meaning.specs.Transaction.{TxState, value_or, valued, merged, redone, if_accepted, commute_writes, final_writes, tx_meaning, tx_meaning_lacking}
 use Rattle.txs_tree_meaning.specs.Tree.{Const, ThreadSource}
 use Rattle.txs_theorem_threads.proofs.Accepted.{validated_related, if_accepted_related}
 use Rattle.txs_theorem_threads.proofs.Callees.{pure_callees, callees_in, function_callees}
@@ -75,6 +75,9 @@ module _ (fs : List SeenEvent) where
     out_of_turns_of = λ s t r. r;
     invalid_both = refl;
     invalid_loose = λ h b. absurd (false≢true h);
+    ahead = λ t. ⊥;
+    ahead_stops = λ t h s. absurd h;
+    ahead_invalid = λ t h. absurd h;
   }
 
   from : {A : Type 0} (x : Completion ThreadState A) (g : ThreadState → Completion ThreadState A) (s t : ThreadState) → t ≡ longer s → Related k x (g (longer s)) → Related k x (g t)
@@ -127,9 +130,18 @@ module _ (fs : List SeenEvent) where
   allowed_cut true x y h = h
   allowed_cut false x y h = refl
 
+  missing_cut : (s : ThreadState) (x : Completion TxState Value) (p q : Completion ThreadState Value) → Related k p q → Related k (missing s x p) (missing (longer s) x q)
+  missing_cut s (Completes v z) p q h = refl
+  missing_cut s (Recurs vs z) p q h = refl
+  missing_cut s (Faults g z) p q h = refl
+  missing_cut s (Retries z) p q h = refl
+  missing_cut s (Waits z) p q h = h
+  missing_cut s (OutOfTurns z) p q h = refl
+  missing_cut s Invalid p q h = refl
+
   -- a try that had to run again, and what follows
   again_cut : (d : Transacting) (e : EventKind) (R : World) (s : ThreadState) (p q : Completion ThreadState Value) → Related k p q → Related k (again d e R s p) (again d e R (longer s) q)
-  again_cut d (event.Retry since c cause.Outdated) R s p q h = h
+  again_cut d (event.Retry since c cause.Outdated) R s p q h = missing_cut s (d.lacking c.number R) p q h
   again_cut d (event.Retry since c cause.Held) R s p q h = over_cut s (d.on R) _ _ (λ e. Invalid) (λ e. Invalid) (λ v z. allowed_cut (is_held z.done c.number) p q h) (λ e. refl)
   again_cut d (event.Retry since c (cause.Commuted at)) R s p q h = over_cut s (d.on R) _ _ (λ e. Invalid) (λ e. Invalid) (λ v z. allowed_cut (has_number (commuted z.done) c.number) p q h) (λ e. refl)
   again_cut d _ R s p q h = refl
@@ -274,7 +286,7 @@ module _ (fs : List SeenEvent) where
           (λ z. sends_cut_or_held s.held (record { agent = z; callee = callee; args = vs; span = m.span }) m.span s));
       dosync = λ inside m e env s t i pure b a r.
           let f : Applies ThreadState = apply (call_at (on_events x) n p.functions d true) m.span in
-          let tx : Transacting = record { mark = m; body = e; locals = env; on = tx_meaning n p.functions d e env; validators = validators_of p.cells } in
+          let tx : Transacting = record { mark = m; body = e; locals = env; on = tx_meaning n p.functions d e env; lacking = λ j. tx_meaning_lacking n p.functions d e env (Some j); validators = validators_of p.cells } in
           from (eats_tx (suc reruns) tx f s.todo s) (λ u. eats_tx (suc reruns) tx f u.todo u) s t r (eats_tx_cut f f (a (λ g. tt) tt) tx (suc reruns) s.todo s);
     }
 

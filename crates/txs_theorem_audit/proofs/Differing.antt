@@ -32,15 +32,17 @@ use Rattle.txs_tree_meaning.specs.Meaning.{Completion, Completes, Recurs, Faults
 use Rattle.txs_tree_meaning.specs.Right.{is_wrong, right_meaning, right_events}
 use Rattle.txs_tree_meaning.specs.Sound.{Sound, SoundSource, SoundSent}
 use Rattle.txs_tree_meaning.specs.Thread.{TxRun, ThreadState, thread_meaning, action_meaning}
-use Rattle.txs_tree_meaning.specs.Tree.{PlainProgram, PlainThread, ThreadSource, Const}
+use Rattle.txs_tree_meaning.specs.Tree.{PlainFunction, PlainProgram, PlainThread, ThreadSource, Const}
 use Rattle.txs_theorem_threads.proofs.Meant.{Any, none_some}
 use Rattle.txs_theorem_threads.proofs.MoreEvents.{settled_same}
-use Rattle.txs_theorem_threads.specs.EndsSo.{HasSettled}
+use Rattle.txs_theorem_threads.specs.EndsSo.{HasSettled, NeedsTurns}
 use Rattle.txs_theorem_threads.specs.FollowsAgent.{SoundAction, IsHandedIn}
 use Rattle.txs_theorem_threads.specs.FollowsAll.{source_of}
 use Rattle.txs_theorem_threads.specs.Noted.{txs_of}
 use Rattle.txs_theorem_threads.specs.RepliesFit.{HasEatenAll, HasWaited, halted}
-use Rattle.txs_theorem_runs.specs.Agents.{ActMeans, ActionDid, IsBooked, StillMeans, EventMeans, OfEvent, ActsInTurn}
+use Rattle.txs_theorem_runs.specs.Agents.{meaning_after, ActMeans, ActionDid, IsBooked, StillMeans, EventMeans, OfEvent, AtEnd, ActsUpTo, StillActs, ActsInTurn}
+use Rattle.txs_theorem_runs.specs.Full.{WaitsFull, StandsFull, EndsFull}
+use Rattle.txs_theorem_runs.proofs.Rounds.{acts_map}
 use Rattle.txs_theorem_runs.specs.Told.{Place, TraceHolds, places_in, places_by, seen_of}
 use Rattle.txs_theorem_runs.specs.Transactions.{SaidAt, SaidIf, SaidOf, undisturbed}
 use Rattle.txs_value_apply.specs.Core.{takes}
@@ -52,10 +54,11 @@ use Rattle.txs_theorem_order.specs.Taken.{SomeIsNotOrdered}
 use Rattle.txs_theorem_audit.specs.Audited.{PlainActorReport, PlainReport, PlainTerms, books_of, entry_of, Verdict, Agrees, Differs, Undecided, Finding, Fine, Off, Short, and_then, check, answer}
 use Rattle.txs_theorem_audit.specs.Explained.{Sized, Begins, Stopped, EndsAs, events_of, meaning_of, ThreadExplained, AtomExplained, AgentExplained, IsExplained}
 use Rattle.txs_theorem_audit.specs.Laws.{DiffersIsNotExplained}
-use Rattle.txs_theorem_audit.specs.Verdict.{agents_serial, atoms_from, fits_sizes, begins, same_numbers, runs_right, names_all, in_books, trace_found, traces_found, is_legal_kind, is_legal_swap, book_found, has_values, same_failure, has_failed, store_found, atom_found, atoms_found, ends_found, order_found, is_value, length_if, index_if, printed_by, but_last, is_untouched, is_first_failed, is_calm, is_end, with_run, calm_at, calm_found, is_stopped, is_done, has_faulted, least_printed, printed_part, end_found, noted_by, thread_found, threads_found, acts_found, agents_found, are_serial, found, action_after, is_sent_known, is_sent_call, sends_if, held_by, noted_in, is_booked, act_ends, action_found, action_prints, least_of, part_printed, still_ends, still_found, rest_found, agent_end, kind_found, event_found}
-use Rattle.txs_theorem_audit.proofs.Agreeing.{sound_thread, IsNamed, AreNamed, named_both, named_part, seen_both, seen_last, but_last_of, least_last}
+use Rattle.txs_theorem_audit.specs.Verdict.{agents_serial, atoms_from, fits_sizes, begins, same_numbers, runs_right, names_all, in_books, trace_found, traces_found, is_legal_kind, is_legal_swap, book_found, has_values, same_failure, has_failed, store_found, atom_found, atoms_found, ends_found, order_found, is_value, length_if, index_if, printed_by, but_last, is_untouched, is_first_failed, is_calm, is_end, with_run, calm_at, calm_found, is_stopped, is_done, has_faulted, least_printed, printed_part, end_found, is_full_stop, is_full_book, full_found, thread_ends, noted_by, thread_found, threads_found, acts_found, agents_found, are_serial, found, action_after, is_sent_known, is_sent_call, sends_if, held_by, noted_in, is_booked, act_ends, action_found, action_prints, least_of, part_printed, still_ends, full_ends, rest_ends, still_found, rest_found, agent_end, kind_found, event_found}
+use Rattle.txs_theorem_audit.proofs.Agreeing.{sound_thread, full_is, IsNamed, AreNamed, named_both, named_part, seen_both, seen_last, but_last_of, least_last}
 use Rattle.txs_theorem_audit.proofs.Beginning.{k, cut, action_cut}
 use Rattle.txs_theorem_audit.proofs.Findings.{and_fine, short_fine, NotOff, and_not, check_not, and_true, not_false, equal}
+use Rattle.txs_theorem_audit.proofs.Least.{last_of}
 use Rattle.txs_theorem_audit.proofs.Listing.{listed_atom, no_book}
 use Rattle.txs_theorem_audit.proofs.Ends.{ends_not_off}
 use Rattle.txs_theorem_audit.proofs.Timed.{order_not_off}
@@ -445,6 +448,66 @@ module _ (s : ThreadSource) (n a : ℕ) (es : List SeenEvent) (ran : PlainActorR
   end_not (OutOfTurns t) h least = short_not t
   end_not Invalid h least = absurd (ends_up ran.outcome ran.printed Invalid h)
 
+-- ---- a stop for a full book
+
+-- an event of a full book is needed, all are eaten, and this was printed
+full_tests : (books : ℕ → List Event) (b : ℕ) (out : List ℕ) (t : ThreadState) → most_events ≤ length (books b) → t.asks ≡ Some b → t.printed ≡ out → (is_full_book books t.asks && same_numbers out t.printed) ≡ true
+full_tests books b out t many asks printed =
+    and_true (is_full_book books t.asks) (same_numbers out t.printed) (subst (λ o. is_full_book books o ≡ true) (sym asks) (le-leb most_events (length (books b)) many)) (same_true out t.printed (sym printed))
+
+-- with other turns it is the same, or these don't suffice
+abbrev IsOrShort : Completion ThreadState Value → Completion ThreadState Value → Type 0
+IsOrShort y z = (y ≡ z) ⊎ ((u : ThreadState) × (y ≡ OutOfTurns u))
+
+fewer_or_short : (y z : Completion ThreadState Value) → Step None Any y z → IsOrShort y z
+fewer_or_short (Completes v t) z e = inl (sym e)
+fewer_or_short (Recurs vs t) z e = inl (sym e)
+fewer_or_short (Faults f t) z e = inl (sym e)
+fewer_or_short (Retries t) z e = inl (sym e)
+fewer_or_short (Waits t) z e = inl (sym e)
+fewer_or_short (OutOfTurns u) z e = inr (u, refl)
+fewer_or_short Invalid z e = inl (sym e)
+
+more_or_short : (y z : Completion ThreadState Value) → Step None Any z y → (NeedsTurns z → ⊥) → IsOrShort y z
+more_or_short y (Completes v t) e enough = inl e
+more_or_short y (Recurs vs t) e enough = inl e
+more_or_short y (Faults f t) e enough = inl e
+more_or_short y (Retries t) e enough = inl e
+more_or_short y (Waits t) e enough = inl e
+more_or_short y (OutOfTurns u) e enough = absurd (enough tt)
+more_or_short y Invalid e enough = inl e
+
+waits_enough : (books : ℕ → List Event) (out : List ℕ) (m : Completion ThreadState Value) → WaitsFull books out m → NeedsTurns m → ⊥
+waits_enough books out (Completes v t) h n = n
+waits_enough books out (Recurs vs t) h n = n
+waits_enough books out (Faults f t) h n = n
+waits_enough books out (Retries t) h n = n
+waits_enough books out (Waits t) h n = n
+waits_enough books out (OutOfTurns t) h n = h.2
+waits_enough books out Invalid h n = n
+
+stands_enough : (books : ℕ → List Event) (out : List ℕ) (m : Completion ThreadState Value) → StandsFull books out m → NeedsTurns m → ⊥
+stands_enough books out (Completes v t) h n = n
+stands_enough books out (Recurs vs t) h n = n
+stands_enough books out (Faults f t) h n = n
+stands_enough books out (Retries t) h n = n
+stands_enough books out (Waits t) h n = n
+stands_enough books out (OutOfTurns t) h n = h
+stands_enough books out Invalid h n = n
+
+module _ (books : ℕ → List Event) (s : ThreadSource) (n a : ℕ) (es : List SeenEvent) (out : List ℕ) where
+  full_not : (m : Completion ThreadState Value) → WaitsFull books out m → NotOff (full_found books s n a es out m)
+  full_not (Completes v t) h = absurd h.2
+  full_not (Recurs vs t) h = absurd h.2
+  full_not (Faults f t) h = absurd h.2
+  full_not (Retries t) h = absurd h.2
+  full_not (Waits t) h =
+      let test = is_full_book books t.asks && same_numbers out t.printed in
+      and_not (check (length t.todo == 0) a (length es - length t.todo)) (check test a (length es)) (check_not (length t.todo == 0) a (length es - length t.todo) (ap (λ l. length l == 0) h.2.1))
+      (check_not test a (length es) (full_tests books h.0 out t h.1 h.2.0 h.2.2))
+  full_not (OutOfTurns t) h = absurd h.2
+  full_not Invalid h = absurd h.2
+
 -- a meaning that has eaten all isn't wrong
 up_right : (m : Completion ThreadState Value) → HasEatenUp m → is_wrong m ≡ false
 up_right (Completes v t) h = refl
@@ -456,10 +519,6 @@ up_right (OutOfTurns t) h = refl
 up_right Invalid h = absurd h
 
 -- ---- what was printed before the last event
-
-pub last_of : (e : SeenEvent) (es : List SeenEvent) → (f : SeenEvent) × (e ∷ es ≡ but_last (e ∷ es) ++ f ∷ [])
-last_of e [] = (e, refl)
-last_of e (d ∷ es) = let r = last_of d es in (r.0, ap (λ l. e ∷ l) r.1)
 
 module _ (s : ThreadSource) (sound : SoundSource s) where
   -- before the last event that is eaten the thread waits
@@ -552,6 +611,25 @@ judged s sound o out n m es h =
     (λ lt. (let le : n ≤ m = omega (arith, lt) in fewer o out (thread_meaning s n es) (thread_meaning s m es) (thread_leads s sound n m le es).1 h))
     (λ le. further_on o out (thread_meaning s n es) (thread_meaning s m es) (thread_leads s sound m n le es).1 h) (cases_lt n m)
 
+-- the end of a thread that was stopped for a full book, with these turns
+full_end_not : (books : ℕ → List Event) (s : ThreadSource) → SoundSource s → (n m a : ℕ) (es : List SeenEvent) (out : List ℕ) → WaitsFull books out (thread_meaning s m es) → NotOff (full_found books s n a es out (thread_meaning s n es))
+full_end_not books s sound n m a es out h =
+    ⊎_elim
+    (λ same. full_not books s n a es out (thread_meaning s n es) (subst (WaitsFull books out) (sym same) h))
+    (λ short. subst (λ c. NotOff (full_found books s n a es out c)) (sym short.1) tt)
+    (⊎_elim
+    (λ lt. (let le : n ≤ m = omega (arith, lt) in fewer_or_short (thread_meaning s n es) (thread_meaning s m es) (thread_leads s sound n m le es).1))
+    (λ le. more_or_short (thread_meaning s n es) (thread_meaning s m es) (thread_leads s sound m n le es).1 (waits_enough books out (thread_meaning s m es) h)) (cases_lt n m))
+
+-- the end of a thread, by how it ended
+ends_not : (books : ℕ → List Event) (s : ThreadSource) → SoundSource s → (n a : ℕ) (es : List SeenEvent) (ran : PlainActorReport) → (ran.outcome ≡ Some JournalFull → (m : ℕ) × WaitsFull books ran.printed (thread_meaning s m es))
+    → (is_full_stop ran.outcome ≡ false → NotOff (end_found s n a es ran (thread_meaning s n es))) → NotOff (thread_ends books s n a es ran (thread_meaning s n es))
+ends_not books s sound n a es ran full others = test (is_full_stop ran.outcome) refl
+  where
+    test : (b : Bool) → is_full_stop ran.outcome ≡ b → NotOff (if b then full_found books s n a es ran.printed (thread_meaning s n es) else end_found s n a es ran (thread_meaning s n es))
+    test true is = let x = full (full_is ran.outcome is) in full_end_not books s sound n x.0 a es ran.printed x.1
+    test false is = others is
+
 thread_not : (p : PlainProgram) (r : PlainReport) → Sound p → (n a i : ℕ) (t : PlainThread) (ran : PlainActorReport) → nth p.threads i ≡ Some t → ThreadExplained p r t ran → NotOff (thread_found p r n a t ran)
 thread_not p r sound n a i t ran there x =
     let s = source_of p t in
@@ -567,10 +645,12 @@ thread_not p r sound n a i t ran there x =
     let noted : noted_by s n es m ≡ txs_of m = ap (λ b. if b then txs_of (right_meaning s n es) else txs_of m) (up_right m up) in
     let least : Stopped ran.outcome → Begins ran.printed (least_printed s n es) =
     λ st. subst (λ l. Begins ran.printed l) (least_same s source_sound x.turns n es (ends_up ran.outcome ran.printed z x.ends) up) (x.least st) in
-    and_not (on (noted_by s n es m)) (end_found s n a es ran m) (subst (λ xs. NotOff (on xs)) (sym noted) (calm_not p.cells (books_of r) a 0 ran.trace (txs_of m) (txs_of z) x.calm e.1)) (end_not s n a es ran m e.0 least)))
+    and_not (on (noted_by s n es m)) (thread_ends (books_of r) s n a es ran m) (subst (λ xs. NotOff (on xs)) (sym noted) (calm_not p.cells (books_of r) a 0 ran.trace (txs_of m) (txs_of z) x.calm e.1))
+    (ends_not (books_of r) s source_sound n a es ran x.full (λ isnt. end_not s n a es ran m e.0 least))))
     (λ e.
-    subst (λ c. NotOff (and_then (on (noted_by s n es c)) (end_found s n a es ran c))) (sym e.1)
-    (and_not (on e.0.txs) (end_found s n a es ran (OutOfTurns e.0)) (calm_not p.cells (books_of r) a 0 ran.trace e.0.txs (txs_of z) x.calm e.2) (short_not s n a es ran e.0)))
+    (let noted : noted_by s n es m ≡ e.0.txs = ap (noted_by s n es) e.1 in
+    and_not (on (noted_by s n es m)) (thread_ends (books_of r) s n a es ran m) (subst (λ xs. NotOff (on xs)) (sym noted) (calm_not p.cells (books_of r) a 0 ran.trace e.0.txs (txs_of z) x.calm e.2))
+    (ends_not (books_of r) s source_sound n a es ran x.full (λ isnt. subst (λ c. NotOff (end_found s n a es ran c)) (sym e.1) (short_not s n a es ran e.0)))))
     (judged s source_sound ran.outcome ran.printed n x.turns es x.ends)
 
 threads_not : (p : PlainProgram) (r : PlainReport) (n a : ℕ) (ts : List PlainThread) (rans : List PlainActorReport) → ((b i : ℕ) (t : PlainThread) (ran : PlainActorReport) → nth ts i ≡ Some t → nth rans i ≡ Some ran → NotOff (thread_found p r n b t ran)) → NotOff (threads_found p r n a ts rans)
@@ -728,6 +808,77 @@ short_still a i k m es out t = test (length t.todo == 0 && part_printed m es out
     test true = tt
     test false = tt
 
+-- an action of an agent's actor that was stopped for a full book
+module _ (books : ℕ → List Event) (a i k : ℕ) (m : List SeenEvent → Completion ThreadState Value) (es : List SeenEvent) (out : List ℕ) where
+  stand_checks : (todo : List SeenEvent) (b : Bool) (j : ℕ) → todo ≡ [] → b ≡ true → NotOff (and_then (check (length todo == 0) a j) (check b a k))
+  stand_checks todo b j e h = and_not (check (length todo == 0) a j) (check b a k) (check_not (length todo == 0) a j (left_none todo e)) (check_not b a k h)
+
+  over_tests : (t : ThreadState) → most_events ≤ length (books 0) → t.printed ≡ out → (is_full_book books (Some 0) && same_numbers out t.printed) ≡ true
+  over_tests t many printed = and_true (is_full_book books (Some 0)) (same_numbers out t.printed) (le-leb most_events (length (books 0)) many) (same_true out t.printed (sym printed))
+
+  full_ends_not : (c : Completion ThreadState Value) → StandsFull books out c → NotOff (full_ends books a i k m es out c)
+  full_ends_not (Completes v t) h = stand_checks t.todo (is_full_book books (Some 0) && same_numbers out t.printed) (i + (length es - length t.todo)) h.1 (over_tests t h.0 h.2)
+  full_ends_not (Recurs vs t) h = absurd h
+  full_ends_not (Faults f t) h = stand_checks t.todo (is_full_book books (Some 0) && same_numbers out t.printed) (i + (length es - length t.todo)) h.1 (over_tests t h.0 h.2)
+  full_ends_not (Retries t) h = absurd h
+  full_ends_not (Waits t) h = stand_checks t.todo (is_full_book books t.asks && same_numbers out t.printed) (i + (length es - length t.todo)) h.2.1 (full_tests books h.0 out t h.1 h.2.0 h.2.2)
+  full_ends_not (OutOfTurns t) h = absurd h
+  full_ends_not Invalid h = absurd h
+
+-- what an action hands in is printed by its meaning
+handed_prints : (result : Result Value Fault) (held : List Action) (out : List ℕ) (c : Completion ThreadState Value) → IsHandedIn result held out c → printed_by c ≡ out
+handed_prints (Ok v) held out c h = ap printed_by h.1 ∙ h.3
+handed_prints (Err f) held out c h = ap printed_by h.1 ∙ h.3
+
+dropped : (outs rest : List ℕ) → drop (length outs) (outs ++ rest) ≡ rest
+dropped [] rest = refl
+dropped (x ∷ xs) rest = dropped xs rest
+
+-- one list in two parts, of which the first are the same
+same_rest : (p q a b : List ℕ) → p ≡ q → p ++ a ≡ q ++ b → a ≡ b
+same_rest p q a b e h = sym (dropped p a) ∙ ap (λ l. drop (length l) (p ++ a)) e ∙ ap (drop (length q)) h ∙ dropped q b
+
+-- Two things that are said at the end of a trace, for the same that was done: the actions print the same, so both are said of the same end.
+module _ (cells : List CellDefinition) (functions : List PlainFunction) (books : ℕ → List Event) (g : CellId) (one two : AtEnd) where
+  abbrev BothEnds : AtEnd
+  BothEnds since out ds = one since out ds × two since out ds
+
+  abbrev Up : AtEnd → List Place → List Place → List ℕ → List ActionDid → Type 0
+  Up end qs since out ds = ActsUpTo cells functions books g end qs since out ds
+
+  -- what one act printed
+  same_prints : (done : List Event) (d : ActionDid) (new : Result Value Fault) (sends : List Action) (p q : List ℕ) → ActMeans cells functions books done g d p new sends → ActMeans cells functions books done g d q new sends → p ≡ q
+  same_prints done d new sends p q x y =
+      let same = some_one x.action y.action (sym x.next ∙ y.next) in
+      sym (handed_prints x.result x.held p (meaning_after cells functions books done g d.turns x.action d.trace) x.means) ∙ ap (λ c. printed_by (meaning_after cells functions books done g d.turns c d.trace)) same
+      ∙ handed_prints y.result y.held q (meaning_after cells functions books done g d.turns y.action d.trace) y.means
+
+  event_both : (q : Place) (qs : List Place) → ((since : List Place) (out : List ℕ) (ds : List ActionDid) → Up one qs since out ds → Up two qs since out ds → Up BothEnds qs since out ds) → (kind : EventKind) (since : List Place) (out : List ℕ) (ds : List ActionDid)
+      → EventMeans cells functions books g q kind since out ds (λ s o l. Up one qs s o l) → EventMeans cells functions books g q kind since out ds (λ s o l. Up two qs s o l) → EventMeans cells functions books g q kind since out ds (λ s o l. Up BothEnds qs s o l)
+  event_both q qs next (Act h n new sends) since out [] e f = absurd e
+  event_both q qs next (Act h n new sends) since out (d ∷ ds) e f =
+      let prints = same_prints (take q.at (books q.book)) d new sends e.1 f.1 e.4 f.4 in
+      let rest = same_rest e.1 f.1 e.2 f.2 prints (sym e.3 ∙ f.3) in
+      (e.0, e.1, e.2, e.3, e.4, next [] e.2 ds e.5 (subst (λ l. Up two qs [] l ds) (sym rest) f.5))
+  event_both q qs next (Read c) since out ds e f = next (since ++ q ∷ []) out ds e f
+  event_both q qs next (Commit at view ws sends) since out ds e f = next (since ++ q ∷ []) out ds e f
+  event_both q qs next (Retry from c cause) since out ds e f = next (since ++ q ∷ []) out ds e f
+  event_both q qs next (Fail at view) since out ds e f = next (since ++ q ∷ []) out ds e f
+  event_both q qs next (Refused at view h) since out ds e f = next (since ++ q ∷ []) out ds e f
+  event_both q qs next (Send x) since out ds e f = next (since ++ q ∷ []) out ds e f
+  event_both q qs next (SendRefused h) since out ds e f = next (since ++ q ∷ []) out ds e f
+  event_both q qs next (Swap new) since out ds e f = next (since ++ q ∷ []) out ds e f
+  event_both q qs next (Broke at) since out ds e f = next (since ++ q ∷ []) out ds e f
+
+  acts_both : (qs since : List Place) (out : List ℕ) (ds : List ActionDid) → Up one qs since out ds → Up two qs since out ds → Up BothEnds qs since out ds
+  acts_both [] since out ds h k = (h, k)
+  acts_both (q ∷ qs) since out ds h k = go (nth (books q.book) q.at) h k (λ s o l e f. acts_both qs s o l e f)
+    where
+      go : (o : Option Event) → OfEvent o (λ e. EventMeans cells functions books g q e.kind since out ds (λ s u l. Up one qs s u l)) → OfEvent o (λ e. EventMeans cells functions books g q e.kind since out ds (λ s u l. Up two qs s u l))
+          → ((s : List Place) (u : List ℕ) (l : List ActionDid) → Up one qs s u l → Up two qs s u l → Up BothEnds qs s u l) → OfEvent o (λ e. EventMeans cells functions books g q e.kind since out ds (λ s u l. Up BothEnds qs s u l))
+      go None e f next = absurd e
+      go (Some d) e f next = event_both q qs next d.kind since out ds e f
+
 -- ---- an agent's trace
 
 stopped_true : (o : Option Outcome) → Stopped o → is_stopped o ≡ true
@@ -814,67 +965,100 @@ module _ (p : PlainProgram) (r : PlainReport) (sound : Sound p) (n a : ℕ) (g :
       waited_is part (OutOfTurns t) h = absurd h
       waited_is part Invalid h = absurd h
 
+  -- what an action means where its agent's actor was stopped for a full book, for some bound on its loops
+  abbrev Stands : Action → List Place → List ℕ → Type 0
+  Stands x since out = (m : ℕ) × StandsFull (books_of r) out (action_after p m r.book g x (seen since))
+
+  -- its end, by how the actor ended
+  rest_ends_not : (full : Bool) (i k : ℕ) (x : Action) → SoundAction p.functions x → (since : List Place) (out : List ℕ) → (full ≡ true → Stands x since out)
+      → NotOff (still_ends a i k (action_after p n r.book g x) (seen since) out (action_after p n r.book g x (seen since))) → NotOff (rest_ends (books_of r) full a i k (action_after p n r.book g x) (seen since) out (action_after p n r.book g x (seen since)))
+  rest_ends_not false i k x fits since out stands h = h
+  rest_ends_not true i k x fits since out stands h =
+      let v = newest (opening (cells_of p.cells)) r.book g.number in
+      let m = action_after p n r.book g x in
+      let st = stands refl in
+      let z = action_after p st.0 r.book g x (seen since) in
+      ⊎_elim
+      (λ same. full_ends_not (books_of r) a i k m (seen since) out (m (seen since)) (subst (StandsFull (books_of r) out) (sym same) st.1))
+      (λ short. subst (λ c. NotOff (full_ends (books_of r) a i k m (seen since) out c)) (sym short.1) tt)
+      (⊎_elim
+      (λ lt. (let le : n ≤ st.0 = omega (arith, lt) in fewer_or_short (m (seen since)) z (steps p sound x v fits n st.0 (seen since) le)))
+      (λ le. more_or_short (m (seen since)) z (steps p sound x v fits st.0 n (seen since) le) (stands_enough (books_of r) out z st.1)) (cases_lt n st.0))
+
   -- an action that isn't over
-  still_not : (i k : ℕ) (since : List Place) (d : ActionDid) (out : List ℕ) → d.trace ≡ since → AreNamed (books_of r) since → (x : StillMeans p.cells p.functions (books_of r) g d out) → NotOff (still_found p r n a i k g since out (Some x.action))
-  still_not i k since d out e named x =
+  still_not : (full : Bool) (i k : ℕ) (since : List Place) (d : ActionDid) (out : List ℕ) → d.trace ≡ since → AreNamed (books_of r) since → (x : StillMeans p.cells p.functions (books_of r) g d out) → (full ≡ true → Stands x.action since out)
+      → NotOff (still_found p r n full a i k g since out (Some x.action))
+  still_not full i k since d out e named x stands =
       let v = newest (opening (cells_of p.cells)) r.book g.number in
       let m = action_after p n r.book g x.action in
       let z = action_after p d.turns r.book g x.action (seen since) in
       let means : HasEatenAll (out ++ x.rest) z = subst (λ ps. HasEatenAll (out ++ x.rest) (action_after p d.turns r.book g x.action (seen ps))) e x.means in
       let txs : d.txs ≡ txs_of z = x.noted ∙ ap (λ ps. txs_of (action_after p d.turns r.book g x.action (seen ps))) e in
       let calm : SaidOf (undisturbed p.cells (books_of r)) (books_of r) since (txs_of z) = subst (λ xs. SaidOf (undisturbed p.cells (books_of r)) (books_of r) since xs) txs (subst (λ ps. SaidOf (undisturbed p.cells (books_of r)) (books_of r) ps d.txs) e x.calm) in
-      let ends = λ (c : Completion ThreadState Value). still_ends a i k m (seen since) out c in
-      let looks = and_then (calm_on i since (noted_in m (seen since))) (ends (m (seen since))) in
+      let ends = rest_ends (books_of r) full a i k m (seen since) out (m (seen since)) in
+      let looks = and_then (calm_on i since (noted_in m (seen since))) ends in
       let sent = sent_true (known p.functions) x.action.callee (suc (length x.action.args)) x.sound in
       let tested : NotOff looks =
       ⊎_elim
       (λ h.
       (let up : HasEatenUp (m (seen since)) = eaten_up (out ++ h.0.0) (m (seen since)) h.0.1 in
-      and_not (calm_on i since (noted_in m (seen since))) (ends (m (seen since))) (calm_noted i since m (txs_of z) (up_right (m (seen since)) up) calm h.1)
-      (still_ends_not a i k m (seen since) out (least_holds since d out x e named up) (m (seen since)) h.0.0 h.0.1)))
+      and_not (calm_on i since (noted_in m (seen since))) ends (calm_noted i since m (txs_of z) (up_right (m (seen since)) up) calm h.1)
+      (rest_ends_not full i k x.action x.sound since out stands (still_ends_not a i k m (seen since) out (least_holds since d out x e named up) (m (seen since)) h.0.0 h.0.1))))
       (λ short.
       (let right : is_wrong (m (seen since)) ≡ false = ap is_wrong short.1 in
       let fit : Fits (txs_of (m (seen since))) (txs_of z) = subst (λ c. Fits (txs_of c) (txs_of z)) (sym short.1) short.2 in
-      and_not (calm_on i since (noted_in m (seen since))) (ends (m (seen since))) (calm_noted i since m (txs_of z) right calm fit) (subst (λ c. NotOff (ends c)) (sym short.1) (short_still a i k m (seen since) out short.0))))
+      and_not (calm_on i since (noted_in m (seen since))) ends (calm_noted i since m (txs_of z) right calm fit)
+      (rest_ends_not full i k x.action x.sound since out stands (subst (λ c. NotOff (still_ends a i k m (seen since) out c)) (sym short.1) (short_still a i k m (seen since) out short.0)))))
       (judged_action p sound x.action v x.sound out n d.turns (seen since) (x.rest, means)) in
       subst NotOff (sym (ap (λ b. if b then looks else Off a i) sent)) tested
 
-  abbrev InTurn : List Place → List Place → List ℕ → List ActionDid → Type 0
-  InTurn qs since out ds = ActsInTurn p.cells p.functions (books_of r) g qs since out ds
+  -- what is said at the end of its trace, where it was stopped for a full book and where it wasn't
+  abbrev EndOf : Bool → AtEnd
+  EndOf full since out ds = StillActs p.cells p.functions (books_of r) g since out ds × (full ≡ true → EndsFull p.cells p.functions (books_of r) g since out ds)
 
-  dropped : (outs rest : List ℕ) → drop (length outs) (outs ++ rest) ≡ rest
-  dropped [] rest = refl
-  dropped (x ∷ xs) rest = dropped xs rest
+  abbrev InTurn : Bool → List Place → List Place → List ℕ → List ActionDid → Type 0
+  InTurn full qs since out ds = ActsUpTo p.cells p.functions (books_of r) g (EndOf full) qs since out ds
 
   -- nothing came since, or this is found
-  either_not : (i k : ℕ) (since : List Place) (out : List ℕ) → NotOff (still_found p r n a i k g since out (next_action (cells_of p.cells) r.book g)) → NotOff (rest_found p r n a i k g since out)
-  either_not i k [] [] h = tt
-  either_not i k [] (o ∷ os) h = h
-  either_not i k (q ∷ qs) out h = h
+  either_not : (full : Bool) (i k : ℕ) (since : List Place) (out : List ℕ) → NotOff (still_found p r n full a i k g since out (next_action (cells_of p.cells) r.book g)) → NotOff (rest_found p r n full a i k g since out)
+  either_not true i k since out h = h
+  either_not false i k [] [] h = tt
+  either_not false i k [] (o ∷ os) h = h
+  either_not false i k (q ∷ qs) out h = h
 
-  rest_not : (i k : ℕ) (since : List Place) (out : List ℕ) (ds : List ActionDid) → AreNamed (books_of r) since → InTurn [] since out ds → NotOff (rest_found p r n a i k g since out)
-  rest_not i k since out [] named h = subst (λ l. NotOff (rest_found p r n a i k g l out)) (sym h.0) (subst (λ l. NotOff (rest_found p r n a i k g [] l)) (sym h.1) tt)
-  rest_not i k since out (d ∷ []) named h =
-      let x = h.1 in
-      either_not i k since out (subst (λ o. NotOff (still_found p r n a i k g since out o)) (sym x.next) (still_not i k since d out h.0 named x))
-  rest_not i k since out (d ∷ e ∷ ds) named h = absurd h
+  none_not : (full : Bool) (i k : ℕ) → (full ≡ true → ⊥) → NotOff (rest_found p r n full a i k g [] [])
+  none_not true i k h = absurd (h refl)
+  none_not false i k h = tt
 
-  end_not_off : (since : List Place) (outs out : List ℕ) (ds : List ActionDid) (ran : PlainActorReport) → AreNamed (books_of r) since → Stopped ran.outcome → ran.printed ≡ outs ++ out → InTurn [] since out ds → NotOff (agent_end p r n a g since outs ran)
+  rest_not : (full : Bool) (i k : ℕ) (since : List Place) (out : List ℕ) (ds : List ActionDid) → AreNamed (books_of r) since → InTurn full [] since out ds → NotOff (rest_found p r n full a i k g since out)
+  rest_not full i k since out [] named h = subst (λ l. NotOff (rest_found p r n full a i k g l out)) (sym h.0.0) (subst (λ l. NotOff (rest_found p r n full a i k g [] l)) (sym h.0.1) (none_not full i k h.1))
+  rest_not full i k since out (d ∷ []) named h =
+      let x = h.0.1 in
+      let stands : full ≡ true → Stands x.action since out =
+      λ is.
+      (let f = h.1 is in
+      let same = some_one f.1 x.action (sym f.2 ∙ x.next) in
+      (f.3, subst (λ y. StandsFull (books_of r) out (action_after p f.3 r.book g y (seen since))) same f.4)) in
+      either_not full i k since out (subst (λ o. NotOff (still_found p r n full a i k g since out o)) (sym x.next) (still_not full i k since d out h.0.0 named x stands))
+  rest_not full i k since out (d ∷ e ∷ ds) named h = absurd h.0
+
+  end_not_off : (since : List Place) (outs out : List ℕ) (ds : List ActionDid) (ran : PlainActorReport) → AreNamed (books_of r) since → Stopped ran.outcome → ran.printed ≡ outs ++ out → InTurn (is_full_stop ran.outcome) [] since out ds → NotOff (agent_end p r n a g since outs ran)
   end_not_off since outs out ds ran named stopped e h =
       let k = length ran.trace in
       let b = is_stopped ran.outcome && begins outs ran.printed in
+      let full = is_full_stop ran.outcome in
       let left : drop (length outs) ran.printed ≡ out = ap (drop (length outs)) e ∙ dropped outs out in
-      and_not (check b a k) (rest_found p r n a (k - length since) k g since (drop (length outs) ran.printed))
+      and_not (check b a k) (rest_found p r n full a (k - length since) k g since (drop (length outs) ran.printed))
       (check_not b a k (and_true (is_stopped ran.outcome) (begins outs ran.printed) (stopped_true ran.outcome stopped) (begins_true ran.printed outs (out, e))))
-      (subst (λ l. NotOff (rest_found p r n a (k - length since) k g since l)) (sym left) (rest_not (k - length since) k since out ds named h))
+      (subst (λ l. NotOff (rest_found p r n full a (k - length since) k g since l)) (sym left) (rest_not full (k - length since) k since out ds named h))
 
   module _ (ran : PlainActorReport) (stopped : Stopped ran.outcome) where
     abbrev Holds : ℕ → List Place → Type 0
-    Holds k qs = (since : List Place) (outs out : List ℕ) (ds : List ActionDid) → AreNamed (books_of r) since → ran.printed ≡ outs ++ out → InTurn qs since out ds → NotOff (acts_found p r n a k g since outs qs ran)
+    Holds k qs = (since : List Place) (outs out : List ℕ) (ds : List ActionDid) → AreNamed (books_of r) since → ran.printed ≡ outs ++ out → InTurn (is_full_stop ran.outcome) qs since out ds → NotOff (acts_found p r n a k g since outs qs ran)
 
     -- an event of this kind
     kind_not : (k : ℕ) (q : Place) (qs : List Place) → Holds (suc k) qs → IsNamed (books_of r) q → (d : EventKind) (since : List Place) (outs out : List ℕ) (ds : List ActionDid) → AreNamed (books_of r) since → ran.printed ≡ outs ++ out
-        → EventMeans p.cells p.functions (books_of r) g q d since out ds (λ since1 out1 ds1. InTurn qs since1 out1 ds1) → NotOff (kind_found p r n a k q g since outs d (λ since1 outs1. acts_found p r n a (suc k) g since1 outs1 qs ran))
+        → EventMeans p.cells p.functions (books_of r) g q d since out ds (λ since1 out1 ds1. InTurn (is_full_stop ran.outcome) qs since1 out1 ds1) → NotOff (kind_found p r n a k q g since outs d (λ since1 outs1. acts_found p r n a (suc k) g since1 outs1 qs ran))
     kind_not k q qs next named (Act h number new sends) since outs out [] front e m = absurd m
     kind_not k q qs next named (Act h number new sends) since outs out (d ∷ ds) front e m =
         let done = take q.at (books_of r q.book) in
@@ -904,18 +1088,31 @@ module _ (p : PlainProgram) (r : PlainReport) (sound : Sound p) (n a : ℕ) (g :
     acts_not k [] since outs out ds front e h = end_not_off since outs out ds ran front stopped e h
     acts_not k (q ∷ qs) since outs out ds front e h = go (nth (books_of r q.book) q.at) refl h (acts_not (suc k) qs)
       where
-        go : (o : Option Event) → nth (books_of r q.book) q.at ≡ o → OfEvent o (λ d. EventMeans p.cells p.functions (books_of r) g q d.kind since out ds (λ since1 out1 ds1. InTurn qs since1 out1 ds1)) → Holds (suc k) qs
+        go : (o : Option Event) → nth (books_of r q.book) q.at ≡ o → OfEvent o (λ d. EventMeans p.cells p.functions (books_of r) g q d.kind since out ds (λ since1 out1 ds1. InTurn (is_full_stop ran.outcome) qs since1 out1 ds1)) → Holds (suc k) qs
             → NotOff (event_found p r n a k q g since outs o (λ since1 outs1. acts_found p r n a (suc k) g since1 outs1 qs ran))
         go None there m next = absurd m
         go (Some d) there m next = kind_not k q qs next (d, there) d.kind since outs out ds front e m
+
+-- what is said at the end of an agent's trace, in one
+agent_turns : (p : PlainProgram) (r : PlainReport) (sound : Sound p) (n a : ℕ) (g : CellId) (full : Bool) (qs : List Place) (out : List ℕ) (ds : List ActionDid) → ActsInTurn p.cells p.functions (books_of r) g qs [] out ds
+    → (full ≡ true → ActsUpTo p.cells p.functions (books_of r) g (EndsFull p.cells p.functions (books_of r) g) qs [] out ds) → InTurn p r sound n a g full qs [] out ds
+agent_turns p r sound n a g true qs out ds h k =
+    let one = StillActs p.cells p.functions (books_of r) g in
+    let two = EndsFull p.cells p.functions (books_of r) g in
+    acts_map p.cells p.functions (books_of r) g (BothEnds p.cells p.functions (books_of r) g one two) (EndOf p r sound n a g true) (λ s o l e. (e.0, λ is. e.1)) qs [] out ds
+    (acts_both p.cells p.functions (books_of r) g one two qs [] out ds h (k refl))
+agent_turns p r sound n a g false qs out ds h k =
+    acts_map p.cells p.functions (books_of r) g (StillActs p.cells p.functions (books_of r) g) (EndOf p r sound n a g false) (λ s o l e. (e, λ is. absurd (false≢true is))) qs [] out ds h
 
 agents_not : (p : PlainProgram) (r : PlainReport) → Sound p → (n a : ℕ) (gs : List CellId) (rans : List PlainActorReport) → ((i : ℕ) (g : CellId) (ran : PlainActorReport) → nth gs i ≡ Some g → nth rans i ≡ Some ran → AgentExplained p r g ran) → NotOff (agents_found p r n a gs rans)
 agents_not p r sound n a [] rans h = tt
 agents_not p r sound n a (g ∷ gs) [] h = tt
 agents_not p r sound n a (g ∷ gs) (ran ∷ rans) h =
     let x = h 0 g ran refl refl in
+    let full = is_full_stop ran.outcome in
+    let acts = agent_turns p r sound n a g full ran.trace ran.printed x.did x.acts (λ is. x.full (full_is ran.outcome is)) in
     and_not (acts_found p r n a 0 g [] [] ran.trace ran) (agents_found p r n (suc a) gs rans)
-    (acts_not p r sound n a g ran x.unended 0 ran.trace [] [] ran.printed x.did tt refl x.acts)
+    (acts_not p r sound n a g ran x.unended 0 ran.trace [] [] ran.printed x.did tt refl acts)
     (agents_not p r sound n (suc a) gs rans (λ i f y there here. h (suc i) f y there here))
 
 -- ---- all

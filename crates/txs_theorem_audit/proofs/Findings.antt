@@ -1,5 +1,5 @@
 -- What findings say, and tests of lists.
-use Rattle.std.proofs.Common.{◌≡◌, ◌≤◌, ℕ, zero, suc, ◌==◌, ◌&&◌, ◌||◌, Bool, true, false, List, [], ◌∷◌, ◌++◌, length, Option, Some, None, refl, sym, ap, ◌∙◌, subst, arith}
+use Rattle.std.proofs.Common.{◌≡◌, ◌≤◌, ℕ, zero, suc, ◌==◌, ◌&&◌, Bool, true, false, List, [], ◌∷◌, ◌++◌, length, Option, Some, None, refl, sym, ap, ◌∙◌, subst, arith}
 use Rattle.std.specs.Prelude.{not}
 use Rattle.std.proofs.lemmas.Bool.{eqb-true, eq-eqb, false≢true}
 use Rattle.txs_value_base.specs.Places.{nth}
@@ -80,10 +80,6 @@ and_true a b h g = ap (λ c. c && b) h ∙ g
 pub not_false : (b : Bool) → b ≡ false → not b ≡ true
 not_false true h = absurd (false≢true (sym h))
 not_false false h = refl
-
-pub or_left : (a b : Bool) → a ≡ true → (a || b) ≡ true
-or_left true b h = refl
-or_left false b h = absurd (false≢true h)
 
 pub equal : (n : ℕ) → (n == n) ≡ true
 equal n = eq-eqb n n refl

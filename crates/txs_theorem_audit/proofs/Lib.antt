@@ -3,6 +3,7 @@ pub mod Beginning
 pub mod Differing
 pub mod Ends
 pub mod Findings
+pub mod Least
 pub mod Listing
 pub mod NotSerial
 pub mod Onward

@@ -18,7 +18,7 @@ use Rattle.txs_value_cell.specs.declared.form.PutForm.{PutForm}
 use Rattle.txs_value_cell.specs.declared.form.PutForm.TheVariants.{RefSet, Reset}
 use Rattle.txs_value_cell.specs.declared.form.UpdateForm.{UpdateForm}
 use Rattle.txs_value_cell.specs.declared.form.UpdateForm.TheVariants.{Alter, Commute, Swap}
-use Rattle.txs_frame.specs.Frame.{PlainTxFrame, has_number, with_cell, is_commuted, set_ref, commute_ref, set_writes, commuted, phase_work, sends_of_commit}
+use Rattle.txs_frame.specs.Frame.{PlainTxFrame, has_number, with_cell, is_commuted, set_ref, ensure_ref, commute_ref, set_writes, commuted, phase_work, sends_of_commit}
 use Rattle.txs_value_apply.specs.Core.{core, vector_of}
 use Rattle.txs_value_apply.specs.Truth.{choose}
 use Rattle.txs_value_base.specs.Places.{nth, fault_at}
@@ -37,8 +37,8 @@ use Rattle.txs_tree_meaning.specs.Known.{Known, is_pure, known_of, known}
 use Rattle.txs_tree_meaning.specs.Meaning.{Completion, Completes, Recurs, Faults, Retries, Waits, OutOfTurns, Invalid, bind, again, closed, give, result_of, Applies, turns, apply, eval, eval_all, eval_let, eval_do, call_at, allowed}
 use Rattle.txs_tree_meaning.specs.Pure.{no_effects, nowhere}
 use Rattle.txs_tree_meaning.specs.Sound.{MayStand, MayCall, in_thread, in_dosync, SoundTree, SoundAll, SoundLet, SoundDo, SoundCallee, SoundFunctions, SoundSource, SoundSent}
-use Rattle.txs_tree_meaning.specs.Thread.{TxRun, ThreadState, with_tx, holding, uneaten, eats, meant, reads, resets, faulted, faultless, swaps, sends, sends_or_holds, over, Transacting, run_of, ends_tx, is_retry, is_held, again as tried, eats_tx, thread_look, thread_put, thread_update, on_events, around, thread_meaning, from_events, applies_in, action_meaning, accepts}
-use Rattle.txs_tree_meaning.specs.Transaction.{TxState, own, current, noted, done_as, tx_look, tx_put, tx_update, in_transaction, tx_start, tx_meaning, valued, merged, judged, validated, if_accepted, commute_writes, final_writes}
+use Rattle.txs_tree_meaning.specs.Thread.{TxRun, ThreadState, with_tx, holding, uneaten, eats, meant, reads, resets, faulted, faultless, swaps, sends, sends_or_holds, over, Transacting, run_of, ends_tx, is_retry, is_held, missing, again as tried, eats_tx, thread_look, thread_put, thread_update, on_events, around, thread_meaning, from_events, applies_in, action_meaning, accepts}
+use Rattle.txs_tree_meaning.specs.Transaction.{TxState, own, current, noted, lacks, looked, taken_lacking, done_as, tx_look_lacking, tx_put, tx_update_lacking, in_transaction_lacking, tx_start, tx_meaning, tx_meaning_lacking, valued, merged, judged, validated, if_accepted, commute_writes, final_writes}
 use Rattle.txs_tree_meaning.specs.Tree.{Mark, Tree, Const, Local, If, Do, Let, Loop, Recur, Core, Call, VectorOf, Println, Dosync, Look, Put, Update, Send, Trees, none, more, count, PlainFunction, ThreadSource}
 use Rattle.txs_tree_meaning.proofs.Callable.{nth-take, function_at}
 use Rattle.txs_theorem_threads.proofs.Accepted.{OfValidator, validator_such, cells_such, validators_pure, validated_related, if_accepted_related, validated_carried, made_carried, final_carried}
@@ -467,6 +467,9 @@ module _ (functions : List PlainFunction) (sound : SoundFunctions [] functions) 
     out_of_turns_of = λ s t r. tt;
     invalid_both = refl;
     invalid_loose = λ h b. absurd (false≢true h);
+    ahead = λ t. ⊥;
+    ahead_stops = λ t h s. absurd h;
+    ahead_invalid = λ t h. absurd h;
   }
 
   tx_step : (x y : Completion TxState Value) → Related suit x y → TxStep x y
@@ -510,41 +513,56 @@ module _ (functions : List PlainFunction) (sound : SoundFunctions [] functions) 
   takes_cell (Ok c) span f g t each = each c
   takes_cell (Err e) span f g t each = (refl, refl)
 
-  looks_suit : (R : World) (form : LookForm) (c : CellId) (t : TxState) → Suited t → Related suit (tx_look R form c t) (tx_look R form c t)
-  looks_suit R Deref c t h = (refl, alike_self _ (noted_suits c (own t.done c.number) t h))
-  looks_suit R Ensure c t h = (refl, alike_self _ (noted_suits c (own t.done c.number) t h))
+  -- a look, where the value may not be there
+  looked_suits : (lack : Option ℕ) (R : World) (c : CellId) (t : TxState) → Suited t → Related suit (looked lack R c t) (looked lack R c t)
+  looked_suits lack R c t h = test (lacks lack (own t.done c.number) c.number)
+    where
+      test : (b : Bool) → Related suit (if b then Waits t else Completes (current R t.done c) t) (if b then Waits t else Completes (current R t.done c) t)
+      test true = refl
+      test false = (refl, alike_self t h)
+
+  taken_suits : (lack : Option ℕ) (R : World) (c : CellId) (t : TxState) → Suited t → Related suit (taken_lacking lack R c t) (taken_lacking lack R c t)
+  taken_suits lack R c t h =
+      let noting : Value → TxState → Completion TxState Value = λ v t1. Completes v (noted c (own t1.done c.number) t1) in
+      bind_related TxState TxState suit (looked lack R c t) (looked lack R c t) noting noting (looked_suits lack R c t h) (λ v s1 t1 r1. from_pair (noting v) (noting v) (λ u k. (refl, alike_self _ (noted_suits c (own u.done c.number) u k))) s1 t1 r1)
+
+  looks_suit : (lack : Option ℕ) (R : World) (form : LookForm) (c : CellId) (t : TxState) → Suited t → Related suit (tx_look_lacking lack R form c t) (tx_look_lacking lack R form c t)
+  looks_suit lack R Deref c t h = taken_suits lack R c t h
+  looks_suit lack R Ensure c t h =
+      let ensuring : Value → TxState → Completion TxState Value = λ v t1. Completes v (record t1 { done = ensure_ref c t1.done }) in
+      bind_related TxState TxState suit (taken_lacking lack R c t) (taken_lacking lack R c t) ensuring ensuring (taken_suits lack R c t h) (λ v s1 t1 r1. from_pair (ensuring v) (ensuring v) (λ u k. (refl, alike_self _ k)) s1 t1 r1)
 
   puts_suit : (form : PutForm) (span : Span) (c : CellId) (v : Value) (t : TxState) → Suited t → Related suit (tx_put form span c v t) (tx_put form span c v t)
   puts_suit RefSet span c v t h = set_suits c v span v t h
   puts_suit Reset span c v t h = refl
 
-  updates_suit : (R : World) (form : UpdateForm) (m : Mark) (c : CellId) (callee : Callee) → IsPure (known functions) callee → (vs : List Value) (f g : Applies TxState) → Applied TxState TxState suit f g → (t : TxState) → Suited t
-      → Related suit (tx_update R form m c callee vs f t) (tx_update R form m c callee vs g t)
-  updates_suit R Alter m c callee pure vs f g a t h =
+  updates_suit : (lack : Option ℕ) (R : World) (form : UpdateForm) (m : Mark) (c : CellId) (callee : Callee) → IsPure (known functions) callee → (vs : List Value) (f g : Applies TxState) → Applied TxState TxState suit f g → (t : TxState) → Suited t
+      → Related suit (tx_update_lacking lack R form m c callee vs f t) (tx_update_lacking lack R form m c callee vs g t)
+  updates_suit lack R Alter m c callee pure vs f g a t h =
       let go : Value → TxState → Completion TxState Value = λ w t2. done_as (set_ref c w t2.done) m.span w t2 in
-      let read : TxState = noted c (own t.done c.number) t in
-      bind_related TxState TxState suit (f callee (current R t.done c ∷ vs) read) (g callee (current R t.done c ∷ vs) read) go go (a callee (current R t.done c ∷ vs) read read (alike_self read (noted_suits c (own t.done c.number) t h)))
-      (λ w s2 t2 r2. from_pair (go w) (go w) (λ u k. set_suits c w m.span w u k) s2 t2 r2)
-  updates_suit R Commute m c callee pure vs f g a t h =
+      bind_related TxState TxState suit (taken_lacking lack R c t) (taken_lacking lack R c t) (λ v t1. bind (f callee (v ∷ vs) t1) go) (λ v t1. bind (g callee (v ∷ vs) t1) go) (taken_suits lack R c t h)
+      (λ v s1 t1 r1. bind_related TxState TxState suit (f callee (v ∷ vs) s1) (g callee (v ∷ vs) t1) go go (a callee (v ∷ vs) s1 t1 r1) (λ w s2 t2 r2. from_pair (go w) (go w) (λ u k. set_suits c w m.span w u k) s2 t2 r2))
+  updates_suit lack R Commute m c callee pure vs f g a t h =
       let now : Value → TxState → Completion TxState Value = λ w t1. Completes w (record t1 { done = commute_ref c callee vs w t1.done; used = t1.used || m.wanted }) in
-      bind_related TxState TxState suit (f callee (current R t.done c ∷ vs) t) (g callee (current R t.done c ∷ vs) t) now now (a callee (current R t.done c ∷ vs) t t (alike_self t h))
-      (λ w s1 t1 r1. from_pair (now w) (now w) (λ u k. (refl, alike_self _ (commutes_both (IsPure (known functions)) u.done.commutes (record { cell = c; callee = callee; args = vs } ∷ []) k (pure, tt)))) s1 t1 r1)
-  updates_suit R Swap m c callee pure vs f g a t h = refl
+      bind_related TxState TxState suit (looked lack R c t) (looked lack R c t) (λ v t1. bind (f callee (v ∷ vs) t1) now) (λ v t1. bind (g callee (v ∷ vs) t1) now) (looked_suits lack R c t h)
+      (λ v s1 t1 r1. bind_related TxState TxState suit (f callee (v ∷ vs) s1) (g callee (v ∷ vs) t1) now now (a callee (v ∷ vs) s1 t1 r1)
+      (λ w s2 t2 r2. from_pair (now w) (now w) (λ u k. (refl, alike_self _ (commutes_both (IsPure (known functions)) u.done.commutes (record { cell = c; callee = callee; args = vs } ∷ []) k (pure, tt)))) s2 t2 r2))
+  updates_suit lack R Swap m c callee pure vs f g a t h = refl
 
   module _ (nl nr : ℕ) (le : nl ≤ nr) where
-    tx_alike : (R : World) (d : ℕ) → Alike TxState TxState suit (in_transaction R) (in_transaction R) (call_at (λ e. in_transaction R) nl functions d) (call_at (λ e. in_transaction R) nr functions d) nl nr (λ i. Unit {0}) (pure_callees (known functions))
-    tx_alike R d = record {
+    tx_alike : (lack : Option ℕ) (R : World) (d : ℕ) → Alike TxState TxState suit (in_transaction_lacking lack R) (in_transaction_lacking lack R) (call_at (λ e. in_transaction_lacking lack R) nl functions d) (call_at (λ e. in_transaction_lacking lack R) nr functions d) nl nr (λ i. Unit {0}) (pure_callees (known functions))
+    tx_alike lack R d = record {
       print = λ inside vs s t m r. refl;
-      look = λ form inside m c s t may i r. from_pair (λ u. (in_transaction R).look form inside m c u) (λ u. (in_transaction R).look form inside m c u)
-          (λ u h. takes_cell (cell_of (rule (form_of.Look form)) true c) m.span (tx_look R form) (tx_look R form) u (λ x. looks_suit R form x u h)) s t r;
-      put = λ form inside m c w s t may i a r. from_pair (λ u. (in_transaction R).put form inside m c w (apply (call_at (λ e. in_transaction R) nl functions d inside) m.span) u) (λ u. (in_transaction R).put form inside m c w (apply (call_at (λ e. in_transaction R) nr functions d inside) m.span) u)
+      look = λ form inside m c s t may i r. from_pair (λ u. (in_transaction_lacking lack R).look form inside m c u) (λ u. (in_transaction_lacking lack R).look form inside m c u)
+          (λ u h. takes_cell (cell_of (rule (form_of.Look form)) true c) m.span (tx_look_lacking lack R form) (tx_look_lacking lack R form) u (λ x. looks_suit lack R form x u h)) s t r;
+      put = λ form inside m c w s t may i a r. from_pair (λ u. (in_transaction_lacking lack R).put form inside m c w (apply (call_at (λ e. in_transaction_lacking lack R) nl functions d inside) m.span) u) (λ u. (in_transaction_lacking lack R).put form inside m c w (apply (call_at (λ e. in_transaction_lacking lack R) nr functions d inside) m.span) u)
           (λ u h. takes_cell (cell_of (rule (form_of.Put form)) true c) m.span (λ x t1. tx_put form m.span x w t1) (λ x t1. tx_put form m.span x w t1) u (λ x. puts_suit form m.span x w u h)) s t r;
       update = λ form inside m c callee vs s t may i pure a r.
-          let f : Applies TxState = apply (call_at (λ e. in_transaction R) nl functions d inside) m.span in
-          let g : Applies TxState = apply (call_at (λ e. in_transaction R) nr functions d inside) m.span in
-          from_pair (λ u. (in_transaction R).update form inside m c callee vs f u) (λ u. (in_transaction R).update form inside m c callee vs g u)
-          (λ u h. takes_cell (cell_of (rule (form_of.Update form)) true c) m.span (λ x t1. tx_update R form m x callee vs f t1) (λ x t1. tx_update R form m x callee vs g t1) u (λ x. updates_suit R form m x callee pure vs f g (a (λ j. tt)) u h)) s t r;
-      send = λ inside m c callee vs s t i r. from_pair (λ u. (in_transaction R).send inside m c callee vs u) (λ u. (in_transaction R).send inside m c callee vs u)
+          let f : Applies TxState = apply (call_at (λ e. in_transaction_lacking lack R) nl functions d inside) m.span in
+          let g : Applies TxState = apply (call_at (λ e. in_transaction_lacking lack R) nr functions d inside) m.span in
+          from_pair (λ u. (in_transaction_lacking lack R).update form inside m c callee vs f u) (λ u. (in_transaction_lacking lack R).update form inside m c callee vs g u)
+          (λ u h. takes_cell (cell_of (rule (form_of.Update form)) true c) m.span (λ x t1. tx_update_lacking lack R form m x callee vs f t1) (λ x t1. tx_update_lacking lack R form m x callee vs g t1) u (λ x. updates_suit lack R form m x callee pure vs f g (a (λ j. tt)) u h)) s t r;
+      send = λ inside m c callee vs s t i r. from_pair (λ u. (in_transaction_lacking lack R).send inside m c callee vs u) (λ u. (in_transaction_lacking lack R).send inside m c callee vs u)
           (λ u h. takes_cell (cell_of (rule form_of.Send) true c) m.span _ _ u (λ x. (refl, alike_self _ h))) s t r;
       dosync = λ inside m e env s t i p b a r. b tt s t r;
     }
@@ -553,13 +571,13 @@ module _ (functions : List PlainFunction) (sound : SoundFunctions [] functions) 
     enough_tx = inr (le, λ s t r o. tt)
 
     -- a transaction's body with more turns
-    tx_related : (d : ℕ) (e : Tree) (env : List Value) → Keeps (pure_callees (known functions)) true e → (R : World) → Related suit (tx_meaning nl functions d e env R) (tx_meaning nr functions d e env R)
-    tx_related d e env kept R =
-        let cf = call_at (λ x. in_transaction R) nl functions d in
-        let cg = call_at (λ x. in_transaction R) nr functions d in
-        closed_related TxState TxState suit (eval (in_transaction R) cf nl true e env tx_start) (eval (in_transaction R) cg nr true e env tx_start)
-        (eval_related TxState TxState suit (in_transaction R) (in_transaction R) cf cg nl nr (λ i. Unit {0}) (pure_callees (known functions)) enough_tx (tx_alike R d)
-        (calls_related TxState TxState suit (λ x. in_transaction R) (λ x. in_transaction R) nl nr functions (λ i. Unit {0}) (pure_callees (known functions)) enough_tx (tx_alike R) (function_callees functions sound) d)
+    tx_related : (d : ℕ) (e : Tree) (env : List Value) → Keeps (pure_callees (known functions)) true e → (lack : Option ℕ) (R : World) → Related suit (tx_meaning_lacking nl functions d e env lack R) (tx_meaning_lacking nr functions d e env lack R)
+    tx_related d e env kept lack R =
+        let cf = call_at (λ x. in_transaction_lacking lack R) nl functions d in
+        let cg = call_at (λ x. in_transaction_lacking lack R) nr functions d in
+        closed_related TxState TxState suit (eval (in_transaction_lacking lack R) cf nl true e env tx_start) (eval (in_transaction_lacking lack R) cg nr true e env tx_start)
+        (eval_related TxState TxState suit (in_transaction_lacking lack R) (in_transaction_lacking lack R) cf cg nl nr (λ i. Unit {0}) (pure_callees (known functions)) enough_tx (tx_alike lack R d)
+        (calls_related TxState TxState suit (λ x. in_transaction_lacking lack R) (λ x. in_transaction_lacking lack R) nl nr functions (λ i. Unit {0}) (pure_callees (known functions)) enough_tx (tx_alike lack R) (function_callees functions sound) d)
         e true env tx_start tx_start kept tt (alike_self tx_start tt))
 
     -- ---- pure code
@@ -587,7 +605,7 @@ module _ (functions : List PlainFunction) (sound : SoundFunctions [] functions) 
   suited : (n d : ℕ) (e : Tree) (env : List Value) → Keeps (pure_callees (known functions)) true e → (R : World) (v : Value) (z : TxState) → tx_meaning n functions d e env R ≡ Completes v z → Suited z
   suited n d e env kept R v z h =
       let le : n ≤ n = omega arith in
-      let both : Related suit (Completes v z) (Completes v z) = subst (λ y. Related suit y y) h (tx_related n n le d e env kept R) in
+      let both : Related suit (Completes v z) (Completes v z) = subst (λ y. Related suit y y) h (tx_related n n le d e env kept None R) in
       (both.1).suits
 
 -- a transaction's meaning carried over to a thread's state
@@ -633,6 +651,27 @@ over_goes t Invalid y h F G each some = ap (λ c. over t c G (λ g. Invalid)) h
 
 over_leads : (t : ThreadState) (x y : Completion TxState Value) → TxStep x y → (F G : Value → TxState → Completion ThreadState Value) → ((v : Value) (z : TxState) → Leads None Any t (F v z) (G v z)) → (t.todo ≡ [] → ⊥) → Leads None Any t (over t x F (λ g. Invalid)) (over t y G (λ g. Invalid))
 over_leads t x y h F G each some = (over_from t y G (λ v z. (each v z).0) some, over_goes t x y h F G each some)
+
+missing_from : (t : ThreadState) (z : Completion TxState Value) (y : Completion ThreadState Value) → From None Any t y → (t.todo ≡ [] → ⊥) → From None Any t (missing t z y)
+missing_from t (Completes v z) y h some = some
+missing_from t (Recurs vs z) y h some = some
+missing_from t (Faults g z) y h some = some
+missing_from t (Retries z) y h some = some
+missing_from t (Waits z) y h some = h
+missing_from t (OutOfTurns z) y h some = same t
+missing_from t Invalid y h some = some
+
+missing_goes : (t : ThreadState) (z w : Completion TxState Value) → TxStep z w → (x y : Completion ThreadState Value) → Leads None Any t x y → (t.todo ≡ [] → ⊥) → Step None Any (missing t z x) (missing t w y)
+missing_goes t (Completes v z) w e x y h some = ap (λ u. missing t u y) e
+missing_goes t (Recurs vs z) w e x y h some = ap (λ u. missing t u y) e
+missing_goes t (Faults g z) w e x y h some = ap (λ u. missing t u y) e
+missing_goes t (Retries z) w e x y h some = ap (λ u. missing t u y) e
+missing_goes t (Waits z) w e x y h some = subst (λ u. Step None Any x (missing t u y)) (sym e) h.1
+missing_goes t (OutOfTurns z) w e x y h some = missing_from t w y h.0 some
+missing_goes t Invalid w e x y h some = ap (λ u. missing t u y) e
+
+missing_leads : (t : ThreadState) (z w : Completion TxState Value) → TxStep z w → (x y : Completion ThreadState Value) → Leads None Any t x y → (t.todo ≡ [] → ⊥) → Leads None Any t (missing t z x) (missing t w y)
+missing_leads t z w e x y h some = (missing_from t w y h.0 some, missing_goes t z w e x y h some)
 
 allowed_leads : (b : Bool) (t : ThreadState) (x y : Completion ThreadState Value) → Leads None Any t x y → (t.todo ≡ [] → ⊥) → Leads None Any t (allowed b x) (allowed b y)
 allowed_leads true t x y h some = h
@@ -731,7 +770,7 @@ module _ (p : ThreadSource) (sound : SoundSource p) (nl nr : ℕ) (le : nl ≤ n
 
   module _ (b : ℕ) (m : Mark) (e : Tree) (env : List Value) (kept : Keeps (pure_callees ks) true e) where
     abbrev tx : ℕ → Transacting
-    tx n = record { mark = m; body = e; locals = env; on = tx_meaning n p.functions b e env; validators = validators_of p.cells }
+    tx n = record { mark = m; body = e; locals = env; on = tx_meaning n p.functions b e env; lacking = λ j. tx_meaning_lacking n p.functions b e env (Some j); validators = validators_of p.cells }
 
     abbrev f : ℕ → Applies ThreadState
     f n = apply (call n b true) m.span
@@ -760,7 +799,10 @@ module _ (p : ThreadSource) (sound : SoundSource p) (nl nr : ℕ) (le : nl ≤ n
         (pure_at t (λ z. F (carried t z)) (writes_in (q nl) w C tt) (writes_in (q nr) w C tt) (finals_more w C) short each)
 
     on_step : (R : World) → TxStep ((tx nl).on R) ((tx nr).on R)
-    on_step R = tx_step p.functions sound.functions ((tx nl).on R) ((tx nr).on R) (tx_related p.functions sound.functions nl nr le b e env kept R)
+    on_step R = tx_step p.functions sound.functions ((tx nl).on R) ((tx nr).on R) (tx_related p.functions sound.functions nl nr le b e env kept None R)
+
+    lack_step : (j : ℕ) (R : World) → TxStep ((tx nl).lacking j R) ((tx nr).lacking j R)
+    lack_step j R = tx_step p.functions sound.functions ((tx nl).lacking j R) ((tx nr).lacking j R) (tx_related p.functions sound.functions nl nr le b e env kept (Some j) R)
 
     pub suits_of : (R : World) (v : Value) (z : TxState) → (tx nr).on R ≡ Completes v z → AllCommutes (IsPure ks) z.done.commutes
     suits_of R v z h = suited p.functions sound.functions nr b e env kept R v z h
@@ -781,7 +823,7 @@ module _ (p : ThreadSource) (sound : SoundSource p) (nl nr : ℕ) (le : nl ≤ n
 
     -- a try that had to run again, and what follows, where an event is to come
     tried_leads : (k : EventKind) (R : World) (t : ThreadState) (x y : Completion ThreadState Value) → Leads None Any t x y → (t.todo ≡ [] → ⊥) → Leads None Any t (tried (tx nl) k R t x) (tried (tx nr) k R t y)
-    tried_leads (event.Retry since c cause.Outdated) R t x y h some = h
+    tried_leads (event.Retry since c cause.Outdated) R t x y h some = missing_leads t ((tx nl).lacking c.number R) ((tx nr).lacking c.number R) (lack_step c.number R) x y h some
     tried_leads (event.Retry since c cause.Held) R t x y h some = over_leads t ((tx nl).on R) ((tx nr).on R) (on_step R) _ _ (λ v z. allowed_leads (is_held z.done c.number) t x y h some) some
     tried_leads (event.Retry since c (cause.Commuted at)) R t x y h some = over_leads t ((tx nl).on R) ((tx nr).on R) (on_step R) _ _ (λ v z. allowed_leads (has_number (commuted z.done) c.number) t x y h some) some
     tried_leads _ R t x y h some = (some, refl)

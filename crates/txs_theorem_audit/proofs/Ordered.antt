@@ -30,13 +30,14 @@ use Rattle.txs_value_data.specs.declared.value.CellId.{CellId}
 use Rattle.txs_world.specs.Store.{next_action}
 use Rattle.txs_theorem_threads.specs.FollowsAgent.{SoundAction}
 use Rattle.txs_theorem_threads.specs.RepliesFit.{HasEatenAll}
-use Rattle.txs_theorem_runs.specs.Agents.{ActionDid, EventMeans, OfEvent, ActsInTurn, meaning_after}
+use Rattle.txs_theorem_runs.specs.Agents.{ActionDid, EventMeans, OfEvent, ActsUpTo, ActsInTurn, meaning_after}
+use Rattle.txs_theorem_runs.specs.Full.{EndsFull}
 use Rattle.txs_theorem_serial.proofs.Turned.{runs_did, handed_eaten, acts_turned}
 use Rattle.txs_theorem_audit.specs.Audited.{PlainActorReport, PlainReport, PlainTerms, books_of, Agrees, Finding, Fine, and_then, check}
 use Rattle.txs_theorem_audit.specs.Explained.{meaning_of, ThreadExplained, AgentExplained}
 use Rattle.txs_theorem_audit.specs.Laws.{OwnRuns, AllCovered, SerialIsOneByOne}
-use Rattle.txs_theorem_audit.specs.Verdict.{atoms_from, fits_sizes, traces_found, store_found, atoms_found, ends_found, order_found, threads_found, agents_found, is_end, is_commit, covered_if, covered_all, are_serial, found, verdict, action_after, agents_serial, action_covered, kind_covered, event_covered, acts_covered}
-use Rattle.txs_theorem_audit.proofs.Agreeing.{traces_hold, store_legal, thread_parts, each_fine, sized_of, trace_named, EachTurns, acts_mean, agents_fine}
+use Rattle.txs_theorem_audit.specs.Verdict.{atoms_from, fits_sizes, traces_found, store_found, atoms_found, ends_found, order_found, threads_found, agents_found, is_end, is_full_stop, is_commit, covered_if, covered_all, are_serial, found, verdict, action_after, agents_serial, action_covered, kind_covered, event_covered, acts_covered}
+use Rattle.txs_theorem_audit.proofs.Agreeing.{traces_hold, store_legal, thread_parts, each_fine, sized_of, trace_named, EachTurns, acts_mean, acts_told, full_told, agents_fine}
 use Rattle.txs_theorem_audit.proofs.Findings.{answer_fine, and_fine, check_fine, not_there}
 use Rattle.txs_theorem_audit.proofs.Listing.{there_is, within, in_front, behind}
 
@@ -233,10 +234,17 @@ module _ (p : PlainProgram) (w : PlainTerms) (r : PlainReport) (n : ℕ) (sound 
       let traced : TraceHolds (books_of r) (length p.threads + i) ran.trace = subst (λ b. TraceHolds (books_of r) b ran.trace) z (traces_hold r 0 (r.threads ++ r.agents) both_traced.0 (length r.threads + i) ran entry) in
       let f = agents_fine p r n (length p.threads) gs r.agents both_last.1 i g ran there here in
       let y = acts_mean p r n f.0 sound marks g 0 ran.trace [] [] ran (trace_named (books_of r) (length p.threads + i) ran.trace traced) tt f.1 in
-      let turned = acts_turned p.cells p.functions (books_of r) g sound.functions sound.cells marks.functions ran.trace [] y.1 y.3 y.4 in (
-        record { unended = y.0; did = y.3; acts = subst (λ l. ActsInTurn p.cells p.functions (books_of r) g ran.trace [] l y.3) (sym y.2) y.4 },
+      let full = is_full_stop ran.outcome in
+      let told = acts_told p r n f.0 sound marks g full ran.trace [] y.1 y.3 y.4 in
+      let turned = acts_turned p.cells p.functions (books_of r) g sound.functions sound.cells marks.functions ran.trace [] y.1 y.3 told in (
+        record {
+          unended = y.0;
+          did = y.3;
+          acts = subst (λ l. ActsInTurn p.cells p.functions (books_of r) g ran.trace [] l y.3) (sym y.2) told;
+          full = λ e. subst (λ l. ActsUpTo p.cells p.functions (books_of r) g (EndsFull p.cells p.functions (books_of r) g) ran.trace [] l y.3) (sym y.2) (full_told p r n f.0 sound marks g full (ap is_full_stop e) ran.trace [] y.1 y.3 y.4);
+        },
         record { traced = traced; parted = turned.0; did = turned.1 },
-        acts_said p r n sound marks g ran.trace [] y.1 y.3 y.4 y.5 (covered_agents p r n gs r.agents all_serial.1 i g ran there here),
+        acts_said p r n sound marks g ran.trace [] y.1 y.3 told y.5 (covered_agents p r n gs r.agents all_serial.1 i g ran there here),
       )
 
   -- the same by number, where there is such an agent
@@ -335,7 +343,7 @@ module _ (p : PlainProgram) (w : PlainTerms) (r : PlainReport) (n : ℕ) (sound 
   own_thread a t ran there here =
       let f = each_fine p r n 0 p.threads r.threads both_last.0 a t ran there here in
       let parts = thread_parts p r sound marks n f.0 a t ran there f.1 in (
-        record { turns = n; ends = parts.ends; least = parts.least; calm = parts.calm },
+        record { turns = n; ends = parts.ends; least = parts.least; calm = parts.calm; full = λ e. (n, parts.full e) },
         below_so a (within p.threads a t there) ∙ ap (λ o. runs_at p r n o (nth r.threads a)) there ∙ ap (λ o. runs_at p r n (Some t) o) here,
       )
 

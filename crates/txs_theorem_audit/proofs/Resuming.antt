@@ -34,8 +34,8 @@ use Rattle.txs_tree_meaning.specs.Known.{Known, is_pure, known_of, known}
 use Rattle.txs_tree_meaning.specs.Meaning.{Completion, Completes, Recurs, Faults, Retries, Waits, OutOfTurns, Invalid, bind, again, closed, give, result_of, Applies, turns, apply, eval, eval_all, eval_let, eval_do, call_at, allowed}
 use Rattle.txs_tree_meaning.specs.Pure.{nowhere}
 use Rattle.txs_tree_meaning.specs.Sound.{MayStand, MayCall, in_thread, in_dosync, SoundTree, SoundAll, SoundLet, SoundDo, SoundCallee, SoundSource, SoundSent}
-use Rattle.txs_tree_meaning.specs.Thread.{ThreadState, with_tx, holding, uneaten, eats, meant, reads, resets, faulted, faultless, swaps, sends, sends_or_holds, over, Transacting, run_of, ends_tx, is_retry, is_held, again as tried, eats_tx, thread_look, thread_put, thread_update, on_events, around, thread_meaning, from_events, applies_in, action_meaning, accepts}
-use Rattle.txs_tree_meaning.specs.Transaction.{TxState, tx_meaning, validated, final_writes}
+use Rattle.txs_tree_meaning.specs.Thread.{ThreadState, with_tx, holding, uneaten, eats, meant, reads, resets, faulted, faultless, swaps, sends, sends_or_holds, over, Transacting, run_of, ends_tx, is_retry, is_held, missing, again as tried, eats_tx, thread_look, thread_put, thread_update, on_events, around, thread_meaning, from_events, applies_in, action_meaning, accepts}
+use Rattle.txs_tree_meaning.specs.Transaction.{TxState, tx_meaning, tx_meaning_lacking, validated, final_writes}
 use Rattle.txs_tree_meaning.specs.Tree.{Mark, Tree, Const, Local, If, Do, Let, Loop, Recur, Core, Call, VectorOf, Println, Dosync, Look, Put, Update, Send, Trees, none, more, count, ThreadSource}
 use Rattle.txs_tree_meaning.proofs.Callable.{nth-take, function_at}
 use Rattle.txs_theorem_threads.proofs.Callees.{Keeps, IsPure, pure_callees, sound_pure}
@@ -269,8 +269,17 @@ module _ (fs : List SeenEvent) where
   allowed_resumes true x y h = h
   allowed_resumes false x y h = tt
 
+  missing_resumes : (t : ThreadState) (z : Completion TxState Value) (x y : Completion ThreadState Value) → Resumes None Any x y → Resumes None Any (missing t z x) (missing (long t) z y)
+  missing_resumes t (Completes v u) x y h = tt
+  missing_resumes t (Recurs vs u) x y h = tt
+  missing_resumes t (Faults g u) x y h = tt
+  missing_resumes t (Retries u) x y h = tt
+  missing_resumes t (Waits u) x y h = h
+  missing_resumes t (OutOfTurns u) x y h = tt
+  missing_resumes t Invalid x y h = tt
+
   tried_resumes : (d : Transacting) (k : EventKind) (R : World) (t : ThreadState) (x y : Completion ThreadState Value) → Resumes None Any x y → Resumes None Any (tried d k R t x) (tried d k R (long t) y)
-  tried_resumes d (event.Retry since c cause.Outdated) R t x y h = h
+  tried_resumes d (event.Retry since c cause.Outdated) R t x y h = missing_resumes t (d.lacking c.number R) x y h
   tried_resumes d (event.Retry since c cause.Held) R t x y h = over_resumes t (d.on R) _ _ (λ v z. allowed_resumes (is_held z.done c.number) x y h)
   tried_resumes d (event.Retry since c (cause.Commuted at)) R t x y h = over_resumes t (d.on R) _ _ (λ v z. allowed_resumes (has_number (commuted z.done) c.number) x y h)
   tried_resumes d _ R t x y h = tt
@@ -291,7 +300,7 @@ module _ (fs : List SeenEvent) where
 
     module _ (b : ℕ) (m : Mark) (e : Tree) (env : List Value) (kept : Keeps (pure_callees ks) true e) where
       abbrev tx : Transacting
-      tx = record { mark = m; body = e; locals = env; on = tx_meaning n p.functions b e env; validators = validators_of p.cells }
+      tx = record { mark = m; body = e; locals = env; on = tx_meaning n p.functions b e env; lacking = λ j. tx_meaning_lacking n p.functions b e env (Some j); validators = validators_of p.cells }
 
       abbrev f : Applies ThreadState
       f = apply (call b true) m.span

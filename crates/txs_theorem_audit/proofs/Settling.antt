@@ -14,8 +14,8 @@ use Rattle.txs_theorem_threads.specs.EndsSo.{NeedsTurns}
 use Rattle.txs_theorem_threads.specs.Noted.{txs_of}
 use Rattle.txs_theorem_audit.specs.Verdict.{printed_by, but_last, noted_in, least_of}
 use Rattle.txs_theorem_audit.proofs.Beginning.{longer, k}
-use Rattle.txs_theorem_audit.proofs.Differing.{last_of}
 use Rattle.txs_theorem_audit.proofs.Findings.{true_false}
+use Rattle.txs_theorem_audit.proofs.Least.{last_of}
 use Rattle.txs_theorem_audit.proofs.Onward.{Onward, From, Step}
 use Rattle.txs_theorem_audit.proofs.Resuming.{Resumes, Rests}
 use Rattle.txs_theorem_audit.proofs.Waiting.{waits_front}

@@ -32,11 +32,12 @@ use Rattle.txs_theorem_runs.specs.Told.{Place, seen_of}
 use Rattle.txs_theorem_audit.specs.Audited.{PlainActorReport, PlainReport, books_of, Finding, Fine, Off, Short, and_then, check}
 use Rattle.txs_theorem_audit.specs.Explained.{events_of, meaning_of}
 use Rattle.txs_theorem_audit.specs.Stays.{IsDecided, ThreadStays, ActionStays, RestStays}
-use Rattle.txs_theorem_audit.specs.Verdict.{begins, same_numbers, is_calm, is_end, with_run, calm_at, calm_found, is_stopped, is_done, has_faulted, least_printed, end_found, noted_by, thread_found, printed_by, noted_in, least_of, part_printed, act_ends, action_after, is_sent_call, action_prints, action_covered, still_ends, still_found, rest_found, covered_all}
+use Rattle.txs_theorem_audit.specs.Verdict.{begins, same_numbers, is_calm, is_end, with_run, calm_at, calm_found, is_stopped, is_done, has_faulted, least_printed, end_found, is_full_stop, full_found, thread_ends, noted_by, thread_found, printed_by, noted_in, least_of, part_printed, act_ends, action_after, is_sent_call, action_prints, action_covered, still_ends, full_ends, rest_ends, still_found, rest_found, covered_all}
 use Rattle.txs_theorem_audit.proofs.Agreeing.{sound_thread, sent_of}
 use Rattle.txs_theorem_audit.proofs.Beginning.{cut, action_cut}
 use Rattle.txs_theorem_audit.proofs.Differing.{begins_true, left_none, source, source_sound}
 use Rattle.txs_theorem_audit.proofs.Findings.{and_fine, off_fine, short_fine, and_true, begins_sound, empty}
+use Rattle.txs_theorem_audit.proofs.Least.{least_is}
 use Rattle.txs_theorem_audit.proofs.Onward.{Onward, From, Step, none_later, thread_leads, action_leads}
 use Rattle.txs_theorem_audit.proofs.Resuming.{thread_resumes, action_resumes}
 use Rattle.txs_theorem_audit.proofs.Settling.{Turned, long_or_short, same_whole, same_right, same_noted, same_least, short_least, short_noted, short_same}
@@ -156,6 +157,16 @@ module _ (s : ThreadSource) (n m a : ℕ) (es : List SeenEvent) (ran : PlainActo
     later_end (OutOfTurns w) h = ap (λ b. if b then Fine else Short a (length es - length w.todo)) (and_true (length w.todo == 0) _ (left_none w.todo (none_later u w h left)) (part w h))
     later_end Invalid h = absurd (h left)
 
+-- a thread that was stopped for a full book
+full_same : (books : ℕ → List Event) (s : ThreadSource) (n m a : ℕ) (es : List SeenEvent) (out : List ℕ) → eats_right s m [] es ≡ eats_right s n [] es → (c : Completion ThreadState Value) → full_found books s m a es out c ≡ full_found books s n a es out c
+full_same books s n m a es out right (Completes v t) = refl
+full_same books s n m a es out right (Recurs vs t) = ap (λ i. Off a i) right
+full_same books s n m a es out right (Faults f t) = refl
+full_same books s n m a es out right (Retries t) = ap (λ i. Off a i) right
+full_same books s n m a es out right (Waits t) = refl
+full_same books s n m a es out right (OutOfTurns t) = refl
+full_same books s n m a es out right Invalid = ap (λ i. Off a i) right
+
 -- ---- what is found
 
 -- the transactions of a meaning, and then its end, with fewer turns and with more
@@ -207,10 +218,6 @@ noted_if : (b : Bool) (c d : Completion ThreadState Value) → (if b then txs_of
 noted_if true c d = refl
 noted_if false c d = refl
 
-least_is : (s : ThreadSource) (n : ℕ) (es : List SeenEvent) → least_printed s n es ≡ least_of (thread_meaning s n) es
-least_is s n [] = refl
-least_is s n (e ∷ es) = refl
-
 module _ (p : PlainProgram) (r : PlainReport) (sound : Sound p) (n m : ℕ) (le : n ≤ m) (a i : ℕ) (t : PlainThread) (there : nth p.threads i ≡ Some t) (ran : PlainActorReport) where
   abbrev s : ThreadSource
   s = source_of p t
@@ -239,18 +246,13 @@ module _ (p : PlainProgram) (r : PlainReport) (sound : Sound p) (n m : ℕ) (le 
   on xs = calm_found (cells_of p.cells) (books_of r) a 0 ran.trace xs
 
   abbrev ended : ℕ → Completion ThreadState Value → Finding
-  ended j c = end_found s j a es ran c
+  ended j c = thread_ends (books_of r) s j a es ran c
 
   noted_is : (j : ℕ) → noted_by s j es (thread_meaning s j es) ≡ noted_in (thread_meaning s j) es
   noted_is j = noted_if (is_wrong (thread_meaning s j es)) (right_meaning s j es) (thread_meaning s j es)
 
-  same_ended : (NeedsTurns (x es) → ⊥) → ended m (x es) ≡ ended n (x es)
-  same_ended enough =
-      let least : least_printed s m es ≡ least_printed s n es = least_is s m es ∙ same_least x y turned es enough ∙ sym (least_is s n es) in
-      end_same s n m a es ran (same_right x y turned es enough) least (x es)
-
-  later_ended : (u : ThreadState) → x es ≡ OutOfTurns u → IsDecided (ended n (OutOfTurns u)) → (u.todo ≡ []) × (ended m (y es) ≡ ended n (OutOfTurns u))
-  later_ended u short decided =
+  later_end_found : (u : ThreadState) → x es ≡ OutOfTurns u → IsDecided (end_found s n a es ran (OutOfTurns u)) → (u.todo ≡ []) × (end_found s m a es ran (y es) ≡ end_found s n a es ran (OutOfTurns u))
+  later_end_found u short decided =
       let held = decided_true (length u.todo == 0 && (is_stopped ran.outcome && (begins ran.printed u.printed && begins (least_printed s n es) ran.printed))) a (length es - length u.todo) decided in
       let first = both (length u.todo == 0) _ held in
       let second = both (is_stopped ran.outcome) _ first.1 in
@@ -259,6 +261,24 @@ module _ (p : PlainProgram) (r : PlainReport) (sound : Sound p) (n m : ℕ) (le 
       let least : least_printed s n es ≡ least_printed s m es = least_is s n es ∙ sym (short_least x y turned es u short left) ∙ sym (least_is s m es) in
       let from : From None Any u (y es) = subst (λ c. Step None Any c (y es)) short (turned.steps es) in
       (left, later_end s n m a es ran u left second.0 third.0 (subst (λ l. begins l ran.printed ≡ true) least third.1) (y es) from ∙ sym (ap (λ b. if b then Fine else Short a (length es - length u.todo)) held))
+
+  same_ended : (NeedsTurns (x es) → ⊥) → ended m (x es) ≡ ended n (x es)
+  same_ended enough = by (is_full_stop ran.outcome)
+    where
+      least : least_printed s m es ≡ least_printed s n es
+      least = least_is s m es ∙ same_least x y turned es enough ∙ sym (least_is s n es)
+
+      by : (b : Bool) → (if b then full_found (books_of r) s m a es ran.printed (x es) else end_found s m a es ran (x es)) ≡ (if b then full_found (books_of r) s n a es ran.printed (x es) else end_found s n a es ran (x es))
+      by true = full_same (books_of r) s n m a es ran.printed (same_right x y turned es enough) (x es)
+      by false = end_same s n m a es ran (same_right x y turned es enough) least (x es)
+
+  later_ended : (u : ThreadState) → x es ≡ OutOfTurns u → IsDecided (ended n (OutOfTurns u)) → (u.todo ≡ []) × (ended m (y es) ≡ ended n (OutOfTurns u))
+  later_ended u short decided = by (is_full_stop ran.outcome) decided
+    where
+      by : (b : Bool) → IsDecided (if b then full_found (books_of r) s n a es ran.printed (OutOfTurns u) else end_found s n a es ran (OutOfTurns u))
+          → (u.todo ≡ []) × ((if b then full_found (books_of r) s m a es ran.printed (y es) else end_found s m a es ran (y es)) ≡ (if b then full_found (books_of r) s n a es ran.printed (OutOfTurns u) else end_found s n a es ran (OutOfTurns u)))
+      by true d = absurd d
+      by false d = later_end_found u short d
 
   -- what is found of a thread of the program
   stays_there : IsDecided (thread_found p r n a t ran)
@@ -294,6 +314,19 @@ module _ (a i k : ℕ) (x y : List SeenEvent → Completion ThreadState Value) (
   still_same right least (Waits t) = ap (λ l. and_then (check (length t.todo == 0) a (i + (length es - length t.todo))) (check (begins out t.printed && begins l out) a k)) least
   still_same right least (OutOfTurns t) = ap (λ l. if length t.todo == 0 && (begins out t.printed && begins l out) then Fine else Short a (i + (length es - length t.todo))) least
   still_same right least Invalid = ap (λ j. Off a (i + j)) right
+
+  full_ends_same : (books : ℕ → List Event) → right_events y [] es ≡ right_events x [] es → (c : Completion ThreadState Value) → full_ends books a i k y es out c ≡ full_ends books a i k x es out c
+  full_ends_same books right (Completes v t) = refl
+  full_ends_same books right (Recurs vs t) = ap (λ j. Off a (i + j)) right
+  full_ends_same books right (Faults f t) = refl
+  full_ends_same books right (Retries t) = ap (λ j. Off a (i + j)) right
+  full_ends_same books right (Waits t) = refl
+  full_ends_same books right (OutOfTurns t) = refl
+  full_ends_same books right Invalid = ap (λ j. Off a (i + j)) right
+
+  rest_same : (books : ℕ → List Event) (full : Bool) → right_events y [] es ≡ right_events x [] es → least_of y es ≡ least_of x es → (c : Completion ThreadState Value) → rest_ends books full a i k y es out c ≡ rest_ends books full a i k x es out c
+  rest_same books true right least c = full_ends_same books right c
+  rest_same books false right least c = still_same right least c
 
   -- an action for which turns didn't suffice
   module _ (u : ThreadState) (left : u.todo ≡ []) (printed : begins out u.printed ≡ true) (least : begins (least_of y es) out ≡ true) where
@@ -332,8 +365,8 @@ module _ (p : PlainProgram) (r : PlainReport) (a i k : ℕ) (done : List Event) 
   abbrev over : Result Value Fault → List Action → ℕ → Completion ThreadState Value → Finding
   over new sends j c = act_ends (cells_of p.cells) done act.span a i k (acts j) seen new sends c
 
-  abbrev not_over : List ℕ → ℕ → Completion ThreadState Value → Finding
-  not_over out j c = still_ends a i k (acts j) seen out c
+  abbrev not_over : Bool → List ℕ → ℕ → Completion ThreadState Value → Finding
+  not_over full out j c = rest_ends (books_of r) full a i k (acts j) seen out c
 
   abbrev looks : (ℕ → Completion ThreadState Value → Finding) → ℕ → Finding
   looks ends j = and_then (calm (noted_in (acts j) seen)) (ends j (acts j seen))
@@ -366,8 +399,9 @@ module _ (p : PlainProgram) (r : PlainReport) (a i k : ℕ) (done : List Event) 
         ⊎_elim (λ enough. same_whole (acts n) (acts m) turned_action seen enough) (λ z. short_fine a (i + (length seen - length z.0.todo)) (sym (ap (over new sends n) z.1) ∙ ended)) (long_or_short (acts n seen))
 
     -- an action that isn't over
-    later_not_over : (out : List ℕ) (u : ThreadState) → acts n seen ≡ OutOfTurns u → IsDecided (not_over out n (OutOfTurns u)) → (u.todo ≡ []) × (not_over out m (acts m seen) ≡ not_over out n (OutOfTurns u))
-    later_not_over out u short decided =
+    later_not_over : (full : Bool) (out : List ℕ) (u : ThreadState) → acts n seen ≡ OutOfTurns u → IsDecided (not_over full out n (OutOfTurns u)) → (u.todo ≡ []) × (not_over full out m (acts m seen) ≡ not_over full out n (OutOfTurns u))
+    later_not_over true out u short decided = absurd decided
+    later_not_over false out u short decided =
         let held = decided_true (length u.todo == 0 && part_printed (acts n) seen out u.printed) a (i + (length seen - length u.todo)) decided in
         let first = both (length u.todo == 0) _ held in
         let second = both (begins out u.printed) (begins (least_of (acts n) seen) out) first.1 in
@@ -376,10 +410,10 @@ module _ (p : PlainProgram) (r : PlainReport) (a i k : ℕ) (done : List Event) 
         let from : From None Any u (acts m seen) = subst (λ c. Step None Any c (acts m seen)) short (turned_action.steps seen) in
         (left, later_still a i k (acts n) (acts m) seen out u left second.0 (subst (λ l. begins l out ≡ true) (sym least) second.1) (acts m seen) from ∙ sym (ap (λ b. if b then Fine else Short a (i + (length seen - length u.todo))) held))
 
-    still_stays : (out : List ℕ) → IsDecided (looks (not_over out) n) → SameLooks (not_over out)
-    still_stays out decided =
-        found_stays (acts n) (acts m) turned_action seen calm calm_more (not_over out n) (not_over out m)
-        (λ enough. still_same a i k (acts n) (acts m) seen out (same_right (acts n) (acts m) turned_action seen enough) (same_least (acts n) (acts m) turned_action seen enough) (acts n seen)) (later_not_over out) decided
+    still_stays : (full : Bool) (out : List ℕ) → IsDecided (looks (not_over full out) n) → SameLooks (not_over full out)
+    still_stays full out decided =
+        found_stays (acts n) (acts m) turned_action seen calm calm_more (not_over full out n) (not_over full out m)
+        (λ enough. rest_same a i k (acts n) (acts m) seen out (books_of r) full (same_right (acts n) (acts m) turned_action seen enough) (same_least (acts n) (acts m) turned_action seen enough) (acts n seen)) (later_not_over full out) decided
 
 pub action_stays : ActionStays
 action_stays p r n m a i k done g since new sends None sound le decided = (refl, λ fine. off_fine a k fine)
@@ -400,33 +434,41 @@ action_stays p r n m a i k done g since new sends (Some act) sound le decided =
 stays_by : (f f1 g g1 : Finding) (P : Type 0) → f ≡ g → f1 ≡ g1 → (IsDecided g → (g1 ≡ g) × (g ≡ Fine → P)) → IsDecided f → (f1 ≡ f) × (f ≡ Fine → P)
 stays_by f f1 g g1 P e e1 h d = let z = h (subst IsDecided e d) in (e1 ∙ z.0 ∙ sym e, λ fine. z.1 (sym e ∙ fine))
 
-still_found_stays : (p : PlainProgram) (r : PlainReport) (n m a i k : ℕ) (g : CellId) (since : List Place) (out : List ℕ) (o : Option Action) → Sound p → n ≤ m → IsDecided (still_found p r n a i k g since out o)
-    → (still_found p r m a i k g since out o ≡ still_found p r n a i k g since out o) × (still_found p r n a i k g since out o ≡ Fine → action_covered p r m r.book g since o ≡ action_covered p r n r.book g since o)
-still_found_stays p r n m a i k g since out None sound le decided = (refl, λ fine. off_fine a i fine)
-still_found_stays p r n m a i k g since out (Some act) sound le decided =
-    if_stays (is_sent_call (known p.functions) act.callee (suc (length act.args))) (looks p r a i k r.book g since act (not_over p r a i k r.book g since act out) m) (looks p r a i k r.book g since act (not_over p r a i k r.book g since act out) n) a i
+still_found_stays : (p : PlainProgram) (r : PlainReport) (n m a i k : ℕ) (full : Bool) (g : CellId) (since : List Place) (out : List ℕ) (o : Option Action) → Sound p → n ≤ m → IsDecided (still_found p r n full a i k g since out o)
+    → (still_found p r m full a i k g since out o ≡ still_found p r n full a i k g since out o) × (still_found p r n full a i k g since out o ≡ Fine → action_covered p r m r.book g since o ≡ action_covered p r n r.book g since o)
+still_found_stays p r n m a i k full g since out None sound le decided = (refl, λ fine. off_fine a i fine)
+still_found_stays p r n m a i k full g since out (Some act) sound le decided =
+    if_stays (is_sent_call (known p.functions) act.callee (suc (length act.args))) (looks p r a i k r.book g since act (not_over p r a i k r.book g since act full out) m) (looks p r a i k r.book g since act (not_over p r a i k r.book g since act full out) n) a i
     (action_covered p r m r.book g since (Some act) ≡ action_covered p r n r.book g since (Some act))
-    (λ yes d. (let z = still_stays p r a i k r.book g since act sound n m le (sent_of (known p.functions) act.callee (suc (length act.args)) yes) out d in (z.0, λ fine. ap (covered_all (books_of r) since) (z.1 fine)))) decided
+    (λ yes d. (let z = still_stays p r a i k r.book g since act sound n m le (sent_of (known p.functions) act.callee (suc (length act.args)) yes) full out d in (z.0, λ fine. ap (covered_all (books_of r) since) (z.1 fine)))) decided
 
 -- of no event nothing has to be covered
 none_covered : (p : PlainProgram) (r : PlainReport) (n m : ℕ) (done : List Event) (g : CellId) (o : Option Action) → action_covered p r m done g [] o ≡ action_covered p r n done g [] o
 none_covered p r n m done g None = refl
 none_covered p r n m done g (Some act) = refl
 
--- what is looked at where there was an event, or something was printed
-rest_printed : (p : PlainProgram) (r : PlainReport) (n a i k : ℕ) (g : CellId) (b : ℕ) (bs : List ℕ) → rest_found p r n a i k g [] (b ∷ bs) ≡ still_found p r n a i k g [] (b ∷ bs) (next_action (cells_of p.cells) r.book g)
+-- what is looked at where there was an event, or something was printed, or the actor was stopped for a full book
+rest_printed : (p : PlainProgram) (r : PlainReport) (n a i k : ℕ) (g : CellId) (b : ℕ) (bs : List ℕ) → rest_found p r n false a i k g [] (b ∷ bs) ≡ still_found p r n false a i k g [] (b ∷ bs) (next_action (cells_of p.cells) r.book g)
 rest_printed p r n a i k g b bs = refl
 
-rest_named : (p : PlainProgram) (r : PlainReport) (n a i k : ℕ) (g : CellId) (q : Place) (qs : List Place) (out : List ℕ) → rest_found p r n a i k g (q ∷ qs) out ≡ still_found p r n a i k g (q ∷ qs) out (next_action (cells_of p.cells) r.book g)
+rest_named : (p : PlainProgram) (r : PlainReport) (n a i k : ℕ) (g : CellId) (q : Place) (qs : List Place) (out : List ℕ) → rest_found p r n false a i k g (q ∷ qs) out ≡ still_found p r n false a i k g (q ∷ qs) out (next_action (cells_of p.cells) r.book g)
 rest_named p r n a i k g q qs out = refl
 
+rest_full : (p : PlainProgram) (r : PlainReport) (n a i k : ℕ) (g : CellId) (since : List Place) (out : List ℕ) → rest_found p r n true a i k g since out ≡ still_found p r n true a i k g since out (next_action (cells_of p.cells) r.book g)
+rest_full p r n a i k g since out = refl
+
+-- so it is what is found of the first action
+rest_by : (p : PlainProgram) (r : PlainReport) (n m a i k : ℕ) (full : Bool) (g : CellId) (since : List Place) (out : List ℕ) → Sound p → n ≤ m
+    → ((j : ℕ) → rest_found p r j full a i k g since out ≡ still_found p r j full a i k g since out (next_action (cells_of p.cells) r.book g)) → IsDecided (rest_found p r n full a i k g since out)
+    → (rest_found p r m full a i k g since out ≡ rest_found p r n full a i k g since out)
+    × (rest_found p r n full a i k g since out ≡ Fine → action_covered p r m r.book g since (next_action (cells_of p.cells) r.book g) ≡ action_covered p r n r.book g since (next_action (cells_of p.cells) r.book g))
+rest_by p r n m a i k full g since out sound le same decided =
+    let next = next_action (cells_of p.cells) r.book g in
+    stays_by (rest_found p r n full a i k g since out) (rest_found p r m full a i k g since out) (still_found p r n full a i k g since out next) (still_found p r m full a i k g since out next)
+    (action_covered p r m r.book g since next ≡ action_covered p r n r.book g since next) (same n) (same m) (still_found_stays p r n m a i k full g since out next sound le) decided
+
 pub rest_stays : RestStays
-rest_stays p r n m a i k g [] [] sound le decided = (refl, λ fine. none_covered p r n m r.book g (next_action (cells_of p.cells) r.book g))
-rest_stays p r n m a i k g [] (b ∷ bs) sound le decided =
-    stays_by (rest_found p r n a i k g [] (b ∷ bs)) (rest_found p r m a i k g [] (b ∷ bs)) (still_found p r n a i k g [] (b ∷ bs) (next_action (cells_of p.cells) r.book g)) (still_found p r m a i k g [] (b ∷ bs) (next_action (cells_of p.cells) r.book g))
-    (action_covered p r m r.book g [] (next_action (cells_of p.cells) r.book g) ≡ action_covered p r n r.book g [] (next_action (cells_of p.cells) r.book g)) (rest_printed p r n a i k g b bs) (rest_printed p r m a i k g b bs)
-    (still_found_stays p r n m a i k g [] (b ∷ bs) (next_action (cells_of p.cells) r.book g) sound le) decided
-rest_stays p r n m a i k g (q ∷ qs) out sound le decided =
-    stays_by (rest_found p r n a i k g (q ∷ qs) out) (rest_found p r m a i k g (q ∷ qs) out) (still_found p r n a i k g (q ∷ qs) out (next_action (cells_of p.cells) r.book g)) (still_found p r m a i k g (q ∷ qs) out (next_action (cells_of p.cells) r.book g))
-    (action_covered p r m r.book g (q ∷ qs) (next_action (cells_of p.cells) r.book g) ≡ action_covered p r n r.book g (q ∷ qs) (next_action (cells_of p.cells) r.book g)) (rest_named p r n a i k g q qs out) (rest_named p r m a i k g q qs out)
-    (still_found_stays p r n m a i k g (q ∷ qs) out (next_action (cells_of p.cells) r.book g) sound le) decided
+rest_stays p r n m a i k true g since out sound le decided = rest_by p r n m a i k true g since out sound le (λ j. rest_full p r j a i k g since out) decided
+rest_stays p r n m a i k false g [] [] sound le decided = (refl, λ fine. none_covered p r n m r.book g (next_action (cells_of p.cells) r.book g))
+rest_stays p r n m a i k false g [] (b ∷ bs) sound le decided = rest_by p r n m a i k false g [] (b ∷ bs) sound le (λ j. rest_printed p r j a i k g b bs) decided
+rest_stays p r n m a i k false g (q ∷ qs) out sound le decided = rest_by p r n m a i k false g (q ∷ qs) out sound le (λ j. rest_named p r j a i k g q qs out) decided

@@ -374,8 +374,17 @@ report_of_mail = record {
   failed = None ∷ [];
 }
 
+-- the same, where its actor says that a book is full
+abbrev pub report_of_full_mail : PlainReport
+report_of_full_mail = record report_of_mail { agents = record { outcome = Some JournalFull; steps = 0; printed = []; trace = [] } ∷ [] }
+
+-- the report of one thread and one ref, where the thread says so before its first event
+abbrev pub report_of_full_ref : PlainReport
+report_of_full_ref = report_of_guarded (thread_ran (Some JournalFull) [] []) [] [] 1
+
 -- A thread that hasn't ended differs where the run was to go on up to its end, as does an agent that has mail; where the run was stopped before, they agree. A thread
--- that is stopped for steps has made as many as it may, or it differs. So does one that is stopped for a full book, where no book is full.
+-- that is stopped for steps has made as many as it may, or it differs. So does one that is stopped for a full book and needs no event, or one of a book that isn't
+-- full; and an agent whose action is over where the store's book isn't full.
 abbrev pub UnfinishedIsAnswered : Type 0
 UnfinishedIsAnswered =
     (verdict counts_to_three finishing (counted_so None 9) 100 ≡ Differs 0 0)
@@ -386,6 +395,8 @@ UnfinishedIsAnswered =
     × (verdict counts_to_three finishing (counted_so (Some StepsSpent) 999) 100 ≡ Differs 0 0)
     × (verdict counts_to_three stopping (counted_so (Some StepsSpent) 999) 100 ≡ Differs 0 0)
     × (verdict counts_to_three finishing (counted_so (Some JournalFull) 9) 100 ≡ Differs 0 0)
+    × (verdict guarded_ref finishing report_of_full_ref 9 ≡ Differs 0 0)
+    × (verdict guarded_agent finishing report_of_full_mail 9 ≡ Differs 1 0)
 
 -- ---- two atoms of which each thread sets one and then reads the other
 

@@ -4,7 +4,6 @@ use Rattle.txs_value_base.specs.Places.{nth}
 use Rattle.txs_value_cell.specs.Agents.{agents_from}
 use Rattle.txs_value_cell.specs.Forms.{same_kind}
 use Rattle.txs_value_cell.specs.declared.cell.CellDefinition.{CellDefinition}
-use Rattle.txs_value_data.specs.Limits.{most_events}
 use Rattle.txs_value_data.specs.declared.value.CellId.{CellId}
 use Rattle.txs_value_data.specs.declared.value.CellKind.TheVariants.{Atom}
 use Rattle.txs_value_data.specs.declared.value.Value.{Value}
@@ -21,8 +20,9 @@ use Rattle.txs_tree_meaning.specs.Tree.{PlainProgram, PlainThread}
 use Rattle.txs_theorem_threads.specs.FollowsAll.{source_of}
 use Rattle.txs_theorem_threads.specs.Noted.{txs_of}
 use Rattle.txs_theorem_threads.specs.RepliesFit.{HasEatenAll}
-use Rattle.txs_theorem_runs.specs.Agents.{ActionDid, ActsInTurn}
+use Rattle.txs_theorem_runs.specs.Agents.{ActionDid, ActsUpTo, ActsInTurn}
 use Rattle.txs_theorem_runs.specs.Explains.{AreActors}
+use Rattle.txs_theorem_runs.specs.Full.{WaitsFull, EndsFull}
 use Rattle.txs_theorem_runs.specs.Shared.{has_atom}
 use Rattle.txs_theorem_runs.specs.Told.{TraceHolds, seen_of}
 use Rattle.txs_theorem_runs.specs.Transactions.{SaidOf, undisturbed}
@@ -79,6 +79,8 @@ pub record ThreadExplained (p : PlainProgram) (r : PlainReport) (t : PlainThread
   pub ends : EndsAs ran.outcome ran.printed (meaning_of p r t ran turns)
   pub least : Stopped ran.outcome → Begins ran.printed (least_printed (source_of p t) turns (events_of p r ran))
   pub calm : SaidOf (undisturbed p.cells (books_of r)) (books_of r) ran.trace (txs_of (meaning_of p r t ran turns))
+  -- one that was stopped for a full book needs an event of a full book, for some bound on loops, and has printed just what it means up to there
+  pub full : ran.outcome ≡ Some JournalFull → (n : ℕ) × WaitsFull (books_of r) ran.printed (meaning_of p r t ran n)
 
 -- ---- atoms and agents
 
@@ -89,29 +91,31 @@ pub record AtomExplained (p : PlainProgram) (r : PlainReport) (c : CellId) : Typ
   pub value : nth r.cells c.number ≡ Some (atom_after (opening (cells_of p.cells) c.number) (books_of r (home p.cells c)) (length (books_of r (home p.cells c))))
 
 -- An agent's actor never ended; and what it did and printed is what its actions mean, one after another, and behind them what the action means that is
--- first after the whole book.
+-- first after the whole book. Where it was stopped for a full book, that action needs an event of a full book, or is over and the store's book is full; and it
+-- printed just what it means up to there.
 pub record AgentExplained (p : PlainProgram) (r : PlainReport) (g : CellId) (ran : PlainActorReport) : Type 0 where
   pub unended : Stopped ran.outcome
   pub did : List ActionDid
   pub acts : ActsInTurn p.cells p.functions (books_of r) g ran.trace [] ran.printed did
+  pub full : ran.outcome ≡ Some JournalFull → ActsUpTo p.cells p.functions (books_of r) g (EndsFull p.cells p.functions (books_of r) g) ran.trace [] ran.printed did
 
 -- ---- ends
 
--- a stop is true: for steps the actor has made as many as it may, and for a full book one of the books is full
-abbrev pub TrueStop : ℕ → PlainReport → Option Outcome → ℕ → Type 0
-TrueStop limit r None steps = Unit {0}
-TrueStop limit r (Some Done) steps = Unit {0}
-TrueStop limit r (Some (Failed f)) steps = Unit {0}
-TrueStop limit r (Some StepsSpent) steps = steps ≡ limit
-TrueStop limit r (Some JournalFull) steps = (b : ℕ) × (length (books_of r b) ≡ most_events)
-TrueStop limit r (Some Memory) steps = Unit {0}
+-- a stop for steps is true: the actor has made as many as it may
+abbrev pub TrueStop : ℕ → Option Outcome → ℕ → Type 0
+TrueStop limit None steps = Unit {0}
+TrueStop limit (Some Done) steps = Unit {0}
+TrueStop limit (Some (Failed f)) steps = Unit {0}
+TrueStop limit (Some StepsSpent) steps = steps ≡ limit
+TrueStop limit (Some JournalFull) steps = Unit {0}
+TrueStop limit (Some Memory) steps = Unit {0}
 
--- Where the run was to go on up to its end each thread has ended, and each agent's actor has, too, or it has nothing to do. Stops are true.
+-- Where the run was to go on up to its end each thread has ended, and each agent's actor has, too, or it has nothing to do. Stops for steps are true.
 pub record EndsTruly (p : PlainProgram) (w : PlainTerms) (r : PlainReport) : Type 0 where
   pub threads : w.finishes ≡ true → (a : ℕ) (ran : PlainActorReport) → nth r.threads a ≡ Some ran → ran.outcome ≡ None → ⊥
   pub agents : w.finishes ≡ true → (i : ℕ) (g : CellId) (ran : PlainActorReport) → nth (agents_from 0 p.cells) i ≡ Some g → nth r.agents i ≡ Some ran → ran.outcome ≡ None
       → next_action (cells_of p.cells) r.book g ≡ None
-  pub stops : (a : ℕ) (ran : PlainActorReport) → nth (r.threads ++ r.agents) a ≡ Some ran → TrueStop w.limit r ran.outcome ran.steps
+  pub stops : (a : ℕ) (ran : PlainActorReport) → nth (r.threads ++ r.agents) a ≡ Some ran → TrueStop w.limit ran.outcome ran.steps
 
 -- ---- all
 

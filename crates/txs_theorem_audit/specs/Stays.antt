@@ -1,5 +1,5 @@
 -- What an audit has decided with some turns of each loop it decides so with more.
-use Rattle.std.specs.Prelude.{◌≡◌, ◌≤◌, ℕ, List, Option, Some, Result}
+use Rattle.std.specs.Prelude.{◌≡◌, ◌≤◌, ℕ, Bool, List, Option, Some, Result}
 use Rattle.txs_value_base.specs.Places.{nth}
 use Rattle.txs_value_base.specs.declared.fault.Fault.{Fault}
 use Rattle.txs_value_cell.specs.declared.action.Action.{Action}
@@ -40,7 +40,7 @@ ActionStays =
 -- the same of what an agent's actor did behind its last act
 abbrev pub RestStays : Type 0
 RestStays =
-    (p : PlainProgram) (r : PlainReport) (n m a i k : ℕ) (g : CellId) (since : List Place) (out : List ℕ)
-    → Sound p → n ≤ m → IsDecided (rest_found p r n a i k g since out)
-    → (rest_found p r m a i k g since out ≡ rest_found p r n a i k g since out)
-    × (rest_found p r n a i k g since out ≡ Fine → action_covered p r m r.book g since (next_action (cells_of p.cells) r.book g) ≡ action_covered p r n r.book g since (next_action (cells_of p.cells) r.book g))
+    (p : PlainProgram) (r : PlainReport) (n m a i k : ℕ) (full : Bool) (g : CellId) (since : List Place) (out : List ℕ)
+    → Sound p → n ≤ m → IsDecided (rest_found p r n full a i k g since out)
+    → (rest_found p r m full a i k g since out ≡ rest_found p r n full a i k g since out)
+    × (rest_found p r n full a i k g since out ≡ Fine → action_covered p r m r.book g since (next_action (cells_of p.cells) r.book g) ≡ action_covered p r n r.book g since (next_action (cells_of p.cells) r.book g))

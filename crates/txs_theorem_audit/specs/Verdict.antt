@@ -190,45 +190,38 @@ atoms_found p r (c ∷ cs) = and_then (atom_found p r c) (atoms_found p r cs)
 
 -- ---- ends
 
--- whether one of the first n books is full
-abbrev pub is_full : (ℕ → List Event) → ℕ → Bool
-is_full books zero = false
-is_full books (suc n) = length (books n) == most_events || is_full books n
-
--- whether a stop is true: for steps the actor has made as many as it may, and for a full book one is full
-abbrev pub is_true_stop : ℕ → Bool → Option Outcome → ℕ → Bool
-is_true_stop limit full None steps = true
-is_true_stop limit full (Some Done) steps = true
-is_true_stop limit full (Some (Failed f)) steps = true
-is_true_stop limit full (Some StepsSpent) steps = steps == limit
-is_true_stop limit full (Some JournalFull) steps = full
-is_true_stop limit full (Some Memory) steps = true
+-- whether a stop for steps is true: the actor has made as many as it may
+abbrev pub is_true_stop : ℕ → Option Outcome → ℕ → Bool
+is_true_stop limit None steps = true
+is_true_stop limit (Some Done) steps = true
+is_true_stop limit (Some (Failed f)) steps = true
+is_true_stop limit (Some StepsSpent) steps = steps == limit
+is_true_stop limit (Some JournalFull) steps = true
+is_true_stop limit (Some Memory) steps = true
 
 -- a thread, which has ended where the run was to go on up to its end
-abbrev pub thread_over : PlainTerms → Bool → ℕ → PlainActorReport → Finding
-thread_over w full a ran = check ((not w.finishes || is_there ran.outcome) && is_true_stop w.limit full ran.outcome ran.steps) a (length ran.trace)
+abbrev pub thread_over : PlainTerms → ℕ → PlainActorReport → Finding
+thread_over w a ran = check ((not w.finishes || is_there ran.outcome) && is_true_stop w.limit ran.outcome ran.steps) a (length ran.trace)
 
 -- the threads, from this one on
-abbrev pub threads_over : PlainTerms → Bool → ℕ → List PlainActorReport → Finding
-threads_over w full a [] = Fine
-threads_over w full a (ran ∷ rans) = and_then (thread_over w full a ran) (threads_over w full (suc a) rans)
+abbrev pub threads_over : PlainTerms → ℕ → List PlainActorReport → Finding
+threads_over w a [] = Fine
+threads_over w a (ran ∷ rans) = and_then (thread_over w a ran) (threads_over w (suc a) rans)
 
 -- an agent's actor, which has ended so, too, or has nothing to do, since the agent has failed or has no mail
-abbrev pub agent_over : PlainTerms → Bool → List StoreCell → List Event → ℕ → CellId → PlainActorReport → Finding
-agent_over w full cells book a g ran =
-    check ((not w.finishes || (is_there ran.outcome || not (is_there (next_action cells book g)))) && is_true_stop w.limit full ran.outcome ran.steps) a (length ran.trace)
+abbrev pub agent_over : PlainTerms → List StoreCell → List Event → ℕ → CellId → PlainActorReport → Finding
+agent_over w cells book a g ran =
+    check ((not w.finishes || (is_there ran.outcome || not (is_there (next_action cells book g)))) && is_true_stop w.limit ran.outcome ran.steps) a (length ran.trace)
 
 -- these agents, from this actor on
-abbrev pub agents_over : PlainTerms → Bool → List StoreCell → List Event → ℕ → List CellId → List PlainActorReport → Finding
-agents_over w full cells book a [] rans = Fine
-agents_over w full cells book a (g ∷ gs) [] = Fine
-agents_over w full cells book a (g ∷ gs) (ran ∷ rans) = and_then (agent_over w full cells book a g ran) (agents_over w full cells book (suc a) gs rans)
+abbrev pub agents_over : PlainTerms → List StoreCell → List Event → ℕ → List CellId → List PlainActorReport → Finding
+agents_over w cells book a [] rans = Fine
+agents_over w cells book a (g ∷ gs) [] = Fine
+agents_over w cells book a (g ∷ gs) (ran ∷ rans) = and_then (agent_over w cells book a g ran) (agents_over w cells book (suc a) gs rans)
 
 -- how all actors ended
 abbrev pub ends_found : PlainProgram → PlainTerms → PlainReport → Finding
-ends_found p w r =
-    and_then (threads_over w (is_full (books_of r) (suc (length r.atom_books))) 0 r.threads)
-    (agents_over w (is_full (books_of r) (suc (length r.atom_books))) (cells_of p.cells) r.book (length p.threads) (agents_from 0 p.cells) r.agents)
+ends_found p w r = and_then (threads_over w 0 r.threads) (agents_over w (cells_of p.cells) r.book (length p.threads) (agents_from 0 p.cells) r.agents)
 
 -- ---- the order of all events
 
@@ -368,6 +361,31 @@ end_found p n a es ran (OutOfTurns t) =
     if length t.todo == 0 && (is_stopped ran.outcome && printed_part p n es ran.printed t.printed) then Fine else Short a (length es - length t.todo)
 end_found p n a es ran Invalid = Off a (eats_right p n [] es)
 
+-- whether an actor was stopped for a full book
+abbrev pub is_full_stop : Option Outcome → Bool
+is_full_stop (Some JournalFull) = true
+is_full_stop _ = false
+
+-- whether the book that is needed, if any is, is full
+abbrev pub is_full_book : (ℕ → List Event) → Option ℕ → Bool
+is_full_book books None = false
+is_full_book books (Some b) = nat_le most_events (length (books b))
+
+-- the end of a thread that was stopped for a full book, and printed this, whose meaning on its events is this: it needs an event of a full book
+abbrev pub full_found : (ℕ → List Event) → ThreadSource → ℕ → ℕ → List SeenEvent → List ℕ → Completion ThreadState Value → Finding
+full_found books p n a es out (Completes v t) = and_then (check (length t.todo == 0) a (length es - length t.todo)) (Off a (length es))
+full_found books p n a es out (Recurs vs t) = Off a (eats_right p n [] es)
+full_found books p n a es out (Faults f t) = and_then (check (length t.todo == 0) a (length es - length t.todo)) (Off a (length es))
+full_found books p n a es out (Retries t) = Off a (eats_right p n [] es)
+full_found books p n a es out (Waits t) =
+    and_then (check (length t.todo == 0) a (length es - length t.todo)) (check (is_full_book books t.asks && same_numbers out t.printed) a (length es))
+full_found books p n a es out (OutOfTurns t) = Short a (length es - length t.todo)
+full_found books p n a es out Invalid = Off a (eats_right p n [] es)
+
+-- the end of a thread, by how it ended
+abbrev pub thread_ends : (ℕ → List Event) → ThreadSource → ℕ → ℕ → List SeenEvent → PlainActorReport → Completion ThreadState Value → Finding
+thread_ends books p n a es ran m = if is_full_stop ran.outcome then full_found books p n a es ran.printed m else end_found p n a es ran m
+
 -- the transactions that a thread's meaning on these events notes, up to an event that gives it no meaning
 abbrev pub noted_by : ThreadSource → ℕ → List SeenEvent → Completion ThreadState Value → List TxRun
 noted_by p n es m = if is_wrong m then txs_of (right_meaning p n es) else txs_of m
@@ -376,7 +394,7 @@ noted_by p n es m = if is_wrong m then txs_of (right_meaning p n es) else txs_of
 abbrev pub thread_found : PlainProgram → PlainReport → ℕ → ℕ → PlainThread → PlainActorReport → Finding
 thread_found p r n a t ran =
     and_then (calm_found (cells_of p.cells) (books_of r) a 0 ran.trace (noted_by (source_of p t) n (seen_of p.cells (books_of r) ran.trace) (thread_meaning (source_of p t) n (seen_of p.cells (books_of r) ran.trace))))
-    (end_found (source_of p t) n a (seen_of p.cells (books_of r) ran.trace) ran (thread_meaning (source_of p t) n (seen_of p.cells (books_of r) ran.trace)))
+    (thread_ends (books_of r) (source_of p t) n a (seen_of p.cells (books_of r) ran.trace) ran (thread_meaning (source_of p t) n (seen_of p.cells (books_of r) ran.trace)))
 
 -- the threads, from this one on
 abbrev pub threads_found : PlainProgram → PlainReport → ℕ → ℕ → List PlainThread → List PlainActorReport → Finding
@@ -465,25 +483,43 @@ still_ends a i k m es out (Waits t) = and_then (check (length t.todo == 0) a (i 
 still_ends a i k m es out (OutOfTurns t) = if length t.todo == 0 && part_printed m es out t.printed then Fine else Short a (i + (length es - length t.todo))
 still_ends a i k m es out Invalid = Off a (i + right_events m [] es)
 
+-- The same of an agent's actor that was stopped for a full book: the action needs an event of a full book, or is over and the store's book is full.
+abbrev pub full_ends : (ℕ → List Event) → ℕ → ℕ → ℕ → (List SeenEvent → Completion ThreadState Value) → List SeenEvent → List ℕ → Completion ThreadState Value → Finding
+full_ends books a i k m es out (Completes v t) =
+    and_then (check (length t.todo == 0) a (i + (length es - length t.todo))) (check (is_full_book books (Some 0) && same_numbers out t.printed) a k)
+full_ends books a i k m es out (Recurs vs t) = Off a (i + right_events m [] es)
+full_ends books a i k m es out (Faults f t) =
+    and_then (check (length t.todo == 0) a (i + (length es - length t.todo))) (check (is_full_book books (Some 0) && same_numbers out t.printed) a k)
+full_ends books a i k m es out (Retries t) = Off a (i + right_events m [] es)
+full_ends books a i k m es out (Waits t) =
+    and_then (check (length t.todo == 0) a (i + (length es - length t.todo))) (check (is_full_book books t.asks && same_numbers out t.printed) a k)
+full_ends books a i k m es out (OutOfTurns t) = Short a (i + (length es - length t.todo))
+full_ends books a i k m es out Invalid = Off a (i + right_events m [] es)
+
+-- an action that isn't over, by how its agent's actor ended
+abbrev pub rest_ends : (ℕ → List Event) → Bool → ℕ → ℕ → ℕ → (List SeenEvent → Completion ThreadState Value) → List SeenEvent → List ℕ → Completion ThreadState Value → Finding
+rest_ends books full a i k m es out c = if full then full_ends books a i k m es out c else still_ends a i k m es out c
+
 -- the action that is first after the whole book, on the events after the last act
-abbrev pub still_found : PlainProgram → PlainReport → ℕ → ℕ → ℕ → ℕ → CellId → List Place → List ℕ → Option Action → Finding
-still_found p r n a i k g since out None = Off a i
-still_found p r n a i k g since out (Some x) =
+abbrev pub still_found : PlainProgram → PlainReport → ℕ → Bool → ℕ → ℕ → ℕ → CellId → List Place → List ℕ → Option Action → Finding
+still_found p r n full a i k g since out None = Off a i
+still_found p r n full a i k g since out (Some x) =
     if is_sent_call (known p.functions) x.callee (suc (length x.args))
     then and_then (calm_found (cells_of p.cells) (books_of r) a i since (noted_in (action_after p n r.book g x) (seen_of p.cells (books_of r) since)))
-    (still_ends a i k (action_after p n r.book g x) (seen_of p.cells (books_of r) since) out (action_after p n r.book g x (seen_of p.cells (books_of r) since)))
+    (rest_ends (books_of r) full a i k (action_after p n r.book g x) (seen_of p.cells (books_of r) since) out (action_after p n r.book g x (seen_of p.cells (books_of r) since)))
     else Off a i
 
--- an actor's end, by its trace's part after the last act and what was printed since: nothing, or what the first action means
-abbrev pub rest_found : PlainProgram → PlainReport → ℕ → ℕ → ℕ → ℕ → CellId → List Place → List ℕ → Finding
-rest_found p r n a i k g [] [] = Fine
-rest_found p r n a i k g since out = still_found p r n a i k g since out (next_action (cells_of p.cells) r.book g)
+-- An actor's end, by whether it was stopped for a full book, its trace's part after the last act and what was printed since: nothing, or what the first action
+-- means. One that was stopped for a full book has an action.
+abbrev pub rest_found : PlainProgram → PlainReport → ℕ → Bool → ℕ → ℕ → ℕ → CellId → List Place → List ℕ → Finding
+rest_found p r n false a i k g [] [] = Fine
+rest_found p r n full a i k g since out = still_found p r n full a i k g since out (next_action (cells_of p.cells) r.book g)
 
 -- an agent's end: it never ended, and printed what its actions print, one after another, and behind that what its first action prints
 abbrev pub agent_end : PlainProgram → PlainReport → ℕ → ℕ → CellId → List Place → List ℕ → PlainActorReport → Finding
 agent_end p r n a g since outs ran =
     and_then (check (is_stopped ran.outcome && begins outs ran.printed) a (length ran.trace))
-    (rest_found p r n a (length ran.trace - length since) (length ran.trace) g since (drop (length outs) ran.printed))
+    (rest_found p r n (is_full_stop ran.outcome) a (length ran.trace - length since) (length ran.trace) g since (drop (length outs) ran.printed))
 
 -- what is found of an event of this kind
 abbrev pub kind_found : PlainProgram → PlainReport → ℕ → ℕ → ℕ → Place → CellId → List Place → List ℕ → EventKind → (List Place → List ℕ → Finding) → Finding

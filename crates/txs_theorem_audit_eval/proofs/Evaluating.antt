@@ -29,7 +29,7 @@ use Rattle.txs_tree_meaning.specs.Right.{is_wrong, eats_right, right_meaning, ri
 use Rattle.txs_tree_meaning.specs.Thread.{TxRun, ThreadState, thread_meaning, from_events, accepts, applies_in, action_in, around_action}
 use Rattle.txs_tree_meaning.specs.Transaction.{judged, validated}
 use Rattle.txs_tree_meaning.specs.Tree.{PlainFunction, ThreadSource, PlainProgram, Const}
-use Rattle.txs_tree_eval.specs.Told.{told_tx, Account, TellsWrong, TellsOf, PureGives}
+use Rattle.txs_tree_eval.specs.Told.{told_tx, asked, Account, TellsWrong, TellsOf, PureGives}
 use Rattle.txs_tree_eval.specs.declared.pure_call.EvalStop.{EvalStop}
 use Rattle.txs_tree_eval.specs.declared.pure_call.EvalStop.TheVariants.{Fault as AFault, Turns as FewTurns, Memory as NoMemory}
 use Rattle.txs_tree_eval.specs.declared.meaning.Needs.{Needs}
@@ -47,10 +47,10 @@ use Rattle.txs_tree_eval.specs.declared.action.ActionMeaning.{ActionMeaning}
 use Rattle.txs_theorem_threads.proofs.Quiet.{carried, quietly}
 use Rattle.txs_theorem_threads.specs.Behaves.{IsProper}
 use Rattle.txs_theorem_audit.specs.Audited.{PlainActorReport, Finding, Fine, Off, Short, and_then, check}
-use Rattle.txs_theorem_audit.specs.Verdict.{begins, same_numbers, is_calm, is_end, is_commit, with_run, calm_at, calm_found, covered_if, covered_all, is_stopped, is_done, has_faulted, least_printed, printed_by, printed_part, noted_by, end_found, sends_if, held_by, noted_in, is_booked, act_ends, part_printed, still_ends}
+use Rattle.txs_theorem_audit.specs.Verdict.{begins, same_numbers, is_calm, is_end, is_commit, with_run, calm_at, calm_found, covered_if, covered_all, is_stopped, is_done, has_faulted, least_printed, printed_by, printed_part, noted_by, end_found, is_full_book, full_found, sends_if, held_by, noted_in, is_booked, act_ends, part_printed, still_ends, full_ends}
 use Rattle.txs_theorem_audit.proofs.Findings.{not_there}
 use Rattle.txs_theorem_audit.proofs.Onward.{Onward, From, thread_leads, accepts_so, accepts_proper, applied_leads}
-use Rattle.txs_theorem_audit_eval.specs.Evaluated.{calm_by, with_first, calm_at_by, calm_found_by, covered_if_by, covered_all_by, same_end, end_by, least_by, answer_in, judged_by, accepted_by, act_by, ValidatorGives, ActBy, CalmBy, CoveredBy, NotedBy, EndBy, LeastBy, ActionEnd, HandedIn, LacksEvent, LacksTurns, Disallows, end_of_state, end_of_action, still_by, prints_by, ActionGives, means_on, StillBy, ActionNotedBy}
+use Rattle.txs_theorem_audit_eval.specs.Evaluated.{calm_by, with_first, calm_at_by, calm_found_by, covered_if_by, covered_all_by, same_end, end_by, full_by, least_by, answer_in, judged_by, accepted_by, act_by, ValidatorGives, ActBy, CalmBy, CoveredBy, NotedBy, EndBy, FullBy, LeastBy, ActionEnd, HandedIn, LacksEvent, LacksTurns, Disallows, end_of_state, end_of_action, still_by, rest_full_by, prints_by, ActionGives, means_on, StillBy, RestFullBy, ActionNotedBy}
 
 -- ---- transactions
 
@@ -208,6 +208,45 @@ pub end_told : EndBy
 end_told s n a es ran m sound h =
     let le : n ≤ n = omega arith in
     end_on s n a es ran m (eats_right s n [] es) (right_meaning s n es) (thread_meaning s n es) refl h (thread_leads s sound n n le es).0
+
+-- ---- a thread that was stopped for a full book
+
+module _ (books : ℕ → List Event) (s : ThreadSource) (n a : ℕ) (es : List SeenEvent) (out : List ℕ) (m : ThreadMeaning) where
+  abbrev full_of : Needs → Option ℕ → List ℕ → ℕ → Finding
+  full_of needed asks whole eaten = full_by a (length es) out needed (is_full_book books asks) whole eaten
+
+  -- what is answered, in its parts
+  full_answered : (ate : ℕ) (t : ThreadState) (needed : Needs) (ends : Option Outcome) → Account m ate t needed ends → full_of needed (asked needed t.asks) t.printed ate ≡ full_of m.needs m.asks m.printed m.eaten
+  full_answered ate t needed ends h =
+      sym
+      (ap (λ z. full_of z m.asks m.printed m.eaten) h.needs ∙ ap (λ z. full_of needed z m.printed m.eaten) h.asks ∙ ap (λ z. full_of needed (asked needed t.asks) z m.eaten) h.printed
+      ∙ ap (λ z. full_of needed (asked needed t.asks) t.printed z) h.eaten)
+
+  full_tested : (t : ThreadState) (rest : Finding) → Onward (begun es) t → and_then (check (length t.todo == 0) a (length es - length t.todo)) rest ≡ and_then (check (length es - length t.todo == length es) a (length es - length t.todo)) rest
+  full_tested t rest g = ap (λ c. and_then (check c a (length es - length t.todo)) rest) (none_left (length es) (length t.todo) (few_left es t g))
+
+  full_on : (right : ℕ) (b y : Completion ThreadState Value) → right ≡ eats_right s n [] es → TellsOf m (length es) right b y → From None Any (begun es) y → full_found books s n a es out y ≡ full_of m.needs m.asks m.printed m.eaten
+  full_on right b (Completes v t) r h g = full_tested t (Off a (length es)) g.1 ∙ full_answered (length es - length t.todo) t needs.Nothing (Some Done) h
+  full_on right b (Recurs vs t) r h g = absurd h
+  full_on right b (Faults f t) r h g = full_tested t (Off a (length es)) g ∙ full_answered (length es - length t.todo) t needs.Nothing (Some (Failed f)) h
+  full_on right b (Retries t) r h g = absurd h
+  full_on right b (Waits t) r h g = full_tested t (check (is_full_book books t.asks && same_numbers out t.printed) a (length es)) g ∙ full_answered (length es - length t.todo) t needs.Event None h
+  full_on right b (OutOfTurns t) r h g = full_answered (length es - length t.todo) t needs.Turns None h
+  full_on right b Invalid r h g = wrong b h
+    where
+      wrong : (c : Completion ThreadState Value) → TellsWrong m right c → Off a (eats_right s n [] es) ≡ full_of m.needs m.asks m.printed m.eaten
+      wrong (Completes v t) x = absurd x
+      wrong (Recurs vs t) x = absurd x
+      wrong (Faults f t) x = absurd x
+      wrong (Retries t) x = absurd x
+      wrong (Waits t) x = ap (λ z. Off a z) (sym r) ∙ full_answered right t needs.Wrong None x
+      wrong (OutOfTurns t) x = absurd x
+      wrong Invalid x = absurd x
+
+pub full_told : FullBy
+full_told books s n a es out m sound h =
+    let le : n ≤ n = omega arith in
+    full_on books s n a es out m (eats_right s n [] es) (right_meaning s n es) (thread_meaning s n es) refl h (thread_leads s sound n n le es).0
 
 least_on : (m : ThreadMeaning) (k right : ℕ) (b y : Completion ThreadState Value) (out : List ℕ) → TellsOf m k right b y → begins (printed_by y) out ≡ least_by m.needs m.printed out
 least_on m k right b (Completes v t) out h = sym (ap (λ z. least_by z m.printed out) h.needs ∙ ap (λ z. begins z out) h.printed)
@@ -424,32 +463,35 @@ module _ (p : PlainProgram) (n : ℕ) (x : Action) (state : Value) (sound : Soun
     accepted v = accepted_by guard x.span v q
 
     -- what is found, F of the meaning, is E of what is answered
-    module _ (F : Completion ThreadState Value → Finding) (E : ActionEnd → List ℕ → ℕ → List Action → Finding)
-        (value : (v : Value) (t : ThreadState) → length t.todo ≤ count → F (Completes v t) ≡ E (HandedIn (Ok v)) t.printed (count - length t.todo) (sends_held t.held))
-        (fault : (f : Fault) (t : ThreadState) (sends : List Action) → length t.todo ≤ count → F (Faults f t) ≡ E (HandedIn (Err f)) t.printed (count - length t.todo) sends)
-        (waits : (t : ThreadState) → length t.todo ≤ count → F (Waits t) ≡ E LacksEvent t.printed (count - length t.todo) [])
-        (turns : (t : ThreadState) (sends : List Action) → length t.todo ≤ count → F (OutOfTurns t) ≡ E LacksTurns t.printed (count - length t.todo) sends)
-        (wrong : (out : List ℕ) → F Invalid ≡ E Disallows out (right_events whole [] es) []) where
+    module _ {B : Type 0} (F : Completion ThreadState Value → B) (E : ActionEnd → Option ℕ → List ℕ → ℕ → List Action → B)
+        (value : (v : Value) (t : ThreadState) → length t.todo ≤ count → F (Completes v t) ≡ E (HandedIn (Ok v)) None t.printed (count - length t.todo) (sends_held t.held))
+        (fault : (f : Fault) (t : ThreadState) (sends : List Action) → length t.todo ≤ count → F (Faults f t) ≡ E (HandedIn (Err f)) None t.printed (count - length t.todo) sends)
+        (waits : (t : ThreadState) → length t.todo ≤ count → F (Waits t) ≡ E LacksEvent t.asks t.printed (count - length t.todo) [])
+        (turns : (t : ThreadState) (sends : List Action) → length t.todo ≤ count → F (OutOfTurns t) ≡ E LacksTurns None t.printed (count - length t.todo) sends)
+        (wrong : (out : List ℕ) → F Invalid ≡ E Disallows None out (right_events whole [] es) []) where
       -- what is answered, in its parts
-      act_answered : (ate : ℕ) (t : ThreadState) (lack : Needs) (end : Option (Result Value Fault)) (sends : List Action) → ActionAccount m ate t lack end sends → E (end_of_action lack end accepted) t.printed ate sends ≡ E (end_of_action m.needs m.result accepted) m.printed m.eaten m.sends
+      act_answered : (ate : ℕ) (t : ThreadState) (lack : Needs) (end : Option (Result Value Fault)) (sends : List Action) → ActionAccount m ate t lack end sends
+          → E (end_of_action lack end accepted) (asked lack t.asks) t.printed ate sends ≡ E (end_of_action m.needs m.result accepted) m.asks m.printed m.eaten m.sends
       act_answered ate t lack end sends h =
+          let asks = asked lack t.asks in
+          let so = end_of_action lack end accepted in
           sym
-          (ap (λ z. E (end_of_action z m.result accepted) m.printed m.eaten m.sends) h.needs ∙ ap (λ z. E (end_of_action lack z accepted) m.printed m.eaten m.sends) h.result
-          ∙ ap (λ z. E (end_of_action lack end accepted) z m.eaten m.sends) h.printed ∙ ap (λ z. E (end_of_action lack end accepted) t.printed z m.sends) h.eaten ∙ ap (λ z. E (end_of_action lack end accepted) t.printed ate z) h.sends)
+          (ap (λ z. E (end_of_action z m.result accepted) m.asks m.printed m.eaten m.sends) h.needs ∙ ap (λ z. E (end_of_action lack z accepted) m.asks m.printed m.eaten m.sends) h.result
+          ∙ ap (λ z. E so z m.printed m.eaten m.sends) h.asks ∙ ap (λ z. E so asks z m.eaten m.sends) h.printed ∙ ap (λ z. E so asks t.printed z m.sends) h.eaten ∙ ap (λ z. E so asks t.printed ate z) h.sends)
 
-      wrong_so : (right : ℕ) (c : Completion ThreadState Value) → right ≡ right_events whole [] es → ActionTellsWrong m right c → F Invalid ≡ E (end_of_action m.needs m.result accepted) m.printed m.eaten m.sends
+      wrong_so : (right : ℕ) (c : Completion ThreadState Value) → right ≡ right_events whole [] es → ActionTellsWrong m right c → F Invalid ≡ E (end_of_action m.needs m.result accepted) m.asks m.printed m.eaten m.sends
       wrong_so right (Completes v t) e h = absurd h
       wrong_so right (Recurs vs t) e h = absurd h
       wrong_so right (Faults f t) e h = absurd h
       wrong_so right (Retries t) e h = absurd h
-      wrong_so right (Waits t) e h = wrong t.printed ∙ ap (λ z. E Disallows t.printed z []) (sym e) ∙ act_answered right t needs.Wrong None [] h
+      wrong_so right (Waits t) e h = wrong t.printed ∙ ap (λ z. E Disallows None t.printed z []) (sym e) ∙ act_answered right t needs.Wrong None [] h
       wrong_so right (OutOfTurns t) e h = absurd h
       wrong_so right Invalid e h = absurd h
 
-      found_on : (right : ℕ) (b c : Completion ThreadState Value) → right ≡ right_events whole [] es → ActionTellsOf m count right b c → From None Any (from_events (Some []) es) c → F (bind c looked) ≡ E (end_of_action m.needs m.result accepted) m.printed m.eaten m.sends
+      found_on : (right : ℕ) (b c : Completion ThreadState Value) → right ≡ right_events whole [] es → ActionTellsOf m count right b c → From None Any (from_events (Some []) es) c → F (bind c looked) ≡ E (end_of_action m.needs m.result accepted) m.asks m.printed m.eaten m.sends
       found_on right b (Completes v t) e h g =
           let few = left_few es t g.1 in
-          looked_by v t q (gives.validator v h.result) (accepted v) refl (λ end c. F c ≡ E end t.printed (count - length t.todo) (sends_held t.held)) (λ w. value w t few) (λ f. fault f t (sends_held t.held) few) (turns t (sends_held t.held) few)
+          looked_by v t q (gives.validator v h.result) (accepted v) refl (λ end c. F c ≡ E end None t.printed (count - length t.todo) (sends_held t.held)) (λ w. value w t few) (λ f. fault f t (sends_held t.held) few) (turns t (sends_held t.held) few)
           ∙ act_answered (count - length t.todo) t needs.Nothing (Some (Ok v)) (sends_held t.held) h
       found_on right b (Recurs vs t) e h g = absurd h
       found_on right b (Faults f t) e h g = fault f t [] (left_few es t g) ∙ act_answered (count - length t.todo) t needs.Nothing (Some (Err f)) [] h
@@ -458,7 +500,7 @@ module _ (p : PlainProgram) (n : ℕ) (x : Action) (state : Value) (sound : Soun
       found_on right b (OutOfTurns t) e h g = turns t [] (left_few es t g) ∙ act_answered (count - length t.todo) t needs.Turns None [] h
       found_on right b Invalid e h g = wrong_so right b e h
 
-      found_so : F (whole es) ≡ E (end_of_action m.needs m.result accepted) m.printed m.eaten m.sends
+      pub found_so : F (whole es) ≡ E (end_of_action m.needs m.result accepted) m.asks m.printed m.eaten m.sends
       found_so = found_on (right_events callee_on [] es) (callee_on (take (right_events callee_on [] es) es)) (callee_on es) (sym (events_same [] es)) gives.tells (started es)
 
 -- nothing is left where all is eaten
@@ -469,7 +511,7 @@ pub act_told : ActBy
 act_told p n a i k cells done x state es new sends m q sound fits gives =
     let count = length es in
     let F = λ (c : Completion ThreadState Value). act_ends cells done x.span a i k (means_on p n x state) es new sends c in
-    found_so p n x state sound fits es m q gives F (λ end out eaten held. act_by cells done x.span a i k count eaten held new sends end)
+    found_so p n x state sound fits es m q gives F (λ end asks out eaten held. act_by cells done x.span a i k count eaten held new sends end)
     (λ v t few. left_tested a i count (length t.todo) (check (is_booked (first_failed cells done (held_by t)) x.span v (held_by t) new sends) a k) few
     ∙ ap (λ l. and_then (check (count - length t.todo == count) a (i + (count - length t.todo))) (check (is_booked (first_failed cells done l) x.span v l new sends) a k)) (held_same t.held))
     (λ f t held few. left_tested a i count (length t.todo) (check (same_new (Err f) new && is_empty sends) a k) few)
@@ -480,12 +522,23 @@ still_told p n a i k x state es out m q sound fits gives =
     let count = length es in
     let part = λ (whole : List ℕ). part_printed (means_on p n x state) es out whole in
     let F = λ (c : Completion ThreadState Value). still_ends a i k (means_on p n x state) es out c in
-    found_so p n x state sound fits es m q gives F (λ end printed eaten held. still_by a i k count eaten (part printed) end)
+    found_so p n x state sound fits es m q gives F (λ end asks printed eaten held. still_by a i k count eaten (part printed) end)
     (λ v t few. left_tested a i count (length t.todo) (check (part t.printed) a k) few)
     (λ f t held few. left_tested a i count (length t.todo) (check (part t.printed) a k) few)
     (λ t few. left_tested a i count (length t.todo) (check (part t.printed) a k) few)
     (λ t held few. ap (λ c. if c && part t.printed then Fine else Short a (i + (count - length t.todo))) (none_left count (length t.todo) few))
     (λ printed. refl)
+
+pub rest_full_told : RestFullBy
+rest_full_told books p n a i k x state es out m q sound fits gives =
+    let count = length es in
+    let store = is_full_book books (Some 0) in
+    let F = λ (c : Completion ThreadState Value). full_ends books a i k (means_on p n x state) es out c in
+    found_so p n x state sound fits es m q gives F (λ end asks printed eaten held. rest_full_by a i k count eaten store (is_full_book books asks) (same_numbers out printed) end)
+    (λ v t few. left_tested a i count (length t.todo) (check (store && same_numbers out t.printed) a k) few)
+    (λ f t held few. left_tested a i count (length t.todo) (check (store && same_numbers out t.printed) a k) few)
+    (λ t few. left_tested a i count (length t.todo) (check (is_full_book books t.asks && same_numbers out t.printed) a k) few)
+    (λ t held few. refl) (λ printed. refl)
 
 -- ---- what an action notes and prints
 

@@ -38,7 +38,7 @@ use Rattle.txs_tree_meaning.specs.Meaning.{Completion}
 use Rattle.txs_tree_eval.specs.ActionTold.{TellsAction}
 use Rattle.txs_tree_eval.specs.declared.action.ActionMeaning.{ActionMeaning}
 use Rattle.txs_theorem_audit.specs.Audited.{PlainActorReport, Finding, Fine, Off, Short, and_then, check}
-use Rattle.txs_theorem_audit.specs.Verdict.{begins, same_numbers, is_untouched, is_first_failed, is_end, is_commit, calm_found, covered_all, is_stopped, least_printed, printed_by, noted_by, end_found, noted_in, is_booked, act_ends, part_printed, still_ends}
+use Rattle.txs_theorem_audit.specs.Verdict.{begins, same_numbers, is_untouched, is_first_failed, is_end, is_commit, calm_found, covered_all, is_stopped, least_printed, printed_by, noted_by, end_found, is_full_book, full_found, noted_in, is_booked, act_ends, part_printed, still_ends, full_ends}
 
 -- ---- transactions
 
@@ -97,6 +97,14 @@ end_by a k o out least needs.Nothing ends whole eaten = and_then (check (eaten =
 end_by a k o out least needs.Event ends whole eaten = and_then (check (eaten == k) a eaten) (check (if same_end ends o then same_numbers out whole else part_by o out whole least) a k)
 end_by a k o out least needs.Turns ends whole eaten = if eaten == k && part_by o out whole least then Fine else Short a eaten
 end_by a k o out least needs.Wrong ends whole eaten = Off a eaten
+
+-- The end of a thread that was stopped for a full book and printed this: it lacks this, has printed so much, ate so many of k events, and the event that it
+-- lacks, if it does, would be one of a full book or not.
+abbrev pub full_by : ℕ → ℕ → List ℕ → Needs → Bool → List ℕ → ℕ → Finding
+full_by a k out needs.Nothing full whole eaten = and_then (check (eaten == k) a eaten) (Off a k)
+full_by a k out needs.Event full whole eaten = and_then (check (eaten == k) a eaten) (check (full && same_numbers out whole) a k)
+full_by a k out needs.Turns full whole eaten = Short a eaten
+full_by a k out needs.Wrong full whole eaten = Off a eaten
 
 -- whether these bytes begin with what a thread's meaning prints, where it has one
 abbrev pub least_by : Needs → List ℕ → List ℕ → Bool
@@ -174,6 +182,15 @@ still_by a i k count eaten part LacksTurns = if eaten == count && part then Fine
 still_by a i k count eaten part Disallows = Off a (i + eaten)
 still_by a i k count eaten part Unsaid = Fine
 
+-- The same of one whose agent's actor was stopped for a full book: whether the store's book is full, whether the event that it lacks would be one of a full
+-- book, and whether it printed just what it prints.
+abbrev pub rest_full_by : ℕ → ℕ → ℕ → ℕ → ℕ → Bool → Bool → Bool → ActionEnd → Finding
+rest_full_by a i k count eaten store full just (HandedIn new) = and_then (check (eaten == count) a (i + eaten)) (check (store && just) a k)
+rest_full_by a i k count eaten store full just LacksEvent = and_then (check (eaten == count) a (i + eaten)) (check (full && just) a k)
+rest_full_by a i k count eaten store full just LacksTurns = Short a (i + eaten)
+rest_full_by a i k count eaten store full just Disallows = Off a (i + eaten)
+rest_full_by a i k count eaten store full just Unsaid = Fine
+
 -- what an action prints that lacks this: nothing, where it doesn't allow an event
 abbrev pub prints_by : Needs → List ℕ → List ℕ
 prints_by needs.Nothing out = out
@@ -206,6 +223,12 @@ EndBy =
     (s : ThreadSource) (n a : ℕ) (es : List SeenEvent) (ran : PlainActorReport) (m : ThreadMeaning)
     → SoundSource s → Tells m s n es → end_found s n a es ran (thread_meaning s n es) ≡ end_by a (length es) ran.outcome ran.printed (least_printed s n es) m.needs m.outcome m.printed m.eaten
 
+-- the end that is found of one that was stopped for a full book
+abbrev pub FullBy : Type 0
+FullBy =
+    (books : ℕ → List Event) (s : ThreadSource) (n a : ℕ) (es : List SeenEvent) (out : List ℕ) (m : ThreadMeaning)
+    → SoundSource s → Tells m s n es → full_found books s n a es out (thread_meaning s n es) ≡ full_by a (length es) out m.needs (is_full_book books m.asks) m.printed m.eaten
+
 -- what was printed at least
 abbrev pub LeastBy : Type 0
 LeastBy = (s : ThreadSource) (n : ℕ) (es : List SeenEvent) (m : ThreadMeaning) (out : List ℕ) → Tells m s n es → begins (printed_by (thread_meaning s n es)) out ≡ least_by m.needs m.printed out
@@ -234,6 +257,14 @@ StillBy =
     → Sound p → SoundAction p.functions x → ActionGives p n x state es m q
     → still_ends a i k (means_on p n x state) es out (means_on p n x state es)
     ≡ still_by a i k (length es) m.eaten (part_printed (means_on p n x state) es out m.printed) (end_by_answers m (validator_at (validators_of p.cells) x.agent.number) x.span q)
+
+-- the same where its agent's actor was stopped for a full book
+abbrev pub RestFullBy : Type 0
+RestFullBy =
+    (books : ℕ → List Event) (p : PlainProgram) (n a i k : ℕ) (x : Action) (state : Value) (es : List SeenEvent) (out : List ℕ) (m : ActionMeaning) (q : Result Value EvalStop)
+    → Sound p → SoundAction p.functions x → ActionGives p n x state es m q
+    → full_ends books a i k (means_on p n x state) es out (means_on p n x state es)
+    ≡ rest_full_by a i k (length es) m.eaten (is_full_book books (Some 0)) (is_full_book books m.asks) (same_numbers out m.printed) (end_by_answers m (validator_at (validators_of p.cells) x.agent.number) x.span q)
 
 -- the transactions that are answered of an action are those that an audit looks at, and what it prints is what is answered
 abbrev pub ActionNotedBy : Type 0

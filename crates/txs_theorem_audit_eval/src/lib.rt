@@ -1,7 +1,7 @@
 //! What an audit finds of threads and actions, by what the evaluators answer. Nothing in this crate runs.
 #![tactic(auto)]
 
-ghost use Rattle.txs_theorem_audit_eval.specs.Evaluated.{ActBy, ActionNotedBy, CalmBy, CoveredBy, EndBy, LeastBy, NotedBy, StillBy};
+ghost use Rattle.txs_theorem_audit_eval.specs.Evaluated.{ActBy, ActionNotedBy, CalmBy, CoveredBy, EndBy, FullBy, LeastBy, NotedBy, RestFullBy, StillBy};
 
 /// What is found of a thread's transactions is found by what is answered of them.
 pub fn calm_is_answered()
@@ -23,6 +23,11 @@ pub fn end_is_answered()
     ensures { EndBy }
 {}
 
+/// So is that of a thread which was stopped for a full book.
+pub fn full_is_answered()
+    ensures { FullBy }
+{}
+
 /// So is what it printed at least.
 pub fn least_is_answered()
     ensures { LeastBy }
@@ -36,6 +41,11 @@ pub fn act_is_answered()
 /// So is that of an action that isn't over.
 pub fn still_is_answered()
     ensures { StillBy }
+{}
+
+/// So is that of one whose agent's actor was stopped for a full book.
+pub fn rest_full_is_answered()
+    ensures { RestFullBy }
 {}
 
 /// The transactions of an action are those that an audit looks at, and what it prints is what is answered.

@@ -1,24 +1,20 @@
 -- Entries and books of a report by number.
-use Rattle.std.proofs.Common.{◌≡◌, ◌≤◌, ℕ, zero, suc, ◌+◌, Bool, true, false, List, [], ◌∷◌, ◌++◌, length, map, get_or, Some, refl, sym, ap, ◌∙◌, subst, arith, ⊎_elim, inl, inr, ◌⊎◌, if◌then◌else◌}
-use Rattle.std.proofs.lemmas.Bool.{cases_lt}
+use Rattle.std.proofs.Common.{◌≡◌, ℕ, zero, suc, ◌+◌, Bool, true, false, List, [], ◌∷◌, ◌++◌, length, map, get_or, Some, refl, sym, ap, ◌∙◌, subst, arith, ⊎_elim, inl, inr, ◌⊎◌, if◌then◌else◌}
 use Rattle.txs_value_base.specs.Places.{nth}
 use Rattle.txs_value_cell.specs.Forms.{same_kind}
 use Rattle.txs_value_cell.specs.declared.cell.CellDefinition.{CellDefinition}
-use Rattle.txs_value_data.specs.Limits.{most_events}
 use Rattle.txs_value_data.specs.declared.value.CellKind.TheVariants.{Atom}
 use Rattle.txs_world_protocol.specs.SeenEvent.{atoms_below}
 use Rattle.txs_world_protocol.specs.declared.event.Event.{Event}
 use Rattle.txs_world_protocol.specs.declared.event.Place as event
 use Rattle.txs_world_protocol.specs.declared.report.Report.{Report}
 use Rattle.txs_world_shared.specs.SharedState.{PlainShared, shared_of}
-use Rattle.txs_theorem_runs.specs.Explains.{BooksStand}
 use Rattle.txs_theorem_order.specs.Order.{book_or_none}
 use Rattle.txs_machine.specs.Reported.{IsReportOf}
 use Rattle.txs_machine.specs.RunOver.{places_of}
 use Rattle.txs_theorem_audit.specs.Audited.{PlainReport, place_of, report_as, books_of}
 use Rattle.txs_theorem_audit.specs.Verdict.{atoms_from}
 use Rattle.txs_theorem_audit.proofs.Findings.{not_there}
-use Rattle.txs_theorem_audit.proofs.Listing.{there_is, no_book, listed_atom, listed_home}
 
 -- ---- lists
 
@@ -69,17 +65,3 @@ many_atoms n (d ∷ ds) = go (same_kind d.kind Atom) (many_atoms (suc n) ds)
 -- they are the state's
 pub same_books : (s : PlainShared) (r : Report) → IsReportOf s r → (shared_of s).books ≡ books_of (report_as r)
 same_books s r of = let numbered : List (List Event) → ℕ → List Event = λ bs n. get_or bs n [] in ap numbered (sym of.books) ∙ books_same (report_as r)
-
--- none has more events than a book may have
-pub few_events : (cells : List CellDefinition) (threads : ℕ) (s : PlainShared) (r : Report) → s.cells ≡ cells → IsReportOf s r → BooksStand cells threads (shared_of s) → (b : ℕ) → length ((shared_of s).books b) ≤ most_events
-few_events cells threads s r same of stand zero = stand.legal.few
-few_events cells threads s r same of stand (suc i) = ⊎_elim
-    (λ lt.
-    (let c = there_is (atoms_from 0 cells) i lt in
-    subst (λ b. length ((shared_of s).books b) ≤ most_events) (listed_home cells i c.0 c.1) (stand.atoms c.0 (listed_atom cells i c.0 c.1)).few))
-    (λ le.
-    (let atoms = of.atoms ∙ many_atoms 0 s.cells ∙ ap (λ ds. length (atoms_from 0 ds)) same in
-    let none : (shared_of s).books (suc i) ≡ [] = ap (λ (b : ℕ → List Event). b (suc i)) (same_books s r of) ∙ no_book (report_as r) (suc i) (omega (arith, le, atoms)) in
-    let no_events = ap length none in
-    omega (arith, no_events)))
-    (cases_lt i (length (atoms_from 0 cells)))

@@ -27,7 +27,8 @@ use Rattle.txs_tree_meaning.specs.Tree.{PlainProgram, PlainThread, ThreadSource}
 use Rattle.txs_theorem_threads.specs.FollowsAll.{source_of}
 use Rattle.txs_theorem_threads.specs.Noted.{txs_of}
 use Rattle.txs_theorem_threads.specs.RepliesFit.{halted, HasWaited}
-use Rattle.txs_theorem_runs.specs.Agents.{ActsInTurn}
+use Rattle.txs_theorem_runs.specs.Agents.{ActsUpTo, ActsInTurn}
+use Rattle.txs_theorem_runs.specs.Full.{WaitsFull, EndsFull}
 use Rattle.txs_theorem_runs.specs.Explains.{AreActors}
 use Rattle.txs_theorem_runs.specs.Shared.{has_atom, is_atom, world_of}
 use Rattle.txs_theorem_runs.specs.Told.{Place, TraceHolds, seen_of}
@@ -195,6 +196,8 @@ module _ (p : PlainProgram) (s : PlainShared) (r : Report) (sound : Sound p) (ce
         least = λ st. printed_least src source_sound n out p t refl (on (books_of rep) (map place_of ran.trace.items)) (ends_up o out (thread_meaning src n (on (books_of rep) (map place_of ran.trace.items))) ends) least;
         calm = subst (λ b. SaidOf (undisturbed p.cells b) b (map place_of ran.trace.items) (txs_of (thread_meaning src n (on b (map place_of ran.trace.items))))) same_books
             (subst (λ ps. SaidOf (undisturbed p.cells N) N ps (txs_of (thread_meaning src n (on N ps)))) tr e.calm);
+        full = λ stop. (let f = e.full stop in
+            (f.0, subst (λ b. WaitsFull b out (thread_meaning src f.0 (on b (map place_of ran.trace.items)))) same_books (subst (λ ps. WaitsFull N out (thread_meaning src f.0 (on N ps))) tr f.1)));
       }
 
   trace_is : (a : ℕ) (ran : ActorReport) → TraceHolds N a (places_of ran.trace.items) → TraceHolds (books_of rep) a (map place_of ran.trace.items)
@@ -271,6 +274,8 @@ module _ (p : PlainProgram) (s : PlainShared) (r : Report) (sound : Sound p) (ce
         unended = never_ends ran.outcome e.unended;
         did = e.did;
         acts = subst (λ b. ActsInTurn p.cells p.functions b g (map place_of ran.trace.items) [] out e.did) same_books (subst (λ ps. ActsInTurn p.cells p.functions N g ps [] out e.did) (places_same ran.trace.items) e.acts);
+        full = λ stop. subst (λ b. ActsUpTo p.cells p.functions b g (EndsFull p.cells p.functions b g) (map place_of ran.trace.items) [] out e.did) same_books
+            (subst (λ ps. ActsUpTo p.cells p.functions N g (EndsFull p.cells p.functions N g) ps [] out e.did) (places_same ran.trace.items) (e.full stop));
       }
 
   is_explained : (w : PlainTerms) → EndsTruly p w rep → IsOrdered (books_of rep) (report_links p rep) → IsExplained p w rep
@@ -295,7 +300,7 @@ module _ (p : PlainProgram) (s : PlainShared) (r : Report) (sound : Sound p) (ce
 
 pub runs_are_explained : RunsAreOrdered → RunsAreExplained
 runs_are_explained law p code w s r sound cells staged run x =
-    is_explained p s r sound (run.state.cells ∙ cells) run.of x w (ends_truly p code w s r cells run x) (is_ordered law p code w s r cells staged run)
+    is_explained p s r sound (run.state.cells ∙ cells) run.of x w (ends_truly p code w s r cells run) (is_ordered law p code w s r cells staged run)
 
 pub runs_never_differ : DiffersIsNotExplained → RunsAreExplained → RunsNeverDiffer
 runs_never_differ differs explained p code w s r n a i sound cells staged run x h = differs p w (report_as r) n a i sound h (explained p code w s r sound cells staged run x)

@@ -36,7 +36,7 @@ use Rattle.txs_theorem_runs.proofs.Going.{starts}
 use Rattle.txs_theorem_runs.proofs.Growing.{Grown, Serves, own_grown, taken_whole}
 use Rattle.txs_theorem_runs.proofs.Handing.{goes_walk, goes_hear, none_served, takes_append, takes_finish, takes_stay, takes_fixed, at_end, home_of, each_taken}
 use Rattle.txs_theorem_runs.proofs.Owned.{next_own}
-use Rattle.txs_theorem_runs.proofs.Rounds.{OutSo, TakesSo, resting}
+use Rattle.txs_theorem_runs.proofs.Rounds.{OutSo, TakesSo, acted_so}
 use Rattle.txs_theorem_runs.proofs.Sending.{Sends, play_sends, opening_sends}
 use Rattle.txs_theorem_runs.proofs.Serving.{serves}
 use Rattle.txs_theorem_runs.proofs.Steps.{MovedWell, moves_stand, play_holds}
@@ -290,10 +290,10 @@ module _ (stays : ActionStays) (cells : List CellDefinition) (threads : ℕ) (co
         let k = agent_stands st h.holds g has in
         let x = st.actors (agent_actor cells threads g) in
         let d = h.all g has in
-        let r = resting lower refused cells threads code functions follows st.shared.books (λ n le. each_taken (λ done e. SendsSound functions e.kind) n [] (st.shared.books 0) (h.sends.books 0)) g (agent_actor cells threads g)
+        let r = acted_so lower refused cells threads code functions follows st.shared.books (λ n le. each_taken (λ done e. SendsSound functions e.kind) n [] (st.shared.books 0) (h.sends.books 0)) g (agent_actor cells threads g)
         (λ n le y e. next_own (cells_of cells) threads (st.shared.books 0) h.holds.shared.store.legal g has n y e) (staged g)
         x.entries (opening (agent_code code g) []).state [] x.at refl (refl, refl) (starts (agent_code code g)) d.goes k.told.hold d.takes in
-        record { ran = k.ran; printed = r.printed; goes_on = r.goes_on; did = r.did; acts = r.acts }
+        record { ran = k.ran; printed = r.printed; goes_on = r.goes_on; did = r.did; acts = r.acts; stands = r.stands }
 
 pub run_acts_mean : Lower → RefusedIsUndisturbed → ServeKeeps → ActionStays → FreshStands → RunActsMean
 run_acts_mean lower refused keeps stays fresh cells threads codes code functions ys follows run_agents staged by =

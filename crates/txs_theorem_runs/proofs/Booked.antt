@@ -12,7 +12,6 @@ use Rattle.txs_world_book.specs.Served.{Served}
 use Rattle.txs_theorem_runs.specs.Shared.{book_for, serve_on}
 use Rattle.txs_theorem_runs.specs.Told.{Entry, before_entry, served_at, EntryHolds, AllHold, trace_of, places_in, places_by, TraceHolds}
 use Rattle.txs_theorem_runs.proofs.Adding.{IsQuiet, Brings, served_such}
-use Rattle.txs_theorem_runs.proofs.Growing.{taken_whole}
 use Rattle.txs_theorem_runs.proofs.Serving.{serves}
 
 -- ---- lists

@@ -7,11 +7,13 @@ use Rattle.txs_world_protocol.specs.declared.ask.Reply.{Reply}
 use Rattle.txs_world_protocol.specs.declared.ask.Reply.TheVariants as reply
 use Rattle.txs_value_base.specs.declared.fault.Fault.{Fault}
 use Rattle.txs_value_cell.specs.declared.action.Action.{Action}
+use Rattle.txs_value_cell.specs.declared.cell.CellDefinition.{CellDefinition}
 use Rattle.txs_value_data.specs.declared.value.CellId.{CellId}
 use Rattle.txs_value_data.specs.declared.value.Value.{Value}
 use Rattle.std.specs.Prelude.{ℕ, Result}
 use Rattle.txs_tree_meaning.specs.Meaning.{Completion}
 use Rattle.txs_tree_meaning.specs.Thread.{ThreadState}
+use Rattle.txs_theorem_threads.proofs.Account.{asked_waited}
 use Rattle.txs_theorem_threads.specs.FollowsAgent.{MeansAsked}
 use Rattle.txs_theorem_threads.specs.RepliesFit.{halted, HasWaited}
 use Rattle.txs_theorem_runs.specs.Finished.{is_finish}
@@ -184,19 +186,9 @@ thread_asks (Swapping d at) (ask.Broke c p) isnt busy h = h
 thread_asks Resting q isnt busy h = absurd busy
 
 -- an ask that doesn't hand the action in waits for an event
-pub waited : (g : CellId) (q : Ask) (out : List ℕ) (m : Completion ThreadState Value) → is_finish q ≡ false → MeansAsked g (Some q) out m → HasWaited out (halted m)
-waited g ask.Begin out m isnt k = k
-waited g (ask.Look c p) out m isnt k = k
-waited g (ask.View cs) out m isnt k = k
-waited g (ask.Commit p sets ensured q commuted sends) out m isnt k = k
-waited g (ask.Fail p q) out m isnt k = k
-waited g (ask.Peek c) out m isnt k = k
-waited g (ask.Send x) out m isnt k = k
-waited g (ask.Take h) out m isnt k = k
-waited g (ask.Finish h new sends) out m isnt k = absurd (false≢true (sym isnt))
-waited g (ask.OpenAt c) out m isnt k = k
-waited g (ask.CloseAt c p v) out m isnt k = k
-waited g (ask.Broke c p) out m isnt k = k
+pub waited : (cells : List CellDefinition) (g : CellId) (q : Ask) (out : List ℕ) (m : Completion ThreadState Value) → is_finish q ≡ false → MeansAsked cells g (Some q) out m → HasWaited out (halted m)
+waited cells g (ask.Finish h new sends) out m isnt k = absurd (false≢true (sym isnt))
+waited cells g q out m isnt k = asked_waited cells (Some q) out (halted m) k
 
 -- what hands an action in
 pub record Finishes (q : Ask) : Type 0 where

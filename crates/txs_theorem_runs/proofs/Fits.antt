@@ -173,7 +173,7 @@ module _ (stays : UnwrittenStays) (cells : List CellDefinition) (threads : ℕ) 
     idle_fits (ask.Broke c p) ok within may = absurd ok
 
     looks_fit : (b : Bool) (c : CellId) (p : ℕ) (within : k ≤ length (books 0)) → p ≤ k → Fitting (ask.Look c p) k within xs end ps (Open p) (looks b w a c p (take k (books 0)))
-    looks_fit true c p within le = adding (ask.Look c p) k within xs end ps (Open p) (event.Retry p c cause.Outdated) (reply.Retry c) (λ g. (refl, (refl, tt, g)))
+    looks_fit true c p within le = adding (ask.Look c p) k within xs end ps (Open p) (event.Retry p c cause.Outdated) (reply.Retry c) (λ g. (refl, (refl, (refl, refl), g)))
     looks_fit false c p within le =
         quietly (ask.Look c p) k within xs end ps (Open p) (reply.Is (after w (take k (books 0)) p c.number)) (λ g. (refl, (ap (λ (u : World). u c.number) (sym (after_taken w (books 0) k p le)), g)))
 

@@ -14,11 +14,10 @@ use Rattle.txs_theorem_runs.specs.Goes.{AsksNothing, WalksTo, AsksAt, GoesTo}
 use Rattle.txs_theorem_runs.specs.Run.{exchange}
 use Rattle.txs_theorem_runs.specs.Staged.{StagedActor, IsStaged, StagedFrom, HandsIn}
 use Rattle.txs_theorem_runs.specs.Stages.{Stage, AsksIn, stage_after}
-use Rattle.txs_theorem_runs.specs.Told.{Entry, exchange_of, AreStaged}
+use Rattle.txs_theorem_runs.specs.Told.{Entry, exchange_of}
 use Rattle.txs_theorem_runs.proofs.Acting.{append_nil}
 use Rattle.txs_theorem_runs.proofs.Keeping.{Holds}
-use Rattle.txs_theorem_runs.proofs.Sending.{AskSound, WantSound, HoldsSound, turn_sound}
-use Rattle.txs_theorem_runs.proofs.Consuming.{HasConsumed, turn_consumed}
+use Rattle.txs_theorem_runs.proofs.Sending.{HoldsSound}
 
 abbrev ask_or : Ask → Option Ask → Ask
 ask_or q None = q

@@ -49,7 +49,7 @@ pub taken_whole : {A : Type 0} (xs : List A) → take (length xs) xs ≡ xs
 taken_whole [] = refl
 taken_whole (x ∷ xs) = ap (λ l. x ∷ l) (taken_whole xs)
 
-longer : {A : Type 0} (k : ℕ) (xs ys : List A) → k ≤ length xs → k ≤ length (xs ++ ys)
+pub longer : {A : Type 0} (k : ℕ) (xs ys : List A) → k ≤ length xs → k ≤ length (xs ++ ys)
 longer zero xs ys le = omega arith
 longer (suc k) [] ys le = absurd (omega (arith, le))
 longer (suc k) (x ∷ xs) ys le = let h = longer k xs ys (omega (arith, le)) in omega (arith, h)

@@ -9,6 +9,8 @@ pub mod Consuming
 pub mod CoreKnown
 pub mod Ending
 pub mod Fits
+pub mod Full
+pub mod FullStops
 pub mod Going
 pub mod Growing
 pub mod Handing

@@ -59,10 +59,10 @@ module _ (p : PlainProgram) (threads : List ThreadCode) (functions : Library) (c
     code : (c : ThreadCode) × (nth threads i ≡ Some c)
     code = has_code threads p.threads i t f.as_many e
 
-    thread_staged : StagedCode (codes i)
+    pub thread_staged : StagedCode (codes i)
     thread_staged = subst StagedCode (sym (run.threads_run i code.0 code.1)) (stage i code.0 code.1)
 
-    thread_follows : Follows (codes i) (source_of p t)
+    pub thread_follows : Follows (codes i) (source_of p t)
     thread_follows = subst (λ c. Follows c (source_of p t)) (sym (run.threads_run i code.0 code.1)) (f.each i code.0 t code.1 e)
 
   program_explains : RunHolds p.cells (length p.threads) codes (plays p.cells (length p.threads) codes ys) → ProgramExplains p (plays p.cells (length p.threads) codes ys)

@@ -1,7 +1,8 @@
 -- What an agent's actor did, action by action: each is what its callee means on what its actor did for it.
+use Rattle.std.proofs.lemmas.Bool.{false≢true}
 use Rattle.std.proofs.lemmas.Bool.Decides.{nat_tests}
 use Rattle.std.proofs.Common.{◌≡◌, ◌≤◌, ℕ, zero, suc, Bool, true, false, nat_lt, List, [], ◌∷◌, ◌++◌, if◌then◌else◌, length, take, map, Option, Some, None, Result, Err, refl, sym, ap, ◌∙◌, subst, append_assoc, ◌⊎◌, inl, inr, arith}
-use Rattle.txs_world_protocol.specs.Ask.{Exchange}
+use Rattle.txs_world_protocol.specs.Ask.{Exchange, may_add_event}
 use Rattle.txs_world_protocol.specs.declared.ask.Ask.{Ask}
 use Rattle.txs_world_protocol.specs.declared.ask.Ask.TheVariants as ask
 use Rattle.txs_world_protocol.specs.declared.ask.Reply.{Reply}
@@ -36,7 +37,7 @@ use Rattle.txs_world_book.specs.Book as world
 use Rattle.txs_world_book.specs.Served.{Served, served, adds, event_of, cells_of}
 use Rattle.txs_world.specs.Laws.{RefusedIsUndisturbed}
 use Rattle.txs_world.specs.Store.{next_action, first_action, takes, finishes, span_of, is_over}
-use Rattle.txs_theorem_runs.specs.Agents.{AllSound, meaning_after, IsBooked, ActionDid, ActMeans, StillMeans, EventMeans, OfEvent, ActsInTurn, HasPrintedJust}
+use Rattle.txs_theorem_runs.specs.Agents.{AllSound, meaning_after, IsBooked, ActionDid, ActMeans, StillMeans, AtEnd, EventMeans, OfEvent, ActsUpTo, StillActs, ActsInTurn, StandsAt, HasPrintedJust}
 use Rattle.txs_theorem_runs.specs.Explains.{outcome_at}
 use Rattle.txs_theorem_runs.specs.Goes.{AsksNothing, WalksTo, AsksAt, GoesTo}
 use Rattle.txs_theorem_runs.specs.Finished.{is_finish, finished_at}
@@ -120,6 +121,26 @@ module _ (cells : List CellDefinition) (books : ℕ → List Event) (g : CellId)
   abbrev pub TakesSo : ℕ → List Entry → Type 0
   TakesSo end [] = Unit {0}
   TakesSo end (e ∷ es) = OutSo e.ask e.reply (finished_at end es) × TakesSo end es
+
+-- what is said at the end of a trace may say less
+module _ (cells : List CellDefinition) (functions : List PlainFunction) (books : ℕ → List Event) (g : CellId) where
+  event_map : (p : Place) (kind : EventKind) (since : List Place) (out : List ℕ) (ds : List ActionDid) (go go1 : AtEnd) → ((s : List Place) (o : List ℕ) (l : List ActionDid) → go s o l → go1 s o l)
+      → EventMeans cells functions books g p kind since out ds go → EventMeans cells functions books g p kind since out ds go1
+  event_map p (event.Act h n new sends) since out [] go go1 k e = absurd e
+  event_map p (event.Act h n new sends) since out (d ∷ ds) go go1 k e = (e.0, e.1, e.2, e.3, e.4, k [] e.2 ds e.5)
+  event_map p _ since out ds go go1 k e = k (since ++ p ∷ []) out ds e
+
+  of_event : (o : Option Event) (P Q : Event → Type 0) → ((e : Event) → P e → Q e) → OfEvent o P → OfEvent o Q
+  of_event None P Q k h = absurd h
+  of_event (Some e) P Q k h = k e h
+
+  pub acts_map : (one two : AtEnd) → ((s : List Place) (o : List ℕ) (l : List ActionDid) → one s o l → two s o l) → (ps since : List Place) (out : List ℕ) (ds : List ActionDid)
+      → ActsUpTo cells functions books g one ps since out ds → ActsUpTo cells functions books g two ps since out ds
+  acts_map one two k [] since out ds h = k since out ds h
+  acts_map one two k (p ∷ ps) since out ds h =
+      of_event (nth (books p.book) p.at) (λ e. EventMeans cells functions books g p e.kind since out ds (λ s o l. ActsUpTo cells functions books g one ps s o l))
+      (λ e. EventMeans cells functions books g p e.kind since out ds (λ s o l. ActsUpTo cells functions books g two ps s o l))
+      (λ e m. event_map p e.kind since out ds (λ s o l. ActsUpTo cells functions books g one ps s o l) (λ s o l. ActsUpTo cells functions books g two ps s o l) (λ s o l i. acts_map one two k ps s o l i) m) h
 
 module _ (lower : Lower) (refused : RefusedIsUndisturbed) (cells : List CellDefinition) (threads : ℕ) (code : Library) (functions : List PlainFunction) (follows : FollowsAgents code cells functions) (books : ℕ → List Event)
     (sound : (k : ℕ) → k ≤ length (books 0) → AllSound functions (take k (books 0))) (g : CellId) (a : ℕ)
@@ -206,8 +227,8 @@ module _ (lower : Lower) (refused : RefusedIsUndisturbed) (cells : List CellDefi
       eaten : Consumed (action_target code g x v s n (map exchange_of part))
       eaten = subst (λ (u : Outcome). Consumed u) (sym target_is) (consumed o empty)
 
-      explained : ActionExplained g s.printed (outcome_at o) (meaning n x v (trace part))
-      explained = subst (λ (u : Outcome). ActionExplained g s.printed u (meaning n x v (trace part))) target_is
+      explained : ActionExplained cells g s.printed (outcome_at o) (meaning n x v (trace part))
+      explained = subst (λ (u : Outcome). ActionExplained cells g s.printed u (meaning n x v (trace part))) target_is
           (it.explained v s (map exchange_of part) (seen_of cells books (trace part)) (phase_of cells books stage) n between fits eaten)
 
       -- its transactions were undisturbed
@@ -253,8 +274,8 @@ module _ (lower : Lower) (refused : RefusedIsUndisturbed) (cells : List CellDefi
       still_empty : asks.0.todo ≡ []
       still_empty = subst HasConsumed asks.1 (turn_consumed tc c d.here.0)
 
-      at_ask : PrintedBehind s.printed asks.0.printed (λ out. MeansAsked g (Some e.ask) out (meaning (suc d.turns) x v (trace part)))
-      at_ask = subst (λ o. PrintedBehind s.printed asks.0.printed (λ out. MeansAsked g o out (meaning (suc d.turns) x v (trace part)))) asks.2
+      at_ask : PrintedBehind s.printed asks.0.printed (λ out. MeansAsked cells g (Some e.ask) out (meaning (suc d.turns) x v (trace part)))
+      at_ask = subst (λ o. PrintedBehind s.printed asks.0.printed (λ out. MeansAsked cells g o out (meaning (suc d.turns) x v (trace part)))) asks.2
           (explained part hold d.stage d.staged (suc d.turns) (Asking asks.0) waits still_empty)
 
       -- it has printed there what it had before
@@ -290,7 +311,7 @@ module _ (lower : Lower) (refused : RefusedIsUndisturbed) (cells : List CellDefi
                 trace_more part e ∙ ap (λ b. trace part ++ (if b then place ∷ [] else [])) lt,
                 suc d.turns,
                 at_ask.0,
-                waited g e.ask at_ask.0 (meaning (suc d.turns) x v (trace part)) isnt at_ask.2,
+                waited cells g e.ask at_ask.0 (meaning (suc d.turns) x v (trace part)) isnt at_ask.2,
                 turn_prints (s.printed ++ at_ask.0) tc (given (exchange_of e ∷ []) c) ([], sym as_before ∙ at_ask.1 ∙ sym (append_nil (s.printed ++ at_ask.0))),
               )
           by false lt =
@@ -299,12 +320,17 @@ module _ (lower : Lower) (refused : RefusedIsUndisturbed) (cells : List CellDefi
 
   -- ---- what was done from here on
 
+  -- At the end an agent runs no action, or still runs one; and where its next instruction asks what may add an event, its action has come to that ask.
+  abbrev pub EndsSo : Turned Configuration → AtEnd
+  EndsSo there since out ds =
+      StillActs cells functions books g since out ds × ((c : Configuration) (q : Ask) → there ≡ Unfinished c → AsksAt tc c q → may_add_event q ≡ true → StandsAt cells functions books g q since out ds)
+
   -- what the agent's actor did from here on, with these events since the last act, means what its actions mean, with what it printed
   pub record Done (s : ActorState) (since : List Place) (es : List Entry) (there : Turned Configuration) : Type 0 where
     pub printed : List ℕ
     pub goes_on : HasPrintedJust (s.printed ++ printed) there
     pub did : List ActionDid
-    pub acts : ActsInTurn cells functions books g (trace es) since printed did
+    pub acts : ActsUpTo cells functions books g (EndsSo there) (trace es) since printed did
 
   -- an action that isn't over, at the end
   over_so_far : (s : ActorState) (x : Action) (v : Value) → IsBetween s → SoundAction functions x → x.agent ≡ g → HandedSo cells books g end x v → (part : List Entry) → AllHold cells threads books a part
@@ -347,6 +373,24 @@ module _ (lower : Lower) (refused : RefusedIsUndisturbed) (cells : List CellDefi
           least_so (inr i) =
               inr (i.0, i.1, i.2, i.3, i.4, subst (λ w. HasWaited i.4 (halted (meaning i.3 x w i.0))) found i.5, i.6.0, behind s.printed out i.4 i.6.0 (sym e ∙ i.6.1))
 
+      same_behind : (xs ys zs : List ℕ) → xs ++ ys ≡ xs ++ zs → ys ≡ zs
+      same_behind [] ys zs i = i
+      same_behind (k ∷ xs) ys zs i = same_behind xs ys zs (ap tail i)
+        where
+          tail : List ℕ → List ℕ
+          tail [] = []
+          tail (j ∷ js) = js
+
+      -- where it has come to an ask
+      standing : (c : Configuration) (d : Doing s x v part (Unfinished c)) (out : List ℕ) → c.state.printed ≡ s.printed ++ out → Unfinished c ≡ there
+          → (c1 : Configuration) (q : Ask) → there ≡ Unfinished c1 → AsksAt tc c1 q → MeansAsked cells g (Some q) out (meaning_after cells functions books (books 0) g (suc d.turns) x (trace part))
+      standing c d out e is c1 q at asks =
+          let here : AsksAt tc c q = subst (λ u. AsksAt tc u q) (sym (ap (place_or c) (is ∙ at))) asks in
+          let y : Entry = record { ask = q; reply = reply.Done; at = 0 } in
+          let m = at_ask s x v between right ours part hold c d y here in
+          let same : m.0 ≡ out = same_behind s.printed m.0 out (sym m.1 ∙ as_before s x v between right ours part hold c d y here ∙ e) in
+          subst (λ w. MeansAsked cells g (Some q) out (meaning (suc d.turns) x w (trace part))) found (subst (λ l. MeansAsked cells g (Some q) l (meaning (suc d.turns) x v (trace part))) same m.2)
+
       by : (o : Turned Configuration) → Doing s x v part o → o ≡ there → Done s (trace part) [] there
       by (Ended t) d e = absurd (explained s x v between right ours part hold d.stage d.staged d.turns (Ended t) d.ran d.here)
       by (Failed f t) d e = absurd (explained s x v between right ours part hold d.stage d.staged d.turns (Failed f t) d.ran d.here)
@@ -358,7 +402,7 @@ module _ (lower : Lower) (refused : RefusedIsUndisturbed) (cells : List CellDefi
             printed = m.0;
             goes_on = subst (HasPrintedJust (s.printed ++ m.0)) e m.1;
             did = record { turns = d.turns; trace = trace part; txs = txs_of (meaning d.turns x v (trace part)) } ∷ [];
-            acts = (refl, still c d m.0 m.2.0 m.1 m.2.1);
+            acts = ((refl, still c d m.0 m.2.0 m.1 m.2.1), λ c1 q at asks adds. (refl, x, next, suc d.turns, standing c d m.0 m.1 e c1 q at asks));
           }
 
   -- ---- where an action is handed in
@@ -373,7 +417,7 @@ module _ (lower : Lower) (refused : RefusedIsUndisturbed) (cells : List CellDefi
 
     -- what it means
     pub asked_so : PrintedBehind s.printed asks.0.printed (λ out. (f.agent ≡ g) × IsHandedIn f.new f.sends out (meaning (suc d.turns) x v (trace part)))
-    asked_so = subst (λ q. PrintedBehind s.printed asks.0.printed (λ out. MeansAsked g (Some q) out (meaning (suc d.turns) x v (trace part)))) f.same (at_ask s x v between right ours part hold c d e asks)
+    asked_so = subst (λ q. PrintedBehind s.printed asks.0.printed (λ out. MeansAsked cells g (Some q) out (meaning (suc d.turns) x v (trace part)))) f.same (at_ask s x v between right ours part hold c d e asks)
 
     -- what the book says of it
     acts_so : (new1 : Result Value Fault) (sends1 : List Action) → IsBooked (first_failed (cells_of cells) book f.sends) x.span f.new f.sends new1 sends1 → ActMeans cells functions books book g did asked_so.0 new1 sends1
@@ -402,10 +446,10 @@ module _ (lower : Lower) (refused : RefusedIsUndisturbed) (cells : List CellDefi
     span : span_of (mail_after (cells_of cells) book f.agent.number).actions ≡ x.span
     span = ap (λ h. span_of (mail_after (cells_of cells) book h.number).actions) asked_so.2.0 ∙ first_span (world.is_failed (cells_of cells) book g) (mail_after (cells_of cells) book g.number).actions x so.0
 
-    module _ (es : List Entry) (rest : List ℕ) (ds : List ActionDid) (after : ActsInTurn cells functions books g (trace es) [] rest ds) where
+    module _ (end_so : AtEnd) (es : List Entry) (rest : List ℕ) (ds : List ActionDid) (after : ActsUpTo cells functions books g end_so (trace es) [] rest ds) where
       abbrev Goes : Served → Type 0
       Goes w = IsExchanged w.reply → take (length w.book) (books 0) ≡ w.book
-          → ActsInTurn cells functions books g (if nat_lt e.at (length w.book) then record { book = 0; at = e.at } ∷ trace es else trace es) (trace part) (asked_so.0 ++ rest) (did ∷ ds)
+          → ActsUpTo cells functions books g end_so (if nat_lt e.at (length w.book) then record { book = 0; at = e.at } ∷ trace es else trace es) (trace part) (asked_so.0 ++ rest) (did ∷ ds)
 
       -- an act that the book has so
       act_goes : (i : ℕ) (new1 : Result Value Fault) (sends1 : List Action) (r : Reply) → IsBooked (first_failed (cells_of cells) book f.sends) x.span f.new f.sends new1 sends1 → Goes (adds a (event.Act f.agent i new1 sends1) r book)
@@ -426,9 +470,9 @@ module _ (lower : Lower) (refused : RefusedIsUndisturbed) (cells : List CellDefi
               longer (z ∷ xs) y = ap suc (longer xs y)
 
               place : (b : Bool) → nat_lt e.at (length (book ++ event_of a kind ∷ [])) ≡ b
-                  → ActsInTurn cells functions books g (if b then record { book = 0; at = e.at } ∷ trace es else trace es) (trace part) (asked_so.0 ++ rest) (did ∷ ds)
+                  → ActsUpTo cells functions books g end_so (if b then record { book = 0; at = e.at } ∷ trace es else trace es) (trace part) (asked_so.0 ++ rest) (did ∷ ds)
               place true lt =
-                  subst (λ o. OfEvent o (λ y. EventMeans cells functions books g (record { book = 0; at = e.at }) y.kind (trace part) (asked_so.0 ++ rest) (did ∷ ds) (λ since1 out1 ds1. ActsInTurn cells functions books g (trace es) since1 out1 ds1)))
+                  subst (λ o. OfEvent o (λ y. EventMeans cells functions books g (record { book = 0; at = e.at }) y.kind (trace part) (asked_so.0 ++ rest) (did ∷ ds) (λ since1 out1 ds1. ActsUpTo cells functions books g end_so (trace es) since1 out1 ds1)))
                   (sym there) (refl, asked_so.0, rest, refl, acts_so new1 sends1 booked, after)
               place false lt = absurd (let l = length_taken e.at (books 0) within in let m = longer book (event_of a kind) in grind (arith, nat_tests, lt, l, m))
 
@@ -439,9 +483,9 @@ module _ (lower : Lower) (refused : RefusedIsUndisturbed) (cells : List CellDefi
           (subst (λ o. IsBooked o x.span f.new f.sends (Err (fault_at AgentFailed (span_of (mail_after (cells_of cells) book f.agent.number).actions))) []) (sym h) (ap (λ z. Err (fault_at AgentFailed z)) span, refl))
 
       -- so it is of the entry
-      pub entry_goes : ActsInTurn cells functions books g (trace (e ∷ es)) (trace part) (asked_so.0 ++ rest) (did ∷ ds)
+      pub entry_goes : ActsUpTo cells functions books g end_so (trace (e ∷ es)) (trace part) (asked_so.0 ++ rest) (did ∷ ds)
       entry_goes =
-          subst (λ y. ActsInTurn cells functions books g (adding cells books a y (trace es)) (trace part) (asked_so.0 ++ rest) (did ∷ ds)) (sym same_entry)
+          subst (λ y. ActsUpTo cells functions books g end_so (adding cells books a y (trace es)) (trace part) (asked_so.0 ++ rest) (did ∷ ds)) (sym same_entry)
           (finishes_go (first_failed (cells_of cells) book f.sends) refl (suc (mail_after (cells_of cells) book f.agent.number).acts)
           (subst (λ y. IsExchanged (served_at cells books a y).reply) same_entry (subst IsExchanged holds.replied holds.exchanged))
           (subst (λ y. take (length (served_at cells books a y).book) (books (book_for cells y.ask)) ≡ (served_at cells books a y).book) same_entry holds.stands))
@@ -490,6 +534,12 @@ module _ (lower : Lower) (refused : RefusedIsUndisturbed) (cells : List CellDefi
   stays_there : (s : ActorState) → s.todo ≡ [] → (n : ℕ) (there : Turned Configuration) → WalksTo tc n (Unfinished (first_place [] s)) there → there ≡ Unfinished (first_place [] s)
   stays_there s e zero there w = sym w
   stays_there s e (suc n) there w = absurd (subst AsksNothing (ap (turn tc) (sym (ap (place_or w.0) w.1)) ∙ take_asks s e) w.2)
+
+  -- so what it asks there is for an action
+  take_asked : (s : ActorState) → s.todo ≡ [] → (there : Turned Configuration) → there ≡ Unfinished (first_place [] s) → (c : Configuration) (q : Ask) → there ≡ Unfinished c → AsksAt tc c q → q ≡ ask.Take g
+  take_asked s e there is c q at asks =
+      let here : AsksAt tc (first_place [] s) q = subst (λ u. AsksAt tc u q) (ap (place_or c) (sym at ∙ is)) asks in
+      ap (ask_or (ask.Take g)) (sym here.2 ∙ ap (wants_or None) (sym here.1 ∙ take_asks s e))
 
   -- what an agent was handed out, and where it begins
   record TakenOut (y : Entry) (es : List Entry) (s : ActorState) : Type 0 where
@@ -566,7 +616,7 @@ module _ (lower : Lower) (refused : RefusedIsUndisturbed) (cells : List CellDefi
         printed = r.printed;
         goes_on = r.goes_on;
         did = r.did;
-        acts = entry_steps cells functions books g a r.printed r.did (trace part) (trace es) threads y hold isnt (subst (λ ps. ActsInTurn cells functions books g (trace es) ps r.printed r.did) (trace_more part y) r.acts);
+        acts = entry_steps cells functions books g a (EndsSo there) r.printed r.did (trace part) (trace es) threads y hold isnt (subst (λ ps. ActsUpTo cells functions books g (EndsSo there) (trace es) ps r.printed r.did) (trace_more part y) r.acts);
       }
   acted y es s x v part there between right ours held c here asks goes hold onward again true does so =
       let f = finish_is y.ask does in
@@ -578,7 +628,7 @@ module _ (lower : Lower) (refused : RefusedIsUndisturbed) (cells : List CellDefi
         printed = m.0 ++ r.printed;
         goes_on = subst (λ l. HasPrintedJust l there) (ap (λ l. l ++ r.printed) (t.4 ∙ m.1) ∙ append_assoc s.printed m.0 r.printed) r.goes_on;
         did = record { turns = suc here.turns; trace = trace part; txs = txs_of (meaning (suc here.turns) x v (trace part)) } ∷ r.did;
-        acts = entry_goes s x v between right ours part held c here y asks hold so f es r.printed r.did r.acts;
+        acts = entry_goes s x v between right ours part held c here y asks hold so f (EndsSo there) es r.printed r.did r.acts;
       }
 
   mutual
@@ -589,7 +639,7 @@ module _ (lower : Lower) (refused : RefusedIsUndisturbed) (cells : List CellDefi
       printed = [];
       goes_on = subst (HasPrintedJust (s.printed ++ [])) (sym (stays_there s e goes.0 there goes.1)) (sym (append_nil s.printed));
       did = [];
-      acts = (refl, refl);
+      acts = ((refl, refl), λ c q at asks adds. absurd (false≢true (sym (ap may_add_event (take_asked s e there (stays_there s e goes.0 there goes.1) c q at asks)) ∙ adds)));
     }
     resting (y ∷ es) s told there e between came goes hold so =
         let c_is : goes.1 ≡ first_place [] s = ap (place_or goes.1) (stays_there s e goes.0 (Unfinished goes.1) goes.2) in
@@ -597,7 +647,7 @@ module _ (lower : Lower) (refused : RefusedIsUndisturbed) (cells : List CellDefi
         let onward : GoesTo tc (turn tc (given (exchange_of y ∷ []) (first_place [] s))) es there = subst (λ c. GoesTo tc (turn tc (given (exchange_of y ∷ []) c)) es there) c_is goes.4 in
         let out : TakenOut y es s = taken_out y es s told e between came asks hold.0 so.0 in
         let r = acting es s out.action out.state [] (turn tc (given (exchange_of y ∷ []) (first_place [] s))) there between out.right out.ours out.so tt out.doing onward hold.1 so.1 in
-        record { printed = r.printed; goes_on = r.goes_on; did = r.did; acts = subst (λ ps. ActsInTurn cells functions books g ps [] r.printed r.did) (sym out.quiet) r.acts }
+        record { printed = r.printed; goes_on = r.goes_on; did = r.did; acts = subst (λ ps. ActsUpTo cells functions books g (EndsSo there) ps [] r.printed r.did) (sym out.quiet) r.acts }
 
     -- from where an action runs
     pub acting : (es : List Entry) (s : ActorState) (x : Action) (v : Value) (part : List Entry) (at there : Turned Configuration) → IsBetween s → SoundAction functions x → x.agent ≡ g → HandedSo cells books g (finished_at end es) x v
@@ -608,3 +658,25 @@ module _ (lower : Lower) (refused : RefusedIsUndisturbed) (cells : List CellDefi
         (λ part1 at1 so1 held1 d1 goes1. acting es s x v part1 at1 there between right ours so1 held1 d1 goes1 hold.1 takes.1)
         (λ t told e1 between1 came goes1. resting es t told there e1 between1 came goes1 hold.1 takes.1)
         (is_finish y.ask) refl so
+
+  -- ---- of the whole trace
+
+  -- what the agent's actor did from where no action runs, and how it stands at an ask
+  pub record Acted (s : ActorState) (es : List Entry) (there : Turned Configuration) : Type 0 where
+    pub printed : List ℕ
+    pub goes_on : HasPrintedJust (s.printed ++ printed) there
+    pub did : List ActionDid
+    pub acts : ActsInTurn cells functions books g (trace es) [] printed did
+    pub stands : (c : Configuration) (q : Ask) → there ≡ Unfinished c → AsksAt tc c q → may_add_event q ≡ true → ActsUpTo cells functions books g (StandsAt cells functions books g q) (trace es) [] printed did
+
+  pub acted_so : (es : List Entry) (s : ActorState) (told : List Exchange) (there : Turned Configuration) → s.todo ≡ [] → IsBetween s → Came tc told (Unfinished (first_place [] s)) → GoesTo tc (Unfinished (first_place [] s)) es there
+      → AllHold cells threads books a es → TakesSo cells books g end es → Acted s es there
+  acted_so es s told there e between came goes hold so =
+      let r = resting es s told there e between came goes hold so in
+      record {
+        printed = r.printed;
+        goes_on = r.goes_on;
+        did = r.did;
+        acts = acts_map cells functions books g (EndsSo there) (StillActs cells functions books g) (λ since out ds h. h.0) (trace es) [] r.printed r.did r.acts;
+        stands = λ c q at asks adds. acts_map cells functions books g (EndsSo there) (StandsAt cells functions books g q) (λ since out ds h. h.1 c q at asks adds) (trace es) [] r.printed r.did r.acts;
+      }

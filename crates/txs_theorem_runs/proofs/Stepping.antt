@@ -22,16 +22,16 @@ use Rattle.txs_world_book.specs.Atom.{atom_newest, closes_at, swapped_since}
 use Rattle.txs_world_book.specs.Book.{opening, after, newest, is_outdated, least_written, cells_in, is_failed, first_failed, mail_after}
 use Rattle.txs_world_book.specs.Served.{Served, served, adds, event_of, cells_of}
 use Rattle.txs_world.specs.Store.{looks, commits, sends_to, takes, next_action, merged}
-use Rattle.txs_theorem_runs.specs.Agents.{ActionDid, EventMeans, OfEvent, ActsInTurn}
+use Rattle.txs_theorem_runs.specs.Agents.{ActionDid, AtEnd, EventMeans, OfEvent, ActsUpTo}
 use Rattle.txs_theorem_runs.specs.Finished.{is_finish}
 use Rattle.txs_theorem_runs.specs.Shared.{atom_of, is_atom, book_for, serve_on}
 use Rattle.txs_theorem_runs.specs.Told.{Entry, Place, IsExchanged, EntryHolds, adding}
 use Rattle.txs_theorem_runs.proofs.Replayed.{length_taken, stands_there}
 
-module _ (cells : List CellDefinition) (functions : List PlainFunction) (books : ℕ → List Event) (g : CellId) (a : ℕ) (out : List ℕ) (ds : List ActionDid) (since ps : List Place) where
+module _ (cells : List CellDefinition) (functions : List PlainFunction) (books : ℕ → List Event) (g : CellId) (a : ℕ) (end : AtEnd) (out : List ℕ) (ds : List ActionDid) (since ps : List Place) where
   -- what the places mean, with these events since the last act
   abbrev pub Acts : List Place → List Place → Type 0
-  Acts qs done = ActsInTurn cells functions books g qs done out ds
+  Acts qs done = ActsUpTo cells functions books g end qs done out ds
 
   -- one entry: an ask with its reply and its place
   module _ (q : Ask) (k : ℕ) (within : k ≤ length (books (book_for cells q))) where
@@ -61,7 +61,7 @@ module _ (cells : List CellDefinition) (functions : List PlainFunction) (books :
         go true e h = absurd (let l = length_taken k (books (book_for cells q)) within in grind (arith, nat_tests, e, l))
 
     -- with an event; of one that is there, this follows
-    pub with_event : (kind : EventKind) (rr : Reply) (P : Type 0) → (P → EventMeans cells functions books g here kind since out ds (λ since1 out1 ds1. ActsInTurn cells functions books g ps since1 out1 ds1))
+    pub with_event : (kind : EventKind) (rr : Reply) (P : Type 0) → (P → EventMeans cells functions books g here kind since out ds (λ since1 out1 ds1. ActsUpTo cells functions books g end ps since1 out1 ds1))
         → (IsExchanged rr → Acts ps (since ++ here ∷ []) → P) → Goal (adds a kind rr done)
     with_event kind rr P f p = go (nat_lt (length done) most_events)
       where
@@ -78,11 +78,11 @@ module _ (cells : List CellDefinition) (functions : List PlainFunction) (books :
 
             place : (b : Bool) → nat_lt k (length (done ++ event_of a kind ∷ [])) ≡ b → Acts ps (since ++ (if b then here ∷ [] else [])) → Acts (if b then here ∷ ps else ps) since
             place true e h =
-                subst (λ o. OfEvent o (λ d. EventMeans cells functions books g here d.kind since out ds (λ since1 out1 ds1. ActsInTurn cells functions books g ps since1 out1 ds1))) (sym there) (f (p ex h))
+                subst (λ o. OfEvent o (λ d. EventMeans cells functions books g here d.kind since out ds (λ since1 out1 ds1. ActsUpTo cells functions books g end ps since1 out1 ds1))) (sym there) (f (p ex h))
             place false e h = absurd (let l = length_taken k (books (book_for cells q)) within in let m = longer done (event_of a kind) in grind (arith, nat_tests, e, l, m))
 
     -- with an event that is no act
-    adding_so : (kind : EventKind) (rr : Reply) → (Acts ps (since ++ here ∷ []) → EventMeans cells functions books g here kind since out ds (λ since1 out1 ds1. ActsInTurn cells functions books g ps since1 out1 ds1)) → Goal (adds a kind rr done)
+    adding_so : (kind : EventKind) (rr : Reply) → (Acts ps (since ++ here ∷ []) → EventMeans cells functions books g here kind since out ds (λ since1 out1 ds1. ActsUpTo cells functions books g end ps since1 out1 ds1)) → Goal (adds a kind rr done)
     adding_so kind rr f = with_event kind rr (Acts ps (since ++ here ∷ [])) f (λ ex h. h)
 
   -- ---- each ask

@@ -134,7 +134,7 @@ invariant_explains by cells threads codes st h = record {
   actors = λ a known. actor_explained by cells threads (codes a) st.shared.books a (st.actors a) (h.actors false a known);
 }
 
-all_hold : ServeKeeps → (cells : List CellDefinition) (threads : ℕ) (codes : ℕ → ThreadCode) (ys : List Play) (st : State) → RunInvariant cells threads codes st → RunInvariant cells threads codes (plays_from cells threads codes ys st)
+pub all_hold : ServeKeeps → (cells : List CellDefinition) (threads : ℕ) (codes : ℕ → ThreadCode) (ys : List Play) (st : State) → RunInvariant cells threads codes st → RunInvariant cells threads codes (plays_from cells threads codes ys st)
 all_hold keeps cells threads codes [] st h = h
 all_hold keeps cells threads codes (y ∷ ys) st h = all_hold keeps cells threads codes ys (play cells threads codes y st) (steps.play_holds keeps cells threads codes y st h)
 

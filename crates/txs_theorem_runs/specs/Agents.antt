@@ -2,6 +2,8 @@
 -- did since the action before it.
 use Rattle.std.proofs.Common.{◌⊎◌}
 use Rattle.std.specs.Prelude.{◌≡◌, ℕ, true, nat_lt, List, [], ◌∷◌, ◌++◌, map, take, Option, Some, None, Result, Err}
+use Rattle.txs_world_protocol.specs.Ask.{may_add_event}
+use Rattle.txs_world_protocol.specs.declared.ask.Ask.{Ask}
 use Rattle.txs_world_protocol.specs.declared.event.Event.{Event}
 use Rattle.txs_world_protocol.specs.declared.event.EventKind.{EventKind}
 use Rattle.txs_world_protocol.specs.declared.event.EventKind.TheVariants as event
@@ -18,7 +20,7 @@ use Rattle.txs_tree_meaning.specs.Thread.{TxRun, ThreadState, action_meaning}
 use Rattle.txs_tree_meaning.specs.Tree.{PlainFunction}
 use Rattle.txs_code_meaning.specs.Machine.{Library, ThreadCode, agent_code, Configuration, Turned, run, Ended, Failed, Asking, Unfinished, Stuck}
 use Rattle.txs_code_meaning.specs.Opening.{opening}
-use Rattle.txs_theorem_threads.specs.FollowsAgent.{SoundAction, IsHandedIn, FollowsAgents}
+use Rattle.txs_theorem_threads.specs.FollowsAgent.{SoundAction, IsHandedIn, MeansAsked, FollowsAgents}
 use Rattle.txs_theorem_threads.specs.Noted.{txs_of}
 use Rattle.txs_theorem_threads.specs.RepliesFit.{HasEatenAll, halted, HasWaited}
 use Rattle.txs_theorem_threads.specs.Sends.{CodeSendsSound}
@@ -26,6 +28,7 @@ use Rattle.txs_world_book.specs.Book.{has_agent, actor_of, actors, newest, first
 use Rattle.txs_world_book.specs.Book as world
 use Rattle.txs_world_book.specs.Served.{cells_of}
 use Rattle.txs_world.specs.Store.{next_action}
+use Rattle.txs_theorem_runs.specs.Goes.{AsksAt}
 use Rattle.txs_theorem_runs.specs.Told.{exchange_of, Place, seen_of, trace_of}
 use Rattle.txs_theorem_runs.specs.Transactions.{SaidOf, undisturbed}
 use Rattle.txs_theorem_runs.specs.Run.{Actor, State, Play, plays}
@@ -105,14 +108,34 @@ abbrev pub OfEvent : Option Event → (Event → Type 0) → Type 0
 OfEvent None P = ⊥
 OfEvent (Some e) P = P e
 
--- What an agent's actor did by its trace, with these events that came since the last act, means what its actions mean, one after another; these bytes
--- are what they printed.
+-- what is said of an agent at the end of its trace: of the events since the last act, of what was printed since, and of what was done behind it
+abbrev pub AtEnd : Type 1
+AtEnd = List Place → List ℕ → List ActionDid → Type 0
+
+-- What an agent's actor did by its trace, with these events that came since the last act, means what its actions mean, one after another, up to an end of
+-- which this is said; these bytes are what they printed.
+abbrev pub ActsUpTo : List CellDefinition → List PlainFunction → (ℕ → List Event) → CellId → AtEnd → List Place → List Place → List ℕ → List ActionDid → Type 0
+ActsUpTo cells functions books g end [] since out ds = end since out ds
+ActsUpTo cells functions books g end (p ∷ ps) since out ds =
+    OfEvent (nth (books p.book) p.at) (λ e. EventMeans cells functions books g p e.kind since out ds (λ since1 out1 ds1. ActsUpTo cells functions books g end ps since1 out1 ds1))
+
+-- at the end it runs no action, or still runs one
+abbrev pub StillActs : List CellDefinition → List PlainFunction → (ℕ → List Event) → CellId → AtEnd
+StillActs cells functions books g since out [] = (since ≡ []) × (out ≡ [])
+StillActs cells functions books g since out (d ∷ []) = (d.trace ≡ since) × StillMeans cells functions books g d out
+StillActs cells functions books g since out (d ∷ e ∷ ds) = ⊥
+
+-- so it is up to such an end
 abbrev pub ActsInTurn : List CellDefinition → List PlainFunction → (ℕ → List Event) → CellId → List Place → List Place → List ℕ → List ActionDid → Type 0
-ActsInTurn cells functions books g [] since out [] = (since ≡ []) × (out ≡ [])
-ActsInTurn cells functions books g [] since out (d ∷ []) = (d.trace ≡ since) × StillMeans cells functions books g d out
-ActsInTurn cells functions books g [] since out (d ∷ e ∷ ds) = ⊥
-ActsInTurn cells functions books g (p ∷ ps) since out ds =
-    OfEvent (nth (books p.book) p.at) (λ e. EventMeans cells functions books g p e.kind since out ds (λ since1 out1 ds1. ActsInTurn cells functions books g ps since1 out1 ds1))
+ActsInTurn cells functions books g ps since out ds = ActsUpTo cells functions books g (StillActs cells functions books g) ps since out ds
+
+-- At the end it runs an action that has come to this ask: the action that is next in the agent's mail after the whole book, for some bound on its loops, is
+-- over as the ask hands it in, or needs an event of the book that answers the ask. It printed just this.
+abbrev pub StandsAt : List CellDefinition → List PlainFunction → (ℕ → List Event) → CellId → Ask → AtEnd
+StandsAt cells functions books g q since out [] = ⊥
+StandsAt cells functions books g q since out (d ∷ []) =
+    (d.trace ≡ since) × (x : Action) × (next_action (cells_of cells) (books 0) g ≡ Some x) × (n : ℕ) × MeansAsked cells g (Some q) out (meaning_after cells functions books (books 0) g n x since)
+StandsAt cells functions books g q since out (d ∷ e ∷ ds) = ⊥
 
 -- an actor that hasn't ended has printed just this
 abbrev pub HasPrintedJust : List ℕ → Turned Configuration → Type 0
@@ -130,6 +153,8 @@ pub record AgentExplained (cells : List CellDefinition) (code : Library) (functi
   pub goes_on : HasPrintedJust printed x.at
   pub did : List ActionDid
   pub acts : ActsInTurn cells functions books g (trace_of cells books a x.entries) [] printed did
+  -- where its next instruction asks what may add an event, its last action has come to that ask
+  pub stands : (c : Configuration) (q : Ask) → x.at ≡ Unfinished c → AsksAt (agent_code code g) c q → may_add_event q ≡ true → ActsUpTo cells functions books g (StandsAt cells functions books g q) (trace_of cells books a x.entries) [] printed did
 
 -- each agent's actor runs the agent's code
 abbrev pub RunsAgents : List CellDefinition → ℕ → (ℕ → ThreadCode) → Library → Type 0

@@ -1,6 +1,6 @@
 -- The state that all actors share: the store with its book, and of each atom its book; and what is answered from them.
 use Rattle.std.specs.Prelude.{ℕ, zero, suc, Bool, true, ◌&&◌, ◌==◌, nat_lt, List, [], length, Option, Some, None, if◌then◌else◌}
-use Rattle.txs_world_protocol.specs.SeenEvent.{SeenEvent, home}
+use Rattle.txs_world_protocol.specs.SeenEvent.{SeenEvent}
 use Rattle.txs_world_protocol.specs.declared.ask.Ask.{Ask}
 use Rattle.txs_world_protocol.specs.declared.ask.Ask.TheVariants as ask
 use Rattle.txs_world_protocol.specs.declared.ask.Reply.TheVariants as reply
@@ -12,6 +12,7 @@ use Rattle.txs_value_cell.specs.Forms.{same_kind}
 use Rattle.txs_value_cell.specs.declared.cell.CellDefinition.{CellDefinition}
 use Rattle.txs_value_data.specs.declared.value.CellId.{CellId}
 use Rattle.txs_value_data.specs.declared.value.CellKind.TheVariants.{Atom}
+use Rattle.txs_theorem_threads.specs.RepliesFit.{book_asked}
 use Rattle.txs_world_book.specs.Atom.{PlainAtom, atom_after, atom_newest, closes}
 use Rattle.txs_world_book.specs.Book.{has_cell, may_name, opening, after, actors}
 use Rattle.txs_world_book.specs.History.{at_of, view_of}
@@ -45,11 +46,7 @@ has_atom cells c = is_atom c && has_cell (cells_of cells) c
 
 -- the book that answers an ask: an atom's own for what names an atom, else the store's
 abbrev pub book_for : List CellDefinition → Ask → ℕ
-book_for cells (ask.Peek c) = home cells c
-book_for cells (ask.OpenAt c) = home cells c
-book_for cells (ask.CloseAt c p v) = home cells c
-book_for cells (ask.Broke c p) = home cells c
-book_for cells _ = 0
+book_for cells q = book_asked cells q
 
 -- what an atom answers to what may be asked of it
 abbrev pub serve_atom : PlainAtom → ℕ → Ask → Served

@@ -3,6 +3,7 @@
 
 ghost use Rattle.txs_theorem_runs.specs.Agents.{RunActsMean};
 ghost use Rattle.txs_theorem_runs.specs.Explains.{RunExplained, ProgramExplained};
+ghost use Rattle.txs_theorem_runs.specs.Full.{RunStops, RunWaits, RunFullStops};
 ghost use Rattle.txs_theorem_runs.specs.Invariant.{OpeningHolds, PlayHolds, InvariantExplains};
 ghost use Rattle.txs_theorem_runs.specs.Lawful.{RunAsksLawful, TypedStands, TypedActorsStand};
 ghost use Rattle.txs_theorem_runs.specs.Laws.{ToldFits, ServedIsTold, OthersLeaveTold, AloneHistory};
@@ -122,7 +123,8 @@ pub fn alone_history()
 
 /// What each agent's actor did means what its actions mean: of each act the first in its mail, on the state that the agent found and on
 /// what its actor did since the act before it, with what was printed and what it sends. What all code sends a program may send. An agent
-/// never ends.
+/// never ends. Where its next instruction asks what may add an event, its action needs an event of the book that answers, or is over as it is
+/// handed in.
 pub fn every_action_means()
     ensures { RunActsMean }
 {
@@ -153,6 +155,37 @@ pub fn every_trace_holds()
 /// A program explains all that its threads and its agents did in one run.
 pub fn every_report_is_explained()
     ensures { RunReported }
+{
+    unwritten_stays();
+    serve_keeps();
+    done_is_undisturbed();
+    refused_is_undisturbed();
+    action_stays();
+    replies_fit();
+}
+
+/// An actor that was stopped for a full book is at an ask that may add an event to a book which is full, where no play itself says that a book is full.
+pub fn every_full_stop_is_true()
+    ensures { RunStops }
+{
+    serve_keeps();
+}
+
+/// Where an actor's next instruction asks, each source that its code follows needs an event of the book that answers the ask. It has eaten all that the
+/// actor did, and printed what the actor printed.
+pub fn every_ask_is_waited_for()
+    ensures { RunWaits }
+{
+    unwritten_stays();
+    serve_keeps();
+    done_is_undisturbed();
+    replies_fit();
+}
+
+/// A program says of each actor that is at an ask whose book is full that it needs an event of a full book. Its meaning has eaten all that the actor did,
+/// and printed just what the actor printed. An agent's action may also be over, and is to be handed in to the store's book, which is full.
+pub fn every_full_stop_is_explained()
+    ensures { RunFullStops }
 {
     unwritten_stays();
     serve_keeps();

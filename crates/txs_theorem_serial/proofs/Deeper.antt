@@ -40,6 +40,9 @@ value_link S = record {
   out_of_turns_of = λ s t r. tt;
   invalid_both = tt;
   invalid_loose = λ h b. tt;
+  ahead = λ t. ⊥;
+  ahead_stops = λ t h s. absurd h;
+  ahead_invalid = λ t h. absurd h;
 }
 
 module _ (S : Type 0) where

@@ -39,8 +39,8 @@ use Rattle.txs_tree_meaning.specs.Known.{known}
 use Rattle.txs_tree_meaning.specs.Meaning.{Completion, Completes, Recurs, Faults, Retries, Waits, OutOfTurns, Invalid, bind, again, give, result_of, allowed, Applies, turns, apply, eval, eval_all, eval_let, eval_do, call_at}
 use Rattle.txs_tree_meaning.specs.Pure.{nowhere}
 use Rattle.txs_tree_meaning.specs.Sound.{Zone, in_function, in_thread, in_dosync, SoundTree, SoundAll, SoundLet, SoundDo, SoundFunctions, SoundCells}
-use Rattle.txs_tree_meaning.specs.Thread.{TxRun, ThreadState, from_events, body_in, applies_in, action_meaning, with_tx, holding, eats, meant, reads, resets, faulted, faultless, swaps, sends, sends_or_holds, over, Transacting, run_of, ends_tx, is_retry, is_held, again as tried_again, uneaten, eats_tx, Surroundings, thread_look, thread_put, thread_update, on_events, thread_meaning, accepts}
-use Rattle.txs_tree_meaning.specs.Transaction.{TxState, value_or, valued, merged, redone, judged, validated, accepted, if_accepted, final_writes, tx_meaning}
+use Rattle.txs_tree_meaning.specs.Thread.{TxRun, ThreadState, from_events, body_in, applies_in, action_meaning, with_tx, holding, eats, meant, reads, resets, faulted, faultless, swaps, sends, sends_or_holds, over, Transacting, run_of, ends_tx, is_retry, is_held, missing, again as tried_again, uneaten, eats_tx, Surroundings, thread_look, thread_put, thread_update, on_events, thread_meaning, accepts}
+use Rattle.txs_tree_meaning.specs.Transaction.{TxState, value_or, valued, merged, redone, judged, validated, accepted, if_accepted, final_writes, tx_meaning, tx_meaning_lacking}
 use Rattle.txs_tree_meaning.specs.Tree.{Mark, Tree, Const, Local, If, Do, Let, Loop, Recur, Core, Call, VectorOf, Println, Dosync, Look, Put, Update, Send, Trees, none, more, count, PlainFunction}
 use Rattle.txs_tree_meaning.proofs.Callable.{both, function_at, nth-take, tree-widened}
 use Rattle.txs_theorem_threads.specs.Noted.{IsNone}
@@ -287,7 +287,7 @@ module _ (cells : List CellDefinition) (functions : List PlainFunction) (from : 
 
       module _ (b : ℕ) (le : b ≤ length functions) (m : Mark) (e : Tree) (env : List Value) (body_sound : SoundTree (known functions) in_dosync (length env) None e) (body_marked : Marked m.wanted e) where
         abbrev d : Transacting
-        d = record { mark = m; body = e; locals = env; on = tx_meaning n functions b e env; validators = validators }
+        d = record { mark = m; body = e; locals = env; on = tx_meaning n functions b e env; lacking = λ j. tx_meaning_lacking n functions b e env (Some j); validators = validators }
 
         abbrev f : Applies ThreadState
         f = apply (call b true) m.span
@@ -463,8 +463,17 @@ module _ (cells : List CellDefinition) (functions : List PlainFunction) (from : 
         over_reaches (OutOfTurns s) b t next g h = g
         over_reaches Invalid b t next g h = tt
 
+        missing_reaches : (z : Completion TxState Value) (t : ThreadState) (next : Completion ThreadState Value) → NotedAt t → Reaches Any next → Reaches Any (missing t z next)
+        missing_reaches (Completes v s) t next g h = tt
+        missing_reaches (Recurs vs s) t next g h = tt
+        missing_reaches (Faults f1 s) t next g h = tt
+        missing_reaches (Retries s) t next g h = tt
+        missing_reaches (Waits s) t next g h = h
+        missing_reaches (OutOfTurns s) t next g h = g
+        missing_reaches Invalid t next g h = tt
+
         tried_reaches : (k : EventKind) (R : World) (t : ThreadState) (next : Completion ThreadState Value) → NotedAt t → Reaches Any next → Reaches Any (tried_again d k R t next)
-        tried_reaches (event.Retry since c cause.Outdated) R t next g h = h
+        tried_reaches (event.Retry since c cause.Outdated) R t next g h = missing_reaches (d.lacking c.number R) t next g h
         tried_reaches (event.Retry since c cause.Held) R t next g h = over_reaches (d.on R) (λ s. is_held s.done c.number) t next g h
         tried_reaches (event.Retry since c (cause.Commuted at)) R t next g h = over_reaches (d.on R) (λ s. has_number (commuted s.done) c.number) t next g h
         tried_reaches _ R t next g h = tt

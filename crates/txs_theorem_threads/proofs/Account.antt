@@ -17,11 +17,11 @@ use Rattle.txs_code_meaning.specs.ActorState as actor
 use Rattle.txs_code_meaning.specs.ActorState.{ActorState, Reception, Replied, Unreplied, asks, InHand, held_in, now_holding}
 use Rattle.txs_theorem_threads.proofs.Fitted.{reply_then}
 use Rattle.txs_theorem_threads.proofs.Related.{Link, Related}
-use Rattle.txs_theorem_threads.proofs.Worlds.{Fitting, Splits, IsShort, WantsOwn, answered_by}
+use Rattle.txs_theorem_threads.proofs.Worlds.{Fitting, Splits, IsShort, WantsOwn, asked_of, answered_by}
 use Rattle.txs_theorem_threads.specs.EndsSo.{in_hand}
 use Rattle.txs_theorem_threads.specs.Noted.{Commits}
 use Rattle.txs_theorem_threads.specs.OnReplies.{retrying}
-use Rattle.txs_theorem_threads.specs.RepliesFit.{Phase, Out, Goes, ReplyFits, Halt, Going, Stopped, Short, Rerun, halted, HasWaited, HasEaten}
+use Rattle.txs_theorem_threads.specs.RepliesFit.{Phase, Out, Goes, ReplyFits, Halt, Going, Stopped, Short, Rerun, book_asked, halted, HasWaited, HasWaitedFor, HasAsked, HasEaten}
 
 -- which exchanges fit which events, where a thread has noted these transactions
 abbrev pub Noting : Type 1
@@ -54,6 +54,32 @@ HasWaitedOn before out txs (Stopped t) = (t.todo ≡ []) × (before ++ t.printed
 HasWaitedOn before out txs (Short t) = ⊥
 HasWaitedOn before out txs (Rerun t) = ⊥
 
+-- so it does, and the event is to be of this book
+abbrev pub HasAskedOn : Option ℕ → List ℕ → List ℕ → List TxRun → Halt ThreadState → Type 0
+HasAskedOn book before out txs Going = ⊥
+HasAskedOn book before out txs (Stopped t) = (t.asks ≡ book) × (t.todo ≡ []) × (before ++ t.printed ≡ out) × (t.txs ≡ txs)
+HasAskedOn book before out txs (Short t) = ⊥
+HasAskedOn book before out txs (Rerun t) = ⊥
+
+pub asked_noted : (book : Option ℕ) (before out : List ℕ) (txs : List TxRun) (o : Halt ThreadState) → HasAskedOn book before out txs o → HasWaitedOn before out txs o
+asked_noted book before out txs Going h = absurd h
+asked_noted book before out txs (Stopped t) h = (h.1, h.2, h.3)
+asked_noted book before out txs (Short t) h = absurd h
+asked_noted book before out txs (Rerun t) h = absurd h
+
+-- the body needs an event of this book, printed the rest of this and has eaten all
+abbrev pub AskedBehind : Option ℕ → List ℕ → List ℕ → Halt ThreadState → Type 0
+AskedBehind book before out Going = ⊥
+AskedBehind book before out (Stopped t) = (t.asks ≡ book) × (t.todo ≡ []) × (before ++ t.printed ≡ out)
+AskedBehind book before out (Short t) = ⊥
+AskedBehind book before out (Rerun t) = ⊥
+
+pub asked_on : (book : Option ℕ) (before out : List ℕ) (txs : List TxRun) (o : Halt ThreadState) → HasAskedOn book before out txs o → AskedBehind book before out o
+asked_on book before out txs Going h = absurd h
+asked_on book before out txs (Stopped t) h = (h.0, h.1, h.2)
+asked_on book before out txs (Short t) h = absurd h
+asked_on book before out txs (Rerun t) h = absurd h
+
 -- the body needs an event, printed the rest of this and has eaten all
 abbrev pub WaitedBehind : List ℕ → List ℕ → Halt ThreadState → Type 0
 WaitedBehind before out Going = ⊥
@@ -74,6 +100,19 @@ waited_on before out txs (Stopped t) h = (h.0, h.1)
 waited_on before out txs (Short t) h = absurd h
 waited_on before out txs (Rerun t) h = absurd h
 
+-- what goes on needs no event
+pub asked_loose : (cells : List CellDefinition) (q : Option Ask) (out : List ℕ) → HasAsked cells q out Going → ⊥
+asked_loose cells None out a = absurd a
+asked_loose cells (Some q) out a = absurd a
+
+-- what needs an event of a book needs an event
+pub asked_waited : (cells : List CellDefinition) (q : Option Ask) (out : List ℕ) (h : Halt ThreadState) → HasAsked cells q out h → HasWaited out h
+asked_waited cells None out h a = absurd a
+asked_waited cells (Some q) out Going a = absurd a
+asked_waited cells (Some q) out (Stopped t) a = (a.1, a.2)
+asked_waited cells (Some q) out (Short t) a = absurd a
+asked_waited cells (Some q) out (Rerun t) a = absurd a
+
 -- what needs an event and has eaten all has eaten all
 pub waited_eaten : (out : List ℕ) (h : Halt ThreadState) → HasWaited out h → HasEaten out h
 waited_eaten out Going h = absurd h
@@ -87,7 +126,23 @@ waited_eaten_behind before out (Stopped t) h = h
 waited_eaten_behind before out (Short t) h = absurd h
 waited_eaten_behind before out (Rerun t) h = absurd h
 
+pub asked_eaten_behind : (book : Option ℕ) (before out : List ℕ) (h : Halt ThreadState) → AskedBehind book before out h → EatenBehind before out h
+asked_eaten_behind book before out Going h = absurd h
+asked_eaten_behind book before out (Stopped t) h = (h.1, h.2)
+asked_eaten_behind book before out (Short t) h = absurd h
+asked_eaten_behind book before out (Rerun t) h = absurd h
+
 -- behind nothing all was printed by the body
+pub asked_plain : (book : ℕ) (out : List ℕ) (h : Halt ThreadState) → AskedBehind (Some book) [] out h → HasWaitedFor book out h
+asked_plain book out Going h = absurd h
+asked_plain book out (Stopped t) h = h
+asked_plain book out (Short t) h = absurd h
+asked_plain book out (Rerun t) h = absurd h
+
+pub own_asked : (cells : List CellDefinition) (q : Option Ask) (out : List ℕ) (h : Halt ThreadState) → WantsOwn q → AskedBehind (asked_of cells q) [] out h → HasAsked cells q out h
+own_asked cells None out h own a = absurd own
+own_asked cells (Some q) out h own a = asked_plain (book_asked cells q) out h a
+
 pub waited_plain : (out : List ℕ) (h : Halt ThreadState) → WaitedBehind [] out h → HasWaited out h
 waited_plain out Going h = absurd h
 waited_plain out (Stopped t) h = h
@@ -107,8 +162,8 @@ pub record Account (cells : List CellDefinition) : Type 1 where
   pub waits_loose : (s : ActorState) → waits s Going → (o : Halt ThreadState) → waits s o
   pub short_loose : (s : ActorState) → short s Going → (o : Halt ThreadState) → short s o
   pub short_here : (s : ActorState) (t : ThreadState) (es : List SeenEvent) → fits t.txs Out s.todo es → t.todo ≡ es ++ tail → before ++ t.printed ≡ s.printed → short s (Short t)
-  -- y is what the thread does on a list of events: with none left it needs one, and has eaten all
-  pub waiting : (txs : List TxRun) (ph : Phase) (s : ActorState) (es : List SeenEvent) (y : List SeenEvent → Completion ThreadState Value) → WantsOwn s.wants → fits txs ph s.todo es → HasWaitedOn before s.printed txs (halted (y [])) → waits s (halted (y (es ++ tail)))
+  -- y is what the thread does on a list of events: with none left it needs one of the book that answers what is asked, and has eaten all
+  pub waiting : (txs : List TxRun) (ph : Phase) (s : ActorState) (es : List SeenEvent) (y : List SeenEvent → Completion ThreadState Value) → WantsOwn s.wants → fits txs ph s.todo es → HasAskedOn (asked_of cells s.wants) before s.printed txs (halted (y [])) → waits s (halted (y (es ++ tail)))
   -- with none left it needs one, has eaten all, and on an end of what is in hand it needs turns
   pub shortage : (txs : List TxRun) (ph : Phase) (s : ActorState) (es : List SeenEvent) (y : List SeenEvent → Completion ThreadState Value) → fits txs ph s.todo es → HasWaitedOn before s.printed txs (halted (y []))
       → ((Q : World) → IsShort (halted (y (in_hand cells Q ph)))) → short s (halted (y (es ++ tail)))
@@ -151,6 +206,9 @@ account_link cells a = record {
   invalid = λ b. Unit {0};
   invalid_both = tt;
   invalid_loose = λ h b. tt;
+  ahead = λ t. ⊥;
+  ahead_stops = λ t h s. absurd h;
+  ahead_invalid = λ t h. absurd h;
 }
 
 -- an ask has no reply yet, or one that fits

@@ -1,12 +1,12 @@
 -- Code that does what actions mean on any replies follows each action that an agent runs.
-use Rattle.std.proofs.Common.{ℕ, zero, suc, Bool, true, false, List, [], Option, Some, None, Result, Ok, Err, refl, sym, ap, subst, arith, length, ◌≡◌, ◌≤◌, ◌+◌, ◌∷◌, ◌++◌, ◌∙◌}
+use Rattle.std.proofs.Common.{ℕ, Bool, true, false, List, [], Option, Some, None, Result, Ok, Err, refl, sym, ap, subst, arith, ◌≡◌, ◌≤◌, ◌+◌, ◌∷◌, ◌++◌, ◌∙◌}
 use Rattle.std.proofs.lemmas.Bool.{false≢true}
 use Rattle.std.proofs.lemmas.List.{append_assoc, append-nil}
 use Rattle.txs_world_protocol.proofs.AskLemmas.{same_ask-sound}
 use Rattle.txs_world_protocol.specs.Ask.{Exchange, same_ask}
 use Rattle.txs_world_protocol.specs.SeenEvent.{SeenEvent}
 use Rattle.txs_world_protocol.specs.declared.ask.Ask.{Ask}
-use Rattle.txs_world_protocol.specs.declared.ask.Ask.TheVariants.{Take, Finish}
+use Rattle.txs_world_protocol.specs.declared.ask.Ask.TheVariants.{Finish}
 use Rattle.txs_value_apply.specs.Core.{core}
 use Rattle.txs_value_cell.specs.Cells.{World}
 use Rattle.txs_value_cell.specs.declared.action.Action.{Action}
@@ -14,7 +14,6 @@ use Rattle.txs_value_cell.specs.declared.cell.CellDefinition.{CellDefinition}
 use Rattle.txs_value_base.specs.declared.fault.Fault.{Fault}
 use Rattle.txs_value_base.specs.declared.fault.FaultKind.{FaultKind}
 use Rattle.txs_value_base.specs.declared.fault.Span.{Span}
-use Rattle.txs_value_base.specs.declared.op.Callee.{Callee}
 use Rattle.txs_value_base.specs.declared.op.Callee.TheVariants.{Core as CoreOp, Function}
 use Rattle.txs_value_data.specs.declared.value.CellId.{CellId}
 use Rattle.txs_value_data.specs.declared.value.Value.{Value}
@@ -26,7 +25,7 @@ use Rattle.txs_tree_meaning.specs.Thread.{ThreadState, from_events, action_meani
 use Rattle.txs_tree_meaning.specs.Tree.{PlainFunction}
 use Rattle.txs_code_meaning.specs.ActorState.{ActorState, InHand, held_in}
 use Rattle.txs_code_meaning.specs.Machine.{Library, ThreadCode, agent_code, Configuration, Ended, Failed, Asking, Unfinished, Stuck, Outcome, exec}
-use Rattle.txs_theorem_threads.proofs.Account.{Account, IsBeside, begin_of, account_link, plain_splits, WaitedBehind, EatenBehind, waited_on, waited_eaten_behind}
+use Rattle.txs_theorem_threads.proofs.Account.{Account, IsBeside, begin_of, account_link, plain_splits, AskedBehind, EatenBehind, asked_on, asked_eaten_behind, asked_plain, waited_on, waited_eaten_behind}
 use Rattle.txs_theorem_threads.proofs.Ends.{consumed_later, consumed_over}
 use Rattle.txs_theorem_threads.proofs.Fitted.{if_belongs, fits_of}
 use Rattle.txs_theorem_threads.proofs.Follow.{none_left}
@@ -40,15 +39,15 @@ use Rattle.txs_theorem_threads.proofs.Related.{Related}
 use Rattle.txs_theorem_threads.proofs.Sound.{action_meant}
 use Rattle.txs_theorem_threads.proofs.Threads.{action_related}
 use Rattle.txs_theorem_threads.proofs.Whole.{nothing_after, grown, grown_over}
-use Rattle.txs_theorem_threads.proofs.Worlds.{IsOwn, WantsOwn}
+use Rattle.txs_theorem_threads.proofs.Worlds.{WantsOwn, asked_of}
 use Rattle.txs_theorem_threads.specs.ActionsBehave.{action_source, handed, IsUnanswered, AsksWith, EndsAs, ActionBehaves, SoundFollowsAgents}
 use Rattle.txs_theorem_threads.specs.Behaves.{IsMeant, IsProper, HasEnded, IsOver, outcome_of}
 use Rattle.txs_theorem_threads.specs.EndsSo.{NeedsTurns, HasSettled, in_hand}
 use Rattle.txs_theorem_threads.specs.Follows.{PureIsMeant}
-use Rattle.txs_theorem_threads.specs.FollowsAgent.{SoundAction, IsBetween, taken_at, IsHandedIn, MeansAsked, PrintedBehind, ActionExplained, IsAsking, FollowsAction}
+use Rattle.txs_theorem_threads.specs.FollowsAgent.{SoundAction, IsBetween, taken_at, IsHandedIn, MeansAsked, PrintedBehind, ActionExplained, IsAsking}
 use Rattle.txs_theorem_threads.specs.Noted.{AreNoted, txs_of}
 use Rattle.txs_theorem_threads.specs.PrintsSo.{HasPrintedSo}
-use Rattle.txs_theorem_threads.specs.RepliesFit.{Phase, Out, In, Viewed, WithSwap, belongs, PhaseFits, Halt, Going, Stopped, Short, Rerun, halted, HasWaited, HasEaten, HasEatenAll, Consumed}
+use Rattle.txs_theorem_threads.specs.RepliesFit.{Phase, Out, In, Viewed, WithSwap, belongs, PhaseFits, Halt, Going, Stopped, Short, Rerun, book_asked, halted, HasEaten, HasEatenAll, Consumed}
 use Rattle.txs_theorem_threads.specs.RepliesFitTo.{RepliesFitTo}
 
 -- ---- pure callees have an answer
@@ -102,12 +101,17 @@ fitting cells before end = record {
   fits = λ txs ph xs es. RepliesFitTo cells ph xs es end;
   splits = plain_splits cells (Some []) (λ ph xs es. RepliesFitTo cells ph xs es end) (λ ph x xs es h. if_belongs (belongs ph x.ask) (PhaseFits cells ph x.ask x.reply (λ ph1 es1. RepliesFitTo cells ph1 xs es1 end) es) h.1);
   tail = [];
-  waits = λ s o. WantsOwn s.wants × (s.todo ≡ [] → WaitedBehind before s.printed o);
+  waits = λ s o. WantsOwn s.wants × (s.todo ≡ [] → AskedBehind (asked_of cells s.wants) before s.printed o);
   short = λ s o. s.todo ≡ [] → EatenBehind before s.printed o;
   waits_loose = λ s h o. (h.0, λ e. absurd (h.1 e));
   short_loose = λ s h o e. absurd (h e);
   short_here = λ s t es f td pr e. (td ∙ none_left_to cells Out s.todo es end f e, pr);
-  waiting = λ txs ph s es y own f h. (own, λ e. subst (λ l. WaitedBehind before s.printed (halted (y l))) (sym (none_left_to cells ph s.todo es end f e)) (waited_on before s.printed txs (halted (y [])) h));
+  waiting = λ txs ph s es y own f h. (
+    own,
+    λ e.
+        subst (λ l. AskedBehind (asked_of cells s.wants) before s.printed (halted (y l))) (sym (none_left_to cells ph s.todo es end f e))
+        (asked_on (asked_of cells s.wants) before s.printed txs (halted (y [])) h),
+  );
   shortage = λ txs ph s es y f h ends e.
       subst (λ l. EatenBehind before s.printed (halted (y l))) (sym (none_left_to cells ph s.todo es end f e)) (waited_eaten_behind before s.printed (halted (y [])) (waited_on before s.printed txs (halted (y [])) h));
 }
@@ -119,7 +123,7 @@ AgreesTo cells before end (Completes v s) r = (t : ThreadState) × (r ≡ Comple
 AgreesTo cells before end (Recurs vs s) r = Unit {0}
 AgreesTo cells before end (Faults f s) r = (t : ThreadState) × (r ≡ Faults f t) × (before ++ t.printed ≡ s.printed) × (ph : Phase) × RepliesFitTo cells ph s.todo t.todo end
 AgreesTo cells before end (Retries s) r = Unit {0}
-AgreesTo cells before end (Waits s) r = WantsOwn s.wants × (s.todo ≡ [] → WaitedBehind before s.printed (halted r))
+AgreesTo cells before end (Waits s) r = WantsOwn s.wants × (s.todo ≡ [] → AskedBehind (asked_of cells s.wants) before s.printed (halted r))
 AgreesTo cells before end (OutOfTurns s) r = s.todo ≡ [] → EatenBehind before s.printed (halted r)
 AgreesTo cells before end Invalid r = Unit {0}
 
@@ -179,11 +183,11 @@ some_held None held e f = absurd (subst IsThere (ap begin_of e ∙ f) tt)
     IsThere (Some l) = ⊥
 
 -- what was printed behind some bytes
-waited_out : (before whole : List ℕ) (h : Halt ThreadState) → WaitedBehind before whole h → (out : List ℕ) × (whole ≡ before ++ out) × HasWaited out h
-waited_out before whole Going h = absurd h
-waited_out before whole (Stopped t) h = (t.printed, sym h.1, (h.0, refl))
-waited_out before whole (Short t) h = absurd h
-waited_out before whole (Rerun t) h = absurd h
+asked_out : (book : Option ℕ) (before whole : List ℕ) (h : Halt ThreadState) → AskedBehind book before whole h → (out : List ℕ) × (whole ≡ before ++ out) × AskedBehind book [] out h
+asked_out book before whole Going h = absurd h
+asked_out book before whole (Stopped t) h = (t.printed, sym h.2, (h.0, h.1, refl))
+asked_out book before whole (Short t) h = absurd h
+asked_out book before whole (Rerun t) h = absurd h
 
 printed_same : (before whole out : List ℕ) (h : Halt ThreadState) → EatenBehind before whole h → HasEaten out h → whole ≡ before ++ out
 printed_same before whole out Going a b = absurd a
@@ -200,47 +204,47 @@ eaten_all before whole out (Waits t) e h = (h.0, same_behind before t.printed ou
 eaten_all before whole out (OutOfTurns t) e h = (h.0, same_behind before t.printed out (h.1 ∙ e))
 eaten_all before whole out Invalid e h = absurd h
 
-own_means : (g : CellId) (wants : Option Ask) (out : List ℕ) (r : Completion ThreadState Value) → WantsOwn wants → HasWaited out (halted r) → MeansAsked g wants out r
-own_means g None out r own h = absurd own
-own_means g (Some (Finish k new sends)) out r own h = absurd own
-own_means g (Some _) out r own h = h
+own_means : (cells : List CellDefinition) (g : CellId) (wants : Option Ask) (out : List ℕ) (r : Completion ThreadState Value) → WantsOwn wants → AskedBehind (asked_of cells wants) [] out (halted r) → MeansAsked cells g wants out r
+own_means cells g None out r own h = absurd own
+own_means cells g (Some (Finish k new sends)) out r own h = absurd own
+own_means cells g (Some q) out r own h = asked_plain (book_asked cells q) out (halted r) h
 
 -- ---- where the machine is over
 
 module _ (cells : List CellDefinition) (g : CellId) (before : List ℕ) (end : Phase) (r : Completion ThreadState Value) where
-  gave : (v : Value) (u : ActorState) (o : Outcome) → (a : AgreesTo cells before end (Completes v u) r) → AsksWith (Finish g (Ok v) (handed u.acting)) u.todo u.printed o → Consumed o → ActionExplained g before o r
+  gave : (v : Value) (u : ActorState) (o : Outcome) → (a : AgreesTo cells before end (Completes v u) r) → AsksWith (Finish g (Ok v) (handed u.acting)) u.todo u.printed o → Consumed o → ActionExplained cells g before o r
   gave v u (Ended s) a k c = absurd k
   gave v u (Failed f s) a k c = absurd k
   gave v u (Asking s) a k c =
       let t : ThreadState = a.0 in
       let rest : RepliesFitTo cells Out [] t.todo end = subst (λ l. RepliesFitTo cells Out l t.todo end) (sym k.0 ∙ c) a.3 in
       let in_hand_now : IsHandedIn (Ok v) (handed u.acting) t.printed r = (t, a.1, rest.0, refl, some_held u.acting t.held a.2.1 a.2.2) in
-      (t.printed, k.2 ∙ sym a.2.0, subst (λ w. MeansAsked g w t.printed r) (sym k.1) (refl, in_hand_now))
+      (t.printed, k.2 ∙ sym a.2.0, subst (λ w. MeansAsked cells g w t.printed r) (sym k.1) (refl, in_hand_now))
   gave v u (Unfinished s) a k c = absurd k
   gave v u Stuck a k c = absurd k
 
-  faulted : (f : Fault) (u : ActorState) (o : Outcome) → (a : AgreesTo cells before end (Faults f u) r) → AsksWith (Finish g (Err f) []) u.todo u.printed o → Consumed o → ActionExplained g before o r
+  faulted : (f : Fault) (u : ActorState) (o : Outcome) → (a : AgreesTo cells before end (Faults f u) r) → AsksWith (Finish g (Err f) []) u.todo u.printed o → Consumed o → ActionExplained cells g before o r
   faulted f u (Ended s) a k c = absurd k
   faulted f u (Failed y s) a k c = absurd k
   faulted f u (Asking s) a k c =
       let t : ThreadState = a.0 in
       let rest : RepliesFitTo cells a.3 [] t.todo end = subst (λ l. RepliesFitTo cells a.3 l t.todo end) (sym k.0 ∙ c) a.4 in
       let in_hand_now : IsHandedIn (Err f) [] t.printed r = (t, a.1, rest.0, refl, refl) in
-      (t.printed, k.2 ∙ sym a.2, subst (λ w. MeansAsked g w t.printed r) (sym k.1) (refl, in_hand_now))
+      (t.printed, k.2 ∙ sym a.2, subst (λ w. MeansAsked cells g w t.printed r) (sym k.1) (refl, in_hand_now))
   faulted f u (Unfinished s) a k c = absurd k
   faulted f u Stuck a k c = absurd k
 
-  waited : (u : ActorState) → AgreesTo cells before end (Waits u) r → u.todo ≡ [] → ActionExplained g before (Asking u) r
+  waited : (u : ActorState) → AgreesTo cells before end (Waits u) r → u.todo ≡ [] → ActionExplained cells g before (Asking u) r
   waited u a e =
-      let w = waited_out before u.printed (halted r) (a.1 e) in
-      (w.0, w.1, own_means g u.wants w.0 r a.0 w.2)
+      let w = asked_out (asked_of cells u.wants) before u.printed (halted r) (a.1 e) in
+      (w.0, w.1, own_means cells g u.wants w.0 r a.0 w.2)
 
-  over_explained : (x : Completion ActorState Value) (o : Outcome) → IsMeant x → IsOver o → EndsAs g x o → Consumed o → AgreesTo cells before end x r → ActionExplained g before o r
+  over_explained : (x : Completion ActorState Value) (o : Outcome) → IsMeant x → IsOver o → EndsAs g x o → Consumed o → AgreesTo cells before end x r → ActionExplained cells g before o r
   over_explained (Completes v u) o m over h c a = gave v u o a (h (no_finish cells Out u.todo a.0.todo end a.3 g (Ok v) (handed u.acting))) c
   over_explained (Recurs vs u) o m over h c a = absurd m
   over_explained (Faults f u) o m over h c a = faulted f u o a (h (no_finish cells a.3 u.todo a.0.todo end a.4 g (Err f) [])) c
   over_explained (Retries u) o m over h c a = absurd m
-  over_explained (Waits u) o m over h c a = subst (λ z. ActionExplained g before z r) (sym h) (waited u a (subst Consumed h c))
+  over_explained (Waits u) o m over h c a = subst (λ z. ActionExplained cells g before z r) (sym h) (waited u a (subst Consumed h c))
   over_explained (OutOfTurns u) o m over h c a = absurd (subst IsOver h over)
   over_explained Invalid o m over h c a = absurd m
 
@@ -335,7 +339,7 @@ module _ (code : Library) (cells : List CellDefinition) (functions : List PlainF
     runs_so (Waits u) q k b =
         let l = to_waiting u q in
         let none = nothing_after l.done u.todo (sym l.eats ∙ c) in
-        (so_far.0, so_far.1, (l.more, eaten_all s.printed u.printed (so_far.0 ++ l.more) (means m) (further u.printed l.more l.prints) (waited_eaten_behind s.printed u.printed (halted (means m)) (b.1 none))))
+        (so_far.0, so_far.1, (l.more, eaten_all s.printed u.printed (so_far.0 ++ l.more) (means m) (further u.printed l.more l.prints) (asked_eaten_behind (asked_of cells u.wants) s.printed u.printed (halted (means m)) (b.1 none))))
     runs_so (OutOfTurns u) q k b =
         let l = to_running u q in
         let none = nothing_after l.done u.todo (sym l.eats ∙ c) in
@@ -354,7 +358,7 @@ module _ (code : Library) (cells : List CellDefinition) (functions : List PlainF
 
   -- ---- what is explained
 
-  explained_at : (m : ℕ) (o : Outcome) → comes m ≡ o → Consumed o → ActionExplained g s.printed o (means m)
+  explained_at : (m : ℕ) (o : Outcome) → comes m ≡ o → Consumed o → ActionExplained cells g s.printed o (means m)
   explained_at m (Unfinished s1) e c = runs_so m s1 e c (tree m) refl (meant m) (agreed m)
   explained_at m (Ended s1) e c = over_explained cells g s.printed end (means m) (tree m) (Ended s1) (meant m) tt (only m (Ended s1) e tt) c (agreed m)
   explained_at m (Failed f s1) e c = over_explained cells g s.printed end (means m) (tree m) (Failed f s1) (meant m) tt (only m (Failed f s1) e tt) c (agreed m)
@@ -397,7 +401,7 @@ module _ (code : Library) (cells : List CellDefinition) (functions : List PlainF
         let r = ends n (Waits u) q tt in
         let none : u.todo ≡ [] = consumed_over acts start m r.0 (Asking u) tt r.1 c in
         let there : comes (r.0 + n) ≡ Asking u = longer acts r.0 (r.0 + n) (omega arith) start (Asking u) tt r.1 in
-        let same = printed_same s.printed u.printed out (halted (means n)) (waited_eaten_behind s.printed u.printed (halted (means n)) (b.1 none)) eaten in
+        let same = printed_same s.printed u.printed out (halted (means n)) (asked_eaten_behind (asked_of cells u.wants) s.printed u.printed (halted (means n)) (b.1 none)) eaten in
         (r.0 + n, omega arith, subst (HasPrintedSo (s.printed ++ out)) (sym there) (none, same))
     prints_at (OutOfTurns u) q k b =
         let r = behaves.goes_on v s todo n u between q in
@@ -409,7 +413,7 @@ module _ (code : Library) (cells : List CellDefinition) (functions : List PlainF
 
   module _ (Q : World) (m n k b : ℕ) (m_below : m ≤ b) (n_below : n ≤ b) (k_below : k ≤ b) (c : Consumed (comes m)) (enough : NeedsTurns (action_meaning cells functions k a v (es ++ in_hand cells Q end)) → ⊥) where
     abbrev EndsHere : Type 0
-    EndsHere = (j : ℕ) × IsAsking (comes j) × ActionExplained g s.printed (comes j) (means n)
+    EndsHere = (j : ℕ) × IsAsking (comes j) × ActionExplained cells g s.printed (comes j) (means n)
 
     -- the tree has turns enough
     never_short : (u : ActorState) → tree b ≡ OutOfTurns u → ⊥
@@ -440,7 +444,7 @@ module _ (code : Library) (cells : List CellDefinition) (functions : List PlainF
     ends_at (OutOfTurns u) q t f d = absurd (never_short u q)
     ends_at Invalid q t f d = absurd t
 
-  ends_so_at : (Q : World) (m n k : ℕ) → Consumed (comes m) → HasSettled (means n) → (NeedsTurns (action_meaning cells functions k a v (es ++ in_hand cells Q end)) → ⊥) → (j : ℕ) × IsAsking (comes j) × ActionExplained g s.printed (comes j) (means n)
+  ends_so_at : (Q : World) (m n k : ℕ) → Consumed (comes m) → HasSettled (means n) → (NeedsTurns (action_meaning cells functions k a v (es ++ in_hand cells Q end)) → ⊥) → (j : ℕ) × IsAsking (comes j) × ActionExplained cells g s.printed (comes j) (means n)
   ends_so_at Q m n k c settled enough =
       let b = m + (n + k) in
       ends_at Q m n k b (omega arith) (omega arith) (omega arith) c enough (tree b) refl (meant b) (agreed b)

@@ -1,9 +1,9 @@
 -- Where the thread's meaning ends on the events, the code ends so.
-use Rattle.std.proofs.Common.{ℕ, List, [], refl, sym, subst, arith, ⊎_elim, ◌≡◌, ◌≤◌, ◌+◌, ◌++◌, ◌∙◌}
+use Rattle.std.proofs.Common.{ℕ, List, [], Some, refl, sym, subst, arith, ⊎_elim, ◌≡◌, ◌≤◌, ◌+◌, ◌++◌, ◌∙◌}
 use Rattle.std.proofs.lemmas.Bool.{cases_lt}
 use Rattle.txs_code_meaning.specs.ActorState.{ActorState}
 use Rattle.txs_code_meaning.specs.Machine.{ThreadCode, Configuration, Ended, Failed, Asking, Unfinished, Stuck, Outcome, exec}
-use Rattle.txs_theorem_threads.proofs.Account.{waited_eaten}
+use Rattle.txs_theorem_threads.proofs.Account.{asked_waited, waited_eaten}
 use Rattle.txs_theorem_threads.proofs.Longer.{longer}
 use Rattle.txs_theorem_threads.proofs.Fitted.{fits_of}
 use Rattle.txs_theorem_threads.proofs.Loops.{loops_too}
@@ -17,7 +17,7 @@ use Rattle.txs_theorem_threads.specs.Behaves.{source, IsMeant, HasEnded, outcome
 use Rattle.txs_theorem_threads.specs.EndsSo.{NeedsTurns, HasSettled, in_hand, EndsSo}
 use Rattle.txs_theorem_threads.specs.Follows.{Follows, IsEverMeant}
 use Rattle.txs_theorem_threads.specs.PrintsSo.{HasPrintedSo, PrintsSo}
-use Rattle.txs_theorem_threads.specs.RepliesFit.{Phase, Out, Agrees, Explained, Consumed, Halt, Going, Stopped, Short, Rerun, halted, HasEaten}
+use Rattle.txs_theorem_threads.specs.RepliesFit.{Phase, Out, RepliesFit, book_asked, HasWaitedFor, HasAsked, Agrees, Explained, Consumed, Halt, Going, Stopped, Short, Rerun, halted, HasEaten}
 use Rattle.txs_theorem_threads.specs.RepliesFitTo.{RepliesFitTo}
 use Rattle.txs_tree_meaning.specs.Meaning.{Completion, Completes, Recurs, Faults, Retries, Waits, OutOfTurns, Invalid}
 use Rattle.txs_world_protocol.specs.SeenEvent.{SeenEvent}
@@ -25,7 +25,9 @@ use Rattle.txs_tree_meaning.specs.Thread.{ThreadState, thread_meaning}
 use Rattle.txs_tree_meaning.specs.Sound.{SoundSource}
 use Rattle.txs_tree_meaning.specs.Tree.{ThreadSource}
 use Rattle.txs_value_cell.specs.Cells.{World}
+use Rattle.txs_value_cell.specs.declared.cell.CellDefinition.{CellDefinition}
 use Rattle.txs_world_protocol.specs.Ask.{Exchange}
+use Rattle.txs_world_protocol.specs.declared.ask.Ask.{Ask}
 use Rattle.txs_value_data.specs.declared.value.Value.{Value}
 
 -- what has consumed all replies has done so later
@@ -96,7 +98,7 @@ module _ (code : ThreadCode) (p : ThreadSource) (behaves : Behaves code p) (soun
       let r = ends code p behaves sound todo n (Waits s) q tt in
       let none_left : s.todo ≡ [] = consumed_over code (opening code todo) m r.0 (Asking s) tt r.1 c in
       let there : target code (r.0 + n) todo ≡ Asking s = longer code r.0 (r.0 + n) (omega arith) (opening code todo) (Asking s) tt r.1 in
-      (r.0 + n, omega arith, subst (HasPrintedSo out) (sym there) (none_left, eaten_same s.printed out (halted (thread_meaning p n es)) (waited_eaten s.printed (halted (thread_meaning p n es)) (a none_left)) eaten))
+      (r.0 + n, omega arith, subst (HasPrintedSo out) (sym there) (none_left, eaten_same s.printed out (halted (thread_meaning p n es)) (waited_eaten s.printed (halted (thread_meaning p n es)) (asked_waited p.cells s.wants s.printed (halted (thread_meaning p n es)) (a none_left))) eaten))
   printed_so (OutOfTurns s) q t a =
       let r = behaves.goes_on todo n s q in
       let none_left : s.todo ≡ [] = consumed_later code (opening code todo) m r.0 (target code m todo) (Unfinished s) (omega (arith, le, r.1)) refl r.2 c in
@@ -107,11 +109,38 @@ prints_so : (code : ThreadCode) (p : ThreadSource) → Behaves code p → SoundS
 prints_so code p behaves sound meant todo es m n out f c le eaten =
     printed_so code p behaves sound todo es m n out c le eaten (source p n todo) refl (meant n todo es f) (tree_follows p n todo es sound f)
 
+-- ---- what is asked
+
+-- where it asks and has consumed all replies, this needs an event of the book that answers the ask
+abbrev AsksSo : List CellDefinition → Completion ThreadState Value → Outcome → Type 0
+AsksSo cells r (Ended s) = Unit {0}
+AsksSo cells r (Failed f s) = Unit {0}
+AsksSo cells r (Asking s) = s.todo ≡ [] → HasAsked cells s.wants s.printed (halted r)
+AsksSo cells r (Unfinished s) = Unit {0}
+AsksSo cells r Stuck = Unit {0}
+
+asked_by : (cells : List CellDefinition) (x : Completion ActorState Value) (r : Completion ThreadState Value) → Agrees cells x r → AsksSo cells r (outcome_of x)
+asked_by cells (Completes v s) r a = tt
+asked_by cells (Recurs vs s) r a = tt
+asked_by cells (Faults f s) r a = tt
+asked_by cells (Retries s) r a = tt
+asked_by cells (Waits s) r a = a
+asked_by cells (OutOfTurns s) r a = tt
+asked_by cells Invalid r a = tt
+
+asks_so : (code : ThreadCode) (p : ThreadSource) → Behaves code p → SoundSource p → IsEverMeant p → (todo : List Exchange) (es : List SeenEvent) (m : ℕ) (s : ActorState) (q : Ask)
+    → RepliesFit p.cells Out todo es → target code m todo ≡ Asking s → s.todo ≡ [] → s.wants ≡ Some q → HasWaitedFor (book_asked p.cells q) s.printed (halted (thread_meaning p m es))
+asks_so code p behaves sound meant todo es m s q f e none wants =
+    let r = thread_meaning p m es in
+    let same = behaves.only todo m (Asking s) tt e (meant m todo es f) in
+    subst (λ w. HasAsked p.cells w s.printed (halted r)) wants (subst (AsksSo p.cells r) same (asked_by p.cells (source p m todo) r (tree_follows p m todo es sound f)) none)
+
 -- code that behaves as a thread's tree follows the thread, where no answer of the tree is invalid
 pub behaves_follows : (code : ThreadCode) (p : ThreadSource) → Behaves code p → SoundSource p → IsEverMeant p → Follows code p
 behaves_follows code p behaves sound meant = record {
   explained = λ todo es m f c. explained code p behaves sound todo es m (target code m todo) refl f (meant m todo es f) c;
   noted = λ todo es m f c. noted code p behaves sound todo es m (target code m todo) refl f (meant m todo es f) c;
+  asks_so = asks_so code p behaves sound meant;
   reaches = λ todo es n k f t le. (behaves.follows todo n t, subst (λ x. Agrees p.cells x (thread_meaning p k es)) (more_turns p sound todo n k le t) (tree_follows p k todo es sound f));
   goes_on = behaves.goes_on;
   prints_so = prints_so code p behaves sound meant;

@@ -35,7 +35,7 @@ module _ (cells : List CellDefinition) (fs : List SeenEvent) (next next1 : Goes)
 
   in_more : (R : World) (a : Ask) (r : Reply) (es : List SeenEvent) → InFits R a r next es → InFits R a r next1 (es ++ fs)
   in_more R (ask.Look c p) (reply.Is v) es h = (h.0, k (In R) es h.1)
-  in_more R (ask.Look c p) (reply.Retry d) es h = on_more Out 0 (λ e. SaysOutdated e.kind) es h
+  in_more R (ask.Look c p) (reply.Retry d) es h = on_more Out 0 (λ e. (R ≡ e.R) × SaysOutdated c e.kind) es h
   in_more R (ask.View cs) (reply.Views q vs) es h = (h.0, h.1, k (Viewed R h.0) es h.2)
   in_more R (ask.Commit p ws rs q cs sends) reply.Done es h = on_more Out 0 (λ e. (R ≡ e.R) × (cs ≡ []) × SaysCommit ws sends e.kind) es h
   in_more R (ask.Commit p ws rs q cs sends) (reply.Retry d) es h = on_more Out 0 (λ e. (R ≡ e.R) × SaysHeld d e.kind × (has_number (cells_in ws ++ rs) d.number ≡ true)) es h

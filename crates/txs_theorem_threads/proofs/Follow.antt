@@ -8,12 +8,12 @@ use Rattle.txs_value_data.specs.declared.value.Value.{Value}
 use Rattle.txs_tree_meaning.specs.Meaning.{Completion, Completes, Recurs, Faults, Retries, Waits, OutOfTurns, Invalid}
 use Rattle.txs_tree_meaning.specs.Thread.{ThreadState, thread_meaning}
 use Rattle.txs_code_meaning.specs.ActorState.{ActorState}
-use Rattle.txs_theorem_threads.proofs.Account.{Account, account_link, plain_splits, waited_on, waited_plain, waited_eaten}
+use Rattle.txs_theorem_threads.proofs.Account.{Account, account_link, plain_splits, asked_loose, asked_on, own_asked, waited_on, waited_plain, waited_eaten}
 use Rattle.txs_theorem_threads.proofs.Related.{Related}
 use Rattle.txs_theorem_threads.proofs.Threads.{thread_related}
-use Rattle.txs_theorem_threads.proofs.Worlds.{fit_splits}
+use Rattle.txs_theorem_threads.proofs.Worlds.{asked_of, fit_splits}
 use Rattle.txs_theorem_threads.specs.Behaves.{source}
-use Rattle.txs_theorem_threads.specs.RepliesFit.{Phase, Out, RepliesFit, halted, HasWaited, HasEaten, Agrees, TreeFollows}
+use Rattle.txs_theorem_threads.specs.RepliesFit.{Phase, Out, RepliesFit, halted, HasAsked, HasEaten, Agrees, TreeFollows}
 
 -- no event is left where no exchange is
 pub none_left : (cells : List CellDefinition) (ph : Phase) (xs : List Exchange) (es : List SeenEvent) → RepliesFit cells ph xs es → xs ≡ [] → es ++ [] ≡ []
@@ -27,12 +27,13 @@ exact cells = record {
   fits = λ txs. RepliesFit cells;
   splits = plain_splits cells None (RepliesFit cells) (fit_splits cells);
   tail = [];
-  waits = λ s o. s.todo ≡ [] → HasWaited s.printed o;
+  waits = λ s o. s.todo ≡ [] → HasAsked cells s.wants s.printed o;
   short = λ s o. s.todo ≡ [] → HasEaten s.printed o;
-  waits_loose = λ s h o e. absurd (h e);
+  waits_loose = λ s h o e. absurd (asked_loose cells s.wants s.printed (h e));
   short_loose = λ s h o e. absurd (h e);
   short_here = λ s t es fits td pr e. (td ∙ none_left cells Out s.todo es fits e, pr);
-  waiting = λ txs ph s es y own fits h e. subst (λ l. HasWaited s.printed (halted (y l))) (sym (none_left cells ph s.todo es fits e)) (waited_plain s.printed (halted (y [])) (waited_on [] s.printed txs (halted (y [])) h));
+  waiting = λ txs ph s es y own fits h e.
+      subst (λ l. HasAsked cells s.wants s.printed (halted (y l))) (sym (none_left cells ph s.todo es fits e)) (own_asked cells s.wants s.printed (halted (y [])) own (asked_on (asked_of cells s.wants) [] s.printed txs (halted (y [])) h));
   shortage = λ txs ph s es y fits h ends e. subst (λ l. HasEaten s.printed (halted (y l))) (sym (none_left cells ph s.todo es fits e)) (waited_eaten s.printed (halted (y [])) (waited_plain s.printed (halted (y [])) (waited_on [] s.printed txs (halted (y [])) h)));
 }
 

@@ -1,5 +1,5 @@
 -- More turns change nothing of what a thread or an action means on events, but where it needs turns.
-use Rattle.std.proofs.Common.{ℕ, zero, suc, Bool, true, false, List, [], ◌∷◌, Some, None, refl, subst, length, inr, ◌≡◌, ◌≤◌, ◌==◌, ◌&&◌, ◌||◌, if◌then◌else◌}
+use Rattle.std.proofs.Common.{ℕ, zero, suc, Bool, true, false, List, [], ◌∷◌, Option, Some, None, refl, subst, length, inr, ◌≡◌, ◌≤◌, ◌==◌, ◌&&◌, ◌||◌, if◌then◌else◌}
 use Rattle.txs_theorem_threads.proofs.Accepted.{validated_related, if_accepted_related}
 use Rattle.std.proofs.lemmas.Bool.{false≢true}
 use Rattle.txs_world_protocol.specs.Ask.{same_writes, same_value, same_actions}
@@ -28,49 +28,50 @@ use Rattle.txs_value_data.specs.declared.value.Value.{Value}
 use Rattle.txs_tree_meaning.specs.Known.{known}
 use Rattle.txs_tree_meaning.specs.Meaning.{Completion, Completes, Recurs, Faults, Retries, Waits, OutOfTurns, Invalid, bind, closed, allowed, result_of, Applies, Effects, eval, call_at, apply}
 use Rattle.txs_tree_meaning.specs.Sound.{SoundSource, SoundFunctions, in_thread}
-use Rattle.txs_tree_meaning.specs.Thread.{ThreadState, with_tx, eats, meant, faulted, faultless, swaps, over, Transacting, run_of, ends_tx, is_retry, is_held, again, eats_tx, on_events, around_action, from_events, thread_meaning, action_meaning, holding, uneaten, accepts, resets}
-use Rattle.txs_tree_meaning.specs.Transaction.{TxState, current, taken, done_as, tx_update, in_transaction, tx_start, tx_meaning, valued, merged, commute_writes, final_writes, if_accepted, validated}
+use Rattle.txs_tree_meaning.specs.Thread.{ThreadState, with_tx, eats, meant, faulted, faultless, swaps, over, Transacting, run_of, ends_tx, is_retry, is_held, missing, again, eats_tx, on_events, around_action, from_events, thread_meaning, action_meaning, holding, uneaten, accepts, resets}
+use Rattle.txs_tree_meaning.specs.Transaction.{TxState, looked, taken_lacking, done_as, tx_update_lacking, in_transaction_lacking, tx_start, tx_meaning, tx_meaning_lacking, valued, merged, commute_writes, final_writes, if_accepted, validated}
 use Rattle.txs_tree_meaning.specs.Tree.{Mark, Tree, PlainFunction, ThreadSource}
 use Rattle.txs_theorem_threads.proofs.Callees.{Keeps, pure_callees, callees_in, function_callees}
 use Rattle.txs_theorem_threads.proofs.Related.{Related, Turns, bind_related, closed_related, Applied, Alike, CallsAlike, apply_related, eval_related, calls_related}
 use Rattle.txs_theorem_threads.proofs.Same.{same_link, itself, from_same, from_alike, bind_same, redone_alike, IsLong, same_long}
 use Rattle.txs_theorem_threads.specs.EndsSo.{NeedsTurns, HasSettled}
 
--- ---- in a transaction, on one world
+-- ---- in a transaction, on one world, which may lack a value
 
-update_alike : (R : World) (form : UpdateForm) (m : Mark) (c : CellId) (callee : Callee) (vs : List Value) (f g : Applies TxState) → Applied TxState TxState (same_link TxState) f g → (t : TxState) → Related (same_link TxState) (tx_update R form m c callee vs f t) (tx_update R form m c callee vs g t)
-update_alike R Alter m c callee vs f g a t =
-    bind_same TxState (taken R c t) (λ v t1. bind (f callee (v ∷ vs) t1) (λ w t2. done_as (set_ref c w t2.done) m.span w t2)) (λ v t1. bind (g callee (v ∷ vs) t1) (λ w t2. done_as (set_ref c w t2.done) m.span w t2))
+update_alike : (lack : Option ℕ) (R : World) (form : UpdateForm) (m : Mark) (c : CellId) (callee : Callee) (vs : List Value) (f g : Applies TxState) → Applied TxState TxState (same_link TxState) f g → (t : TxState) → Related (same_link TxState) (tx_update_lacking lack R form m c callee vs f t) (tx_update_lacking lack R form m c callee vs g t)
+update_alike lack R Alter m c callee vs f g a t =
+    bind_same TxState (taken_lacking lack R c t) (λ v t1. bind (f callee (v ∷ vs) t1) (λ w t2. done_as (set_ref c w t2.done) m.span w t2)) (λ v t1. bind (g callee (v ∷ vs) t1) (λ w t2. done_as (set_ref c w t2.done) m.span w t2))
     (λ v t1. bind_related TxState TxState (same_link TxState) (f callee (v ∷ vs) t1) (g callee (v ∷ vs) t1) (λ w t2. done_as (set_ref c w t2.done) m.span w t2) (λ w t2. done_as (set_ref c w t2.done) m.span w t2) (a callee (v ∷ vs) t1 t1 refl)
     (λ w s2 t2 r2. from_same TxState (λ u. done_as (set_ref c w u.done) m.span w u) s2 t2 r2))
-update_alike R Commute m c callee vs f g a t =
+update_alike lack R Commute m c callee vs f g a t =
     let now : Value → TxState → Completion TxState Value = λ w t1. Completes w (record t1 { done = commute_ref c callee vs w t1.done; used = t1.used || m.wanted }) in
-    bind_related TxState TxState (same_link TxState) (f callee (current R t.done c ∷ vs) t) (g callee (current R t.done c ∷ vs) t) now now (a callee (current R t.done c ∷ vs) t t refl) (λ w s1 t1 r1. from_same TxState (now w) s1 t1 r1)
-update_alike R Swap m c callee vs f g a t = refl
+    bind_same TxState (looked lack R c t) (λ v t1. bind (f callee (v ∷ vs) t1) now) (λ v t1. bind (g callee (v ∷ vs) t1) now)
+    (λ v t1. bind_related TxState TxState (same_link TxState) (f callee (v ∷ vs) t1) (g callee (v ∷ vs) t1) now now (a callee (v ∷ vs) t1 t1 refl) (λ w s2 t2 r2. from_same TxState (now w) s2 t2 r2))
+update_alike lack R Swap m c callee vs f g a t = refl
 
 module _ (nl nr : ℕ) (le : nl ≤ nr) (functions : List PlainFunction) (sound : SoundFunctions [] functions) where
   more : (S : Type 0) → Turns S S (same_link S) nl nr
   more S = inr (le, λ s t r o. tt)
 
-  tx_alike : (R : World) (d : ℕ) → Alike TxState TxState (same_link TxState) (in_transaction R) (in_transaction R) (call_at (λ e. in_transaction R) nl functions d) (call_at (λ e. in_transaction R) nr functions d) nl nr (λ i. Unit {0}) (pure_callees (known functions))
-  tx_alike R d = record {
+  tx_alike : (lack : Option ℕ) (R : World) (d : ℕ) → Alike TxState TxState (same_link TxState) (in_transaction_lacking lack R) (in_transaction_lacking lack R) (call_at (λ e. in_transaction_lacking lack R) nl functions d) (call_at (λ e. in_transaction_lacking lack R) nr functions d) nl nr (λ i. Unit {0}) (pure_callees (known functions))
+  tx_alike lack R d = record {
     print = λ inside vs s t m r. refl;
-    look = λ form inside m c s t may i r. from_same TxState (λ u. (in_transaction R).look form inside m c u) s t r;
-    put = λ form inside m c w s t may i a r. from_same TxState (λ u. (in_transaction R).put form inside m c w (apply (call_at (λ e. in_transaction R) nr functions d inside) m.span) u) s t r;
+    look = λ form inside m c s t may i r. from_same TxState (λ u. (in_transaction_lacking lack R).look form inside m c u) s t r;
+    put = λ form inside m c w s t may i a r. from_same TxState (λ u. (in_transaction_lacking lack R).put form inside m c w (apply (call_at (λ e. in_transaction_lacking lack R) nr functions d inside) m.span) u) s t r;
     update = λ form inside m c callee vs s t may i p a r. from_alike TxState _ _
-        (λ u. bind_same TxState (result_of (cell_of (rule (form_of.Update form)) true c) m.span u) _ _ (λ x t1. update_alike R form m x callee vs _ _ (a (λ f. tt)) t1)) s t r;
-    send = λ inside m c callee vs s t i r. from_same TxState (λ u. (in_transaction R).send inside m c callee vs u) s t r;
+        (λ u. bind_same TxState (result_of (cell_of (rule (form_of.Update form)) true c) m.span u) _ _ (λ x t1. update_alike lack R form m x callee vs _ _ (a (λ f. tt)) t1)) s t r;
+    send = λ inside m c callee vs s t i r. from_same TxState (λ u. (in_transaction_lacking lack R).send inside m c callee vs u) s t r;
     dosync = λ inside m e env s t i p b a r. b tt s t r;
   }
 
   -- a transaction's body with more turns
-  tx_more : (d : ℕ) (e : Tree) (env : List Value) → Keeps (pure_callees (known functions)) true e → (R : World) → Related (same_link TxState) (tx_meaning nl functions d e env R) (tx_meaning nr functions d e env R)
-  tx_more d e env p R =
-      let cf = call_at (λ x. in_transaction R) nl functions d in
-      let cg = call_at (λ x. in_transaction R) nr functions d in
-      closed_related TxState TxState (same_link TxState) (eval (in_transaction R) cf nl true e env tx_start) (eval (in_transaction R) cg nr true e env tx_start)
-      (eval_related TxState TxState (same_link TxState) (in_transaction R) (in_transaction R) cf cg nl nr (λ i. Unit {0}) (pure_callees (known functions)) (more TxState) (tx_alike R d)
-      (calls_related TxState TxState (same_link TxState) (λ x. in_transaction R) (λ x. in_transaction R) nl nr functions (λ i. Unit {0}) (pure_callees (known functions)) (more TxState) (tx_alike R) (function_callees functions sound) d)
+  tx_more : (d : ℕ) (e : Tree) (env : List Value) → Keeps (pure_callees (known functions)) true e → (lack : Option ℕ) (R : World) → Related (same_link TxState) (tx_meaning_lacking nl functions d e env lack R) (tx_meaning_lacking nr functions d e env lack R)
+  tx_more d e env p lack R =
+      let cf = call_at (λ x. in_transaction_lacking lack R) nl functions d in
+      let cg = call_at (λ x. in_transaction_lacking lack R) nr functions d in
+      closed_related TxState TxState (same_link TxState) (eval (in_transaction_lacking lack R) cf nl true e env tx_start) (eval (in_transaction_lacking lack R) cg nr true e env tx_start)
+      (eval_related TxState TxState (same_link TxState) (in_transaction_lacking lack R) (in_transaction_lacking lack R) cf cg nl nr (λ i. Unit {0}) (pure_callees (known functions)) (more TxState) (tx_alike lack R d)
+      (calls_related TxState TxState (same_link TxState) (λ x. in_transaction_lacking lack R) (λ x. in_transaction_lacking lack R) nl nr functions (λ i. Unit {0}) (pure_callees (known functions)) (more TxState) (tx_alike lack R) (function_callees functions sound) d)
       e true env tx_start tx_start p tt refl)
 
 -- ---- what follows a part
@@ -147,17 +148,33 @@ uneaten_alike l (OutOfTurns s) y h = tt
 uneaten_alike l Invalid Invalid h = refl
 uneaten_alike l Invalid _ h = absurd (false≢true h)
 
+missing_alike : (t : ThreadState) (x y : Completion TxState Value) (p q : Completion ThreadState Value) → Related (same_link TxState) x y → Related (same_link ThreadState) p q → Related (same_link ThreadState) (missing t x p) (missing t y q)
+missing_alike t (Completes v x) (Completes w y) p q h g = refl
+missing_alike t (Completes v x) _ p q h g = absurd h
+missing_alike t (Recurs vs x) (Recurs ws y) p q h g = refl
+missing_alike t (Recurs vs x) _ p q h g = absurd h
+missing_alike t (Faults e x) (Faults f y) p q h g = refl
+missing_alike t (Faults e x) _ p q h g = absurd h
+missing_alike t (Retries x) (Retries y) p q h g = refl
+missing_alike t (Retries x) _ p q h g = absurd h
+missing_alike t (Waits x) (Waits y) p q h g = g
+missing_alike t (Waits x) _ p q h g = absurd h
+missing_alike t (OutOfTurns x) y p q h g = tt
+missing_alike t Invalid Invalid p q h g = refl
+missing_alike t Invalid _ p q h g = absurd (false≢true h)
+
 -- ---- transactions on events
 
-module _ (validators : Validators) (m : Mark) (node : Tree) (env : List Value) (x y : World → Completion TxState Value) (f g : Applies ThreadState) (b : (R : World) → Related (same_link TxState) (x R) (y R)) (a : Applied ThreadState ThreadState (same_link ThreadState) f g) where
+module _ (validators : Validators) (m : Mark) (node : Tree) (env : List Value) (x y : World → Completion TxState Value) (xl yl : ℕ → World → Completion TxState Value) (f g : Applies ThreadState)
+    (b : (R : World) → Related (same_link TxState) (x R) (y R)) (l : (j : ℕ) (R : World) → Related (same_link TxState) (xl j R) (yl j R)) (a : Applied ThreadState ThreadState (same_link ThreadState) f g) where
   -- the dosync, with this meaning of its body
-  abbrev with_body : (World → Completion TxState Value) → Transacting
-  with_body on = record { mark = m; body = node; locals = env; on = on; validators = validators }
+  abbrev with_body : (World → Completion TxState Value) → (ℕ → World → Completion TxState Value) → Transacting
+  with_body on lacking = record { mark = m; body = node; locals = env; on = on; lacking = lacking; validators = validators }
 
-  ends_alike : (e : EventKind) (R Q C : World) (t : ThreadState) → Related (same_link ThreadState) (ends_tx (with_body x) f e R Q C t) (ends_tx (with_body y) g e R Q C t)
+  ends_alike : (e : EventKind) (R Q C : World) (t : ThreadState) → Related (same_link ThreadState) (ends_tx (with_body x xl) f e R Q C t) (ends_tx (with_body y yl) g e R Q C t)
   ends_alike (event.Commit at view writes sent) R Q C t =
       over_alike t (x R) (y R) _ _ (λ e. Invalid) (b R)
-      (λ v z. faultless_alike (final_writes f validators m.span z.done C t) (final_writes g validators m.span z.done C t) _ _ (final_alike validators m.span f g a z.done C t) (λ ws t1. itself ThreadState (meant (same_writes ws writes && same_actions (sends_of_commit t1.held z.done.sends) sent) v (holding z.done.sends (with_tx (run_of (with_body x) v z) t1)))))
+      (λ v z. faultless_alike (final_writes f validators m.span z.done C t) (final_writes g validators m.span z.done C t) _ _ (final_alike validators m.span f g a z.done C t) (λ ws t1. itself ThreadState (meant (same_writes ws writes && same_actions (sends_of_commit t1.held z.done.sends) sent) v (holding z.done.sends (with_tx (run_of (with_body x xl) v z) t1)))))
   ends_alike (event.Fail at view) R Q C t =
       over_alike t (x R) (y R) _ _ (λ e. Faults e t) (b R) (λ v z. faulted_alike (final_writes f validators m.span z.done Q t) (final_writes g validators m.span z.done Q t) (λ e t1. Faults e t1) (final_alike validators m.span f g a z.done Q t))
   ends_alike (event.Refused at view agent) R Q C t =
@@ -166,23 +183,23 @@ module _ (validators : Validators) (m : Mark) (node : Tree) (env : List Value) (
   ends_alike _ R Q C t = refl
 
   -- a try that had to run again, and what follows
-  again_alike : (e : EventKind) (R : World) (t : ThreadState) (p q : Completion ThreadState Value) → Related (same_link ThreadState) p q → Related (same_link ThreadState) (again (with_body x) e R t p) (again (with_body y) e R t q)
-  again_alike (event.Retry since c cause.Outdated) R t p q h = h
+  again_alike : (e : EventKind) (R : World) (t : ThreadState) (p q : Completion ThreadState Value) → Related (same_link ThreadState) p q → Related (same_link ThreadState) (again (with_body x xl) e R t p) (again (with_body y yl) e R t q)
+  again_alike (event.Retry since c cause.Outdated) R t p q h = missing_alike t (xl c.number R) (yl c.number R) p q (l c.number R) h
   again_alike (event.Retry since c cause.Held) R t p q h = over_alike t (x R) (y R) _ _ (λ e. Invalid) (b R) (λ v z. allowed_alike (is_held z.done c.number) p q h)
   again_alike (event.Retry since c (cause.Commuted at)) R t p q h = over_alike t (x R) (y R) _ _ (λ e. Invalid) (b R) (λ v z. allowed_alike (has_number (commuted z.done) c.number) p q h)
   again_alike _ R t p q h = refl
 
-  eats_tx_alike : (k : ℕ) (es : List SeenEvent) (t : ThreadState) → Related (same_link ThreadState) (eats_tx k (with_body x) f es t) (eats_tx k (with_body y) g es t)
+  eats_tx_alike : (k : ℕ) (es : List SeenEvent) (t : ThreadState) → Related (same_link ThreadState) (eats_tx k (with_body x xl) f es t) (eats_tx k (with_body y yl) g es t)
   eats_tx_alike zero es t = (refl, refl)
   eats_tx_alike (suc k) [] t = refl
   eats_tx_alike (suc k) (e ∷ es) t = of_book (e.book == 0) (is_retry e.kind) (eats_tx_alike k es t)
     where
-      of_book : (own retry : Bool) → Related (same_link ThreadState) (eats_tx k (with_body x) f es t) (eats_tx k (with_body y) g es t)
-          → Related (same_link ThreadState) (if own then (if retry then again (with_body x) e.kind e.R (record t { todo = e ∷ es }) (eats_tx k (with_body x) f es t) else uneaten (e ∷ es) (ends_tx (with_body x) f e.kind e.R e.Q e.C (record t { todo = es }))) else Invalid)
-          (if own then (if retry then again (with_body y) e.kind e.R (record t { todo = e ∷ es }) (eats_tx k (with_body y) g es t) else uneaten (e ∷ es) (ends_tx (with_body y) g e.kind e.R e.Q e.C (record t { todo = es }))) else Invalid)
-      of_book true true rest = again_alike e.kind e.R (record t { todo = e ∷ es }) (eats_tx k (with_body x) f es t) (eats_tx k (with_body y) g es t) rest
+      of_book : (own retry : Bool) → Related (same_link ThreadState) (eats_tx k (with_body x xl) f es t) (eats_tx k (with_body y yl) g es t)
+          → Related (same_link ThreadState) (if own then (if retry then again (with_body x xl) e.kind e.R (record t { todo = e ∷ es }) (eats_tx k (with_body x xl) f es t) else uneaten (e ∷ es) (ends_tx (with_body x xl) f e.kind e.R e.Q e.C (record t { todo = es }))) else Invalid)
+          (if own then (if retry then again (with_body y yl) e.kind e.R (record t { todo = e ∷ es }) (eats_tx k (with_body y yl) g es t) else uneaten (e ∷ es) (ends_tx (with_body y yl) g e.kind e.R e.Q e.C (record t { todo = es }))) else Invalid)
+      of_book true true rest = again_alike e.kind e.R (record t { todo = e ∷ es }) (eats_tx k (with_body x xl) f es t) (eats_tx k (with_body y yl) g es t) rest
       of_book true false rest =
-          uneaten_alike (e ∷ es) (ends_tx (with_body x) f e.kind e.R e.Q e.C (record t { todo = es })) (ends_tx (with_body y) g e.kind e.R e.Q e.C (record t { todo = es })) (ends_alike e.kind e.R e.Q e.C (record t { todo = es }))
+          uneaten_alike (e ∷ es) (ends_tx (with_body x xl) f e.kind e.R e.Q e.C (record t { todo = es })) (ends_tx (with_body y yl) g e.kind e.R e.Q e.C (record t { todo = es })) (ends_alike e.kind e.R e.Q e.C (record t { todo = es }))
       of_book false retry rest = refl
 
 -- ---- swaps on events
@@ -228,10 +245,11 @@ module _ (cells : List CellDefinition) (functions : List PlainFunction) (sound :
       (λ v t3. bind_related ThreadState ThreadState (same_link ThreadState) (f callee (v ∷ vs) t3) (g callee (v ∷ vs) t3) (accepts (around_action cells functions nl) f x m.span) (accepts (around_action cells functions nr) g x m.span) (a callee (v ∷ vs) t3 t3 refl) (λ w s4 t4 r4. accepts_alike x m.span f g a w s4 t4 r4)) e.kind e.R e.C t2) t1.todo t1)
 
   dosync_alike : (d : ℕ) (m : Mark) (e : Tree) (env : List Value) → Keeps (pure_callees (known functions)) true e → (f g : Applies ThreadState) → Applied ThreadState ThreadState (same_link ThreadState) f g → (t : ThreadState)
-      → Related (same_link ThreadState) (eats_tx (suc reruns) (record { mark = m; body = e; locals = env; on = tx_meaning nl functions d e env; validators = validators_of cells }) f t.todo t)
-      (eats_tx (suc reruns) (record { mark = m; body = e; locals = env; on = tx_meaning nr functions d e env; validators = validators_of cells }) g t.todo t)
+      → Related (same_link ThreadState) (eats_tx (suc reruns) (record { mark = m; body = e; locals = env; on = tx_meaning nl functions d e env; lacking = λ j. tx_meaning_lacking nl functions d e env (Some j); validators = validators_of cells }) f t.todo t)
+      (eats_tx (suc reruns) (record { mark = m; body = e; locals = env; on = tx_meaning nr functions d e env; lacking = λ j. tx_meaning_lacking nr functions d e env (Some j); validators = validators_of cells }) g t.todo t)
   dosync_alike d m e env pure f g a t =
-      eats_tx_alike (validators_of cells) m e env (tx_meaning nl functions d e env) (tx_meaning nr functions d e env) f g (tx_more nl nr le functions sound d e env pure) a (suc reruns) t.todo t
+      eats_tx_alike (validators_of cells) m e env (tx_meaning nl functions d e env) (tx_meaning nr functions d e env) (λ j. tx_meaning_lacking nl functions d e env (Some j)) (λ j. tx_meaning_lacking nr functions d e env (Some j)) f g
+      (tx_more nl nr le functions sound d e env pure None) (λ j. tx_more nl nr le functions sound d e env pure (Some j)) a (suc reruns) t.todo t
 
   events_alike : (d : ℕ) → Alike ThreadState ThreadState (same_link ThreadState) (on_events (around_action cells functions nl) d) (on_events (around_action cells functions nr) d) (call_at (on_events (around_action cells functions nl)) nl functions d) (call_at (on_events (around_action cells functions nr)) nr functions d) nl nr (λ i. Unit {0}) (pure_callees (known functions))
   events_alike d = record {

@@ -1,5 +1,5 @@
 -- A thread's transactions are those of the commits among its exchanges.
-use Rattle.std.proofs.Common.{ℕ, List, [], Option, Some, None, refl, sym, ap, subst, ◌≡◌, ◌∷◌, ◌++◌, ◌∙◌}
+use Rattle.std.proofs.Common.{ℕ, List, [], Option, None, refl, sym, ap, subst, ◌≡◌, ◌∷◌, ◌++◌, ◌∙◌}
 use Rattle.std.proofs.lemmas.List.{append_assoc, append-nil}
 use Rattle.txs_world_protocol.specs.Ask.{Exchange}
 use Rattle.txs_world_protocol.specs.SeenEvent.{SeenEvent}
@@ -17,12 +17,13 @@ use Rattle.txs_tree_meaning.specs.Tree.{ThreadSource}
 use Rattle.txs_code_meaning.specs.ActorState.{ActorState}
 use Rattle.txs_code_meaning.specs.Machine.{ThreadCode, Ended, Failed, Asking, Unfinished, Stuck, Outcome}
 use Rattle.txs_code_meaning.specs.Opening.{target}
-use Rattle.txs_theorem_threads.proofs.Account.{Account, account_link, after_reply, Noting, HasWaitedOn}
+use Rattle.txs_theorem_threads.proofs.Account.{Account, account_link, after_reply, Noting, HasWaitedOn, asked_noted}
 use Rattle.txs_theorem_threads.proofs.Fitted.{reply_then}
 use Rattle.txs_theorem_threads.proofs.Follow.{none_left}
 use Rattle.txs_theorem_threads.proofs.Related.{Related}
 use Rattle.txs_theorem_threads.proofs.Threads.{thread_related}
 use Rattle.txs_theorem_threads.proofs.Whole.{grown_to, consumed_grown}
+use Rattle.txs_theorem_threads.proofs.Worlds.{asked_of}
 use Rattle.txs_theorem_threads.specs.Behaves.{source, IsMeant, outcome_of, Behaves}
 use Rattle.txs_theorem_threads.specs.Noted.{txs_of, NotedAt, AreNoted}
 use Rattle.txs_theorem_threads.specs.RepliesFit.{Phase, Out, RepliesFit, Halt, Going, Stopped, Short, Rerun, halted, Consumed}
@@ -98,7 +99,9 @@ module _ (cells : List CellDefinition) (before : List ℕ) (from : Option (List 
     waits_loose = λ s h o e. absurd (h e);
     short_loose = λ s h o e. absurd (h e);
     short_here = λ s t es f td pr e. all_noted from whole s.todo t.txs f.1 e;
-    waiting = λ txs ph s es y own f h e. subst (λ l. HaltNoted from whole (halted (y l))) (sym (none_left cells ph s.todo es f.0 e)) (halt_noted from whole before s.printed txs (halted (y [])) (all_noted from whole s.todo txs f.1 e) h);
+    waiting = λ txs ph s es y own f h e.
+        subst (λ l. HaltNoted from whole (halted (y l))) (sym (none_left cells ph s.todo es f.0 e))
+        (halt_noted from whole before s.printed txs (halted (y [])) (all_noted from whole s.todo txs f.1 e) (asked_noted (asked_of cells s.wants) before s.printed txs (halted (y [])) h));
     shortage = λ txs ph s es y f h ends e. subst (λ l. HaltNoted from whole (halted (y l))) (sym (none_left cells ph s.todo es f.0 e)) (halt_noted from whole before s.printed txs (halted (y [])) (all_noted from whole s.todo txs f.1 e) h);
   }
 

@@ -1,6 +1,6 @@
 -- Two meanings of one tree, where what they make of the forms on cells is alike.
 use Rattle.std.proofs.Common.{ℕ, zero, suc, Bool, true, false, List, [], Option, Some, None, Result, Ok, Err, refl, subst, length, nat_eq, arith, ⊎_elim, inl, inr, ◌≡◌, ◌≤◌, ◌∷◌, ◌++◌, ◌⊎◌, if◌then◌else◌}
-use Rattle.txs_theorem_threads.specs.RepliesFit.{Halt, Going, Short, halted}
+use Rattle.txs_theorem_threads.specs.RepliesFit.{Halt, Going, Stopped, Short, halted}
 use Rattle.txs_tree_meaning.specs.Meaning.{Completion, Completes, Recurs, Faults, Retries, Waits, OutOfTurns, Invalid, bind, again, closed, give, result_of, Applies, Effects, turns, last_or, apply, eval, eval_all, eval_let, eval_do, call_at}
 use Rattle.txs_theorem_threads.proofs.Callees.{Rules, Keeps, KeepAll}
 use Rattle.txs_tree_meaning.specs.Tree.{Tree, Const, Local, If, Do, Let, Loop, Recur, Core, Call, VectorOf, Println, Dosync, Look, Put, Update, Send, Mark, Trees, none, more, count, is_none, PlainFunction}
@@ -19,7 +19,8 @@ use Rattle.txs_value_base.specs.declared.op.Callee.{Callee}
 use Rattle.txs_value_data.specs.declared.value.Value.TheVariants.{Nil, Truth, Int, Key, Text, Vector, Cell}
 use Rattle.txs_value_data.specs.declared.value.Value.{Value}
 
--- how the states of two meanings go together. Where the first waits, needs turns or has to run again, the second may go on
+-- How the states of two meanings go together. Where the first waits, needs turns or has to run again, the second may go on. In some the
+-- second may wait before the first stops, and then nothing is said of the first.
 pub record Link (S T : Type 0) : Type 1 where
   pub rel : S → T → Type 0
   -- after a fault
@@ -36,6 +37,9 @@ pub record Link (S T : Type 0) : Type 1 where
   pub out_of_turns_of : (s : S) (t : T) → rel s t → out_of_turns s (Short t)
   pub invalid_both : invalid true
   pub invalid_loose : invalid false → (b : Bool) → invalid b
+  pub ahead : T → Type 0
+  pub ahead_stops : (t : T) → ahead t → (s : S) → waits s (Stopped t) × out_of_turns s (Stopped t) × retries s (Stopped t)
+  pub ahead_invalid : (t : T) → ahead t → invalid false
 
 -- both have the same turns; or the second has more, and then what needs turns may do anything
 abbrev pub Turns : (S T : Type 0) → Link S T → ℕ → ℕ → Type 0
@@ -52,14 +56,17 @@ is_invalid Invalid = true
 
 abbrev pub CompletesAs : {S T A : Type 0} → Link S T → A → S → Completion T A → Type 0
 CompletesAs k a s (Completes b t) = (a ≡ b) × k.rel s t
+CompletesAs k a s (Waits t) = k.ahead t
 CompletesAs k a s _ = ⊥
 
 abbrev pub RecursAs : {S T A : Type 0} → Link S T → List Value → S → Completion T A → Type 0
 RecursAs k vs s (Recurs ws t) = (vs ≡ ws) × k.rel s t
+RecursAs k vs s (Waits t) = k.ahead t
 RecursAs k vs s _ = ⊥
 
 abbrev pub FaultsAs : {S T A : Type 0} → Link S T → Fault → S → Completion T A → Type 0
 FaultsAs k f s (Faults g t) = (f ≡ g) × k.faults s t
+FaultsAs k f s (Waits t) = k.ahead t
 FaultsAs k f s _ = ⊥
 
 abbrev pub Related : {S T A : Type 0} → Link S T → Completion S A → Completion T A → Type 0
@@ -72,12 +79,25 @@ Related k (OutOfTurns s) y = k.out_of_turns s (halted y)
 Related k Invalid y = k.invalid (is_invalid y)
 
 module _ (S T : Type 0) (k : Link S T) where
+  -- where the second waits before the first stops
+  pub ahead_of : {A : Type 0} (x : Completion S A) (t : T) → k.ahead t → Related k x (Waits t)
+  ahead_of (Completes a s) t h = h
+  ahead_of (Recurs vs s) t h = h
+  ahead_of (Faults f s) t h = h
+  ahead_of (Retries s) t h = (k.ahead_stops t h s).2
+  ahead_of (Waits s) t h = (k.ahead_stops t h s).0
+  ahead_of (OutOfTurns s) t h = (k.ahead_stops t h s).1
+  ahead_of Invalid t h = k.ahead_invalid t h
+
   pub bind_related : {A B : Type 0} (x : Completion S A) (y : Completion T A) (f : A → S → Completion S B) (g : A → T → Completion T B) → Related k x y → ((a : A) (s : S) (t : T) → k.rel s t → Related k (f a s) (g a t)) → Related k (bind x f) (bind y g)
   bind_related (Completes a s) (Completes b t) f g h hc = subst (λ c. Related k (f a s) (g c t)) h.0 (hc a s t h.1)
+  bind_related (Completes a s) (Waits t) f g h hc = ahead_of (f a s) t h
   bind_related (Completes a s) _ f g h hc = absurd h
   bind_related (Recurs vs s) (Recurs ws t) f g h hc = k.invalid_both
+  bind_related (Recurs vs s) (Waits t) f g h hc = k.ahead_invalid t h
   bind_related (Recurs vs s) _ f g h hc = absurd h
   bind_related (Faults x s) (Faults y t) f g h hc = h
+  bind_related (Faults x s) (Waits t) f g h hc = h
   bind_related (Faults x s) _ f g h hc = absurd h
   bind_related (Retries s) (Completes b t) f g h hc = k.retries_loose s h (halted (g b t))
   bind_related (Retries s) _ f g h hc = h
@@ -95,10 +115,13 @@ module _ (S T : Type 0) (k : Link S T) where
 
   pub again_related : {A : Type 0} (x : Completion S A) (y : Completion T A) (f : List Value → S → Completion S A) (g : List Value → T → Completion T A) → Related k x y → ((vs : List Value) (s : S) (t : T) → k.rel s t → Related k (f vs s) (g vs t)) → Related k (again x f) (again y g)
   again_related (Completes a s) (Completes b t) f g h hc = h
+  again_related (Completes a s) (Waits t) f g h hc = h
   again_related (Completes a s) _ f g h hc = absurd h
   again_related (Recurs vs s) (Recurs ws t) f g h hc = subst (λ c. Related k (f vs s) (g c t)) h.0 (hc vs s t h.1)
+  again_related (Recurs vs s) (Waits t) f g h hc = ahead_of (f vs s) t h
   again_related (Recurs vs s) _ f g h hc = absurd h
   again_related (Faults x s) (Faults y t) f g h hc = h
+  again_related (Faults x s) (Waits t) f g h hc = h
   again_related (Faults x s) _ f g h hc = absurd h
   again_related (Retries s) (Recurs ws t) f g h hc = k.retries_loose s h (halted (g ws t))
   again_related (Retries s) _ f g h hc = h

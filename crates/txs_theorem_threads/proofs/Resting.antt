@@ -308,6 +308,9 @@ module _ (P : Option InHand → Type 0) where
       out_of_turns_of = λ s t r. tt;
       invalid_both = tt;
       invalid_loose = λ h b. tt;
+      ahead = λ t. ⊥;
+      ahead_stops = λ t h s. absurd h;
+      ahead_invalid = λ t h. absurd h;
     }
 
     with_itself : {A : Type 0} (x : Completion ActorState A) → EndsRested x → Related rested_link x x

@@ -38,6 +38,9 @@ same_link S = record {
   out_of_turns_of = λ s t r. tt;
   invalid_both = refl;
   invalid_loose = λ h b. absurd (false≢true h);
+  ahead = λ t. ⊥;
+  ahead_stops = λ t h s. absurd h;
+  ahead_invalid = λ t h. absurd h;
 }
 
 module _ (S : Type 0) where

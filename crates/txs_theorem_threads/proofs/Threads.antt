@@ -39,8 +39,8 @@ use Rattle.txs_value_data.specs.declared.value.Value.TheVariants.{Nil, Cell}
 use Rattle.txs_tree_meaning.specs.Known.{Known, known, is_inside}
 use Rattle.txs_tree_meaning.specs.Meaning.{Completion, Completes, Recurs, Faults, Retries, Waits, OutOfTurns, Invalid, bind, closed, result_of, Effects, apply, eval, call_at}
 use Rattle.txs_tree_meaning.specs.Sound.{SoundSource, SoundFunctions, SoundCells, SoundTree, SoundSent, in_thread}
-use Rattle.txs_tree_meaning.specs.Thread.{ThreadState, eats, meant, reads, resets, faulted, faultless, swaps, sends, sends_or_holds, Transacting, eats_tx, thread_look, accepts as accepts_there, Surroundings, around_action, on_events, from_events, thread_meaning, applies_in, action_meaning, uneaten}
-use Rattle.txs_tree_meaning.specs.Transaction.{validated, tx_meaning}
+use Rattle.txs_tree_meaning.specs.Thread.{ThreadState, eats, meant, reads, resets, faulted, faultless, swaps, sends, sends_or_holds, Transacting, eats_tx, thread_look, accepts as accepts_there, Surroundings, around_action, on_events, from_events, thread_meaning, action_meaning, uneaten}
+use Rattle.txs_tree_meaning.specs.Transaction.{validated, tx_meaning, tx_meaning_lacking}
 use Rattle.txs_tree_meaning.specs.Tree.{Mark, Tree, PlainFunction, ThreadSource}
 use Rattle.txs_code_meaning.specs.ActorState.{InHand, held_in, ActorState, Reception, Replied, Unreplied, asks, Continue, heard, on_step, step_of, newest_value, peek, just_done, reset_atom, opened, SwapInHand, open_atom, swap_verdict, close_swap, break_swap, send_verdict, sent, send_now, send_or_hold, send_action, Verdict, read_cell, assign_cell, print}
 use Rattle.txs_code_meaning.specs.Opening.{fresh}
@@ -50,14 +50,14 @@ use Rattle.txs_theorem_threads.proofs.Callees.{Keeps, IsPure}
 use Rattle.txs_theorem_threads.proofs.Placed.{MayCallAt, placed, thread_placed, function_placed}
 use Rattle.txs_theorem_threads.proofs.Quiet.{carried, IsQuiet, quietly, callee_carried}
 use Rattle.txs_theorem_threads.proofs.Related.{Link, Related, Applied, bind_related, closed_related, result_related, Alike, eval_related, calls_related}
-use Rattle.txs_theorem_threads.proofs.Tries.{tries_related}
-use Rattle.txs_theorem_threads.proofs.Worlds.{IsShort, IsOwn, carried_related, on_cell_related, tx_related}
+use Rattle.txs_theorem_threads.proofs.Tries.{body_on, tries_related}
+use Rattle.txs_theorem_threads.proofs.Worlds.{IsShort, IsOwn, carried_related, on_cell_related, tx_link, tx_related}
 use Rattle.txs_theorem_threads.specs.EndsSo.{in_hand}
 use Rattle.txs_theorem_threads.specs.ActionsBehave.{action_source}
 use Rattle.txs_theorem_threads.specs.Behaves.{source}
 use Rattle.txs_theorem_threads.specs.FollowsAgent.{SoundAction, taken_at}
 use Rattle.txs_theorem_threads.specs.OnReplies.{res, telling, tries, swap_concludes, swaps_on, accepts, on_replies, Anew}
-use Rattle.txs_theorem_threads.specs.RepliesFit.{Out, In, WithSwap, OnEvent, SaysRead, SaysSwap, SaysBroke, SaysSent, SaysSendRefused, ReplyFits, halted}
+use Rattle.txs_theorem_threads.specs.RepliesFit.{Out, In, WithSwap, OnEvent, SaysRead, SaysSwap, SaysBroke, SaysSent, SaysSendRefused, ReplyFits, book_asked, halted}
 
 -- ---- what forms are at their events
 
@@ -105,12 +105,12 @@ module _ (cells : List CellDefinition) (a : Account cells) where
   at_events book go t l = eats book go l (record t { todo = l })
 
   -- a form that asks once, and eats the event that its ask is
-  asks_once : (book : ℕ) (go : SeenEvent → ThreadState → Completion ThreadState Value) (q : Ask) (x : Reception → Completion ActorState Value) (s : ActorState) (t : ThreadState) → IsOwn q → ((u : ActorState) → x (Unreplied u) ≡ Waits u)
+  asks_once : (book : ℕ) (go : SeenEvent → ThreadState → Completion ThreadState Value) (q : Ask) (x : Reception → Completion ActorState Value) (s : ActorState) (t : ThreadState) → IsOwn q → book ≡ book_asked cells q → ((u : ActorState) → x (Unreplied u) ≡ Waits u)
       → k.rel s t → ((es : List SeenEvent) (r : Reply) (xs : List Exchange) → ReplyFits cells Out q r (after_reply a.from a.fits t.txs q r xs) es → Related k (x (Replied r (record s { todo = xs }))) (at_events book go t (es ++ a.tail))) → Related k (x (asks q s)) (eats book go t.todo t)
-  asks_once book go q x s t own un r h =
+  asks_once book go q x s t own of un r h =
       subst (λ l. Related k (x (asks q s)) (at_events book go t l)) (sym r.2)
       (answered_in cells a t.txs Out r.1 q s (λ y. Related k (x y) (at_events book go t (r.1 ++ a.tail))) r.3
-      (subst (λ y. Related k y (at_events book go t (r.1 ++ a.tail))) (sym (un (record s { wants = Some q }))) (a.waiting t.txs Out (record s { wants = Some q }) r.1 (at_events book go t) own r.3 (refl, r.0.0, refl)))
+      (subst (λ y. Related k y (at_events book go t (r.1 ++ a.tail))) (sym (un (record s { wants = Some q }))) (a.waiting t.txs Out (record s { wants = Some q }) r.1 (at_events book go t) own r.3 (ap (λ n. Some n) of, refl, r.0.0, refl)))
       (λ rep xs m. h r.1 rep xs m))
 
   -- a value at the event that is eaten
@@ -137,7 +137,7 @@ module _ (cells : List CellDefinition) (a : Account cells) where
 
   peek_related : (c : CellId) (s : ActorState) (t : ThreadState) → k.rel s t → Related k (res (peek c s)) (eats (home cells c) (λ e t1. reads c e.kind e.C t1) t.todo t)
   unfolding peek
-  peek_related c s t r = asks_once (home cells c) (λ e t1. reads c e.kind e.C t1) (ask.Peek c) (λ h. res (heard newest_value h)) s t tt (λ u. refl) r (λ es rep xs m. peek_answered c s t es rep xs r.0 m)
+  peek_related c s t r = asks_once (home cells c) (λ e t1. reads c e.kind e.C t1) (ask.Peek c) (λ h. res (heard newest_value h)) s t tt refl (λ u. refl) r (λ es rep xs m. peek_answered c s t es rep xs r.0 m)
 
   reset_answered : (c : CellId) (v : Value) (s : ActorState) (t : ThreadState) (es : List SeenEvent) (r : Reply) (xs : List Exchange) → IsBeside a.before a.from s t → ReplyFits cells Out (ask.CloseAt c None v) r (λ ph1 es1. a.fits t.txs ph1 xs es1) es
       → Related k (res (on_step (heard just_done (Replied r (record s { todo = xs }))) (λ u s1. Continue v s1))) (at_events (home cells c) (λ e t1. resets v e.kind t1) t (es ++ a.tail))
@@ -148,7 +148,7 @@ module _ (cells : List CellDefinition) (a : Account cells) where
   reset_related : (c : CellId) (v : Value) (s : ActorState) (t : ThreadState) → k.rel s t → Related k (res (reset_atom c v s)) (eats (home cells c) (λ e t1. resets v e.kind t1) t.todo t)
   unfolding reset_atom
   reset_related c v s t r =
-      asks_once (home cells c) (λ e t1. resets v e.kind t1) (ask.CloseAt c None v) (λ h. res (on_step (heard just_done h) (λ u s1. Continue v s1))) s t tt (λ u. refl) r (λ es rep xs m. reset_answered c v s t es rep xs r.0 m)
+      asks_once (home cells c) (λ e t1. resets v e.kind t1) (ask.CloseAt c None v) (λ h. res (on_step (heard just_done h) (λ u s1. Continue v s1))) s t tt refl (λ u. refl) r (λ es rep xs m. reset_answered c v s t es rep xs r.0 m)
 
   send_answered : (act : Action) (s : ActorState) (t : ThreadState) (es : List SeenEvent) (r : Reply) (xs : List Exchange) → IsBeside a.before a.from s t → ReplyFits cells Out (ask.Send act) r (λ ph1 es1. a.fits t.txs ph1 xs es1) es
       → Related k (res (on_step (heard send_verdict (Replied r (record s { todo = xs }))) (sent act))) (at_events 0 (λ e t1. sends act act.span e.kind t1) t (es ++ a.tail))
@@ -160,7 +160,7 @@ module _ (cells : List CellDefinition) (a : Account cells) where
 
   send_related : (act : Action) (s : ActorState) (t : ThreadState) → k.rel s t → Related k (res (send_now act s)) (eats 0 (λ e t1. sends act act.span e.kind t1) t.todo t)
   unfolding send_now
-  send_related act s t r = asks_once 0 (λ e t1. sends act act.span e.kind t1) (ask.Send act) (λ h. res (on_step (heard send_verdict h) (sent act))) s t tt (λ u. refl) r (λ es rep xs m. send_answered act s t es rep xs r.0 m)
+  send_related act s t r = asks_once 0 (λ e t1. sends act act.span e.kind t1) (ask.Send act) (λ h. res (on_step (heard send_verdict h) (sent act))) s t tt refl (λ u. refl) r (λ es rep xs m. send_answered act s t es rep xs r.0 m)
 
   -- outside of an action a send is made, and in one it is held
   send_action_related : (act : Action) (s : ActorState) (t : ThreadState) → k.rel s t → Related k (res (send_action false act s)) (sends_or_holds t.held act act.span t)
@@ -222,7 +222,7 @@ module _ (cells : List CellDefinition) (a : Account cells) where
       unfolding close_swap
       close_related w u s t es z pr fits =
           answered_in cells a t.txs (WithSwap c W) es (ask.CloseAt c (Some at) w) s (λ h. Related k (bind (res (heard swap_verdict h)) (after_close w)) (at_events (home cells c) swapped t (es ++ a.tail))) fits
-          (a.waiting t.txs (WithSwap c W) (record s { wants = Some (ask.CloseAt c (Some at) w) }) es (at_events (home cells c) swapped t) tt fits (refl, pr.0, refl)) (λ r xs m. close_answered w u s t es r xs z pr m)
+          (a.waiting t.txs (WithSwap c W) (record s { wants = Some (ask.CloseAt c (Some at) w) }) es (at_events (home cells c) swapped t) tt fits (refl, refl, pr.0, refl)) (λ r xs m. close_answered w u s t es r xs z pr m)
 
       break_answered : (y : Fault) (u : Unit {0}) (s : ActorState) (t : ThreadState) (es : List SeenEvent) (r : Reply) (xs : List Exchange) → q v ≡ Faults y u → IsBeside a.before a.from s t → ReplyFits cells (WithSwap c W) (ask.Broke c at) r (λ ph1 es1. a.fits t.txs ph1 xs es1) es
           → Related k (bind (res (heard just_done (Replied r (record s { todo = xs })))) (λ x s1. Faults y s1)) (at_events (home cells c) swapped t (es ++ a.tail))
@@ -235,7 +235,7 @@ module _ (cells : List CellDefinition) (a : Account cells) where
       unfolding break_swap
       break_related y u s t es z pr fits =
           answered_in cells a t.txs (WithSwap c W) es (ask.Broke c at) s (λ h. Related k (bind (res (heard just_done h)) (λ x s1. Faults y s1)) (at_events (home cells c) swapped t (es ++ a.tail))) fits
-          (a.waiting t.txs (WithSwap c W) (record s { wants = Some (ask.Broke c at) }) es (at_events (home cells c) swapped t) tt fits (refl, pr.0, refl)) (λ r xs m. break_answered y u s t es r xs z pr m)
+          (a.waiting t.txs (WithSwap c W) (record s { wants = Some (ask.Broke c at) }) es (at_events (home cells c) swapped t) tt fits (refl, refl, pr.0, refl)) (λ r xs m. break_answered y u s t es r xs z pr m)
 
       -- a swap whose callee needs turns needs them at its end
       swap_short : (u : Unit {0}) (t : ThreadState) (Q : World) → q v ≡ OutOfTurns u → IsShort (halted (at_events (home cells c) swapped t (in_hand cells Q (WithSwap c W))))
@@ -272,7 +272,7 @@ module _ (cells : List CellDefinition) (a : Account cells) where
     open_related : (n : ℕ) (next : FollowsSwap n) (s : ActorState) (t : ThreadState) → k.rel s t → Related k (bind (res (open_atom c s)) (after_open n)) (eats (home cells c) swapped t.todo t)
     unfolding open_atom
     open_related n next s t r =
-        asks_once (home cells c) swapped (ask.OpenAt c) (λ h. bind (res (on_step (heard opened h) (λ x s1. Continue (record { cell = c; at = x.0 }, x.1) s1))) (after_open n)) s t tt (λ u. refl) r
+        asks_once (home cells c) swapped (ask.OpenAt c) (λ h. bind (res (on_step (heard opened h) (λ x s1. Continue (record { cell = c; at = x.0 }, x.1) s1))) (after_open n)) s t tt refl (λ u. refl) r
         (λ es rep xs m. open_answered n next s t es rep xs r.0 m)
 
     swap_related : cell_of (rule (form_of.Update update_of.Swap)) false cv ≡ Ok c → (n : ℕ) → FollowsSwap n
@@ -322,6 +322,14 @@ module _ (cells : List CellDefinition) (functions : List PlainFunction) (sound :
 
   abbrev thread_forms : ℕ → Effects ThreadState
   thread_forms d = on_events given d
+
+  -- a dosync as the thread meets it
+  abbrev dosync_of : ℕ → Mark → Tree → List Value → Transacting
+  dosync_of d m e env = record { mark = m; body = e; locals = env; on = tx_meaning n functions d e env; lacking = λ j. tx_meaning_lacking n functions d e env (Some j); validators = validators }
+
+  on_lacking : (d : ℕ) (m : Mark) (e : Tree) (env : List Value) (u : Option ℕ) (R : World) → body_on (dosync_of d m e env) u R ≡ tx_meaning_lacking n functions d e env u R
+  on_lacking d m e env None R = refl
+  on_lacking d m e env (Some j) R = refl
 
   abbrev left_callee : (d : ℕ) (inside : Bool) (span : Span) (c : Callee) (vs : List Value) (s : ActorState) → IsPure ks c → (apply (left_calls d inside) span c vs s ≡ carried s (quietly n functions d span c vs tt)) × IsQuiet (quietly n functions d span c vs tt)
   left_callee d inside span c vs s pure = callee_carried (λ e. on_replies validators) n inside functions sound d span c vs s pure
@@ -398,11 +406,12 @@ module _ (cells : List CellDefinition) (functions : List PlainFunction) (sound :
           ((thread_forms d).dosync inside m e env (λ t1. closed (eval (thread_forms d) (right_calls d) n true e env t1)) (apply (right_calls d true) m.span) t)
       th_dosync true m e env s t i keeps h h1 r = absurd (true_false i)
       th_dosync false m e env s t i keeps h h1 r =
-          let tx : Transacting = record { mark = m; body = e; locals = env; on = tx_meaning n functions d e env; validators = validators } in
+          let tx : Transacting = dosync_of d m e env in
           subst (λ l. Related link (tries validators (suc reruns) m.span (λ s1. closed (eval (on_replies validators) (left_calls d) n true e env s1)) (apply (left_calls d true) m.span) Anew s) (eats_tx (suc reruns) tx (apply (right_calls d true) m.span) l t)) (sym r.2)
           (tries_related cells a (IsPure ks) tx (λ s1. closed (eval (on_replies validators) (left_calls d) n true e env s1)) (apply (left_calls d true) m.span) (apply (right_calls d true) m.span) (quietly n functions d m.span) all_checked
           (left_callee d true m.span) (right_callee d true m.span)
-          (λ txs R s1 es own fits. tx_related cells (a.fits txs) (λ W c at r1 xs es1 f. a.splits txs (In W) (ask.Look c at) r1 xs es1 f) R s1.printed (held_in s1.acting) es n functions sound d e env s1 keeps own fits (refl, refl)) (suc reruns) Anew s r.1 t r.0 r.3)
+          (λ txs u R s1 es own fits. subst (Related (tx_link (IsPure ks) (a.fits txs) u R es s1.printed (held_in s1.acting)) (closed (eval (on_replies validators) (left_calls d) n true e env s1))) (sym (on_lacking d m e env u R))
+          (tx_related cells (a.fits txs) (λ W c at r1 xs es1 f. a.splits txs (In W) (ask.Look c at) r1 xs es1 f) u R s1.printed (held_in s1.acting) es n functions sound d e env s1 keeps own fits (refl, refl))) (suc reruns) Anew s r.1 t r.0 r.3)
 
   calls_alike : (d : ℕ) (inside : Bool) (f : ℕ) (vs : List Value) (s : ActorState) (t : ThreadState) → MayCallAt ks inside f → inside ≡ false → link.rel s t → Related link (left_calls d inside f vs s) (right_calls d inside f vs t)
   calls_alike d =

@@ -1,5 +1,6 @@
 -- A transaction on replies that fit is the transaction on their events.
-use Rattle.std.proofs.Common.{ℕ, zero, suc, Bool, true, false, List, [], Option, Some, None, refl, sym, ap, subst, ◌≡◌, ◌∷◌, ◌++◌, ◌∙◌, ◌==◌, ◌&&◌, nat_lt, if◌then◌else◌}
+use Rattle.std.proofs.Common.{ℕ, zero, suc, Bool, true, false, List, [], Option, Some, None, refl, sym, ap, subst, ⊎_elim, ◌≡◌, ◌∷◌, ◌++◌, ◌∙◌, ◌==◌, ◌&&◌, nat_lt, if◌then◌else◌}
+use Rattle.std.proofs.lemmas.Bool.{false≢true}
 use Rattle.txs_world_protocol.proofs.AskLemmas.{same_writes-itself, same_ask-itself}
 use Rattle.txs_world_protocol.specs.Ask.{Writes, buffered, with_write, Exchange, same_writes, same_actions}
 use Rattle.txs_world_protocol.specs.SeenEvent.{SeenEvent}
@@ -12,7 +13,7 @@ use Rattle.txs_world_protocol.specs.declared.event.EventKind.TheVariants as even
 use Rattle.txs_world_protocol.specs.declared.event.EventKind.{EventKind}
 use Rattle.txs_frame.specs.Frame.{PlainTxFrame, empty_frame, has_number, cells_in, commuted, set_writes, by_ref, phase_work, sends_of_commit}
 use Rattle.txs_frame.specs.declared.frame.Commute.{Commute}
-use Rattle.txs_value_data.proofs.SameLemmas.{numbers}
+use Rattle.txs_value_data.proofs.SameLemmas.{numbers, number-itself}
 use Rattle.txs_value_cell.specs.Cells.{World, Validators}
 use Rattle.txs_value_base.specs.Places.{fault_at}
 use Rattle.txs_value_cell.specs.declared.action.Action.{Action}
@@ -25,7 +26,7 @@ use Rattle.txs_value_data.specs.declared.value.CellId.{CellId}
 use Rattle.txs_value_data.specs.declared.value.Value.{Value}
 use Rattle.txs_value_data.specs.declared.value.Value.TheVariants.{Nil}
 use Rattle.txs_tree_meaning.specs.Meaning.{Completion, Completes, Recurs, Faults, Retries, Waits, OutOfTurns, Invalid, bind, allowed, Applies}
-use Rattle.txs_tree_meaning.specs.Thread.{TxRun, ThreadState, with_tx, holding, meant, faulted, faultless, over, Transacting, run_of, ends_tx, is_retry, is_held, again, uneaten, eats_tx}
+use Rattle.txs_tree_meaning.specs.Thread.{TxRun, ThreadState, with_tx, holding, meant, faulted, faultless, over, Transacting, run_of, ends_tx, is_retry, is_held, missing, again, uneaten, eats_tx}
 use Rattle.txs_tree_meaning.specs.Transaction.{TxState, value_or, valued, merged, redone, accepted, if_accepted, final_writes}
 use Rattle.txs_code_meaning.specs.ActorState as actor
 use Rattle.txs_code_meaning.specs.ActorState.{ActorState, Replied, held_in, landed, heard, on_step, begin, begun, read_point, fail, just_done, views, with_first, paired, viewed, view, commit, commit_verdict}
@@ -33,7 +34,7 @@ use Rattle.txs_theorem_threads.proofs.Accepted.{AllValidators, accepted_carried,
 use Rattle.txs_theorem_threads.proofs.Account.{Account, IsBeside, begin_of, sends_begin, holds_beside, account_link, after_reply, answered_in, not_retrying}
 use Rattle.txs_theorem_threads.proofs.Quiet.{carried, IsQuiet, bind_carried, bind_quiet, AllCommutes, phase_some, redone_carried}
 use Rattle.txs_theorem_threads.proofs.Related.{Related, CompletesAs, FaultsAs}
-use Rattle.txs_theorem_threads.proofs.Worlds.{IsShort, Kept, WantsOwn, tx_link}
+use Rattle.txs_theorem_threads.proofs.Worlds.{IsShort, HasStopped, Kept, WantsOwn, IsOfStore, Fitting, Unless, Reruns, tx_link}
 use Rattle.txs_theorem_threads.proofs.Owned.{are_written, Within, within_head, within_tail, write_within, held_there, valued_within, refs_in, phase_within}
 use Rattle.txs_theorem_threads.specs.EndsSo.{in_hand}
 use Rattle.txs_theorem_threads.specs.Noted.{AreWritten, Commits}
@@ -112,6 +113,11 @@ redone_within ds q (c ∷ cs) ws xs u e h all =
 
 -- ---- a retry with its cause
 
+-- the body on a world that may lack a value
+abbrev pub body_on : Transacting → Option ℕ → World → Completion TxState Value
+body_on d None R = d.on R
+body_on d (Some j) R = d.lacking j R
+
 -- the try had to run again for the cause that the event says
 abbrev pub Passes : Transacting → EventKind → World → Type 0
 Passes d kind R = (is_retry kind ≡ true) × ((t : ThreadState) (next : Completion ThreadState Value) → again d kind R t next ≡ next)
@@ -119,9 +125,37 @@ Passes d kind R = (is_retry kind ≡ true) × ((t : ThreadState) (next : Complet
 abbrev pub PassesAt : Transacting → SeenEvent → Type 0
 PassesAt d e = Passes d e.kind e.R
 
-outdated_passes : (d : Transacting) (kind : EventKind) (R : World) → SaysOutdated kind → Passes d kind R
-outdated_passes d (event.Retry since c cause.Outdated) R says = (refl, λ t next. refl)
-outdated_passes d _ R says = absurd says
+missing_passes : (t : ThreadState) (next : Completion ThreadState Value) (y : Completion TxState Value) → HasStopped (halted y) → missing t y next ≡ next
+missing_passes t next (Completes v x) h = absurd h
+missing_passes t next (Recurs vs x) h = absurd h
+missing_passes t next (Faults f x) h = absurd h
+missing_passes t next (Retries x) h = absurd h
+missing_passes t next (Waits x) h = refl
+missing_passes t next (OutOfTurns x) h = absurd h
+missing_passes t next Invalid h = absurd h
+
+outdated_passes : (d : Transacting) (kind : EventKind) (R : World) (c : CellId) → SaysOutdated c kind → HasStopped (halted (d.lacking c.number R)) → Passes d kind R
+outdated_passes d (event.Retry since b cause.Outdated) R c says stopped =
+    (refl, λ t next. missing_passes t next (d.lacking b.number R) (subst (λ n. HasStopped (halted (d.lacking n.number R))) (sym says) stopped))
+outdated_passes d _ R c says stopped = absurd says
+
+-- an event names one such ref
+same_outdated : (kind : EventKind) (c d : CellId) → SaysOutdated c kind → SaysOutdated d kind → c ≡ d
+same_outdated (event.Retry since b cause.Outdated) c d h g = sym h ∙ g
+same_outdated _ c d h g = absurd h
+
+abbrev first_event : SeenEvent → List SeenEvent → SeenEvent
+first_event e [] = e
+first_event e (x ∷ xs) = x
+
+-- a try that had to run again, since a value was no longer kept, came to look at that ref
+read_passes : (d : Transacting) (F : Fitting) (R : World) (es es1 : List SeenEvent) (out : List ℕ) (sends : Option (List Action)) (s : ActorState) (e : SeenEvent) (c : CellId) → es ≡ e ∷ es1 → R ≡ e.R → SaysOutdated c e.kind
+    → Unless (Some c.number) (halted (d.lacking c.number R)) (Reruns F (Some c.number) R es out sends s) → PassesAt d e
+read_passes d F R es es1 out sends s e c there same says h =
+    ⊎_elim (λ stopped. outdated_passes d e.kind e.R c says (subst (λ W. HasStopped (halted (d.lacking c.number W))) same stopped))
+    (λ g. let is : e ≡ g.0 = ap (first_event e) (sym there ∙ g.2) in
+    let one : g.5.0 ≡ c = same_outdated e.kind g.5.0 c (subst (λ x. SaysOutdated g.5.0 x.kind) (sym is) g.5.1) says in
+    absurd (false≢true (sym g.5.2 ∙ ap (λ x. x.number == c.number) one ∙ number-itself c.number))) h
 
 held_passes : (d : Transacting) (kind : EventKind) (R : World) (c : CellId) (v : Value) (x : TxState) → d.on R ≡ Completes v x → SaysHeld c kind → is_held x.done c.number ≡ true → Passes d kind R
 held_passes d (event.Retry since b cause.Held) R c v x on says held =
@@ -322,9 +356,9 @@ module _ (cells : List CellDefinition) (a : Account cells) (P : Callee → Type 
     abbrev Comes : Completion ActorState Value → List SeenEvent → ThreadState → Type 0
     Comes x es t = Related (account_link cells a) (retrying x (tries d.validators k d.mark.span body f Anew)) (eats_tx (suc k) d g (es ++ a.tail) t)
 
-    -- it waits, and needs an event
-    waiting : (ph : Phase) (s : ActorState) (es : List SeenEvent) (t : ThreadState) → WantsOwn s.wants → IsBeside a.before a.from s t → a.fits t.txs ph s.todo es → a.waits s (halted (eats_tx (suc k) d g (es ++ a.tail) t))
-    waiting ph s es t own pr fits = a.waiting t.txs ph s es (λ l. eats_tx (suc k) d g l t) own fits (refl, pr.0, refl)
+    -- it waits, and needs an event of the store's book
+    waiting : (ph : Phase) (s : ActorState) (es : List SeenEvent) (t : ThreadState) → WantsOwn s.wants → IsOfStore s.wants → IsBeside a.before a.from s t → a.fits t.txs ph s.todo es → a.waits s (halted (eats_tx (suc k) d g (es ++ a.tail) t))
+    waiting ph s es t own of pr fits = a.waiting t.txs ph s es (λ l. eats_tx (suc k) d g l t) own fits (sym (of cells), refl, pr.0, refl)
 
     -- it needs turns
     shortage : (ph : Phase) (s : ActorState) (es : List SeenEvent) (t : ThreadState) → IsBeside a.before a.from s t → a.fits t.txs ph s.todo es → ((Q : World) → IsShort (halted (eats_tx (suc k) d g (in_hand cells Q ph) t))) → a.short s (halted (eats_tx (suc k) d g (es ++ a.tail) t))
@@ -443,7 +477,7 @@ module _ (cells : List CellDefinition) (a : Account cells) (P : Callee → Type 
       lands_plainly u s es t made none fine pr fits =
           answered_in cells a t.txs (In R) es (committing s []) s
           (λ h. Comes (bind (res (on_step (heard commit_verdict h) landed)) (λ verdict s1. concludes verdict d.mark.span v (tries d.validators k d.mark.span body f) s1)) es t) fits
-          (waiting (In R) (record s { wants = Some (committing s []) }) es t tt pr fits) (λ r xs m. plain_answered u s es t r xs made none fine pr m)
+          (waiting (In R) (record s { wants = Some (committing s []) }) es t tt (λ ds. refl) pr fits) (λ r xs m. plain_answered u s es t r xs made none fine pr m)
 
       plain_fail_answered : (y : Fault) (u : Unit {0}) (s : ActorState) (es : List SeenEvent) (t : ThreadState) (r : Reply) (xs : List Exchange) → Made s → commuted s.done ≡ [] → plainly s.done ≡ Faults y u → IsBeside a.before a.from s t
           → ReplyFits cells (In R) (ask.Fail s.at s.view) r (λ ph1 es1. a.fits t.txs ph1 xs es1) es → Comes (bind (res (heard just_done (Replied r (record s { todo = xs })))) (λ w s1. Faults y s1)) es t
@@ -455,7 +489,7 @@ module _ (cells : List CellDefinition) (a : Account cells) (P : Callee → Type 
       unfolding fail
       fails_plainly y u s es t made none z pr fits =
           answered_in cells a t.txs (In R) es (ask.Fail s.at s.view) s (λ h. Comes (bind (res (heard just_done h)) (λ w s1. Faults y s1)) es t) fits
-          (waiting (In R) (record s { wants = Some (ask.Fail s.at s.view) }) es t tt pr fits) (λ r xs m. plain_fail_answered y u s es t r xs made none z pr m)
+          (waiting (In R) (record s { wants = Some (ask.Fail s.at s.view) }) es t tt (λ ds. refl) pr fits) (λ r xs m. plain_fail_answered y u s es t r xs made none z pr m)
 
       -- a transaction whose validators need turns needs them at its failure
       plain_short : (s : ActorState) (t : ThreadState) (u : Unit {0}) → Made s → commuted s.done ≡ [] → plainly s.done ≡ OutOfTurns u → (Q : World) (l : List SeenEvent) → IsShort (halted (uneaten l (ends_tx d g (event.Fail 0 0) R Q Q t)))
@@ -534,7 +568,7 @@ module _ (cells : List CellDefinition) (a : Account cells) (P : Callee → Type 
         lands_viewed s es t ws u made z pr fits =
             answered_in cells a t.txs (Viewed R Q) es (committing s ws) s
             (λ h. Comes (bind (res (on_step (heard commit_verdict h) landed)) (λ verdict s1. concludes verdict d.mark.span v (tries d.validators k d.mark.span body f) s1)) es t) fits
-            (waiting (Viewed R Q) (record s { wants = Some (committing s ws) }) es t tt pr fits) (λ r xs m. phase_answered s es t ws u r xs made z pr m)
+            (waiting (Viewed R Q) (record s { wants = Some (committing s ws) }) es t tt (λ ds. refl) pr fits) (λ r xs m. phase_answered s es t ws u r xs made z pr m)
 
         fail_answered : (y : Fault) (s : ActorState) (es : List SeenEvent) (t : ThreadState) (u : Unit {0}) (r : Reply) (xs : List Exchange) → Made s → phase s.done Q ≡ Faults y u → IsBeside a.before a.from s t
             → ReplyFits cells (Viewed R Q) (ask.Fail s.at s.view) r (λ ph1 es1. a.fits t.txs ph1 xs es1) es
@@ -547,7 +581,7 @@ module _ (cells : List CellDefinition) (a : Account cells) (P : Callee → Type 
         unfolding fail
         fails_viewed y s es t u made z pr fits =
             answered_in cells a t.txs (Viewed R Q) es (ask.Fail s.at s.view) s (λ h. Comes (bind (res (heard just_done h)) (λ w s1. Faults y s1)) es t) fits
-            (waiting (Viewed R Q) (record s { wants = Some (ask.Fail s.at s.view) }) es t tt pr fits) (λ r xs m. fail_answered y s es t u r xs made z pr m)
+            (waiting (Viewed R Q) (record s { wants = Some (ask.Fail s.at s.view) }) es t tt (λ ds. refl) pr fits) (λ r xs m. fail_answered y s es t u r xs made z pr m)
 
         -- a transaction whose commutes need turns needs them at its failure
         phase_short : (s : ActorState) (t : ThreadState) (u : Unit {0}) → Made s → phase s.done Q ≡ OutOfTurns u → (l : List SeenEvent) → IsShort (halted (uneaten l (ends_tx d g (event.Fail 0 0) R Q Q t)))
@@ -590,7 +624,7 @@ module _ (cells : List CellDefinition) (a : Account cells) (P : Callee → Type 
       closing_comes (c ∷ cs) s es t some made pr fits =
           answered_in cells a t.txs (In R) es (ask.View (commuted s.done)) s
           (λ h. Comes (bind (res (on_step (heard views h) (λ y s1. viewed y.0 (paired (commuted s.done) y.1) s1))) after_view) es t) fits
-          (waiting (In R) (record s { wants = Some (ask.View (commuted s.done)) }) es t tt pr fits) (λ r xs m. view_answered s es t r xs made pr m)
+          (waiting (In R) (record s { wants = Some (ask.View (commuted s.done)) }) es t tt (λ ds. refl) pr fits) (λ r xs m. view_answered s es t r xs made pr m)
 
     -- ---- the body
 
@@ -609,35 +643,36 @@ module _ (cells : List CellDefinition) (a : Account cells) (P : Callee → Type 
     unfolding fail
     body_fails R y x s es t on pr fits =
         answered_in cells a t.txs (In R) es (ask.Fail s.at s.view) s (λ h. Comes (bind (res (heard just_done h)) (λ w s1. Faults y s1)) es t) fits
-        (waiting (In R) (record s { wants = Some (ask.Fail s.at s.view) }) es t tt pr fits) (λ r xs m. body_fail_answered R y x s es t r xs on pr m)
+        (waiting (In R) (record s { wants = Some (ask.Fail s.at s.view) }) es t tt (λ ds. refl) pr fits) (λ r xs m. body_fail_answered R y x s es t r xs on pr m)
 
     -- what comes after the body
     abbrev after_body : Value → ActorState → Completion ActorState Value
     after_body v s1 = closing d.validators (commuted s1.done) d.mark.span f v (tries d.validators k d.mark.span body f) s1
 
-    body_completed : (R : World) (v : Value) (s : ActorState) (y : Completion TxState Value) (es : List SeenEvent) (t : ThreadState) (out : List ℕ) (sends : Option (List Action)) → d.on R ≡ y → (a.before ++ t.printed ≡ out) × (sends ≡ t.held) × (begin_of t.held ≡ a.from) → CompletesAs (tx_link P (a.fits t.txs) R es out sends) v s y → Comes (after_body v s) es t
+    body_completed : (R : World) (v : Value) (s : ActorState) (y : Completion TxState Value) (es : List SeenEvent) (t : ThreadState) (out : List ℕ) (sends : Option (List Action)) → d.on R ≡ y → (a.before ++ t.printed ≡ out) × (sends ≡ t.held) × (begin_of t.held ≡ a.from) → CompletesAs (tx_link P (a.fits t.txs) None R es out sends) v s y → Comes (after_body v s) es t
     body_completed R v s (Completes w x) es t out sends on pr h =
         closing_comes R v x (on ∙ ap (λ z. Completes z x) (sym h.0)) (commuted s.done) s es t refl (h.1.0, h.1.1) (pr.0 ∙ sym h.1.3.0, h.1.3.1 ∙ pr.1, pr.2) h.1.2
     body_completed R v s _ es t out sends on pr h = absurd h
 
-    body_faulted : (R : World) (e : Fault) (s : ActorState) (y : Completion TxState Value) (es : List SeenEvent) (t : ThreadState) (out : List ℕ) (sends : Option (List Action)) → d.on R ≡ y → (a.before ++ t.printed ≡ out) × (sends ≡ t.held) × (begin_of t.held ≡ a.from) → FaultsAs (tx_link P (a.fits t.txs) R es out sends) e s y → Comes (bind (res (fail s)) (λ w s1. Faults e s1)) es t
+    body_faulted : (R : World) (e : Fault) (s : ActorState) (y : Completion TxState Value) (es : List SeenEvent) (t : ThreadState) (out : List ℕ) (sends : Option (List Action)) → d.on R ≡ y → (a.before ++ t.printed ≡ out) × (sends ≡ t.held) × (begin_of t.held ≡ a.from) → FaultsAs (tx_link P (a.fits t.txs) None R es out sends) e s y → Comes (bind (res (fail s)) (λ w s1. Faults e s1)) es t
     body_faulted R e s (Faults c x) es t out sends on pr h = body_fails R e x s es t (on ∙ ap (λ z. Faults z x) (sym h.0)) (pr.0 ∙ sym h.1.1.0, h.1.1.1 ∙ pr.1, pr.2) h.1.0
     body_faulted R e s _ es t out sends on pr h = absurd h
 
-    body_comes : (R : World) (x : Completion ActorState Value) (es : List SeenEvent) (t : ThreadState) (out : List ℕ) (sends : Option (List Action)) → (a.before ++ t.printed ≡ out) × (sends ≡ t.held) × (begin_of t.held ≡ a.from) → Related (tx_link P (a.fits t.txs) R es out sends) x (d.on R) → Comes (telling fail x after_body) es t
-    body_comes R (Completes v s) es t out sends pr h = body_completed R v s (d.on R) es t out sends refl pr h
-    body_comes R (Recurs vs s) es t out sends pr h = tt
-    body_comes R (Faults e s) es t out sends pr h = body_faulted R e s (d.on R) es t out sends refl pr h
-    body_comes R (Retries s) es t out sends pr h =
-        subst (λ l. Comes (Retries s) l t) (sym h.2)
-        (subst (Related (account_link cells a) (tries d.validators k d.mark.span body f Anew s)) (sym (eats_retry h.0 (h.1 ++ a.tail) t h.3 (outdated_passes d h.0.kind h.0.R h.4))) (next Anew s h.1 t (pr.0 ∙ sym h.6.0, h.6.1 ∙ pr.1, pr.2) h.5))
-    body_comes R (Waits s) es t out sends pr h = waiting (In R) s es t h.2 (pr.0 ∙ sym h.1.0, h.1.1 ∙ pr.1, pr.2) h.0
-    body_comes R (OutOfTurns s) es t out sends pr h = shortage (In R) s es t (pr.0 ∙ sym h.2.0, h.2.1 ∙ pr.1, pr.2) h.1 (λ Q. uneaten_short (in_hand cells Q (In R)) (ends_tx d g (event.Fail 0 0) R Q Q (record t { todo = [] })) (over_short (d.on R) (record t { todo = [] }) _ _ h.0))
-    body_comes R Invalid es t out sends pr h = tt
+    body_comes : (R : World) (x : Completion ActorState Value) (es : List SeenEvent) (t : ThreadState) (out : List ℕ) (sends : Option (List Action)) → (a.before ++ t.printed ≡ out) × (sends ≡ t.held) × (begin_of t.held ≡ a.from) → Related (tx_link P (a.fits t.txs) None R es out sends) x (d.on R)
+        → ((j : ℕ) → Related (tx_link P (a.fits t.txs) (Some j) R es out sends) x (d.lacking j R)) → Comes (telling fail x after_body) es t
+    body_comes R (Completes v s) es t out sends pr h l = body_completed R v s (d.on R) es t out sends refl pr h
+    body_comes R (Recurs vs s) es t out sends pr h l = tt
+    body_comes R (Faults e s) es t out sends pr h l = body_faulted R e s (d.on R) es t out sends refl pr h
+    body_comes R (Retries s) es t out sends pr h l =
+        subst (λ xs. Comes (Retries s) xs t) (sym h.2)
+        (subst (Related (account_link cells a) (tries d.validators k d.mark.span body f Anew s)) (sym (eats_retry h.0 (h.1 ++ a.tail) t h.3 (read_passes d (a.fits t.txs) R es h.1 out sends s h.0 h.5.0 h.2 h.4 h.5.1 (l h.5.0.number)))) (next Anew s h.1 t (pr.0 ∙ sym h.7.0, h.7.1 ∙ pr.1, pr.2) h.6))
+    body_comes R (Waits s) es t out sends pr h l = waiting (In R) s es t h.2 h.3 (pr.0 ∙ sym h.1.0, h.1.1 ∙ pr.1, pr.2) h.0
+    body_comes R (OutOfTurns s) es t out sends pr h l = shortage (In R) s es t (pr.0 ∙ sym h.2.0, h.2.1 ∙ pr.1, pr.2) h.1 (λ Q. uneaten_short (in_hand cells Q (In R)) (ends_tx d g (event.Fail 0 0) R Q Q (record t { todo = [] })) (over_short (d.on R) (record t { todo = [] }) _ _ h.0))
+    body_comes R Invalid es t out sends pr h l = tt
 
     -- ---- the begin
 
-    module _ (body_related : (txs : List TxRun) (R : World) (s : ActorState) (es : List SeenEvent) → s.done ≡ empty_frame → a.fits txs (In R) s.todo es → Related (tx_link P (a.fits txs) R es s.printed (held_in s.acting)) (body s) (d.on R)) where
+    module _ (body_related : (txs : List TxRun) (u : Option ℕ) (R : World) (s : ActorState) (es : List SeenEvent) → s.done ≡ empty_frame → a.fits txs (In R) s.todo es → Related (tx_link P (a.fits txs) u R es s.printed (held_in s.acting)) (body s) (body_on d u R)) where
       -- what comes after the begin
       abbrev after_begin : Unit {0} → ActorState → Completion ActorState Value
       after_begin u s1 = telling fail (body s1) after_body
@@ -646,14 +681,14 @@ module _ (cells : List CellDefinition) (a : Account cells) (P : Callee → Type 
           → Comes (bind (res (on_step (heard read_point (Replied r (record s { todo = xs }))) begun)) after_begin) es t
       begin_answered s es t (reply.At p) xs pr m =
           let s1 : ActorState = record s { todo = xs; at = p; view = p; done = empty_frame; commuting = None } in
-          body_comes m.0 (body s1) es t s.printed (held_in s.acting) pr (body_related t.txs m.0 s1 es refl m.1)
+          body_comes m.0 (body s1) es t s.printed (held_in s.acting) pr (body_related t.txs None m.0 s1 es refl m.1) (λ j. body_related t.txs (Some j) m.0 s1 es refl m.1)
       begin_answered s es t _ xs pr m = tt
 
       begin_comes : (s : ActorState) (es : List SeenEvent) (t : ThreadState) → IsBeside a.before a.from s t → a.fits t.txs Out s.todo es → Comes (bind (res (begin s)) after_begin) es t
       unfolding begin
       begin_comes s es t pr fits =
           answered_in cells a t.txs Out es ask.Begin s (λ h. Comes (bind (res (on_step (heard read_point h) begun)) after_begin) es t) fits
-          (waiting Out (record s { wants = Some ask.Begin }) es t tt pr fits) (λ r xs m. begin_answered s es t r xs pr m)
+          (waiting Out (record s { wants = Some ask.Begin }) es t tt (λ ds. refl) pr fits) (λ r xs m. begin_answered s es t r xs pr m)
 
       attempt_comes : (from : Start) (s : ActorState) (es : List SeenEvent) (t : ThreadState) → IsBeside a.before a.from s t → StartFits cells a P d t.txs from s es → Comes (attempt d.validators from d.mark.span body f (tries d.validators k d.mark.span body f) s) es t
       attempt_comes Anew s es t pr fits = begin_comes s es t pr fits
@@ -665,6 +700,6 @@ module _ (cells : List CellDefinition) (a : Account cells) (P : Callee → Type 
   start_fits txs (Behind v) s es fits = (In fits.0, fits.5)
 
   -- tries whose body is the transaction on each world
-  pub tries_related : (body_related : (txs : List TxRun) (R : World) (s : ActorState) (es : List SeenEvent) → s.done ≡ empty_frame → a.fits txs (In R) s.todo es → Related (tx_link P (a.fits txs) R es s.printed (held_in s.acting)) (body s) (d.on R)) → (k : ℕ) → Follow k
+  pub tries_related : (body_related : (txs : List TxRun) (u : Option ℕ) (R : World) (s : ActorState) (es : List SeenEvent) → s.done ≡ empty_frame → a.fits txs (In R) s.todo es → Related (tx_link P (a.fits txs) u R es s.printed (held_in s.acting)) (body s) (body_on d u R)) → (k : ℕ) → Follow k
   tries_related br zero from s es t pr fits = let f : (ph : Phase) × a.fits t.txs ph s.todo es = start_fits t.txs from s es fits in (refl, (pr.0, f.0, es, refl, f.1))
   tries_related br (suc k) from s es t pr fits = attempt_comes k (tries_related br k) br from s es t pr fits

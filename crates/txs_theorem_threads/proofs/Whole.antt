@@ -3,7 +3,7 @@ use Rattle.std.proofs.Common.{ℕ, List, [], refl, sym, subst, arith, ⊎_elim, 
 use Rattle.std.proofs.lemmas.Bool.{cases_lt}
 use Rattle.txs_code_meaning.specs.ActorState.{ActorState}
 use Rattle.txs_code_meaning.specs.Machine.{ThreadCode, Configuration, Ended, Failed, Asking, Unfinished, Stuck, Outcome, exec}
-use Rattle.txs_theorem_threads.proofs.Account.{waited_eaten}
+use Rattle.txs_theorem_threads.proofs.Account.{asked_waited, waited_eaten}
 use Rattle.txs_theorem_threads.proofs.Longer.{longer}
 use Rattle.txs_theorem_threads.proofs.Grows.{GrowsTo, Later, later}
 use Rattle.txs_theorem_threads.proofs.Follow.{tree_follows}
@@ -48,7 +48,7 @@ agreed cells (Faults f u) r t a s g e =
 agreed cells (Retries u) r t a s g e = absurd t
 agreed cells (Waits u) r t a s g e =
     let z = nothing_after g.done u.todo (sym g.eats ∙ e) in
-    (g.more, subst (λ o. HasEatenAll o r) g.prints (halted_all u.printed r (waited_eaten u.printed (halted r) (a z))))
+    (g.more, subst (λ o. HasEatenAll o r) g.prints (halted_all u.printed r (waited_eaten u.printed (halted r) (asked_waited cells u.wants u.printed (halted r) (a z)))))
 agreed cells (OutOfTurns u) r t a s g e =
     let z = nothing_after g.done u.todo (sym g.eats ∙ e) in
     (g.more, subst (λ o. HasEatenAll o r) g.prints (halted_all u.printed r (a z)))
@@ -84,7 +84,7 @@ over_explained cells (Completes v s) r t a e = (v, a.0, a.1, fits_nothing cells 
 over_explained cells (Recurs vs s) r t a e = absurd t
 over_explained cells (Faults f s) r t a e = (a.0, a.1, fits_nothing cells a.3.0 s.todo a.0.todo e a.3.1, a.2)
 over_explained cells (Retries s) r t a e = absurd t
-over_explained cells (Waits s) r t a e = a e
+over_explained cells (Waits s) r t a e = asked_waited cells s.wants s.printed (halted r) (a e)
 over_explained cells (OutOfTurns s) r t a e = absurd t
 over_explained cells Invalid r t a e = absurd t
 

@@ -1,6 +1,7 @@
 -- What it is that code follows a thread.
-use Rattle.std.specs.Prelude.{ℕ, ◌≡◌, ◌≤◌, List, [], length, None}
+use Rattle.std.specs.Prelude.{ℕ, ◌≡◌, ◌≤◌, List, [], length, Some, None}
 use Rattle.txs_world_protocol.specs.Ask.{Exchange}
+use Rattle.txs_world_protocol.specs.declared.ask.Ask.{Ask}
 use Rattle.txs_tree_meaning.specs.Known.{known}
 use Rattle.txs_tree_meaning.specs.Pure.{PureCallee, pure_meaning}
 use Rattle.txs_tree_meaning.specs.Sound.{SoundFunctions, SoundSource, SoundTree, in_dosync}
@@ -13,13 +14,13 @@ use Rattle.txs_value_cell.specs.Cells.{World}
 use Rattle.txs_value_base.specs.declared.op.Callee.{Callee}
 use Rattle.txs_value_data.specs.declared.value.Value.{Value}
 use Rattle.txs_code_meaning.specs.ActorState.{ActorState}
-use Rattle.txs_code_meaning.specs.Machine.{ThreadCode, Unfinished}
+use Rattle.txs_code_meaning.specs.Machine.{ThreadCode, Asking, Unfinished}
 use Rattle.txs_code_meaning.specs.Opening.{target}
 use Rattle.txs_theorem_threads.specs.Behaves.{source, Behaves, IsMeant, IsProper, HasEnded, outcome_of}
 use Rattle.txs_theorem_threads.specs.EndsSo.{EndsSo}
 use Rattle.txs_theorem_threads.specs.Noted.{AreNoted, txs_of}
 use Rattle.txs_theorem_threads.specs.PrintsSo.{PrintsSo}
-use Rattle.txs_theorem_threads.specs.RepliesFit.{Out, RepliesFit, Agrees, Explained, Consumed}
+use Rattle.txs_theorem_threads.specs.RepliesFit.{Out, RepliesFit, book_asked, halted, HasWaitedFor, Agrees, Explained, Consumed}
 
 -- The code follows the thread's tree, on all replies that fit.
 pub record Follows (code : ThreadCode) (p : ThreadSource) : Type 0 where
@@ -27,6 +28,8 @@ pub record Follows (code : ThreadCode) (p : ThreadSource) : Type 0 where
   pub explained : (todo : List Exchange) (es : List SeenEvent) (m : ℕ) → RepliesFit p.cells Out todo es → Consumed (target code m todo) → Explained (target code m todo) (thread_meaning p m es)
   -- and its transactions are those of the commits among the exchanges, each of which has its transaction's own work
   pub noted : (todo : List Exchange) (es : List SeenEvent) (m : ℕ) → RepliesFit p.cells Out todo es → Consumed (target code m todo) → AreNoted None todo (txs_of (thread_meaning p m es))
+  -- where the code asks, and has consumed all exchanges, the thread needs an event of the book that answers the ask
+  pub asks_so : (todo : List Exchange) (es : List SeenEvent) (m : ℕ) (s : ActorState) (q : Ask) → RepliesFit p.cells Out todo es → target code m todo ≡ Asking s → s.todo ≡ [] → s.wants ≡ Some q → HasWaitedFor (book_asked p.cells q) s.printed (halted (thread_meaning p m es))
   -- where the tree on these replies ends for some bound on its loops, the code ends so, and the thread with any greater bound agrees
   pub reaches : (todo : List Exchange) (es : List SeenEvent) (n k : ℕ) → RepliesFit p.cells Out todo es → HasEnded (source p n todo) → n ≤ k → ((m : ℕ) × (target code m todo ≡ outcome_of (source p n todo))) × Agrees p.cells (source p n todo) (thread_meaning p k es)
   -- where the tree on these replies needs more turns of a loop than the bound, the code continues and has, after as many turns or more, printed all that the tree printed

@@ -20,7 +20,7 @@ use Rattle.txs_code_meaning.specs.Machine.{Library, agent_code, Outside, Configu
 use Rattle.txs_theorem_threads.specs.EndsSo.{NeedsTurns, HasSettled, in_hand}
 use Rattle.txs_theorem_threads.specs.Noted.{AreNoted, txs_of}
 use Rattle.txs_theorem_threads.specs.PrintsSo.{HasPrintedSo}
-use Rattle.txs_theorem_threads.specs.RepliesFit.{Phase, Out, HasWaited, HasEaten, HasEatenAll, halted, Consumed}
+use Rattle.txs_theorem_threads.specs.RepliesFit.{Phase, Out, book_asked, HasWaitedFor, HasEaten, HasEatenAll, halted, Consumed}
 use Rattle.txs_theorem_threads.specs.RepliesFitTo.{RepliesFitTo}
 
 -- an action that a program may send: its callee isn't for transactions alone, and takes the agent's state and the arguments
@@ -54,23 +54,23 @@ abbrev pub IsHandedIn : Result Value Fault → List Action → List ℕ → Comp
 IsHandedIn (Ok v) sends out r = (t : ThreadState) × (r ≡ Completes v t) × (t.todo ≡ []) × (t.printed ≡ out) × (t.held ≡ Some sends)
 IsHandedIn (Err f) sends out r = (t : ThreadState) × (r ≡ Faults f t) × (t.todo ≡ []) × (t.printed ≡ out) × (sends ≡ [])
 
--- what an action means that has to ask this: where it is handed in, that; else it needs an event, and has eaten all
-abbrev pub MeansAsked : CellId → Option Ask → List ℕ → Completion ThreadState Value → Type 0
-MeansAsked g None out r = ⊥
-MeansAsked g (Some (Finish h new sends)) out r = (h ≡ g) × IsHandedIn new sends out r
-MeansAsked g (Some q) out r = HasWaited out (halted r)
+-- What an action means that has to ask this: where it is handed in, that. Else it needs an event of the book that answers the ask, and has eaten all.
+abbrev pub MeansAsked : List CellDefinition → CellId → Option Ask → List ℕ → Completion ThreadState Value → Type 0
+MeansAsked cells g None out r = ⊥
+MeansAsked cells g (Some (Finish h new sends)) out r = (h ≡ g) × IsHandedIn new sends out r
+MeansAsked cells g (Some q) out r = HasWaitedFor (book_asked cells q) out (halted r)
 
 -- these bytes were printed behind those
 abbrev pub PrintedBehind : List ℕ → List ℕ → (List ℕ → Type 0) → Type 0
 PrintedBehind before whole P = (out : List ℕ) × (whole ≡ before ++ out) × P out
 
 -- what an action means, where the machine is so far and has consumed all exchanges; these bytes were printed before the action
-abbrev pub ActionExplained : CellId → List ℕ → Outcome → Completion ThreadState Value → Type 0
-ActionExplained g before (Ended s) r = ⊥
-ActionExplained g before (Failed f s) r = ⊥
-ActionExplained g before (Asking s) r = PrintedBehind before s.printed (λ out. MeansAsked g s.wants out r)
-ActionExplained g before (Unfinished s) r = PrintedBehind before s.printed (λ out. (rest : List ℕ) × HasEatenAll (out ++ rest) r)
-ActionExplained g before Stuck r = ⊥
+abbrev pub ActionExplained : List CellDefinition → CellId → List ℕ → Outcome → Completion ThreadState Value → Type 0
+ActionExplained cells g before (Ended s) r = ⊥
+ActionExplained cells g before (Failed f s) r = ⊥
+ActionExplained cells g before (Asking s) r = PrintedBehind before s.printed (λ out. MeansAsked cells g s.wants out r)
+ActionExplained cells g before (Unfinished s) r = PrintedBehind before s.printed (λ out. (rest : List ℕ) × HasEatenAll (out ++ rest) r)
+ActionExplained cells g before Stuck r = ⊥
 
 -- the machine asks
 abbrev pub IsAsking : Outcome → Type 0
@@ -83,15 +83,16 @@ IsAsking Stuck = ⊥
 -- The code follows an action, from any state between two actions, on all replies that fit its events up to some phase: those that came since the
 -- action was taken, before it is handed in.
 pub record FollowsAction (code : Library) (cells : List CellDefinition) (functions : List PlainFunction) (g : CellId) (a : Action) : Type 0 where
-  -- after any number of turns the action eats the events with what was printed; what is handed in is what it means
-  pub explained : (v : Value) (s : ActorState) (todo : List Exchange) (es : List SeenEvent) (end : Phase) (m : ℕ) → IsBetween s → RepliesFitTo cells Out todo es end → Consumed (action_target code g a v s m todo) → ActionExplained g s.printed (action_target code g a v s m todo) (action_meaning cells functions m a v es)
+  -- After any number of turns the action eats the events with what was printed, and what is handed in is what it means. Where the code asks anything
+  -- else, the action needs an event of the book that answers the ask.
+  pub explained : (v : Value) (s : ActorState) (todo : List Exchange) (es : List SeenEvent) (end : Phase) (m : ℕ) → IsBetween s → RepliesFitTo cells Out todo es end → Consumed (action_target code g a v s m todo) → ActionExplained cells g s.printed (action_target code g a v s m todo) (action_meaning cells functions m a v es)
   -- and its transactions are those of the commits among the exchanges, whose sends it holds
   pub noted : (v : Value) (s : ActorState) (todo : List Exchange) (es : List SeenEvent) (end : Phase) (m : ℕ) → IsBetween s → RepliesFitTo cells Out todo es end → Consumed (action_target code g a v s m todo) → AreNoted (Some []) todo (txs_of (action_meaning cells functions m a v es))
   -- where the action's meaning needs an event or more turns, the code prints all that the meaning printed
   pub prints_so : (v : Value) (s : ActorState) (todo : List Exchange) (es : List SeenEvent) (end : Phase) (m n : ℕ) (out : List ℕ) → IsBetween s → RepliesFitTo cells Out todo es end → Consumed (action_target code g a v s m todo) → m ≤ n → HasEaten out (halted (action_meaning cells functions n a v es)) → (j : ℕ) × (n ≤ j) × HasPrintedSo (s.printed ++ out) (action_target code g a v s j todo)
   -- where the action's meaning is there for some bound on its loops, or needs an event, the code comes to hand it in, or to ask; unless what
   -- runs needs turns for every bound
-  pub ends_so : (v : Value) (s : ActorState) (todo : List Exchange) (es : List SeenEvent) (end : Phase) (Q : World) (m n k : ℕ) → IsBetween s → RepliesFitTo cells Out todo es end → Consumed (action_target code g a v s m todo) → HasSettled (action_meaning cells functions n a v es) → (NeedsTurns (action_meaning cells functions k a v (es ++ in_hand cells Q end)) → ⊥) → (j : ℕ) × IsAsking (action_target code g a v s j todo) × ActionExplained g s.printed (action_target code g a v s j todo) (action_meaning cells functions n a v es)
+  pub ends_so : (v : Value) (s : ActorState) (todo : List Exchange) (es : List SeenEvent) (end : Phase) (Q : World) (m n k : ℕ) → IsBetween s → RepliesFitTo cells Out todo es end → Consumed (action_target code g a v s m todo) → HasSettled (action_meaning cells functions n a v es) → (NeedsTurns (action_meaning cells functions k a v (es ++ in_hand cells Q end)) → ⊥) → (j : ℕ) × IsAsking (action_target code g a v s j todo) × ActionExplained cells g s.printed (action_target code g a v s j todo) (action_meaning cells functions n a v es)
 
 -- the code follows each action that a program may send, of each agent
 pub record FollowsAgents (code : Library) (cells : List CellDefinition) (functions : List PlainFunction) : Type 0 where

@@ -39,12 +39,12 @@ abbrev pub OnEvent : ℕ → (SeenEvent → Type 0) → (List SeenEvent → Type
 OnEvent book P next [] = ⊥
 OnEvent book P next (e ∷ es) = (e.book ≡ book) × P e × next es
 
--- a transaction had to run again, since a value was no longer kept
-abbrev pub SaysOutdated : EventKind → Type 0
-SaysOutdated (event.Retry since c cause.Outdated) = Unit {0}
-SaysOutdated _ = ⊥
+-- a transaction had to run again, since this ref's value was no longer kept
+abbrev pub SaysOutdated : CellId → EventKind → Type 0
+SaysOutdated d (event.Retry since c cause.Outdated) = c ≡ d
+SaysOutdated d _ = ⊥
 
--- or since this ref, which it had set or ensured, was written
+-- since this ref, which it had set or ensured, was written
 abbrev pub SaysHeld : CellId → EventKind → Type 0
 SaysHeld d (event.Retry since c cause.Held) = c ≡ d
 SaysHeld d _ = ⊥
@@ -130,7 +130,8 @@ OutFits cells _ _ next es = ⊥
 abbrev pub InFits : World → Ask → Reply → Goes → List SeenEvent → Type 0
 -- the values of one try are of one world
 InFits R (ask.Look c p) (reply.Is v) next es = (R c.number ≡ v) × next (In R) es
-InFits R (ask.Look c p) (reply.Retry d) next es = OnEvent 0 (λ e. SaysOutdated e.kind) (next Out) es
+-- its value of this ref was no longer kept
+InFits R (ask.Look c p) (reply.Retry d) next es = OnEvent 0 (λ e. (R ≡ e.R) × SaysOutdated c e.kind) (next Out) es
 -- the values of one view are of one world
 InFits R (ask.View cs) (reply.Views q vs) next es = (Q : World) × Gives Q cs vs × next (Viewed R Q) es
 -- a commit without a commute phase
@@ -211,6 +212,14 @@ RepliesFit cells ph (x ∷ xs) es = ReplyFits cells ph x.ask x.reply (λ ph1 es1
 
 -- ---- ends
 
+-- the book that answers an ask: an atom's own for what names an atom, else the store's
+abbrev pub book_asked : List CellDefinition → Ask → ℕ
+book_asked cells (ask.Peek c) = home cells c
+book_asked cells (ask.OpenAt c) = home cells c
+book_asked cells (ask.CloseAt c p v) = home cells c
+book_asked cells (ask.Broke c p) = home cells c
+book_asked cells _ = 0
+
 -- whether a part continues, or needs an event, turns, or another try
 pub data Halt (S : Type 0) : Type 0 where
   Going : Halt S
@@ -233,6 +242,18 @@ HasWaited out (Stopped t) = (t.todo ≡ []) × (t.printed ≡ out)
 HasWaited out (Short t) = ⊥
 HasWaited out (Rerun t) = ⊥
 
+-- the thread needs an event of this book, printed this and has eaten all
+abbrev pub HasWaitedFor : ℕ → List ℕ → Halt ThreadState → Type 0
+HasWaitedFor book out Going = ⊥
+HasWaitedFor book out (Stopped t) = (t.asks ≡ Some book) × (t.todo ≡ []) × (t.printed ≡ out)
+HasWaitedFor book out (Short t) = ⊥
+HasWaitedFor book out (Rerun t) = ⊥
+
+-- the thread needs an event of the book that answers what is asked
+abbrev pub HasAsked : List CellDefinition → Option Ask → List ℕ → Halt ThreadState → Type 0
+HasAsked cells None out h = ⊥
+HasAsked cells (Some q) out h = HasWaitedFor (book_asked cells q) out h
+
 -- the thread needs an event or turns, printed this and has eaten all
 abbrev pub HasEaten : List ℕ → Halt ThreadState → Type 0
 HasEaten out Going = ⊥
@@ -246,13 +267,14 @@ FitInSome cells xs es = (ph : Phase) × RepliesFit cells ph xs es
 
 -- The tree's end on replies and the thread's on events: the same value or fault, with the same bytes printed, and what is left fits,
 -- after a value outside every transaction, after a fault where it came; where the tree waits and all replies are consumed, the thread
--- needs an event and has eaten all, and where it needs turns, the thread needs turns or an event and has eaten all.
+-- needs an event of the book that answers what is asked and has eaten all, and where it needs turns, the thread needs turns or an event and
+-- has eaten all.
 abbrev pub Agrees : List CellDefinition → Completion ActorState Value → Completion ThreadState Value → Type 0
 Agrees cells (Completes v s) r = (t : ThreadState) × (r ≡ Completes v t) × (t.printed ≡ s.printed) × RepliesFit cells Out s.todo t.todo
 Agrees cells (Recurs vs s) r = Unit {0}
 Agrees cells (Faults f s) r = (t : ThreadState) × (r ≡ Faults f t) × (t.printed ≡ s.printed) × FitInSome cells s.todo t.todo
 Agrees cells (Retries s) r = Unit {0}
-Agrees cells (Waits s) r = s.todo ≡ [] → HasWaited s.printed (halted r)
+Agrees cells (Waits s) r = s.todo ≡ [] → HasAsked cells s.wants s.printed (halted r)
 Agrees cells (OutOfTurns s) r = s.todo ≡ [] → HasEaten s.printed (halted r)
 Agrees cells Invalid r = Unit {0}
 

@@ -29,7 +29,7 @@ use Rattle.txs_tree_meaning.specs.Meaning.{Completion, Completes, Recurs, Faults
 use Rattle.txs_tree_meaning.specs.Pure.{no_effects}
 use Rattle.txs_tree_meaning.specs.Sound.{in_thread, in_dosync, SoundCall, SoundCallee, SoundCells, SoundTree, SoundAll, SoundLet, SoundDo, SoundFunctions}
 use Rattle.txs_tree_meaning.specs.Thread.{ThreadState, Transacting, Surroundings, with_tx, holding, run_of, uneaten, eats, meant, resets, swaps, over, faulted, faultless, ends_tx, is_retry, again, eats_tx, accepts, thread_put, thread_update, outside_form, on_events}
-use Rattle.txs_tree_meaning.specs.Transaction.{TxState, on_cell, in_transaction, tx_start, tx_meaning, validated, final_writes}
+use Rattle.txs_tree_meaning.specs.Transaction.{TxState, on_cell, in_transaction, tx_start, tx_meaning, tx_meaning_lacking, validated, final_writes}
 use Rattle.txs_tree_meaning.specs.Tree.{Mark, Tree, Const, Local, If, Do, Let, Loop, Recur, Core, Call, VectorOf, Println, Dosync, Look, Put, Update, Send, Trees, none, more, count, PlainFunction}
 use Rattle.txs_tree_meaning.specs.View.{functions_of}
 use Rattle.txs_tree_meaning.specs.declared.node.Function as function
@@ -242,7 +242,7 @@ module _ (cells : List CellDefinition) (functions : List function.Function) (n :
     dosync_same : (m : Mark) (body : Tree) (env : List Value) (l : ℕ) (t : ThreadState) (run other : ThreadState → Completion ThreadState Value) → SoundTree (take p ks) in_dosync l None body
         → (on_events around b).dosync false m body env run (apply (low_calls b true) m.span) t ≡ (on_events around b).dosync false m body env other (wholly around m.span) t
     dosync_same m body env l t run other h =
-        let d : Transacting = record { mark = m; body = body; locals = env; on = tx_meaning n fs b body env; validators = validators_of cells } in
+        let d : Transacting = record { mark = m; body = body; locals = env; on = tx_meaning n fs b body env; lacking = λ j. tx_meaning_lacking n fs b body env (Some j); validators = validators_of cells } in
         let wide : SoundTree (callable (at b)) in_dosync l None body = tree-widened (take p ks) (take b ks) (λ f k found. let low = nth-take p ks f k found in nth-before b ks f k (omega (arith, low.0, before)) low.1) body in_dosync l None h in
         let pure : (R : World) (v : Value) (z : TxState) → d.on R ≡ Completes v z → AllCommutes (IsPure ks) z.done.commutes = λ R v z is.
         let first = eval (in_transaction R) (call_at (λ e. in_transaction R) n fs b) n true body env tx_start in

@@ -20,7 +20,7 @@ use Rattle.txs_tree_meaning.specs.Thread.{ThreadState, Surroundings, thread_mean
 use Rattle.txs_tree_meaning.specs.Transaction.{TxState, tx_start, tx_meaning}
 use Rattle.txs_tree_meaning.specs.Tree.{Tree, ThreadSource}
 use Rattle.txs_tree_meaning.specs.View.{Parts, tree_of, thread_of, threads_of, functions_of, program_of}
-use Rattle.txs_tree_eval_transaction.specs.Views.{PlainView, world_of}
+use Rattle.txs_tree_eval_transaction.specs.Views.{PlainView, PlainTxView, whole_view, world_of}
 use Rattle.txs_tree_eval.specs.declared.meaning.Needs.{Needs}
 use Rattle.txs_tree_eval.specs.declared.meaning.Needs.TheVariants.{Wrong as NotAllowed}
 use Rattle.txs_tree_eval.specs.declared.meaning.ThreadMeaning.{ThreadMeaning}
@@ -48,10 +48,10 @@ thread-at (u ∷ ts) zero t lt is = ap (λ x. Some (thread_of x)) (sym is)
 thread-at (u ∷ ts) (suc k) t lt is = thread-at ts k t (omega arith) is
 
 -- what a whole program is evaluated in
-abbrev pub whole : List CellDefinition → List Function → ℕ → Option PlainView → Setting
+abbrev pub whole : List CellDefinition → List Function → ℕ → Option PlainTxView → Setting
 whole cells fs n o = record { cells = cells; functions = fs; depth = length fs; turns = n; world = o }
 
-pub whole_of : (setting : Setting) (cs ds : List CellDefinition) (fs gs : List Function) (n : ℕ) (o : Option PlainView) → setting ≡ whole cs fs n o → cs ≡ ds → fs ≡ gs → setting ≡ whole ds gs n o
+pub whole_of : (setting : Setting) (cs ds : List CellDefinition) (fs gs : List Function) (n : ℕ) (o : Option PlainTxView) → setting ≡ whole cs fs n o → cs ≡ ds → fs ≡ gs → setting ≡ whole ds gs n o
 whole_of setting cs ds fs gs n o is same_cells same = is ∙ ap (λ l. whole l fs n o) same_cells ∙ ap (λ l. whole ds l n o) same
 
 -- a place that no recur leaves
@@ -195,16 +195,16 @@ accounted (Err x) k s end needs outcome left eaten few ate e h = h
 
 -- ---- the body of a transaction
 
-module _ (cells : List CellDefinition) (fs : List Function) (n : ℕ) (node : Tree) (vs ws : List Value) (w : PlainView) (setting : Setting) (same : setting ≡ whole cells fs n (Some w)) (copy : ws ≡ vs) where
+module _ (cells : List CellDefinition) (fs : List Function) (n : ℕ) (node : Tree) (vs ws : List Value) (w : PlainView) (setting : Setting) (same : setting ≡ whole cells fs n (Some (whole_view w))) (copy : ws ≡ vs) where
   pub sound_tx : SoundTree (known (functions_of fs)) in_dosync (length vs) None node → SoundTree (callable setting) (zone_in setting) (length ws) None node
-  sound_tx h = subst₂ (λ y us. SoundTree (callable y) (zone_in y) (length us) None node) (sym same) (sym copy) (sound_everywhere cells fs n (Some w) node in_dosync (length vs) None h)
+  sound_tx h = subst₂ (λ y us. SoundTree (callable y) (zone_in y) (length us) None node) (sym same) (sym copy) (sound_everywhere cells fs n (Some (whole_view w)) node in_dosync (length vs) None h)
 
   pub told_body : (r : Result Value ThreadStop) (st out : State) → tx_state st.tx ≡ tx_start → Yields setting r out (means setting node ws st) → Gives true r (tx_state out.tx) (tx_meaning n (functions_of fs) (length fs) node vs (world_of w))
   told_body r st out fresh h =
-      let here : Yields (whole cells fs n (Some w)) r out (means (whole cells fs n (Some w)) node vs st) = subst₂ (λ y us. Yields y r out (means y node us st)) same copy h in
-      let x = around_it (whole cells fs n (Some w)) in
-      let from : TxState → Completion TxState Value = λ t. eval (forms_on (Some w) x (length fs)) (call_at (forms_on (Some w) x) n (functions_of fs) (length fs)) n true node vs t in
-      closed_gives r (tx_state out.tx) (from tx_start) (subst (λ t. Gives true r (tx_state out.tx) (from t)) fresh here)
+      let here : Yields (whole cells fs n (Some (whole_view w))) r out (means (whole cells fs n (Some (whole_view w))) node vs st) = subst₂ (λ y us. Yields y r out (means y node us st)) same copy h in
+      let x = around_it (whole cells fs n (Some (whole_view w))) in
+      let from : TxState → Completion TxState Value = λ t. eval (forms_on (Some (whole_view w)) x (length fs)) (call_at (forms_on (Some (whole_view w)) x) n (functions_of fs) (length fs)) n true node vs t in
+      closed_gives true r (tx_state out.tx) (from tx_start) (subst (λ t. Gives true r (tx_state out.tx) (from t)) fresh here)
 
 -- nothing is waited for in a transaction
 pub waitless : {S A : Type 0} (r : Result A ThreadStop) (s : S) (c : Completion S A) → Gives true r s c → Waitless r

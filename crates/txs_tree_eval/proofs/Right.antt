@@ -35,10 +35,10 @@ use Rattle.txs_value_data.specs.declared.value.Value.{Value}
 use Rattle.txs_value_data.specs.declared.value.Value.TheVariants.{Nil, Truth, Int, Key, Text, Vector, Cell}
 use Rattle.txs_tree_meaning.specs.Meaning.{Completion, Completes, Recurs, Faults, Retries, Waits, OutOfTurns, Invalid, bind, again, closed, give, result_of, allowed, Applies, Effects, apply, turns, eval, eval_all, eval_let, eval_do, call_at}
 use Rattle.txs_tree_meaning.specs.Known.{Known, known}
-use Rattle.txs_tree_meaning.specs.Right.{up_to, ended_with, passes, behind_retries, on_right}
+use Rattle.txs_tree_meaning.specs.Right.{up_to, ended_with, has_missed, passes, behind_retries, on_right}
 use Rattle.txs_tree_meaning.specs.Sound.{MayStand, in_thread, in_dosync, SoundCall, SoundCallee, SentCallee, SoundCells, SoundValidator, SoundTree, SoundAll, SoundLet, SoundDo, SoundFunctions}
-use Rattle.txs_tree_meaning.specs.Thread.{ThreadState, Transacting, with_tx, holding, run_of, uneaten, eats, meant, reads, resets, faulted, faultless, swaps, sends, sends_or_holds, over, ends_tx, is_retry, is_held, again as tried_again, eats_tx, accepts, Surroundings, thread_look, thread_put, thread_update, on_events}
-use Rattle.txs_tree_meaning.specs.Transaction.{TxState, in_transaction, tx_start, tx_meaning, judged, validated, final_writes}
+use Rattle.txs_tree_meaning.specs.Thread.{ThreadState, Transacting, with_tx, holding, run_of, uneaten, eats, meant, reads, resets, faulted, faultless, swaps, sends, sends_or_holds, over, ends_tx, is_retry, is_held, missing, again as tried_again, eats_tx, accepts, Surroundings, thread_look, thread_put, thread_update, on_events}
+use Rattle.txs_tree_meaning.specs.Transaction.{TxState, in_transaction, tx_start, tx_meaning, tx_meaning_lacking, judged, validated, final_writes}
 use Rattle.txs_tree_meaning.specs.Tree.{Mark, Tree, Const, Local, If, Do, Let, Loop, Recur, Core, Call, VectorOf, Println, Dosync, Look, Put, Update, Send, Trees, none, more, count, PlainFunction}
 use Rattle.txs_tree_meaning.specs.View.{functions_of}
 use Rattle.txs_tree_meaning.specs.declared.node.Function as function
@@ -131,8 +131,18 @@ settled p (Waits x) = inr (inr (refl, λ t next. refl))
 settled p (OutOfTurns x) = inr (inl (refl, λ t next. refl))
 settled p Invalid = inr (inr (refl, λ t next. refl))
 
+-- a test of what the body came to look at
+missed : (c : Completion TxState Value) → Settled (has_missed c) (λ t next. missing t c next)
+missed (Completes v x) = inr (inr (refl, λ t next. refl))
+missed (Recurs vs x) = inr (inr (refl, λ t next. refl))
+missed (Faults e x) = inr (inr (refl, λ t next. refl))
+missed (Retries x) = inr (inr (refl, λ t next. refl))
+missed (Waits x) = inl (refl, λ t next. refl)
+missed (OutOfTurns x) = inr (inl (refl, λ t next. refl))
+missed Invalid = inr (inr (refl, λ t next. refl))
+
 causes : (d : Transacting) (kind : EventKind) (R : World) → Causes d kind R
-causes d (Retry since c cause.Outdated) R = inl (refl, λ t next. refl)
+causes d (Retry since c cause.Outdated) R = missed (d.lacking c.number R)
 causes d (Retry since c cause.Held) R = settled (λ w. is_held w c.number) (d.on R)
 causes d (Retry since c (cause.Commuted at)) R = settled (λ w. has_number (commuted w) c.number) (d.on R)
 causes d (Read c) R = inr (inr (refl, λ t next. refl))
@@ -770,7 +780,7 @@ module _ (f : SeenEvent) (gs : List SeenEvent) where
     goes_dosync : (b : ℕ) (m : Mark) (body : Tree) (env : List Value) (l : ℕ) (run : ThreadState → Completion ThreadState Value) (other : ThreadState → Completion ThreadState Value) → SoundTree (callable (at b)) in_dosync l None body
         → Goes (λ t. (on_events around b).dosync false m body env run (wholly around m.span) t) (λ t. (on_right around b).dosync false m body env other (wholly around m.span) t)
     goes_dosync b m body env l run other h =
-        let d : Transacting = record { mark = m; body = body; locals = env; on = tx_meaning n (functions_of functions) b body env; validators = validators_of cells } in
+        let d : Transacting = record { mark = m; body = body; locals = env; on = tx_meaning n (functions_of functions) b body env; lacking = λ j. tx_meaning_lacking n (functions_of functions) b body env (Some j); validators = validators_of cells } in
         let k : Applies ThreadState = wholly around m.span in
         let pure : (R : World) (v : Value) (z : TxState) → d.on R ≡ Completes v z → (C : World) → Calm (λ t. final_writes k d.validators d.mark.span z.done C t) (λ t. final_writes k d.validators d.mark.span z.done C t) = λ R v z is C.
         let first = eval (in_transaction R) (call_at (λ e. in_transaction R) n (functions_of functions) b) n true body env tx_start in

@@ -16,7 +16,7 @@ use std::alloc::Global;
 use txs_frame::TxFrame;
 use txs_tree_eval_node::evaluate::{copy_locals, evaluate};
 use txs_tree_eval_node::{Context, State};
-use txs_tree_eval_transaction::{RefView, ThreadStop, TxWork};
+use txs_tree_eval_transaction::{RefView, ThreadStop, TxView, TxWork};
 use txs_tree_meaning::{Node, Program};
 use txs_value_base::Fault;
 use txs_value_data::{CellId, Listed, Value};
@@ -58,7 +58,8 @@ pub fn eval_tx<'a>(
     ensures { TellsTx result (tx_meaning turns (functions_of program.now.functions) (length program.now.functions) (tree_of node.now) values.now (world_of (plain_view world.entry))) }
 {
     program.is_sound();
-    let context = Context::new(program.cells(), program.functions(), turns, Some(world));
+    let seen = Some(TxView::whole(world));
+    let context = Context::new(program.cells(), program.functions(), turns, seen);
     let mut locals = copy_locals(alloc, values)?;
     let mut state = State::new(alloc, &[]);
     let gave = evaluate(alloc, &context, node, &mut locals, &mut state);

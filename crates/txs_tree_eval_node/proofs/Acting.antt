@@ -4,7 +4,7 @@ use Rattle.std.proofs.lemmas.List.{drop_more}
 use Rattle.txs_world_protocol.specs.Ask.{Writes, buffered, with_write}
 use Rattle.txs_frame.specs.Frame.{PlainTxFrame, commuted, set_writes, commutes_of, by_ref, phase_work}
 use Rattle.txs_frame.specs.declared.frame.Commute.{Commute}
-use Rattle.txs_tree_eval_node.specs.Evaluated.{part, is_on, Yields, SoundCommutes, acts, applied, act_means, inside_means, outside_means, quiet, at_end, accept_means, accepted_means, made_means, redone_means, final_means, thread_state}
+use Rattle.txs_tree_eval_node.specs.Evaluated.{part, has_all, Yields, SoundCommutes, acts, applied, act_means, inside_means, outside_means, quiet, at_end, accept_means, accepted_means, made_means, redone_means, final_means, thread_state}
 use Rattle.txs_tree_eval_transaction.specs.Worked.{Stops, Gives, Told, ToldOf, tx_state}
 use Rattle.txs_tree_meaning.specs.Known.{Known}
 use Rattle.txs_tree_meaning.specs.Meaning.{Completion, Completes, Faults, bind, Applies}
@@ -15,7 +15,7 @@ use Rattle.txs_tree_meaning.specs.Transaction.{value_or, valued, merged, redone,
 use Rattle.txs_tree_meaning.specs.Tree.{Mark}
 use Rattle.txs_value_cell.specs.Cells.{World, validators_of, validator_at}
 use Rattle.txs_tree_meaning.specs.View.{functions_of}
-use Rattle.txs_tree_eval_transaction.specs.Views.{PlainView, or_nil, world_of}
+use Rattle.txs_tree_eval_transaction.specs.Views.{PlainView, PlainTxView, is_whole, or_nil, world_of}
 use Rattle.txs_tree_eval_node.specs.declared.shape.Act.{Act}
 use Rattle.txs_tree_eval_node.specs.declared.state.State.{State}
 use Rattle.txs_tree_eval_transaction.specs.declared.stop.ThreadStop.{ThreadStop}
@@ -37,11 +37,11 @@ use Rattle.txs_tree_meaning.proofs.PureLaw.{Agrees, bind_agrees}
 -- ---- in a transaction or outside
 
 module _ (x : Setting) (act : Act) (m : Mark) (v : Value) (vs : List Value) (r : Result Value ThreadStop) (st st1 : State) where
-  pub acted_inside : (w : PlainView) → x.world ≡ Some w → Gives true r (tx_state st1.tx) (inside_means x w act m v vs (tx_state st.tx)) → Yields x r st1 (act_means x act m v vs st)
-  acted_inside w is h = subst (λ o. Gives (is_on o) r (part o st1) (acts o x act m v vs (part o st))) (sym is) h
+  pub acted_inside : (w : PlainTxView) → x.world ≡ Some w → Gives (is_whole w.gone) r (tx_state st1.tx) (inside_means x w act m v vs (tx_state st.tx)) → Yields x r st1 (act_means x act m v vs st)
+  acted_inside w is h = subst (λ o. Gives (has_all o) r (part o st1) (acts o x act m v vs (part o st))) (sym is) h
 
   pub acted_outside : x.world ≡ None → Gives false r (thread_state st1.thread) (outside_means x act m v vs (thread_state st.thread)) → Yields x r st1 (act_means x act m v vs st)
-  acted_outside is h = subst (λ o. Gives (is_on o) r (part o st1) (acts o x act m v vs (part o st))) (sym is) h
+  acted_outside is h = subst (λ o. Gives (has_all o) r (part o st1) (acts o x act m v vs (part o st))) (sym is) h
 
 -- ---- commutes again
 

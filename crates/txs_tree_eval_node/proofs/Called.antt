@@ -12,10 +12,10 @@ use Rattle.txs_tree_meaning.specs.View.{functions_of}
 use Rattle.txs_tree_meaning.specs.declared.node.Function as function
 use Rattle.txs_tree_meaning.proofs.Callable.{FunctionAt, missing, same_some, nth-length, nth-take, nth-before, length-known, length-functions_of, function_at, tree-widened, tree-outside, tree-inside, pure_outside, pure_inside}
 use Rattle.txs_tree_eval_node.specs.Setting.{Setting, no_view, deeper, deepest, on_view, callable, zone_on, zone_in}
-use Rattle.txs_tree_eval_transaction.specs.Views.{PlainView}
+use Rattle.txs_tree_eval_transaction.specs.Views.{PlainTxView, whole_view}
 
 -- what is sound where all functions are defined is sound where as many may be called as there are
-pub sound_everywhere : (cells : List CellDefinition) (fs : List function.Function) (n : ℕ) (o : Option PlainView) (e : Tree) (zone : Zone) (d : ℕ) (tail : Option ℕ) → SoundTree (known (functions_of fs)) zone d tail e
+pub sound_everywhere : (cells : List CellDefinition) (fs : List function.Function) (n : ℕ) (o : Option PlainTxView) (e : Tree) (zone : Zone) (d : ℕ) (tail : Option ℕ) → SoundTree (known (functions_of fs)) zone d tail e
     → SoundTree (callable (record { cells = cells; functions = fs; depth = length fs; turns = n; world = o })) zone d tail e
 sound_everywhere cells fs n o e zone d tail h =
     let all = known (functions_of fs) in
@@ -24,7 +24,7 @@ sound_everywhere cells fs n o e zone d tail h =
 
 -- a pure function is among those that may be called, in a transaction and outside
 module _ (fs : List PlainFunction) (f : ℕ) (k : Known) (found : nth (known fs) f ≡ Some k) (pure : k.pure ≡ true) where
-  tame_on : (o : Option PlainView) → MayCall (zone_on o) k
+  tame_on : (o : Option PlainTxView) → MayCall (zone_on o) k
   tame_on None = sym (ap is_inside found) ∙ pure_outside fs f (ap is_pure found ∙ pure)
   tame_on (Some r) = sym (ap is_outside found) ∙ pure_inside fs f (ap is_pure found ∙ pure)
 
@@ -35,7 +35,7 @@ pure_here setting f n h =
     record { function = h.function; found = h.found; arity = h.arity; zoned = tame_on (functions_of setting.functions) f h.function there.1 h.pure setting.world }
 
 -- what is pure where all functions are defined is pure where as many may be called as there are
-pub pure_everywhere : (cells : List CellDefinition) (fs : List function.Function) (n f m : ℕ) (o : Option PlainView) → PureCall (known (functions_of fs)) f m
+pub pure_everywhere : (cells : List CellDefinition) (fs : List function.Function) (n f m : ℕ) (o : Option PlainTxView) → PureCall (known (functions_of fs)) f m
     → PureCall (callable (record { cells = cells; functions = fs; depth = length fs; turns = n; world = o })) f m
 pure_everywhere cells fs n f m o h =
     let all = known (functions_of fs) in
@@ -51,7 +51,7 @@ pure_among setting f n h =
 -- ---- a call
 
 -- a function's body where it may be called
-tree_on : (o : Option PlainView) (ks : List Known) (k : Known) (fun : PlainFunction) (d : ℕ) (tail : Option ℕ) → k ≡ known_of ks fun → MayCall (zone_on o) k → SoundTree ks in_function d tail fun.body → SoundTree ks (zone_on o) d tail fun.body
+tree_on : (o : Option PlainTxView) (ks : List Known) (k : Known) (fun : PlainFunction) (d : ℕ) (tail : Option ℕ) → k ≡ known_of ks fun → MayCall (zone_on o) k → SoundTree ks in_function d tail fun.body → SoundTree ks (zone_on o) d tail fun.body
 tree_on None ks k fun d tail is may h = tree-outside ks fun.body d tail h (sym (ap (λ l. l.inside) is) ∙ may)
 tree_on (Some r) ks k fun d tail is may h = tree-inside ks fun.body d tail h (sym (ap (λ l. l.outside) is) ∙ may)
 
@@ -96,7 +96,7 @@ nodes-function (g ∷ fs) zero fun h = omega (arith, ap (λ x. nodes x.body) (sa
 nodes-function (g ∷ fs) (suc f) fun h = omega (arith, nodes-function fs f fun h)
 
 -- what the pure callees may take that are applied outside transactions
-abbrev outer : Option PlainView → ℕ → ℕ
+abbrev outer : Option PlainTxView → ℕ → ℕ
 outer None n = n
 outer (Some r) n = 0
 
@@ -116,7 +116,7 @@ room-deeper s f fun lt h =
 pub in_room : (s : Setting) (a b : ℕ) → a < b → room s + a < room s + b
 in_room s a b lt = omega (arith, lt)
 
-pub room_on : (s inner : Setting) (r : PlainView) → inner ≡ on_view s r → room inner ≤ room s
+pub room_on : (s inner : Setting) (r : PlainTxView) → inner ≡ on_view s r → room inner ≤ room s
 unfolding room
 room_on s inner r is = subst (λ y. room y ≤ room s) (sym is) (omega arith)
 
@@ -136,7 +136,7 @@ all_known x f k h =
 
 -- the same setting, where calls go so deep in a transaction on no cells
 abbrev pub so_deep : Setting → ℕ → Setting
-so_deep s d = record { cells = s.cells; functions = s.functions; depth = d; turns = s.turns; world = Some no_view }
+so_deep s d = record { cells = s.cells; functions = s.functions; depth = d; turns = s.turns; world = Some (whole_view no_view) }
 
 pub whole_depth : (s : Setting) → so_deep s (length s.functions) ≡ deepest s
 whole_depth s = ap (so_deep s) (sym (length-functions_of s.functions))

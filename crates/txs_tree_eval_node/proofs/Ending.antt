@@ -8,18 +8,18 @@ use Rattle.txs_world_protocol.specs.SeenEvent.{SeenEvent}
 use Rattle.txs_world_protocol.specs.declared.event.Cause.TheVariants as cause
 use Rattle.txs_world_protocol.specs.declared.event.EventKind.{EventKind}
 use Rattle.txs_world_protocol.specs.declared.event.EventKind.TheVariants.{Read, Commit, Retry, Fail, Refused, Send as Sent, SendRefused, Act as Acted, Swap as Swapped, Broke}
-use Rattle.txs_tree_eval_node.specs.Evaluated.{HaltsAt, AnswersAt, Yields, Comes, ComesNone, with_todo, retried, Reruns, Allows, rerun_as, touched, BodyStops, Runs, SoundCommutes, forms_on, calls_on, around_it, means, final_means, transacting, at_end, eat_means, carried_on, ended, end_view, Closes, closes, closing, commit_closes, refuse_closes, end_stop, ends_as, body_means, dosync_means, part, is_on, thread_state, tx_run}
+use Rattle.txs_tree_eval_node.specs.Evaluated.{HaltsAt, AnswersAt, has_all, Misses, miss_of, seen_means, Yields, Comes, ComesNone, with_todo, retried, Reruns, Allows, rerun_as, touched, BodyStops, Runs, SoundCommutes, forms_on, calls_on, around_it, means, final_means, transacting, at_end, eat_means, carried_on, ended, end_view, Closes, closes, closing, commit_closes, refuse_closes, end_stop, ends_as, body_means, dosync_means, part, is_on, thread_state, tx_run}
 use Rattle.txs_tree_eval_transaction.specs.Worked.{Stops, Gives, Told, ToldOf, stop_without_fault, tx_state}
 use Rattle.txs_tree_eval_node.specs.Events.{seen_event}
 use Rattle.txs_tree_meaning.specs.Meaning.{Completion, Completes, Recurs, Faults, Retries, Waits, OutOfTurns, Invalid, allowed, bind, closed, Applies, apply, eval}
 use Rattle.txs_tree_eval_node.specs.Setting.{Setting, callable, deepest, on_view, zone_on}
 use Rattle.txs_tree_meaning.specs.Sound.{SoundCells, SoundFunctions, SoundTree, in_dosync}
-use Rattle.txs_tree_meaning.specs.Right.{up_to, ended_with, passes, behind_retries}
-use Rattle.txs_tree_meaning.specs.Thread.{TxRun, ThreadState, Transacting, over, faultless, faulted, meant, with_tx, holding, run_of, ends_tx, is_retry, again, uneaten, eats_tx}
+use Rattle.txs_tree_meaning.specs.Right.{up_to, ended_with, has_missed, passes, behind_retries}
+use Rattle.txs_tree_meaning.specs.Thread.{TxRun, ThreadState, Transacting, over, faultless, faulted, meant, with_tx, holding, run_of, ends_tx, is_retry, missing, again, uneaten, eats_tx}
 use Rattle.txs_tree_meaning.specs.Transaction.{TxState, tx_start, final_writes}
 use Rattle.txs_tree_meaning.specs.Tree.{Mark, Tree}
 use Rattle.txs_tree_meaning.specs.View.{functions_of}
-use Rattle.txs_tree_eval_transaction.specs.Views.{PlainView, plain_view, plain_world, world_of}
+use Rattle.txs_tree_eval_transaction.specs.Views.{PlainView, PlainTxView, plain_view, plain_tx_world, is_whole, whole_view, world_of}
 use Rattle.txs_tree_eval_node.specs.declared.closing.Closing.{Closing}
 use Rattle.txs_tree_eval_node.specs.declared.closing.Closing.TheVariants.{Refused as ARefused, Committed, Stopped}
 use Rattle.txs_tree_eval_node.specs.declared.thread.Rerun.{Rerun}
@@ -31,7 +31,7 @@ use Rattle.txs_tree_eval_node.specs.declared.state.State.{State}
 use Rattle.txs_tree_eval_node.specs.declared.state.Transacted.{Transacted}
 use Rattle.txs_tree_eval_transaction.specs.declared.stop.ThreadStop.{ThreadStop}
 use Rattle.txs_tree_eval_transaction.specs.declared.stop.ThreadStop.TheVariants.{Fault, Event, Wrong, Turns, Memory}
-use Rattle.txs_tree_eval_transaction.specs.declared.view.RefView.{RefView}
+use Rattle.txs_tree_eval_transaction.specs.declared.view.TxView.{TxView}
 use Rattle.txs_value_cell.specs.Cells.{World, validators_of}
 use Rattle.txs_value_data.specs.Limits.{reruns}
 use Rattle.txs_value_base.specs.Places.{fault_at}
@@ -56,29 +56,43 @@ body_stops Turns s c h = (s, ap closed h)
 body_stops Memory s c h = tt
 
 -- no place that a recur leaves, where a value comes
-pub closed_gives : {S : Type 0} (r : Result Value ThreadStop) (s : S) (c : Completion S Value) → Gives true r s c → Gives true r s (closed c)
-closed_gives (Ok v) s c h = ap closed h
-closed_gives (Err y) s c h = stops_again true y s c (λ vs t. Invalid) h
+pub closed_gives : {S : Type 0} (all : Bool) (r : Result Value ThreadStop) (s : S) (c : Completion S Value) → Gives all r s c → Gives all r s (closed c)
+closed_gives all (Ok v) s c h = ap closed h
+closed_gives all (Err y) s c h = stops_again all y s c (λ vs t. Invalid) h
 
--- a body evaluated in a transaction of its own
-module _ (x inner : Setting) (w : PlainView) (same : inner ≡ on_view x w) (body : Tree) (env : List Value) (start : State) (fresh : tx_state start.tx ≡ tx_start) where
+-- a body evaluated in a transaction of its own that sees this
+module _ (x inner : Setting) (r : PlainTxView) (same : inner ≡ on_view x r) (body : Tree) (env : List Value) (start : State) (fresh : tx_state start.tx ≡ tx_start) where
   -- what the body does there from a state on
   abbrev from_state : TxState → Completion TxState Value
-  from_state t = eval (forms_on (Some w) (around_it (on_view x w)) x.depth) (calls_on (Some w) (on_view x w)) x.turns true body env t
+  from_state t = eval (forms_on (Some r) (around_it (on_view x r)) x.depth) (calls_on (Some r) (on_view x r)) x.turns true body env t
 
-  pub body_told : (r : Result Value ThreadStop) (out : State) → Yields inner r out (means inner body env start) → Gives true r (tx_state out.tx) (from_state tx_start)
-  body_told r out h = subst (λ t. Gives true r (tx_state out.tx) (from_state t)) fresh (subst (λ y. Yields y r out (means y body env start)) same h)
+  body_told : (res : Result Value ThreadStop) (out : State) → Yields inner res out (means inner body env start) → Gives (is_whole r.gone) res (tx_state out.tx) (from_state tx_start)
+  body_told res out h = subst (λ t. Gives (is_whole r.gone) res (tx_state out.tx) (from_state t)) fresh (subst (λ y. Yields y res out (means y body env start)) same h)
 
+  pub body_seen : (res : Result Value ThreadStop) (out : State) → Yields inner res out (means inner body env start) → Gives (is_whole r.gone) res (tx_state out.tx) (seen_means x body env r)
+  body_seen res out h = closed_gives (is_whole r.gone) res (tx_state out.tx) (from_state tx_start) (body_told res out h)
+
+-- whether it came to look at what its world lacks
+pub misses : (r : Result Value ThreadStop) (s : TxState) (c : Completion TxState Value) → Gives false r s c → Misses (miss_of r) c
+misses (Ok v) s c h = (ap has_missed h, λ t next. ap (λ d. missing t d next) h)
+misses (Err (Fault f)) s c h = (ap has_missed h, λ t next. ap (λ d. missing t d next) h)
+misses (Err Event) s c h = (s, h.1)
+misses (Err Wrong) s c h = (s, h.1)
+misses (Err Turns) s c h = (s, h)
+misses (Err Memory) s c h = tt
+
+-- the same that sees all values of a world
+module _ (x inner : Setting) (w : PlainView) (same : inner ≡ on_view x (whole_view w)) (body : Tree) (env : List Value) (start : State) (fresh : tx_state start.tx ≡ tx_start) where
   pub body_stop : (y : ThreadStop) (out : State) → Yields inner {A = Value} (Err y) out (means inner body env start) → BodyStops y (body_means x body env w)
-  body_stop y out h = body_stops y (tx_state out.tx) (from_state tx_start) (body_told (Err y) out h)
+  body_stop y out h = body_stops y (tx_state out.tx) (from_state x inner (whole_view w) same body env start fresh tx_start) (body_told x inner (whole_view w) same body env start fresh (Err y) out h)
 
   pub body_done : (v : Value) (out : State) → Yields inner (Ok v) out (means inner body env start) → body_means x body env w ≡ Completes v (tx_state out.tx)
-  body_done v out h = ap closed (body_told (Ok v) out h)
+  body_done v out h = body_seen x inner (whole_view w) same body env start fresh (Ok v) out h
 
   -- its commutes have pure callees
   pub body_keeps : (sound : SoundFunctions [] (functions_of x.functions)) (d : ℕ) (v : Value) (out : State) → SoundTree (callable x) in_dosync d None body → Yields inner (Ok v) out (means inner body env start)
       → SoundCommutes (callable x) (tx_state out.tx).done.commutes
-  body_keeps sound d v out h is = keeps_sound x w sound body d env tx_start (tx_state out.tx) v h tt (body_told (Ok v) out is)
+  body_keeps sound d v out h is = keeps_sound x w sound body d env tx_start (tx_state out.tx) v h tt (body_told x inner (whole_view w) same body env start fresh (Ok v) out is)
 
 -- ---- its end
 
@@ -321,13 +335,13 @@ unmatched P Q r y is h = subst (λ z. MatchResult z P Q) (sym is) h
 
 -- what follows a try that had to run again for this
 abbrev again_by : Rerun → Transacting → World → ThreadState → Completion ThreadState Value → Completion ThreadState Value
-again_by Outdated d R t next = next
+again_by (Outdated k) d R t next = missing t (d.lacking k R) next
 again_by (Touched k) d R t next = over t (d.on R) (λ v x. allowed (touched k x.done) next) (λ g. Invalid)
 again_by Other d R t next = Invalid
 
 -- whether it had to
 abbrev passes_by : Rerun → Transacting → World → Bool
-passes_by Outdated d R = true
+passes_by (Outdated k) d R = has_missed (d.lacking k R)
 passes_by (Touched k) d R = ended_with (λ w. touched k w) (d.on R)
 passes_by Other d R = false
 
@@ -367,8 +381,21 @@ module _ (d : Transacting) (R : World) where
     passes_is : passes d k R ≡ passes_by r d R
     passes_is = passes_as k ∙ ap (λ q. passes_by q d R) (sym is)
 
-    pub rerun_outdated : {U : Type 0} (u : U) → r ≡ Outdated → Reruns d k R (Ok u)
-    rerun_outdated u old = (passes_is ∙ ap (λ q. passes_by q d R) old, λ t next. again_is t next ∙ ap (λ q. again_by q d R t next) old)
+    -- the body on a world that lacks that value
+    module _ (n : ℕ) (old : r ≡ Outdated n) where
+      again_old : (t : ThreadState) (next : Completion ThreadState Value) → again d k R t next ≡ missing t (d.lacking n R) next
+      again_old t next = again_is t next ∙ ap (λ q. again_by q d R t next) old
+
+      passes_old : passes d k R ≡ has_missed (d.lacking n R)
+      passes_old = passes_is ∙ ap (λ q. passes_by q d R) old
+
+      pub rerun_outdated : {U : Type 0} (res : Result U ThreadStop) → Misses res (d.lacking n R) → Reruns d k R res
+      rerun_outdated (Ok u) h = (passes_old ∙ ap has_missed h.1, λ t next. again_old t next ∙ ap (λ c. missing t c next) h.1)
+      rerun_outdated (Err (Fault f)) h = absurd h
+      rerun_outdated (Err Event) h = absurd h
+      rerun_outdated (Err Wrong) h = (passes_old ∙ h.0, λ t next. again_old t next ∙ h.1 t next)
+      rerun_outdated (Err Turns) h = (passes_old ∙ ap has_missed h.1, λ t next. again_old t next ∙ ap (λ c. missing t c next) h.1)
+      rerun_outdated (Err Memory) h = tt
 
     pub rerun_other : (U : Type 0) → r ≡ Other → Reruns {U = U} d k R (Err Wrong)
     rerun_other U other = (passes_is ∙ ap (λ q. passes_by q d R) other, λ t next. again_is t next ∙ ap (λ q. again_by q d R t next) other)
@@ -491,30 +518,30 @@ module _ (d : Transacting) (f : Applies ThreadState) where
 -- ---- a dosync in a transaction, or outside
 
 -- where a transaction runs
-pub zone_running : (o : Option PlainView) → is_on o ≡ true → zone_on o ≡ in_dosync
+pub zone_running : (o : Option PlainTxView) → is_on o ≡ true → zone_on o ≡ in_dosync
 zone_running None on = absurd (false≢true on)
 zone_running (Some r) on = refl
 
-pub running : (o : Option RefView) (q : Option PlainView) → plain_world o ≡ q → is_on q ≡ is_some o
+pub running : (o : Option TxView) (q : Option PlainTxView) → plain_tx_world o ≡ q → is_on q ≡ is_some o
 running None q is = ap is_on (sym is)
 running (Some r) q is = ap is_on (sym is)
 
 -- where none runs
-pub nowhere_running : (o : Option RefView) (q : Option PlainView) → plain_world o ≡ q → is_some o ≡ false → q ≡ None
+pub nowhere_running : (o : Option TxView) (q : Option PlainTxView) → plain_tx_world o ≡ q → is_some o ≡ false → q ≡ None
 nowhere_running None q is off = sym is
 nowhere_running (Some r) q is off = absurd (false≢true (sym off))
 
 module _ (x : Setting) (m : Mark) (body : Tree) (env : List Value) (st st1 : State) where
-  join_on : (o : Option PlainView) → is_on o ≡ true → (r : Result Value ThreadStop) → Gives (is_on o) r (part o st1) (eval (forms_on o (around_it x) x.depth) (calls_on o x) x.turns (is_on o) body env (part o st))
-      → Gives (is_on o) r (part o st1) ((forms_on o (around_it x) x.depth).dosync (is_on o) m body env (λ t. closed (eval (forms_on o (around_it x) x.depth) (calls_on o x) x.turns true body env t)) (apply (calls_on o x true) m.span) (part o st))
+  join_on : (o : Option PlainTxView) → is_on o ≡ true → (r : Result Value ThreadStop) → Gives (has_all o) r (part o st1) (eval (forms_on o (around_it x) x.depth) (calls_on o x) x.turns (is_on o) body env (part o st))
+      → Gives (has_all o) r (part o st1) ((forms_on o (around_it x) x.depth).dosync (is_on o) m body env (λ t. closed (eval (forms_on o (around_it x) x.depth) (calls_on o x) x.turns true body env t)) (apply (calls_on o x true) m.span) (part o st))
   join_on None is r h = absurd (false≢true is)
-  join_on (Some q) is r h = closed_gives r (tx_state st1.tx) (eval (forms_on (Some q) (around_it x) x.depth) (calls_on (Some q) x) x.turns true body env (tx_state st.tx)) h
+  join_on (Some q) is r h = closed_gives (is_whole q.gone) r (tx_state st1.tx) (eval (forms_on (Some q) (around_it x) x.depth) (calls_on (Some q) x) x.turns true body env (tx_state st.tx)) h
 
   pub joined : is_on x.world ≡ true → (r : Result Value ThreadStop) → Yields x r st1 (means x body env st) → Yields x r st1 (dosync_means x m body env st)
   joined is r h = join_on x.world is r h
 
-  begin_on : (o : Option PlainView) → is_on o ≡ false → (r : Result Value ThreadStop) → Gives false r (thread_state st1.thread) (eat_means x (suc reruns) m body env (thread_state st.thread))
-      → Gives (is_on o) r (part o st1) ((forms_on o (around_it x) x.depth).dosync (is_on o) m body env (λ t. closed (eval (forms_on o (around_it x) x.depth) (calls_on o x) x.turns true body env t)) (apply (calls_on o x true) m.span) (part o st))
+  begin_on : (o : Option PlainTxView) → is_on o ≡ false → (r : Result Value ThreadStop) → Gives false r (thread_state st1.thread) (eat_means x (suc reruns) m body env (thread_state st.thread))
+      → Gives (has_all o) r (part o st1) ((forms_on o (around_it x) x.depth).dosync (is_on o) m body env (λ t. closed (eval (forms_on o (around_it x) x.depth) (calls_on o x) x.turns true body env t)) (apply (calls_on o x true) m.span) (part o st))
   begin_on None is r h = h
   begin_on (Some q) is r h = absurd (false≢true (sym is))
 

@@ -1,7 +1,7 @@
 -- An evaluation one node at a time: what the whole means is what the rest means.
-use Rattle.std.proofs.Common.{◌≡◌, ℕ, zero, suc, ◌+◌, ◌-◌, ◌<◌, ◌≤◌, Bool, true, false, if◌then◌else◌, List, [], ◌∷◌, ◌++◌, length, get_or, take, drop, Some, Result, Err, refl, sym, ap, ◌∙◌, subst, subst₂, append_assoc, length-append, arith}
+use Rattle.std.proofs.Common.{◌≡◌, ℕ, zero, suc, ◌+◌, ◌-◌, ◌<◌, ◌≤◌, Bool, true, false, if◌then◌else◌, List, [], ◌∷◌, ◌++◌, length, get_or, take, drop, Some, Result, Ok, Err, refl, sym, ap, ◌∙◌, subst, subst₂, append_assoc, length-append, arith}
 use Rattle.std.proofs.Math.Seq.{drop-append_seam, take-append_seam}
-use Rattle.std.proofs.lemmas.Bool.{eq-eqb}
+use Rattle.std.proofs.lemmas.Bool.{eq-eqb, false≢true}
 use Rattle.std.proofs.lemmas.List.{append-nil, length-take, take-append-le, take-append-drop}
 use Rattle.txs_value_apply.specs.Core.{is_false}
 use Rattle.txs_value_base.specs.Places.{nth}
@@ -9,8 +9,8 @@ use Rattle.txs_value_apply.specs.Truth.{choose}
 use Rattle.txs_value_cell.specs.declared.form.PutForm.{PutForm}
 use Rattle.txs_value_data.specs.declared.value.Value.{Value}
 use Rattle.txs_value_data.specs.declared.value.Value.TheVariants.{Nil, Truth, Int, Key, Text, Vector, Cell}
-use Rattle.txs_tree_eval_node.specs.Evaluated.{HaltsAt, AnswersAt, Part, part, is_on, forms_on, forms_in, calls_in, around_it, GivesAll, Yields, Steps, StepsOn, means, all_mean, if_means, do_means, let_means, locals_mean, loop_means, turns_mean, call_means, finishes, finish_means, strict_means, acts, act_means, form_means}
-use Rattle.txs_tree_eval_transaction.specs.Worked.{Stops, GivesOf}
+use Rattle.txs_tree_eval_node.specs.Evaluated.{HaltsAt, AnswersAt, Part, part, is_on, has_all, forms_on, forms_in, calls_in, around_it, GivesAll, Yields, Steps, StepsOn, means, all_mean, if_means, do_means, let_means, locals_mean, loop_means, turns_mean, call_means, finishes, finish_means, strict_means, acts, act_means, form_means}
+use Rattle.txs_tree_eval_transaction.specs.Worked.{Stops, Gives, GivesOf}
 use Rattle.txs_tree_meaning.specs.Meaning.{Completion, Completes, Recurs, Faults, Retries, Waits, OutOfTurns, Invalid, bind, again, give, turns, Effects, eval, eval_all, eval_let, eval_do, call_at}
 use Rattle.txs_tree_eval_node.specs.Setting.{Setting, deeper}
 use Rattle.txs_tree_meaning.specs.Tree.{Mark, Tree, Const, Local, Put, Trees, none, more, count, PlainFunction}
@@ -141,6 +141,15 @@ stops_steps on r y s c err h = subst (λ x. StepsOn on x s c) (sym err) h
 pub stops_gives : {S V A : Type 0} (f : V → A) (on : Bool) (r : Result V ThreadStop) (y : ThreadStop) (s : S) (c : Completion S A) → r ≡ Err y → Stops on y s c → GivesOf f on r s c
 stops_gives f on r y s c err h = subst (λ x. GivesOf f on x s c) (sym err) h
 
+-- what is given by a form that waits for nothing is given in any transaction
+pub gives_anywhere : {S A : Type 0} (all : Bool) (r : Result A ThreadStop) (s : S) (c : Completion S A) → Gives true r s c → Gives all r s c
+gives_anywhere all (Ok v) s c h = h
+gives_anywhere all (Err (Fault f)) s c h = h
+gives_anywhere all (Err Event) s c h = absurd (false≢true (sym h.0))
+gives_anywhere all (Err Wrong) s c h = absurd (false≢true (sym h.0))
+gives_anywhere all (Err Turns) s c h = h
+gives_anywhere all (Err Memory) s c h = h
+
 pub halts_bind : {S A B : Type 0} (y : ThreadStop) (s : S) (c : Completion S A) (go : A → S → Completion S B) → HaltsAt y s c → HaltsAt y s (bind c go)
 halts_bind (Fault f) s c go h = ap (λ d. bind d go) h
 halts_bind Event s c go h = h
@@ -155,7 +164,7 @@ halts_answers r y s c err h = subst (λ x. AnswersAt x s c) (sym err) h
 
 -- a stop here
 abbrev pub StopsAt : (x : Setting) → {A : Type 0} → ThreadStop → State → Completion (Part x.world) A → Type 0
-StopsAt x y out c = Stops (is_on x.world) y (part x.world out) c
+StopsAt x y out c = Stops (has_all x.world) y (part x.world out) c
 
 module _ (setting : Setting) where
   abbrev S : Type 0
@@ -163,6 +172,9 @@ module _ (setting : Setting) where
 
   abbrev on : Bool
   on = is_on setting.world
+
+  abbrev all : Bool
+  all = has_all setting.world
 
   abbrev st : State → S
   st = part setting.world
@@ -198,8 +210,8 @@ module _ (setting : Setting) where
     both out1 true = refl
     both out1 false = refl
 
-    pub if_stop : (y : ThreadStop) (out1 : State) → Stops on y (st out1) (means setting test env out) → Stops on y (st out1) (if_means setting test first second env out)
-    if_stop y out1 h = stops_bind on y (st out1) (means setting test env out) (λ v s1. choose v (eval fx call setting.turns on first env s1) (eval fx call setting.turns on second env s1)) h
+    pub if_stop : (y : ThreadStop) (out1 : State) → Stops all y (st out1) (means setting test env out) → Stops all y (st out1) (if_means setting test first second env out)
+    if_stop y out1 h = stops_bind all y (st out1) (means setting test env out) (λ v s1. choose v (eval fx call setting.turns on first env s1) (eval fx call setting.turns on second env s1)) h
 
     pub if_goes : (v : Value) (b : Bool) (later : List Value) (out1 out2 : State) (r : Result Step ThreadStop) → means setting test env out ≡ Completes v (st out1) → b ≡ is_false v → later ≡ env
         → Steps setting r out2 (means setting (if b then second else first) later out1) → Steps setting r out2 (if_means setting test first second env out)
@@ -211,8 +223,8 @@ module _ (setting : Setting) where
 
   -- what is done with the values of parts
   module _ (strict : Strict) (span : Span) (es : Trees) (env : List Value) (out out1 : State) where
-    pub strict_stop : {V : Type 0} (f : V → List Value) (y : ThreadStop) → GivesAll setting f (Err y) out1 (all_mean setting es env out) → Stops on y (st out1) (strict_means setting strict span es env out)
-    strict_stop f y h = stops_bind on y (st out1) (all_mean setting es env out) (λ vs t. finishes setting strict span vs t) h
+    pub strict_stop : {V : Type 0} (f : V → List Value) (y : ThreadStop) → GivesAll setting f (Err y) out1 (all_mean setting es env out) → Stops all y (st out1) (strict_means setting strict span es env out)
+    strict_stop f y h = stops_bind all y (st out1) (all_mean setting es env out) (λ vs t. finishes setting strict span vs t) h
 
     pub strict_done : (vs : List Value) (out2 : State) (r : Result Step ThreadStop) → all_mean setting es env out ≡ Completes vs (st out1) → Steps setting r out2 (finish_means setting strict span vs out1)
         → Steps setting r out2 (strict_means setting strict span es env out)
@@ -220,8 +232,8 @@ module _ (setting : Setting) where
 
   -- a form on a cell, its cell, its arguments, and what it does
   module _ (act : Act) (m : Mark) (cell : Tree) (args : Trees) (env : List Value) (out : State) where
-    pub cell_stop : (y : ThreadStop) (out1 : State) → Stops on y (st out1) (means setting cell env out) → Stops on y (st out1) (form_means setting act m cell args env out)
-    cell_stop y out1 h = stops_bind on y (st out1) (means setting cell env out) (λ c t. bind (eval_all fx call setting.turns on args env t) (λ vs t1. acts setting.world setting act m c vs t1)) h
+    pub cell_stop : (y : ThreadStop) (out1 : State) → Stops all y (st out1) (means setting cell env out) → Stops all y (st out1) (form_means setting act m cell args env out)
+    cell_stop y out1 h = stops_bind all y (st out1) (means setting cell env out) (λ c t. bind (eval_all fx call setting.turns on args env t) (λ vs t1. acts setting.world setting act m c vs t1)) h
 
     module _ (c : Value) (out1 : State) (h : means setting cell env out ≡ Completes c (st out1)) (later : List Value) (same : later ≡ env) where
       after_cell : form_means setting act m cell args env out ≡ bind (all_mean setting args later out1) (λ vs t1. acts setting.world setting act m c vs t1)
@@ -229,8 +241,8 @@ module _ (setting : Setting) where
           ap (λ r. bind r (λ d t. bind (eval_all fx call setting.turns on args env t) (λ vs t1. acts setting.world setting act m d vs t1))) h
           ∙ ap (λ l. bind (all_mean setting args l out1) (λ vs t1. acts setting.world setting act m c vs t1)) (sym same)
 
-      pub args_stop : {V : Type 0} (f : V → List Value) (y : ThreadStop) (out2 : State) → GivesAll setting f (Err y) out2 (all_mean setting args later out1) → Stops on y (st out2) (form_means setting act m cell args env out)
-      args_stop f y out2 g = stops_whole on y (st out2) (form_means setting act m cell args env out) (all_mean setting args later out1) (λ vs t1. acts setting.world setting act m c vs t1) after_cell g
+      pub args_stop : {V : Type 0} (f : V → List Value) (y : ThreadStop) (out2 : State) → GivesAll setting f (Err y) out2 (all_mean setting args later out1) → Stops all y (st out2) (form_means setting act m cell args env out)
+      args_stop f y out2 g = stops_whole all y (st out2) (form_means setting act m cell args env out) (all_mean setting args later out1) (λ vs t1. acts setting.world setting act m c vs t1) after_cell g
 
       module _ (vs : List Value) (out2 : State) (g : all_mean setting args later out1 ≡ Completes vs (st out2)) where
         pub acted : form_means setting act m cell args env out ≡ act_means setting act m c vs out2
@@ -249,8 +261,8 @@ module _ (setting : Setting) where
     here : {A : Type 0} (go : Value → S → Completion S A) (v : Value) → means setting (tree_of x) now out ≡ Completes v (st out1) → bind (means setting (tree_of x) env out) go ≡ go v (st out1)
     here go v h = ap (λ c. bind c go) (subst (λ l. means setting (tree_of x) l out ≡ Completes v (st out1)) same h)
 
-    stops_here : (y : ThreadStop) → Stops on y (st out1) (means setting (tree_of x) now out) → Stops on y (st out1) (means setting (tree_of x) env out)
-    stops_here y h = subst (λ l. Stops on y (st out1) (means setting (tree_of x) l out)) same h
+    stops_here : (y : ThreadStop) → Stops all y (st out1) (means setting (tree_of x) now out) → Stops all y (st out1) (means setting (tree_of x) env out)
+    stops_here y h = subst (λ l. Stops all y (st out1) (means setting (tree_of x) l out)) same h
 
     all_next : (vs : List Value) → collects fx call setting.turns on vs (trees_of (drop i ns)) env (st out) ≡ bind (means setting (tree_of x) env out) (λ v s1. collects fx call setting.turns on (vs ++ v ∷ []) (trees_of (drop (i + 1) ns)) env s1)
     all_next vs = ap (λ es. collects fx call setting.turns on vs es env (st out)) (trees_from ns i x lt is) ∙ collects-more fx call setting.turns on vs (tree_of x) (trees_of (drop (i + 1) ns)) env (st out)
@@ -261,9 +273,9 @@ module _ (setting : Setting) where
         all_next vs ∙ here (λ w s1. collects fx call setting.turns on (vs ++ w ∷ []) (trees_of (drop (i + 1) ns)) env s1) v h
         ∙ ap (λ ws. collects fx call setting.turns on ws (trees_of (drop (i + 1) ns)) env (st out1)) (sym pushed)
 
-    pub all_stop : (vs : List Value) (y : ThreadStop) → Stops on y (st out1) (means setting (tree_of x) now out) → Stops on y (st out1) (collects fx call setting.turns on vs (trees_of (drop i ns)) env (st out))
+    pub all_stop : (vs : List Value) (y : ThreadStop) → Stops all y (st out1) (means setting (tree_of x) now out) → Stops all y (st out1) (collects fx call setting.turns on vs (trees_of (drop i ns)) env (st out))
     all_stop vs y h =
-        stops_whole on y (st out1) (collects fx call setting.turns on vs (trees_of (drop i ns)) env (st out)) (means setting (tree_of x) env out) (λ v s1. collects fx call setting.turns on (vs ++ v ∷ []) (trees_of (drop (i + 1) ns)) env s1) (all_next vs) (stops_here y h)
+        stops_whole all y (st out1) (collects fx call setting.turns on vs (trees_of (drop i ns)) env (st out)) (means setting (tree_of x) env out) (λ v s1. collects fx call setting.turns on (vs ++ v ∷ []) (trees_of (drop (i + 1) ns)) env s1) (all_next vs) (stops_here y h)
 
     locals_next : locals_mean setting (trees_of (drop i ns)) env out ≡ bind (means setting (tree_of x) env out) (λ v s1. locals_after fx call setting.turns on (trees_of (drop (i + 1) ns)) (env ++ v ∷ []) s1)
     locals_next = ap (λ es. locals_mean setting es env out) (trees_from ns i x lt is) ∙ locals_after-more fx call setting.turns on (tree_of x) (trees_of (drop (i + 1) ns)) env (st out)
@@ -274,17 +286,17 @@ module _ (setting : Setting) where
         locals_next ∙ here (λ w s1. locals_after fx call setting.turns on (trees_of (drop (i + 1) ns)) (env ++ w ∷ []) s1) v h
         ∙ ap (λ l. locals_mean setting (trees_of (drop (i + 1) ns)) l out1) (sym pushed)
 
-    pub locals_stop : (y : ThreadStop) → Stops on y (st out1) (means setting (tree_of x) now out) → Stops on y (st out1) (locals_mean setting (trees_of (drop i ns)) env out)
+    pub locals_stop : (y : ThreadStop) → Stops all y (st out1) (means setting (tree_of x) now out) → Stops all y (st out1) (locals_mean setting (trees_of (drop i ns)) env out)
     locals_stop y h =
-        stops_whole on y (st out1) (locals_mean setting (trees_of (drop i ns)) env out) (means setting (tree_of x) env out) (λ v s1. locals_after fx call setting.turns on (trees_of (drop (i + 1) ns)) (env ++ v ∷ []) s1) locals_next (stops_here y h)
+        stops_whole all y (st out1) (locals_mean setting (trees_of (drop i ns)) env out) (means setting (tree_of x) env out) (λ v s1. locals_after fx call setting.turns on (trees_of (drop (i + 1) ns)) (env ++ v ∷ []) s1) locals_next (stops_here y h)
 
   -- the nodes before the last one, and then that
   module _ (before ns : List Node) (last : Node) (env : List Value) (out : State) (is : ns ≡ before ++ last ∷ []) where
     do_is : do_means setting (trees_of ns) env out ≡ bind (all_mean setting (trees_of before) env out) (λ vs s1. eval fx call setting.turns on (tree_of last) env s1)
     do_is = ap (λ l. do_means setting (trees_of l) env out) is ∙ do-then_last fx call setting.turns on before last env (st out) ∙ last_after fx call setting.turns on (trees_of before) (tree_of last) env (st out)
 
-    pub do_stop : {V : Type 0} (f : V → List Value) (y : ThreadStop) (out1 : State) → GivesAll setting f (Err y) out1 (all_mean setting (trees_of before) env out) → Stops on y (st out1) (do_means setting (trees_of ns) env out)
-    do_stop f y out1 h = stops_whole on y (st out1) (do_means setting (trees_of ns) env out) (all_mean setting (trees_of before) env out) (λ vs s1. eval fx call setting.turns on (tree_of last) env s1) do_is h
+    pub do_stop : {V : Type 0} (f : V → List Value) (y : ThreadStop) (out1 : State) → GivesAll setting f (Err y) out1 (all_mean setting (trees_of before) env out) → Stops all y (st out1) (do_means setting (trees_of ns) env out)
+    do_stop f y out1 h = stops_whole all y (st out1) (do_means setting (trees_of ns) env out) (all_mean setting (trees_of before) env out) (λ vs s1. eval fx call setting.turns on (tree_of last) env s1) do_is h
 
     pub do_done : (vs : List Value) (out1 : State) → all_mean setting (trees_of before) env out ≡ Completes vs (st out1) → (later : List Value) → later ≡ env → (r : Result Step ThreadStop) (out2 : State) → Steps setting r out2 (means setting (tree_of last) later out1)
         → Steps setting r out2 (do_means setting (trees_of ns) env out)
@@ -303,12 +315,12 @@ module _ (setting : Setting) where
     loop_is : loop_means setting es body env out ≡ bind (locals_mean setting es env out) (λ ls s1. turns setting.turns (count es) (λ ws s2. eval fx call setting.turns on body (env ++ ws) s2) (drop (length env) ls) s1)
     loop_is = after_locals fx call setting.turns on es env (st out) (λ vs s1. turns setting.turns (count es) (λ ws s2. eval fx call setting.turns on body (env ++ ws) s2) vs s1)
 
-    pub let_stop : (y : ThreadStop) (out1 : State) → Stops on y (st out1) (locals_mean setting es env out) → Stops on y (st out1) (let_means setting es body env out)
-    let_stop y out1 h = stops_whole on y (st out1) (let_means setting es body env out) (locals_mean setting es env out) (λ ls s1. eval fx call setting.turns on body ls s1) let_is h
+    pub let_stop : (y : ThreadStop) (out1 : State) → Stops all y (st out1) (locals_mean setting es env out) → Stops all y (st out1) (let_means setting es body env out)
+    let_stop y out1 h = stops_whole all y (st out1) (let_means setting es body env out) (locals_mean setting es env out) (λ ls s1. eval fx call setting.turns on body ls s1) let_is h
 
-    pub loop_stop : (y : ThreadStop) (out1 : State) → Stops on y (st out1) (locals_mean setting es env out) → Stops on y (st out1) (loop_means setting es body env out)
+    pub loop_stop : (y : ThreadStop) (out1 : State) → Stops all y (st out1) (locals_mean setting es env out) → Stops all y (st out1) (loop_means setting es body env out)
     loop_stop y out1 h =
-        stops_whole on y (st out1) (loop_means setting es body env out) (locals_mean setting es env out) (λ ls s1. turns setting.turns (count es) (λ ws s2. eval fx call setting.turns on body (env ++ ws) s2) (drop (length env) ls) s1) loop_is h
+        stops_whole all y (st out1) (loop_means setting es body env out) (locals_mean setting es env out) (λ ls s1. turns setting.turns (count es) (λ ws s2. eval fx call setting.turns on body (env ++ ws) s2) (drop (length env) ls) s1) loop_is h
 
     module _ (now : List Value) (out1 out2 : State) (r : Result Step ThreadStop) (h : locals_mean setting es env out ≡ Completes now (st out1)) where
       pub let_done : Steps setting r out2 (means setting body now out1) → Steps setting r out2 (let_means setting es body env out)
@@ -332,8 +344,8 @@ module _ (setting : Setting) where
     pub turn_value : (v : Value) → means setting body now out ≡ Completes v (st out1) → turns_mean setting k d body env (drop b now) out ≡ Completes v (st out1)
     turn_value v h = turn_next ∙ ap (λ c. again c (turns m d (λ ws s. eval fx call setting.turns on body (env ++ ws) s))) h
 
-    pub turn_stop : (y : ThreadStop) → Stops on y (st out1) (means setting body now out) → Stops on y (st out1) (turns_mean setting k d body env (drop b now) out)
-    turn_stop y h = subst (λ c. Stops on y (st out1) c) (sym turn_next) (stops_again on y (st out1) (means setting body now out) (turns m d (λ ws s. eval fx call setting.turns on body (env ++ ws) s)) h)
+    pub turn_stop : (y : ThreadStop) → Stops all y (st out1) (means setting body now out) → Stops all y (st out1) (turns_mean setting k d body env (drop b now) out)
+    turn_stop y h = subst (λ c. Stops all y (st out1) c) (sym turn_next) (stops_again all y (st out1) (means setting body now out) (turns m d (λ ws s. eval fx call setting.turns on body (env ++ ws) s)) h)
 
     pub turn_recur : (ws later : List Value) → means setting body now out ≡ Recurs ws (st out1) → drop b later ≡ ws → turns_mean setting k d body env (drop b now) out ≡ turns_mean setting m d body env (drop b later) out1
     turn_recur ws later h rebound =

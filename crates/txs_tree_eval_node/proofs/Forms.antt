@@ -7,7 +7,7 @@ use Rattle.txs_world_protocol.specs.SeenEvent.{SeenEvent, home}
 use Rattle.txs_world_protocol.specs.declared.event.EventKind.{EventKind}
 use Rattle.txs_world_protocol.specs.declared.event.EventKind.TheVariants.{Read, Commit, Retry, Fail, Refused, Send as Sent, SendRefused, Act as Acted, Swap as Swapped, Broke}
 use Rattle.txs_frame.specs.Frame.{set_ref, hold_send, with_sends}
-use Rattle.txs_tree_eval_node.specs.Evaluated.{held_of, HaltsAt, AnswersAt, Comes, ComesNone, with_todo, after, ReadyIn, forms_on, calls_on, around_it, inside_means, outside_means, update_means, swap_means, applied, quiet, wholly, makes, made_means, accept_means, FirstAccepted, FirstStops, PutAccepted, PutStops, IsSwap, IsNoSwap, swap_ends, swap_gives, swap_of, is_broke, is_read_of, is_swap_to, sending, sent_as, part, is_on, Yields, Finishes, Steps, step_of, call_means, applies_means, finish_means, thread_state}
+use Rattle.txs_tree_eval_node.specs.Evaluated.{held_of, HaltsAt, AnswersAt, Comes, ComesNone, with_todo, after, ReadyIn, forms_on, calls_on, around_it, inside_means, outside_means, update_means, swap_means, applied, quiet, wholly, makes, made_means, accept_means, FirstAccepted, FirstStops, PutAccepted, PutStops, IsSwap, IsNoSwap, swap_ends, swap_gives, swap_of, is_broke, is_read_of, is_swap_to, sending, sent_as, part, is_on, has_all, Yields, Finishes, Steps, step_of, call_means, applies_means, finish_means, thread_state}
 use Rattle.txs_tree_eval_transaction.specs.Worked.{Stops, Gives, Told, RefCell, UpdatesRef, update_begins, update_ends, of_one, stop_without_fault, with_work, tx_state}
 use Rattle.txs_tree_eval_node.specs.Events.{seen_event}
 use Rattle.txs_tree_eval_node.specs.Shapes.{form_of_act}
@@ -17,10 +17,10 @@ use Rattle.txs_tree_eval_node.specs.Setting.{Setting, callable, deepest, on_view
 use Rattle.txs_tree_meaning.specs.Sound.{SoundCall, SoundCallee, SoundCells, SentCallee, PureCall, SoundFunctions, MayStand, in_thread, in_dosync}
 use Rattle.txs_tree_meaning.specs.Right.{up_to}
 use Rattle.txs_tree_meaning.specs.Thread.{ThreadState, Surroundings, holding, uneaten, eats, reads, resets, sends, sends_or_holds, swaps, meant, faultless, faulted, accepts, thread_look, thread_put, thread_update, outside_form}
-use Rattle.txs_tree_meaning.specs.Transaction.{TxState, on_cell, done_as, tx_look, tx_put, tx_update}
+use Rattle.txs_tree_meaning.specs.Transaction.{TxState, on_cell, done_as, tx_look_lacking, tx_put, tx_update_lacking}
 use Rattle.txs_tree_meaning.specs.Tree.{Mark}
 use Rattle.txs_tree_meaning.specs.View.{functions_of}
-use Rattle.txs_tree_eval_transaction.specs.Views.{PlainView, world_of}
+use Rattle.txs_tree_eval_transaction.specs.Views.{PlainView, PlainTxView, is_whole, whole_view, world_of}
 use Rattle.txs_tree_eval_node.specs.declared.shape.Act.{Act}
 use Rattle.txs_tree_eval_node.specs.declared.shape.Act.TheVariants.{Look as a_look, Put as a_put, Update as an_update, Send as a_send}
 use Rattle.txs_tree_eval_node.specs.declared.shape.Strict.{Strict}
@@ -65,7 +65,7 @@ use Rattle.txs_value_data.specs.declared.value.Value.TheVariants.{Nil, Truth, In
 use Rattle.txs_tree_eval_node.proofs.Leaf.{held_more}
 use Rattle.txs_tree_eval_node.proofs.Applying.{callee_agrees, told_applies, told_from, answers_from, carried, whole_agrees, validated_agrees, made_agrees}
 use Rattle.txs_tree_eval_node.proofs.Called.{validator_sound}
-use Rattle.txs_tree_eval_node.proofs.Evaluation.{stops_bind}
+use Rattle.txs_tree_eval_node.proofs.Evaluation.{stops_bind, gives_anywhere}
 use Rattle.txs_tree_eval_node.proofs.Shaping.{stepped}
 use Rattle.txs_tree_meaning.proofs.PureLaw.{Agrees}
 
@@ -121,13 +121,13 @@ module _ {S : Type 0} (b : Bool) (s : S) where
 
 -- ---- in a transaction
 
-module _ (x : Setting) (r : PlainView) (m : Mark) (v : Value) (t : TxState) where
-  pub untaken_inside : (act : Act) (vs : List Value) (y : ThreadStop) → ReadyIn (callable x) in_dosync act (length vs) → Told {A = CellId} (Err y) (result_of (cell_of (rule (form_of_act act)) true v) m.span tt) → Stops true y t (inside_means x r act m v vs t)
-  untaken_inside (a_look form) vs y ready h = untaken true t (form_of.Look form) true m.span v (λ c t1. tx_look (world_of r) form c t1) y h
+module _ (x : Setting) (r : PlainTxView) (m : Mark) (v : Value) (t : TxState) where
+  pub untaken_inside : (act : Act) (vs : List Value) (y : ThreadStop) → ReadyIn (callable x) in_dosync act (length vs) → Told {A = CellId} (Err y) (result_of (cell_of (rule (form_of_act act)) true v) m.span tt) → Stops (is_whole r.gone) y t (inside_means x r act m v vs t)
+  untaken_inside (a_look form) vs y ready h = untaken (is_whole r.gone) t (form_of.Look form) true m.span v (λ c t1. tx_look_lacking r.gone (world_of r.refs) form c t1) y h
   untaken_inside (a_put form) [] y ready h = absurd (omega (arith, ready.1))
-  untaken_inside (a_put form) (w ∷ ws) y ready h = untaken true t (form_of.Put form) true m.span v (λ c t1. tx_put form m.span c w t1) y h
-  untaken_inside (an_update form callee) vs y ready h = untaken true t (form_of.Update form) true m.span v (λ c t1. tx_update (world_of r) form m c callee vs (apply (calls_on (Some r) x true) m.span) t1) y h
-  untaken_inside (a_send callee) vs y ready h = untaken true t form_of.Send true m.span v _ y h
+  untaken_inside (a_put form) (w ∷ ws) y ready h = untaken (is_whole r.gone) t (form_of.Put form) true m.span v (λ c t1. tx_put form m.span c w t1) y h
+  untaken_inside (an_update form callee) vs y ready h = untaken (is_whole r.gone) t (form_of.Update form) true m.span v (λ c t1. tx_update_lacking r.gone (world_of r.refs) form m c callee vs (apply (calls_on (Some r) x true) m.span) t1) y h
+  untaken_inside (a_send callee) vs y ready h = untaken (is_whole r.gone) t form_of.Send true m.span v _ y h
 
 -- ---- the agent of a send
 
@@ -153,25 +153,26 @@ send_cell (Key bs) inside span d h = absurd (subst Whole (sym h) tt)
 send_cell (Text bs) inside span d h = absurd (subst Whole (sym h) tt)
 send_cell (Vector ds) inside span d h = absurd (subst Whole (sym h) tt)
 
-module _ (x : Setting) (r : PlainView) (m : Mark) (v : Value) (t : TxState) (cell : CellId) (res : Result Value ThreadStop) (t1 : TxState) where
+module _ (x : Setting) (r : PlainTxView) (m : Mark) (v : Value) (t : TxState) (cell : CellId) (res : Result Value ThreadStop) (t1 : TxState) where
   -- a ref is set to the one argument
   pub put_inside : (form : PutForm) (vs : List Value) → ReadyIn (callable x) in_dosync (a_put form) (length vs) → Told (Ok cell) (result_of (cell_of (rule (form_of.Put form)) true v) m.span tt)
-      → Gives true res t1 (of_one (λ w. done_as (set_ref cell w t.done) m.span w t) vs) → Gives true res t1 (inside_means x r (a_put form) m v vs t)
+      → Gives true res t1 (of_one (λ w. done_as (set_ref cell w t.done) m.span w t) vs) → Gives (is_whole r.gone) res t1 (inside_means x r (a_put form) m v vs t)
   put_inside form [] ready told h = absurd (omega (arith, ready.1))
-  put_inside RefSet (w ∷ ws) ready told h = subst (λ c. Gives true res t1 c) (sym (took true t (form_of.Put RefSet) true m.span v (λ c s. tx_put RefSet m.span c w s) cell told)) h
+  put_inside RefSet (w ∷ ws) ready told h = subst (λ c. Gives (is_whole r.gone) res t1 c) (sym (took (is_whole r.gone) t (form_of.Put RefSet) true m.span v (λ c s. tx_put RefSet m.span c w s) cell told)) (gives_anywhere (is_whole r.gone) res t1 (done_as (set_ref cell w t.done) m.span w t) h)
   put_inside Reset (w ∷ ws) ready told h = absurd ready.0
 
   -- a ref is read
-  pub look_inside : (form : LookForm) (vs : List Value) → Told (Ok cell) (result_of (cell_of (rule (form_of.Look form)) true v) m.span tt) → Gives true res t1 (tx_look (world_of r) form cell t) → Gives true res t1 (inside_means x r (a_look form) m v vs t)
-  look_inside form vs told h = subst (λ c. Gives true res t1 c) (sym (took true t (form_of.Look form) true m.span v (λ c s. tx_look (world_of r) form c s) cell told)) h
+  pub look_inside : (form : LookForm) (vs : List Value) → Told (Ok cell) (result_of (cell_of (rule (form_of.Look form)) true v) m.span tt) → Gives (is_whole r.gone) res t1 (tx_look_lacking r.gone (world_of r.refs) form cell t) → Gives (is_whole r.gone) res t1 (inside_means x r (a_look form) m v vs t)
+  look_inside form vs told h = subst (λ c. Gives (is_whole r.gone) res t1 c) (sym (took (is_whole r.gone) t (form_of.Look form) true m.span v (λ c s. tx_look_lacking r.gone (world_of r.refs) form c s) cell told)) h
 
   -- a send is held, and gives the agent
   pub send_inside : (callee : Callee) (vs : List Value) → Told (Ok cell) (result_of (cell_of (rule form_of.Send) true v) m.span tt)
-      → Gives true res t1 (Completes (Cell cell) (with_work (hold_send (record { agent = cell; callee = callee; args = vs; span = m.span }) t.done) t)) → Gives true res t1 (inside_means x r (a_send callee) m v vs t)
+      → Gives true res t1 (Completes (Cell cell) (with_work (hold_send (record { agent = cell; callee = callee; args = vs; span = m.span }) t.done) t)) → Gives (is_whole r.gone) res t1 (inside_means x r (a_send callee) m v vs t)
   send_inside callee vs told h =
-      subst (λ c. Gives true res t1 c)
-      (sym (took true t form_of.Send true m.span v (λ c s. Completes v (record s { done = hold_send (record { agent = c; callee = callee; args = vs; span = m.span }) s.done })) cell told
-      ∙ ap (λ w. Completes w (record t { done = hold_send (record { agent = cell; callee = callee; args = vs; span = m.span }) t.done })) (send_cell v true m.span cell told))) h
+      subst (λ c. Gives (is_whole r.gone) res t1 c)
+      (sym (took (is_whole r.gone) t form_of.Send true m.span v (λ c s. Completes v (record s { done = hold_send (record { agent = c; callee = callee; args = vs; span = m.span }) s.done })) cell told
+      ∙ ap (λ w. Completes w (record t { done = hold_send (record { agent = cell; callee = callee; args = vs; span = m.span }) t.done })) (send_cell v true m.span cell told)))
+      (gives_anywhere (is_whole r.gone) res t1 (Completes (Cell cell) (with_work (hold_send (record { agent = cell; callee = callee; args = vs; span = m.span }) t.done) t)) h)
 
 -- ---- outside
 
@@ -304,39 +305,39 @@ pub put_takes : (ks : List Known) (form : PutForm) (n : ℕ) (v : Value) (span :
 put_takes ks RefSet n v span d ready h = ref_of Nothing span NotARef d v h
 put_takes ks Reset n v span d ready h = absurd ready.0
 
-module _ (x : Setting) (sound : SoundFunctions [] (functions_of x.functions)) (r : PlainView) (form : UpdateForm) (callee : Callee) (cell : CellId) (vs : List Value) (m : Mark) where
+module _ (x : Setting) (sound : SoundFunctions [] (functions_of x.functions)) (r : PlainTxView) (form : UpdateForm) (callee : Callee) (cell : CellId) (vs : List Value) (m : Mark) where
   abbrev made : Applies TxState
   made = apply (calls_on (Some r) x true) m.span
 
   abbrev ends : Value → TxState → Completion TxState Value
   ends w t = update_ends form m cell callee vs w t
 
-  made_of : (us : List Value) (t : TxState) (res : Result Value ThreadStop) → SoundCallee (callable x) callee (length us) → Told res (applied x callee us m.span) → Gives true res t (made callee us t)
-  made_of us t res fits told = told_applies true t x sound (forms_on (Some r) (around_it x)) true m.span callee us res fits told
+  made_of : (us : List Value) (t : TxState) (res : Result Value ThreadStop) → SoundCallee (callable x) callee (length us) → Told res (applied x callee us m.span) → Gives (is_whole r.gone) res t (made callee us t)
+  made_of us t res fits told = told_applies (is_whole r.gone) t x sound (forms_on (Some r) (around_it x)) true m.span callee us res fits told
 
-  parts : (k : UpdateForm) (t : TxState) → tx_update (world_of r) k m cell callee vs made t ≡ bind (update_begins (world_of r) k cell t) (λ v t1. bind (made callee (v ∷ vs) t1) (λ w t2. update_ends k m cell callee vs w t2))
+  parts : (k : UpdateForm) (t : TxState) → tx_update_lacking r.gone (world_of r.refs) k m cell callee vs made t ≡ bind (update_begins r.gone (world_of r.refs) k cell t) (λ v t1. bind (made callee (v ∷ vs) t1) (λ w t2. update_ends k m cell callee vs w t2))
   parts Alter t = refl
   parts Commute t = refl
   parts Swap t = refl
 
-  pub update_unbegun : (y : ThreadStop) (t t1 : TxState) → Stops true y t1 (update_begins (world_of r) form cell t) → Stops true y t1 (update_means x r form callee cell vs m t)
-  update_unbegun y t t1 h = subst (λ c. Stops true y t1 c) (sym (parts form t)) (stops_bind true y t1 (update_begins (world_of r) form cell t) (λ v s. bind (made callee (v ∷ vs) s) ends) h)
+  pub update_unbegun : (y : ThreadStop) (t t1 : TxState) → Stops (is_whole r.gone) y t1 (update_begins r.gone (world_of r.refs) form cell t) → Stops (is_whole r.gone) y t1 (update_means x r form callee cell vs m t)
+  update_unbegun y t t1 h = subst (λ c. Stops (is_whole r.gone) y t1 c) (sym (parts form t)) (stops_bind (is_whole r.gone) y t1 (update_begins r.gone (world_of r.refs) form cell t) (λ v s. bind (made callee (v ∷ vs) s) ends) h)
 
-  module _ (t t1 : TxState) (v : Value) (fits : SoundCallee (callable x) callee (suc (length vs))) (begun : update_begins (world_of r) form cell t ≡ Completes v t1) where
+  module _ (t t1 : TxState) (v : Value) (fits : SoundCallee (callable x) callee (suc (length vs))) (begun : update_begins r.gone (world_of r.refs) form cell t ≡ Completes v t1) where
     update_after : update_means x r form callee cell vs m t ≡ bind (made callee (v ∷ vs) t1) ends
     update_after = parts form t ∙ ap (λ c. bind c (λ u s. bind (made callee (u ∷ vs) s) ends)) begun
 
-    pub update_stop : (y : ThreadStop) → Told {A = Value} (Err y) (applied x callee (v ∷ vs) m.span) → Stops true y t1 (update_means x r form callee cell vs m t)
-    update_stop y told = subst (λ c. Stops true y t1 c) (sym update_after) (stops_bind true y t1 (made callee (v ∷ vs) t1) ends (made_of (v ∷ vs) t1 (Err y) fits told))
+    pub update_stop : (y : ThreadStop) → Told {A = Value} (Err y) (applied x callee (v ∷ vs) m.span) → Stops (is_whole r.gone) y t1 (update_means x r form callee cell vs m t)
+    update_stop y told = subst (λ c. Stops (is_whole r.gone) y t1 c) (sym update_after) (stops_bind (is_whole r.gone) y t1 (made callee (v ∷ vs) t1) ends (made_of (v ∷ vs) t1 (Err y) fits told))
 
-    pub update_done : (w : Value) (res : Result Value ThreadStop) (t2 : TxState) → Told (Ok w) (applied x callee (v ∷ vs) m.span) → Gives true res t2 (ends w t1) → Gives true res t2 (update_means x r form callee cell vs m t)
-    update_done w res t2 told g = subst (λ c. Gives true res t2 c) (sym (update_after ∙ ap (λ c. bind c ends) (made_of (v ∷ vs) t1 (Ok w) fits told))) g
+    pub update_done : (w : Value) (res : Result Value ThreadStop) (t2 : TxState) → Told (Ok w) (applied x callee (v ∷ vs) m.span) → Gives true res t2 (ends w t1) → Gives (is_whole r.gone) res t2 (update_means x r form callee cell vs m t)
+    update_done w res t2 told g = subst (λ c. Gives (is_whole r.gone) res t2 c) (sym (update_after ∙ ap (λ c. bind c ends) (made_of (v ∷ vs) t1 (Ok w) fits told))) (gives_anywhere (is_whole r.gone) res t2 (ends w t1) g)
 
 -- what a form that updates does on the ref that it takes
-module _ (x : Setting) (r : PlainView) (m : Mark) (v : Value) (t : TxState) (cell : CellId) where
+module _ (x : Setting) (r : PlainTxView) (m : Mark) (v : Value) (t : TxState) (cell : CellId) where
   pub update_inside : (form : UpdateForm) (callee : Callee) (vs : List Value) → Told (Ok cell) (result_of (cell_of (rule (form_of.Update form)) true v) m.span tt)
       → update_means x r form callee cell vs m t ≡ inside_means x r (an_update form callee) m v vs t
-  update_inside form callee vs told = sym (took true t (form_of.Update form) true m.span v (λ c s. tx_update (world_of r) form m c callee vs (apply (calls_on (Some r) x true) m.span) s) cell told)
+  update_inside form callee vs told = sym (took (is_whole r.gone) t (form_of.Update form) true m.span v (λ c s. tx_update_lacking r.gone (world_of r.refs) form m c callee vs (apply (calls_on (Some r) x true) m.span) s) cell told)
 
 -- ---- where a fault may not come, or nothing else
 
@@ -562,13 +563,13 @@ module _ (x : Setting) (callee : Callee) (cell : CellId) (vs : List Value) (span
 
 -- ---- a pure function in a transaction of its own, on no world
 
-pub called_alone : (x inner : Setting) (w : PlainView) → inner ≡ on_view x w → SoundFunctions [] (functions_of x.functions) → (span : Span) (callee : Callee) (f : ℕ) (vs : List Value) → callee ≡ Function f → PureCall (callable x) f (length vs)
+pub called_alone : (x inner : Setting) (w : PlainView) → inner ≡ on_view x (whole_view w) → SoundFunctions [] (functions_of x.functions) → (span : Span) (callee : Callee) (f : ℕ) (vs : List Value) → callee ≡ Function f → PureCall (callable x) f (length vs)
     → (r : Result Value ThreadStop) (st out : State) → Yields inner r out (call_means inner f vs st) → Told r (applied x callee vs span)
 called_alone x inner w same sound span callee f vs is fits r st out h =
     let s = tx_state st.tx in
-    let here : Yields (on_view x w) r out (call_means (on_view x w) f vs st) = subst (λ y. Yields y r out (call_means y f vs st)) same h in
-    let agrees : Agrees s (applied x (Function f) vs span) (call_means (on_view x w) f vs st) = callee_agrees true s x sound (forms_on (Some w) (around_it (on_view x w))) true span (Function f) vs fits in
-    subst (λ k. Told r (applied x k vs span)) (sym is) (told_from s (tx_state out.tx) r (applied x (Function f) vs span) (call_means (on_view x w) f vs st) agrees here)
+    let here : Yields (on_view x (whole_view w)) r out (call_means (on_view x (whole_view w)) f vs st) = subst (λ y. Yields y r out (call_means y f vs st)) same h in
+    let agrees : Agrees s (applied x (Function f) vs span) (call_means (on_view x (whole_view w)) f vs st) = callee_agrees true s x sound (forms_on (Some (whole_view w)) (around_it (on_view x (whole_view w)))) true span (Function f) vs fits in
+    subst (λ k. Told r (applied x k vs span)) (sym is) (told_from s (tx_state out.tx) r (applied x (Function f) vs span) (call_means (on_view x (whole_view w)) f vs st) agrees here)
 
 -- ---- a callee outside every transaction
 
@@ -584,14 +585,14 @@ sent_call x f n none h =
 
 module _ (x : Setting) (callee : Callee) (span : Span) (vs : List Value) (st : State) where
   pub outside_core : (op : Op) (r : Result Value ThreadStop) → callee ≡ CoreOp op → Told r (result_of (core op vs) span tt) → Yields x r st (applies_means x span callee vs st)
-  outside_core op r is h = subst (λ k. Yields x r st (applies_means x span k vs st)) (sym is) (gives_result (is_on x.world) (part x.world st) (core op vs) span r h)
+  outside_core op r is h = subst (λ k. Yields x r st (applies_means x span k vs st)) (sym is) (gives_result (has_all x.world) (part x.world st) (core op vs) span r h)
 
   pub outside_call : (f : ℕ) (r : Result Value ThreadStop) (out : State) → callee ≡ Function f → Yields x r out (call_means x f vs st) → Yields x r out (applies_means x span callee vs st)
   outside_call f r out is h = subst (λ k. Yields x r out (applies_means x span k vs st)) (sym is) h
 
 -- ---- `println`
 
-print_on : (o : Option PlainView) (x : Surroundings) (d : ℕ) (vs : List Value) (st st1 : State) → MayStand (zone_on o) Outside → thread_state st1.thread ≡ record (thread_state st.thread) { printed = (thread_state st.thread).printed ++ printed_line vs }
+print_on : (o : Option PlainTxView) (x : Surroundings) (d : ℕ) (vs : List Value) (st st1 : State) → MayStand (zone_on o) Outside → thread_state st1.thread ≡ record (thread_state st.thread) { printed = (thread_state st.thread).printed ++ printed_line vs }
     → (forms_on o x d).print (is_on o) vs (part o st) ≡ Completes Nil (part o st1)
 print_on None x d vs st st1 may line = ap (λ t. Completes Nil t) (sym line)
 print_on (Some r) x d vs st st1 may line = absurd may
@@ -600,7 +601,7 @@ printed : (x : Setting) (span : Span) (vs : List Value) (st : State) (line : Lis
     → MatchResult r (λ v. (v ≡ Nil) × (line ≡ (thread_state st.thread).printed ++ printed_line vs)) (λ y. y ≡ Memory) → Yields x r st1 (finish_means x a_println span vs st)
 printed x span vs st line may st1 after (Ok v) h =
     print_on x.world (around_it x) x.depth vs st st1 may (after ∙ ap (λ l. record (thread_state st.thread) { printed = l }) h.1) ∙ ap (λ u. Completes u (part x.world st1)) (sym h.0)
-printed x span vs st line may st1 after (Err y) h = subst (λ z. Stops (is_on x.world) z (part x.world st1) (finish_means x a_println span vs st)) (sym h) tt
+printed x span vs st line may st1 after (Err y) h = subst (λ z. Stops (has_all x.world) z (part x.world st1) (finish_means x a_println span vs st)) (sym h) tt
 
 module _ (x : Setting) (strict : Strict) (span : Span) (vs : List Value) (st out : State) (r : Result Value ThreadStop) (s : Result Step ThreadStop) (as_given : s ≡ step_of r) where
   -- what is done with the values gives this
@@ -612,10 +613,10 @@ module _ (x : Setting) (strict : Strict) (span : Span) (vs : List Value) (st out
 
 module _ (x : Setting) (strict : Strict) (span : Span) (vs : List Value) (st : State) (r : Result Value ThreadStop) (s : Result Step ThreadStop) (as_given : s ≡ step_of r) where
   pub core_done : (op : Op) → strict ≡ a_core op → Told r (result_of (core op vs) span tt) → Steps x s st (finish_means x strict span vs st)
-  core_done op is h = finished x strict span vs st st r s as_given (a_core op) is (gives_result (is_on x.world) (part x.world st) (core op vs) span r h)
+  core_done op is h = finished x strict span vs st st r s as_given (a_core op) is (gives_result (has_all x.world) (part x.world st) (core op vs) span r h)
 
   pub vector_done : strict ≡ a_vector → Told r (result_of (vector_of vs) span tt) → Steps x s st (finish_means x strict span vs st)
-  vector_done is h = finished x strict span vs st st r s as_given a_vector is (gives_result (is_on x.world) (part x.world st) (vector_of vs) span r h)
+  vector_done is h = finished x strict span vs st st r s as_given a_vector is (gives_result (has_all x.world) (part x.world st) (vector_of vs) span r h)
 
   -- a line is printed, where there was memory for it
   pub print_done : (line : List ℕ) → strict ≡ a_println → Finishes x strict (length vs) → (st1 : State) → thread_state st1.thread ≡ record (thread_state st.thread) { printed = line }

@@ -1,13 +1,13 @@
 -- A recur of a sound node has as many values as the loop in whose tail position the node stands, and the commutes that a sound
 -- node keeps have pure callees of as many values.
-use Rattle.std.proofs.Common.{ℕ, zero, suc, ◌==◌, ◌&&◌, ◌-◌, ◌≤◌, Bool, true, false, List, [], ◌∷◌, ◌++◌, Option, Some, None, Result, Ok, Err, sym, ap, ◌∙◌, subst, refl, length, nat_eq, if◌then◌else◌, ◌≡◌, ◌+◌, arith}
+use Rattle.std.proofs.Common.{ℕ, zero, suc, ◌==◌, ◌&&◌, ◌||◌, ◌-◌, ◌≤◌, Bool, true, false, List, [], ◌∷◌, ◌++◌, Option, Some, None, Result, Ok, Err, sym, ap, ◌∙◌, subst, refl, length, nat_eq, if◌then◌else◌, ◌≡◌, ◌+◌, arith}
 use Rattle.std.proofs.lemmas.Bool.{false≢true}
 use Rattle.txs_world_protocol.specs.Ask.{same_writes, same_cell, same_value, same_action, same_actions}
 use Rattle.txs_world_protocol.specs.SeenEvent.{SeenEvent, home}
 use Rattle.txs_world_protocol.specs.declared.event.Cause.TheVariants as cause
 use Rattle.txs_world_protocol.specs.declared.event.EventKind.{EventKind}
 use Rattle.txs_world_protocol.specs.declared.event.EventKind.TheVariants.{Read, Commit, Retry, Fail, Refused, Send as Sent, SendRefused, Act, Swap as Swapped, Broke}
-use Rattle.txs_frame.specs.Frame.{PlainTxFrame, is_commuted, has_number, commuted, set_ref, sends_of_commit}
+use Rattle.txs_frame.specs.Frame.{PlainTxFrame, is_commuted, has_number, commuted, set_ref, ensure_ref, commute_ref, sends_of_commit}
 use Rattle.txs_frame.specs.declared.frame.Commute as frame
 use Rattle.txs_value_cell.specs.Cells.{World}
 use Rattle.txs_value_cell.specs.Forms.{rule, may_stand, cell_of}
@@ -39,11 +39,11 @@ use Rattle.txs_tree_meaning.specs.Meaning.{Completion, Completes, Recurs, Faults
 use Rattle.txs_tree_eval_node.specs.Setting.{Setting, callable, zone_on, on_view}
 use Rattle.txs_tree_meaning.specs.Sound.{SoundCall, SoundCallee, SoundTree, SoundAll, SoundLet, SoundDo, SoundFunctions, in_dosync}
 use Rattle.txs_tree_meaning.specs.Right.{up_to, behind_retries, on_right}
-use Rattle.txs_tree_meaning.specs.Thread.{ThreadState, Surroundings, Transacting, on_events, with_tx, holding, uneaten, eats, meant, reads, resets, swaps, faulted, faultless, sends, sends_or_holds, over, run_of, ends_tx, is_retry, is_held, again as rerun, eats_tx, accepts, thread_look, thread_put, thread_update, outside_form}
-use Rattle.txs_tree_meaning.specs.Transaction.{TxState, in_transaction, on_cell, own, current, noted, tx_look, tx_put, tx_update, done_as, final_writes}
+use Rattle.txs_tree_meaning.specs.Thread.{ThreadState, Surroundings, Transacting, on_events, with_tx, holding, uneaten, eats, meant, reads, resets, swaps, faulted, faultless, sends, sends_or_holds, over, run_of, ends_tx, is_retry, is_held, missing, again as rerun, eats_tx, accepts, thread_look, thread_put, thread_update, outside_form}
+use Rattle.txs_tree_meaning.specs.Transaction.{TxState, in_transaction, in_transaction_lacking, on_cell, own, current, noted, lacks, looked, taken_lacking, tx_look_lacking, tx_put, tx_update_lacking, done_as, final_writes}
 use Rattle.txs_tree_meaning.specs.Tree.{Mark, Tree, Const, Local, If, Do, Let, Loop, Recur, Core, Call, VectorOf, Println, Dosync, Look, Put, Update, Send, Trees, none, more, count, PlainFunction}
 use Rattle.txs_tree_meaning.specs.View.{functions_of}
-use Rattle.txs_tree_eval_transaction.specs.Views.{PlainView, world_of}
+use Rattle.txs_tree_eval_transaction.specs.Views.{PlainView, PlainTxView, whole_view, world_of}
 use Rattle.txs_tree_meaning.specs.declared.node.Function as function
 use Rattle.txs_tree_eval_node.specs.declared.state.State.{State}
 use Rattle.txs_tree_eval_node.proofs.Called.{called_body, pure_here, as_many}
@@ -238,8 +238,17 @@ module _ (tail : Option ℕ) where
   if_allowed true c h = h
   if_allowed false c h = tt
 
+  missing_as : (t : ThreadState) (c : Completion TxState Value) (next : Completion ThreadState Value) → RecursAs tail next → RecursAs tail (missing t c next)
+  missing_as t (Completes v x) next h = tt
+  missing_as t (Recurs vs x) next h = tt
+  missing_as t (Faults f x) next h = tt
+  missing_as t (Retries x) next h = tt
+  missing_as t (Waits x) next h = h
+  missing_as t (OutOfTurns x) next h = tt
+  missing_as t Invalid next h = tt
+
   rerun_as : (d : Transacting) (k : EventKind) (R : World) (t : ThreadState) (next : Completion ThreadState Value) → RecursAs tail next → RecursAs tail (rerun d k R t next)
-  rerun_as d (Retry since c cause.Outdated) R t next h = h
+  rerun_as d (Retry since c cause.Outdated) R t next h = missing_as t (d.lacking c.number R) next h
   rerun_as d (Retry since c cause.Held) R t next h =
       over_as t (d.on R) (λ v x. allowed (is_held x.done c.number) next) (λ g. Invalid) (λ v x. if_allowed (is_held x.done c.number) next h) (λ g. tt)
   rerun_as d (Retry since c (cause.Commuted at)) R t next h =
@@ -441,43 +450,59 @@ module _ (top : Option (List Known)) where
   done_keeps : (tail : Option ℕ) (c : CellId) (v : Value) (span : Span) (t : TxState) → Keeps t → Fine Keeps tail (done_as (set_ref c v t.done) span v t)
   done_keeps tail c v span t h = set_keeps (is_commuted t.done c.number) tail t.done _ _ span v t h
 
-  module _ (R : World) (tail : Option ℕ) where
-    tx_look_fine : (form : LookForm) (c : CellId) (t : TxState) → Keeps t → Fine Keeps tail (tx_look R form c t)
-    tx_look_fine Deref c t h = noted_keeps c (own t.done c.number) t h
-    tx_look_fine Ensure c t h = noted_keeps c (own t.done c.number) t h
+  module _ (lack : Option ℕ) (R : World) where
+    looked_fine : (c : CellId) (t : TxState) → Keeps t → Fine Keeps None (looked lack R c t)
+    looked_fine c t h = test (lacks lack (own t.done c.number) c.number)
+      where
+        test : (b : Bool) → Fine Keeps None (if b then Waits t else Completes (current R t.done c) t)
+        test true = tt
+        test false = h
+
+    taken_fine : (tail : Option ℕ) (c : CellId) (t : TxState) → Keeps t → Fine Keeps tail (taken_lacking lack R c t)
+    taken_fine tail c t h = bind_fine Keeps None tail (looked lack R c t) (λ v t1. Completes v (noted c (own t1.done c.number) t1)) (looked_fine c t h) (λ v t1 h1. noted_keeps c (own t1.done c.number) t1 h1)
+
+  module _ (lack : Option ℕ) (R : World) (tail : Option ℕ) where
+    tx_look_fine : (form : LookForm) (c : CellId) (t : TxState) → Keeps t → Fine Keeps tail (tx_look_lacking lack R form c t)
+    tx_look_fine Deref c t h = taken_fine lack R tail c t h
+    tx_look_fine Ensure c t h = bind_fine Keeps None tail (taken_lacking lack R c t) (λ v t1. Completes v (record t1 { done = ensure_ref c t1.done })) (taken_fine lack R None c t h) (λ v t1 h1. h1)
 
     tx_put_fine : (form : PutForm) (span : Span) (c : CellId) (v : Value) (t : TxState) → Keeps t → Fine Keeps tail (tx_put form span c v t)
     tx_put_fine RefSet span c v t h = done_keeps tail c v span t h
     tx_put_fine Reset span c v t h = tt
 
     tx_update_fine : (form : UpdateForm) (m : Mark) (c : CellId) (callee : Callee) (vs : List Value) (f : Applies TxState) (t : TxState) → CalleeBy top callee (suc (length vs))
-        → ((us : List Value) (s : TxState) → length us ≡ suc (length vs) → Keeps s → Fine Keeps None (f callee us s)) → Keeps t → Fine Keeps tail (tx_update R form m c callee vs f t)
+        → ((us : List Value) (s : TxState) → length us ≡ suc (length vs) → Keeps s → Fine Keeps None (f callee us s)) → Keeps t → Fine Keeps tail (tx_update_lacking lack R form m c callee vs f t)
     tx_update_fine Alter m c callee vs f t sound each h =
-        let v = current R t.done c in
-        let t1 = noted c (own t.done c.number) t in
-        bind_fine Keeps None tail (f callee (v ∷ vs) t1) (λ w t2. done_as (set_ref c w t2.done) m.span w t2) (each (v ∷ vs) t1 refl (noted_keeps c (own t.done c.number) t h)) (λ w t2 h2. done_keeps tail c w m.span t2 h2)
+        let ending : Value → TxState → Completion TxState Value = λ w t2. done_as (set_ref c w t2.done) m.span w t2 in
+        bind_fine Keeps None tail (taken_lacking lack R c t) (λ v t1. bind (f callee (v ∷ vs) t1) ending) (taken_fine lack R None c t h)
+        (λ v t1 h1. bind_fine Keeps None tail (f callee (v ∷ vs) t1) ending (each (v ∷ vs) t1 refl h1) (λ w t2 h2. done_keeps tail c w m.span t2 h2))
     tx_update_fine Commute m c callee vs f t sound each h =
-        let v = current R t.done c in
-        bind_fine Keeps None tail (f callee (v ∷ vs) t) _ (each (v ∷ vs) t refl h) (λ w t1 h1. pushed top t1.done.commutes (record { cell = c; callee = callee; args = vs }) h1 sound)
+        let ending : Value → TxState → Completion TxState Value = λ w t2. Completes w (record t2 { done = commute_ref c callee vs w t2.done; used = t2.used || m.wanted }) in
+        bind_fine Keeps None tail (looked lack R c t) (λ v t1. bind (f callee (v ∷ vs) t1) ending) (looked_fine lack R c t h)
+        (λ v t1 h1. bind_fine Keeps None tail (f callee (v ∷ vs) t1) ending (each (v ∷ vs) t1 refl h1) (λ w t2 h2. pushed top t2.done.commutes (record { cell = c; callee = callee; args = vs }) h2 sound))
     tx_update_fine Swap m c callee vs f t sound each h = tt
 
 -- ---- what each family leaves, while this transaction runs or none
 
+-- a world, which may lack the value of a ref
+abbrev Sight : Type 0
+Sight = Option ℕ × World
+
 -- a transaction runs on some world, or none
-abbrev shape : Option World → Option PlainView
+abbrev shape : Option Sight → Option PlainTxView
 shape None = None
-shape (Some R) = Some (record { cells = []; swaps = None; place = 0 })
+shape (Some R) = Some (whole_view (record { cells = []; swaps = None; place = 0 }))
 
 -- the forms on cells there
-abbrev forms_at : (o : Option World) → Surroundings → ℕ → Effects (Part (shape o))
+abbrev forms_at : (o : Option Sight) → Surroundings → ℕ → Effects (Part (shape o))
 forms_at None x d = deeply x (on_right x d)
-forms_at (Some R) x d = in_transaction R
+forms_at (Some R) x d = in_transaction_lacking R.0 R.1
 
 -- what functions mean there
-abbrev calls_at : (o : Option World) → Setting → Bool → ℕ → List Value → Part (shape o) → Completion (Part (shape o)) Value
+abbrev calls_at : (o : Option Sight) → Setting → Bool → ℕ → List Value → Part (shape o) → Completion (Part (shape o)) Value
 calls_at o x = call_at (forms_at o (around_it x)) x.turns (functions_of x.functions) x.depth
 
-abbrev KeepsOn : (o : Option World) → Option (List Known) → Part (shape o) → Type 0
+abbrev KeepsOn : (o : Option Sight) → Option (List Known) → Part (shape o) → Type 0
 KeepsOn None top t = Unit {0}
 KeepsOn (Some R) top t = KeptBy top t.done.commutes
 
@@ -492,39 +517,39 @@ right tail s (OutOfTurns t) h = tt
 right tail s Invalid h = tt
 
 module _ (top : Option (List Known)) (x : Surroundings) (d : ℕ) (tail : Option ℕ) where
-  print_fine : (o : Option World) (vs : List Value) (s : Part (shape o)) → KeepsOn o top s → Fine (KeepsOn o top) tail ((forms_at o x d).print (is_on (shape o)) vs s)
+  print_fine : (o : Option Sight) (vs : List Value) (s : Part (shape o)) → KeepsOn o top s → Fine (KeepsOn o top) tail ((forms_at o x d).print (is_on (shape o)) vs s)
   print_fine None vs s h = tt
   print_fine (Some R) vs s h = tt
 
-  look_fine : (o : Option World) (form : LookForm) (m : Mark) (v : Value) (s : Part (shape o)) → KeepsOn o top s → Fine (KeepsOn o top) tail ((forms_at o x d).look form (is_on (shape o)) m v s)
+  look_fine : (o : Option Sight) (form : LookForm) (m : Mark) (v : Value) (s : Part (shape o)) → KeepsOn o top s → Fine (KeepsOn o top) tail ((forms_at o x d).look form (is_on (shape o)) m v s)
   look_fine None form m v s h = right tail s ((on_events x d).look form false m v s) (look_as tail x d m v s form)
-  look_fine (Some R) form m v s h = on_cell_fine (Keeps top) tail (form_of.Look form) true m.span v (tx_look R form) s h (λ c t p. tx_look_fine top R tail form c t p)
+  look_fine (Some R) form m v s h = on_cell_fine (Keeps top) tail (form_of.Look form) true m.span v (tx_look_lacking R.0 R.1 form) s h (λ c t p. tx_look_fine top R.0 R.1 tail form c t p)
 
-  put_fine : (o : Option World) (form : PutForm) (m : Mark) (v w : Value) (f : Applies (Part (shape o))) (s : Part (shape o)) → KeepsOn o top s → Fine (KeepsOn o top) tail ((forms_at o x d).put form (is_on (shape o)) m v w f s)
+  put_fine : (o : Option Sight) (form : PutForm) (m : Mark) (v w : Value) (f : Applies (Part (shape o))) (s : Part (shape o)) → KeepsOn o top s → Fine (KeepsOn o top) tail ((forms_at o x d).put form (is_on (shape o)) m v w f s)
   put_fine None form m v w f s h = right tail s ((on_events x d).put form false m v w (wholly x m.span) s) (put_as tail x d m v s form w (wholly x m.span))
-  put_fine (Some R) form m v w f s h = on_cell_fine (Keeps top) tail (form_of.Put form) true m.span v (λ c t. tx_put form m.span c w t) s h (λ c t p. tx_put_fine top R tail form m.span c w t p)
+  put_fine (Some R) form m v w f s h = on_cell_fine (Keeps top) tail (form_of.Put form) true m.span v (λ c t. tx_put form m.span c w t) s h (λ c t p. tx_put_fine top R.0 R.1 tail form m.span c w t p)
 
-  update_fine : (o : Option World) (form : UpdateForm) (m : Mark) (v : Value) (callee : Callee) (vs : List Value) (f : Applies (Part (shape o))) (s : Part (shape o)) → CalleeBy top callee (suc (length vs))
+  update_fine : (o : Option Sight) (form : UpdateForm) (m : Mark) (v : Value) (callee : Callee) (vs : List Value) (f : Applies (Part (shape o))) (s : Part (shape o)) → CalleeBy top callee (suc (length vs))
       → ((us : List Value) (t : Part (shape o)) → length us ≡ suc (length vs) → KeepsOn o top t → Fine (KeepsOn o top) None (f callee us t)) → KeepsOn o top s → Fine (KeepsOn o top) tail ((forms_at o x d).update form (is_on (shape o)) m v callee vs f s)
   update_fine None form m v callee vs f s sound each h = right tail s ((on_events x d).update form false m v callee vs (wholly x m.span) s) (update_as tail x d m v s form callee vs (wholly x m.span))
   update_fine (Some R) form m v callee vs f s sound each h =
-      on_cell_fine (Keeps top) tail (form_of.Update form) true m.span v (λ c t. tx_update R form m c callee vs f t) s h (λ c t p. tx_update_fine top R tail form m c callee vs f t sound each p)
+      on_cell_fine (Keeps top) tail (form_of.Update form) true m.span v (λ c t. tx_update_lacking R.0 R.1 form m c callee vs f t) s h (λ c t p. tx_update_fine top R.0 R.1 tail form m c callee vs f t sound each p)
 
-  send_fine : (o : Option World) (m : Mark) (v : Value) (callee : Callee) (vs : List Value) (s : Part (shape o)) → KeepsOn o top s → Fine (KeepsOn o top) tail ((forms_at o x d).send (is_on (shape o)) m v callee vs s)
+  send_fine : (o : Option Sight) (m : Mark) (v : Value) (callee : Callee) (vs : List Value) (s : Part (shape o)) → KeepsOn o top s → Fine (KeepsOn o top) tail ((forms_at o x d).send (is_on (shape o)) m v callee vs s)
   send_fine None m v callee vs s h = right tail s ((on_events x d).send false m v callee vs s) (send_as tail x d m v s callee vs)
   send_fine (Some R) m v callee vs s h = on_cell_fine (Keeps top) tail form_of.Send true m.span v _ s h (λ c t p. p)
 
-  dosync_fine : (o : Option World) (m : Mark) (body : Tree) (env : List Value) (run : Part (shape o) → Completion (Part (shape o)) Value) (f : Applies (Part (shape o))) (s : Part (shape o))
+  dosync_fine : (o : Option Sight) (m : Mark) (body : Tree) (env : List Value) (run : Part (shape o) → Completion (Part (shape o)) Value) (f : Applies (Part (shape o))) (s : Part (shape o))
       → (is_on (shape o) ≡ true → Fine (KeepsOn o top) tail (run s)) → Fine (KeepsOn o top) tail ((forms_at o x d).dosync (is_on (shape o)) m body env run f s)
   dosync_fine None m body env run f s each = right tail (record s { todo = behind_retries x.tries _ s.todo }) ((on_events x d).dosync false m body env run (wholly x m.span) s) (eats_tx_as tail x.tries _ (wholly x m.span) s.todo s)
   dosync_fine (Some R) m body env run f s each = each refl
 
 -- in a transaction
-zone_is : (o : Option World) → is_on (shape o) ≡ true → zone_on (shape o) ≡ in_dosync
+zone_is : (o : Option Sight) → is_on (shape o) ≡ true → zone_on (shape o) ≡ in_dosync
 zone_is None h = absurd (false≢true h)
 zone_is (Some R) h = refl
 
-module _ (top : Option (List Known)) (ks : List Known) (wide : (callee : Callee) (k : ℕ) → SoundCallee ks callee k → CalleeBy top callee k) (o : Option World) (x : Surroundings) (b n : ℕ) (call : Bool → ℕ → List Value → Part (shape o) → Completion (Part (shape o)) Value)
+module _ (top : Option (List Known)) (ks : List Known) (wide : (callee : Callee) (k : ℕ) → SoundCallee ks callee k → CalleeBy top callee k) (o : Option Sight) (x : Surroundings) (b n : ℕ) (call : Bool → ℕ → List Value → Part (shape o) → Completion (Part (shape o)) Value)
     (calls : (f : ℕ) (vs : List Value) (s : Part (shape o)) → SoundCall ks (zone_on (shape o)) f (length vs) → KeepsOn o top s → Fine (KeepsOn o top) None (call (is_on (shape o)) f vs s))
     (pures : (f k : ℕ) → SoundCallee ks (Function f) k → SoundCall ks (zone_on (shape o)) f k) where
   abbrev fx : Effects (Part (shape o))
@@ -618,7 +643,7 @@ abbrev asked : Bool → List Known → Option (List Known)
 asked true ks = Some ks
 asked false ks = None
 
-module _ (cells : List CellDefinition) (fs : List function.Function) (n : ℕ) (o : Option World) (d : ℕ) (ask : Bool) (sound : SoundFunctions [] (functions_of fs)) where
+module _ (cells : List CellDefinition) (fs : List function.Function) (n : ℕ) (o : Option Sight) (d : ℕ) (ask : Bool) (sound : SoundFunctions [] (functions_of fs)) where
   abbrev at : ℕ → Setting
   at b = record { cells = cells; functions = fs; depth = b; turns = n; world = shape o }
 
@@ -671,9 +696,9 @@ recurs_of P tail (OutOfTurns s) h = tt
 recurs_of P tail Invalid h = tt
 
 module _ (x : Setting) (sound : SoundFunctions [] (functions_of x.functions)) (e : Tree) (d : ℕ) (env : List Value) where
-  recurs_on : (o : Option PlainView) (tail : Option ℕ) (s : Part o) → SoundTree (callable x) (zone_on o) d tail e → RecursAs tail (eval (forms_on o (around_it x) x.depth) (calls_on o x) x.turns (is_on o) e env s)
+  recurs_on : (o : Option PlainTxView) (tail : Option ℕ) (s : Part o) → SoundTree (callable x) (zone_on o) d tail e → RecursAs tail (eval (forms_on o (around_it x) x.depth) (calls_on o x) x.turns (is_on o) e env s)
   recurs_on None tail s h = recurs_of (KeepsOn None None) tail (eval (forms_on None (around_it x) x.depth) (calls_on None x) x.turns false e env s) (whole_fine x.cells x.functions x.turns None x.depth false sound e d tail env s h tt)
-  recurs_on (Some r) tail s h = recurs_of (KeepsOn (Some (world_of r)) None) tail (eval (forms_on (Some r) (around_it x) x.depth) (calls_on (Some r) x) x.turns true e env s) (whole_fine x.cells x.functions x.turns (Some (world_of r)) x.depth false sound e d tail env s h tt)
+  recurs_on (Some r) tail s h = recurs_of (KeepsOn (Some (r.gone, world_of r.refs)) None) tail (eval (forms_on (Some r) (around_it x) x.depth) (calls_on (Some r) x) x.turns true e env s) (whole_fine x.cells x.functions x.turns (Some (r.gone, world_of r.refs)) x.depth false sound e d tail env s h tt)
 
   module _ (out out1 : State) (vs : List Value) where
     recurs_as : (tail : Option ℕ) → SoundTree (callable x) (zone_on x.world) d tail e → means x e env out ≡ Recurs vs (part x.world out1) → tail ≡ Some (length vs)
@@ -691,8 +716,8 @@ module _ (x : Setting) (sound : SoundFunctions [] (functions_of x.functions)) (e
 pub keeps_sound_on : (x : Setting) (R : World) (sound : SoundFunctions [] (functions_of x.functions)) (e : Tree) (d : ℕ) (env : List Value) (t u : TxState) (v : Value) → SoundTree (callable x) in_dosync d None e
     → SoundCommutes (callable x) t.done.commutes → eval (in_transaction R) (call_at (λ b. in_transaction R) x.turns (functions_of x.functions) x.depth) x.turns true e env t ≡ Completes v u → SoundCommutes (callable x) u.done.commutes
 keeps_sound_on x R sound e d env t u v h before is =
-    subst (λ c. Fine (Keeps (Some (callable x))) None c) is (whole_fine x.cells x.functions x.turns (Some R) x.depth true sound e d None env t h before)
+    subst (λ c. Fine (Keeps (Some (callable x))) None c) is (whole_fine x.cells x.functions x.turns (Some (None, R)) x.depth true sound e d None env t h before)
 
 pub keeps_sound : (x : Setting) (r : PlainView) (sound : SoundFunctions [] (functions_of x.functions)) (e : Tree) (d : ℕ) (env : List Value) (t u : TxState) (v : Value) → SoundTree (callable x) in_dosync d None e
-    → SoundCommutes (callable x) t.done.commutes → eval (forms_on (Some r) (around_it (on_view x r)) x.depth) (calls_on (Some r) (on_view x r)) x.turns true e env t ≡ Completes v u → SoundCommutes (callable x) u.done.commutes
+    → SoundCommutes (callable x) t.done.commutes → eval (forms_on (Some (whole_view r)) (around_it (on_view x (whole_view r))) x.depth) (calls_on (Some (whole_view r)) (on_view x (whole_view r))) x.turns true e env t ≡ Completes v u → SoundCommutes (callable x) u.done.commutes
 keeps_sound x r sound e d env t u v h before is = keeps_sound_on x (world_of r) sound e d env t u v h before is

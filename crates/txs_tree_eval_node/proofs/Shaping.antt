@@ -7,7 +7,7 @@ use Rattle.txs_tree_meaning.specs.Known.{Known}
 use Rattle.txs_tree_meaning.specs.Meaning.{Completion, Completes}
 use Rattle.txs_tree_meaning.specs.Sound.{Zone, SoundTree, SoundAll, nodes, nodes_in}
 use Rattle.txs_tree_meaning.specs.Tree.{Mark, Tree, Trees, count}
-use Rattle.txs_tree_eval_node.specs.Evaluated.{Part, part, is_on, StepsOn, Yields, Steps, Finishes, ReadyIn, means, strict_means, form_means, step_of}
+use Rattle.txs_tree_eval_node.specs.Evaluated.{Part, part, has_all, StepsOn, Yields, Steps, Finishes, ReadyIn, means, strict_means, form_means, step_of}
 use Rattle.txs_tree_eval_node.specs.Setting.{Setting, callable, zone_in}
 use Rattle.txs_tree_eval_node.specs.Shapes.{strict_tree, IsForm}
 use Rattle.txs_tree_eval_node.specs.declared.evaluate.Step.{Step}
@@ -25,8 +25,8 @@ use Rattle.txs_tree_eval_node.proofs.Evaluation.{put_whole}
 
 -- a copy is given, where that is what is meant
 pub copied : (x : Setting) (r : Result Step ThreadStop) (v : Value) (st : State) (c : Completion (Part x.world) Value) → c ≡ Completes v (part x.world st) → MatchResult r (λ s. s ≡ AValue v) (λ y. y ≡ Memory) → Steps x r st c
-copied x (Ok s) v st c h g = subst (λ z. StepsOn (is_on x.world) (Ok z) (part x.world st) c) (sym g) h
-copied x (Err y) v st c h g = subst (λ z. StepsOn (is_on x.world) (Err z) (part x.world st) c) (sym g) tt
+copied x (Ok s) v st c h g = subst (λ z. StepsOn (has_all x.world) (Ok z) (part x.world st) c) (sym g) h
+copied x (Err y) v st c h g = subst (λ z. StepsOn (has_all x.world) (Err z) (part x.world st) c) (sym g) tt
 
 -- a value is given as a node's
 pub stepped : (x : Setting) (r : Result Value ThreadStop) (s : Result Step ThreadStop) (st : State) (c : Completion (Part x.world) Value) → s ≡ step_of r → Yields x r st c → Steps x s st c

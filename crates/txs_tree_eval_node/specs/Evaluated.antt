@@ -16,13 +16,13 @@ use Rattle.txs_tree_meaning.specs.Meaning.{Completion, Completes, Recurs, Faults
 use Rattle.txs_tree_meaning.specs.Pure.{pure_calls}
 use Rattle.txs_tree_eval_node.specs.Setting.{Setting, callable, zone_in}
 use Rattle.txs_tree_meaning.specs.Sound.{Zone, MayStand, SoundCall, SoundCallee}
-use Rattle.txs_tree_meaning.specs.Right.{up_to, passes, behind_retries, on_right}
-use Rattle.txs_tree_meaning.specs.Thread.{TxRun, ThreadState, Surroundings, Transacting, swaps, faultless, faulted, meant, with_tx, holding, run_of, ends_tx, is_held, again, uneaten, eats_tx, accepts}
-use Rattle.txs_tree_meaning.specs.Transaction.{TxState, in_transaction, tx_update, tx_meaning, redone, validated, accepted, final_writes}
+use Rattle.txs_tree_meaning.specs.Right.{up_to, has_missed, passes, behind_retries, on_right}
+use Rattle.txs_tree_meaning.specs.Thread.{TxRun, ThreadState, Surroundings, Transacting, swaps, faultless, faulted, meant, with_tx, holding, run_of, ends_tx, is_held, missing, again, uneaten, eats_tx, accepts}
+use Rattle.txs_tree_meaning.specs.Transaction.{TxState, in_transaction_lacking, tx_update_lacking, tx_meaning, tx_meaning_lacking, redone, validated, accepted, final_writes}
 use Rattle.txs_tree_meaning.specs.Tree.{Mark, Tree, Trees, count}
 use Rattle.txs_tree_meaning.specs.View.{tree_of, functions_of}
 use Rattle.txs_tree_eval_transaction.specs.Worked.{Gives, GivesOf, Stops, Told, stop_without_fault, tx_state}
-use Rattle.txs_tree_eval_transaction.specs.Views.{PlainView, plain_view, world_of}
+use Rattle.txs_tree_eval_transaction.specs.Views.{PlainView, PlainTxView, plain_view, is_whole, world_of}
 use Rattle.txs_tree_eval_node.specs.declared.closing.Closing.{Closing}
 use Rattle.txs_tree_eval_node.specs.declared.closing.Closing.TheVariants.{Refused as ARefused, Committed as ACommitted, Stopped as AStopped}
 use Rattle.txs_tree_eval_node.specs.declared.thread.Sending.{Sending}
@@ -79,18 +79,23 @@ held_of (Some v) = Some v.items
 abbrev pub thread_state : Progress → ThreadState
 thread_state p = record { todo = drop p.eaten (seen_events p.events.now); printed = p.printed.items; held = held_of p.held; txs = map tx_run p.txs.items; asks = p.asks }
 
--- what counts while this transaction runs, or none
-abbrev pub Part : Option PlainView → Type 0
+-- what counts while a transaction runs that sees this, or none
+abbrev pub Part : Option PlainTxView → Type 0
 Part None = ThreadState
 Part (Some r) = TxState
 
 -- whether one runs
-abbrev pub is_on : Option PlainView → Bool
+abbrev pub is_on : Option PlainTxView → Bool
 is_on None = false
 is_on (Some r) = true
 
+-- whether one runs, and sees all values: then nothing is waited for
+abbrev pub has_all : Option PlainTxView → Bool
+has_all None = false
+has_all (Some r) = is_whole r.gone
+
 -- the part that counts
-abbrev pub part : (o : Option PlainView) → State → Part o
+abbrev pub part : (o : Option PlainTxView) → State → Part o
 part None s = thread_state s.thread
 part (Some r) s = tx_state s.tx
 
@@ -120,9 +125,9 @@ deeply x fx = record {
 }
 
 -- the forms on cells there; a thread waits before an event that it doesn't allow
-abbrev pub forms_on : (o : Option PlainView) → Surroundings → ℕ → Effects (Part o)
+abbrev pub forms_on : (o : Option PlainTxView) → Surroundings → ℕ → Effects (Part o)
 forms_on None x d = deeply x (on_right x d)
-forms_on (Some r) x d = in_transaction (world_of r)
+forms_on (Some r) x d = in_transaction_lacking r.gone (world_of r.refs)
 
 -- what surrounds an evaluation
 abbrev pub around_it : Setting → Surroundings
@@ -133,7 +138,7 @@ abbrev pub forms_in : (x : Setting) → Effects (Part x.world)
 forms_in x = forms_on x.world (around_it x) x.depth
 
 -- what functions mean while this transaction runs, or none
-abbrev pub calls_on : (o : Option PlainView) → Setting → Bool → ℕ → List Value → Part o → Completion (Part o) Value
+abbrev pub calls_on : (o : Option PlainTxView) → Setting → Bool → ℕ → List Value → Part o → Completion (Part o) Value
 calls_on o x = call_at (forms_on o (around_it x)) x.turns (functions_of x.functions) x.depth
 
 -- what functions mean here
@@ -158,21 +163,21 @@ AnswersAt (Err y) s c = HaltsAt y s c
 
 -- the same here
 abbrev pub Yields : (x : Setting) → {A : Type 0} → Result A ThreadStop → State → Completion (Part x.world) A → Type 0
-Yields x r s c = Gives (is_on x.world) r (part x.world s) c
+Yields x r s c = Gives (has_all x.world) r (part x.world s) c
 
 -- the same of a list of values
 abbrev pub GivesAll : (x : Setting) → {V : Type 0} → (V → List Value) → Result V ThreadStop → State → Completion (Part x.world) (List Value) → Type 0
-GivesAll x f r s c = GivesOf f (is_on x.world) r (part x.world s) c
+GivesAll x f r s c = GivesOf f (has_all x.world) r (part x.world s) c
 
 -- the same of a node in tail position, which may recur, while this transaction runs or none
 abbrev pub StepsOn : {S : Type 0} → Bool → Result Step ThreadStop → S → Completion S Value → Type 0
-StepsOn inside (Ok (AValue v)) s c = c ≡ Completes v s
-StepsOn inside (Ok (ARecur vs)) s c = c ≡ Recurs vs.items s
-StepsOn inside (Err y) s c = Stops inside y s c
+StepsOn all (Ok (AValue v)) s c = c ≡ Completes v s
+StepsOn all (Ok (ARecur vs)) s c = c ≡ Recurs vs.items s
+StepsOn all (Err y) s c = Stops all y s c
 
 -- the same here
 abbrev pub Steps : (x : Setting) → Result Step ThreadStop → State → Completion (Part x.world) Value → Type 0
-Steps x r s c = StepsOn (is_on x.world) r (part x.world s) c
+Steps x r s c = StepsOn (has_all x.world) r (part x.world s) c
 
 -- a value, as what a node gives
 abbrev pub step_of : Result Value ThreadStop → Result Step ThreadStop
@@ -226,7 +231,7 @@ Eats r t u = (e : SeenEvent) (es : List SeenEvent) → t.todo ≡ e ∷ es → u
 
 -- why a body had to run again, as the event says
 abbrev pub rerun_as : EventKind → Rerun
-rerun_as (Again since c cause.Outdated) = WasOutdated
+rerun_as (Again since c cause.Outdated) = WasOutdated c.number
 rerun_as (Again since c cause.Held) = HadTouched (WasHeld c.number)
 rerun_as (Again since c (cause.Commuted at)) = HadTouched (WasRedone c.number)
 rerun_as _ = NoRerun
@@ -235,6 +240,24 @@ rerun_as _ = NoRerun
 abbrev pub touched : Touch → PlainTxFrame → Bool
 touched (WasHeld k) w = is_held w k
 touched (WasRedone k) w = has_number (commuted w) k
+
+-- A body on a world that lacks the value of a ref comes to look at that, and else it is wrong. Or turns don't suffice.
+abbrev pub Misses : {U : Type 0} → Result U ThreadStop → Completion TxState Value → Type 0
+Misses (Ok u) c = (t : TxState) × (c ≡ Waits t)
+Misses (Err (Fault f)) c = ⊥
+Misses (Err NoEvent) c = ⊥
+Misses (Err OtherEvent) c = (has_missed c ≡ false) × ((t : ThreadState) (next : Completion ThreadState Value) → missing t c next ≡ Invalid)
+Misses (Err NoTurns) c = (t : TxState) × (c ≡ OutOfTurns t)
+Misses (Err Memory) c = ⊤
+
+-- whether a body that gave this came to look at what its world lacks: it waits, and there is nothing else that it could wait for
+abbrev pub miss_of : Result Value ThreadStop → Result (Unit {0}) ThreadStop
+miss_of (Ok v) = Err OtherEvent
+miss_of (Err (Fault f)) = Err OtherEvent
+miss_of (Err NoEvent) = Ok tt
+miss_of (Err OtherEvent) = Ok tt
+miss_of (Err NoTurns) = Err NoTurns
+miss_of (Err Memory) = Err Memory
 
 -- it goes on where this is so, and else it is wrong
 abbrev pub Allows : {U : Type 0} → Result U ThreadStop → Bool → Type 0
@@ -361,7 +384,7 @@ strict_means x strict span args env s = bind (all_mean x args env s) (λ vs t. f
 -- ---- forms on cells
 
 -- what a form on a cell does with the cell and its arguments, while this transaction runs or none
-abbrev pub acts : (o : Option PlainView) → Setting → Act → Mark → Value → List Value → Part o → Completion (Part o) Value
+abbrev pub acts : (o : Option PlainTxView) → Setting → Act → Mark → Value → List Value → Part o → Completion (Part o) Value
 acts o x (a_look form) m c vs s = (forms_on o (around_it x) x.depth).look form (is_on o) m c s
 acts o x (a_put form) m c [] s = Invalid
 acts o x (a_put form) m c (v ∷ vs) s = (forms_on o (around_it x) x.depth).put form (is_on o) m c v (apply (calls_on o x (is_on o)) m.span) s
@@ -388,8 +411,8 @@ abbrev pub form_means : (x : Setting) → Act → Mark → Tree → Trees → Li
 form_means x act m cell args env s =
     bind (means x cell env s) (λ c t. bind (eval_all (forms_in x) (calls_in x) x.turns (is_on x.world) args env t) (λ vs t1. acts x.world x act m c vs t1))
 
--- what it does in a transaction on this world
-abbrev pub inside_means : Setting → PlainView → Act → Mark → Value → List Value → TxState → Completion TxState Value
+-- what it does in a transaction that sees this
+abbrev pub inside_means : Setting → PlainTxView → Act → Mark → Value → List Value → TxState → Completion TxState Value
 inside_means x r act m c vs t = acts (Some r) x act m c vs t
 
 -- what it does outside
@@ -397,8 +420,8 @@ abbrev pub outside_means : Setting → Act → Mark → Value → List Value →
 outside_means x act m c vs t = acts None x act m c vs t
 
 -- a form that updates a ref, in a transaction
-abbrev pub update_means : Setting → PlainView → UpdateForm → Callee → CellId → List Value → Mark → TxState → Completion TxState Value
-update_means x r form callee c vs m t = tx_update (world_of r) form m c callee vs (apply (calls_on (Some r) x true) m.span) t
+abbrev pub update_means : Setting → PlainTxView → UpdateForm → Callee → CellId → List Value → Mark → TxState → Completion TxState Value
+update_means x r form callee c vs m t = tx_update_lacking r.gone (world_of r.refs) form m c callee vs (apply (calls_on (Some r) x true) m.span) t
 
 -- what a swap's callee makes of a value outside, where the cell's validator accepts it
 abbrev pub makes : Setting → Callee → CellId → List Value → Span → Value → ThreadState → Completion ThreadState Value
@@ -505,7 +528,7 @@ final_means x w r span = final_writes (quiet x span) (validators_of x.cells) spa
 
 -- a dosync as its thread meets it
 abbrev pub transacting : Setting → Mark → Tree → List Value → Transacting
-transacting x m body env = record { mark = m; body = body; locals = env; on = tx_meaning x.turns (functions_of x.functions) x.depth body env; validators = validators_of x.cells }
+transacting x m body env = record { mark = m; body = body; locals = env; on = tx_meaning x.turns (functions_of x.functions) x.depth body env; lacking = λ k. tx_meaning_lacking x.turns (functions_of x.functions) x.depth body env (Some k); validators = validators_of x.cells }
 
 -- what applies its commutes and validators at its end
 abbrev pub at_end : Setting → Span → Applies ThreadState
@@ -523,6 +546,10 @@ eat_means x k m body env t = up_to (retried k (transacting x m body env) t) (eat
 -- its body on a world
 abbrev pub body_means : Setting → Tree → List Value → PlainView → Completion TxState Value
 body_means x body env r = tx_meaning x.turns (functions_of x.functions) x.depth body env (world_of r)
+
+-- its body where a transaction sees this
+abbrev pub seen_means : Setting → Tree → List Value → PlainTxView → Completion TxState Value
+seen_means x body env r = tx_meaning_lacking x.turns (functions_of x.functions) x.depth body env r.gone (world_of r.refs)
 
 -- what follows a body that gave a value; a fault of the body is one of the thread
 abbrev pub carried_on : {A : Type 0} → ThreadState → Completion TxState Value → (Value → TxState → Completion ThreadState A) → Completion ThreadState A

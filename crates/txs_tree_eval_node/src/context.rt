@@ -7,23 +7,23 @@ ghost use Rattle.txs_tree_eval_node.specs.Setting.{Setting, callable, deeper, de
 ghost use Rattle.txs_tree_meaning.specs.Known.{known};
 ghost use Rattle.txs_tree_meaning.specs.Sound.{SoundCells, SoundFunctions};
 ghost use Rattle.txs_tree_meaning.specs.View.{function_of, functions_of};
-ghost use Rattle.txs_tree_eval_transaction.specs.Views.{plain_view, plain_world};
+ghost use Rattle.txs_tree_eval_transaction.specs.Views.{plain_tx_view, plain_tx_world};
 
 use std::marker::Model;
-use txs_tree_eval_transaction::RefView;
+use txs_tree_eval_transaction::{RefView, TxView};
 use txs_tree_meaning::Function;
 use txs_value_cell::CellDefinition;
 use txs_value_data::{CellId, CellKind};
 
-/// The cells and functions that are defined, how deep calls may go, how many turns each loop may make, and the world of a
-/// running transaction. A function calls those before it alone: so no more depth is used than there are functions.
+/// The cells and functions that are defined, how deep calls may go, how many turns each loop may make, and what a running
+/// transaction sees. A function calls those before it alone: so no more depth is used than there are functions.
 #[derive(Drop)]
 pub struct Context<'a> {
     cells: &'a [CellDefinition],
     functions: &'a [Function],
     depth: usize,
     turns: u32,
-    world: Option<RefView<'a>>,
+    world: Option<TxView<'a>>,
 }
 
 impl<'a> Model for Context<'a> {
@@ -33,7 +33,7 @@ impl<'a> Model for Context<'a> {
     ghost use Rattle.txs_tree_meaning.specs.Known.{known};
     ghost use Rattle.txs_tree_meaning.specs.Sound.{SoundCells, SoundFunctions};
     ghost use Rattle.txs_tree_meaning.specs.View.{functions_of};
-    ghost use Rattle.txs_tree_eval_transaction.specs.Views.{plain_world};
+    ghost use Rattle.txs_tree_eval_transaction.specs.Views.{plain_tx_world};
     ghost use Rattle.txs_tree_meaning.specs.contracts.node.Node as node;
     ghost use Rattle.txs_value_data.specs.contracts.value.Value as value;
 
@@ -41,7 +41,7 @@ impl<'a> Model for Context<'a> {
 
     ghost coded = { Prim.hlevel (codes, node.the_row.coded, value.the_row.coded) };
 
-    ghost view = { λ c. record { cells = c.cells.now; functions = c.functions.now; depth = c.depth; turns = c.turns; world = plain_world c.world } };
+    ghost view = { λ c. record { cells = c.cells.now; functions = c.functions.now; depth = c.depth; turns = c.turns; world = plain_tx_world c.world } };
 
     ghost invariant = { λ c. SoundFunctions [] (functions_of c.functions.now) × SoundCells (known (functions_of c.functions.now)) c.cells.now };
 }
@@ -52,11 +52,11 @@ impl<'a> Context<'a> {
         cells: &'a [CellDefinition],
         functions: &'a [Function],
         turns: u32,
-        world: Option<RefView<'a>>,
+        world: Option<TxView<'a>>,
     ) -> Context<'a>
         requires functions { SoundFunctions [] (functions_of functions.now) }
         requires cells { SoundCells (known (functions_of functions.now)) cells.now }
-        ensures { result ≡ record { cells = cells.now; functions = functions.now; depth = length functions.now; turns = turns; world = plain_world world.entry } }
+        ensures { result ≡ record { cells = cells.now; functions = functions.now; depth = length functions.now; turns = turns; world = plain_tx_world world.entry } }
     {
         Context {
             cells,
@@ -89,9 +89,9 @@ impl<'a> Context<'a> {
         self.turns
     }
 
-    /// The world of the transaction that runs.
-    pub(crate) fn world(&self) -> Option<RefView<'a>>
-        ensures { plain_world result ≡ self.now.world }
+    /// What the transaction that runs sees.
+    pub(crate) fn world(&self) -> Option<TxView<'a>>
+        ensures { plain_tx_world result ≡ self.now.world }
     {
         self.world
     }
@@ -141,17 +141,17 @@ impl<'a> Context<'a> {
             functions: self.functions,
             depth: self.functions.len(),
             turns: self.turns,
-            world: Some(RefView {
+            world: Some(TxView::whole(RefView {
                 cells: &[],
                 swaps: None,
                 place: 0,
-            }),
+            })),
         }
     }
 
-    /// What the body of a transaction runs in, on this world.
-    pub(crate) fn on(&self, world: RefView<'a>) -> Context<'a>
-        ensures { result ≡ on_view self.now (plain_view world.entry) }
+    /// What the body of a transaction runs in that sees this.
+    pub(crate) fn on(&self, world: TxView<'a>) -> Context<'a>
+        ensures { result ≡ on_view self.now (plain_tx_view world.entry) }
     {
         Context {
             cells: self.cells,

@@ -3,7 +3,7 @@
 ghost use Rattle.std.specs.Prelude.{true, false, ◌≡◌, ◌≤◌, ◌-◌, ◌+◌, ◌++◌, ◌∷◌, [], suc, Bool, length, take, drop, None, Some, IsTrue, IfOk, OnOk, MatchResult};
 ghost use Rattle.txs_frame.specs.Frame.{commuted, phase_work, set_writes};
 ghost use Rattle.txs_tree_eval_node.specs.Events.{seen_event};
-ghost use Rattle.txs_tree_eval_node.specs.Evaluated.{AnswersAt, EndComes, EndsNone, Reruns, transacting, Steps, Yields, GivesAll, FirstAccepted, FirstStops, PutAccepted, PutStops, Ready, ReadyIn, Finishes, Runs, SoundCommutes, means, all_mean, do_means, if_means, let_means, locals_mean, loop_means, turns_mean, call_means, applies_means, finish_means, strict_means, form_means, inside_means, outside_means, update_means, swap_means, applied, accept_means, accepted_means, made_means, dosync_means, eat_means, body_means, final_means, redone_means, step_of, thread_state};
+ghost use Rattle.txs_tree_eval_node.specs.Evaluated.{AnswersAt, EndComes, EndsNone, Misses, Reruns, transacting, Steps, Yields, GivesAll, FirstAccepted, FirstStops, PutAccepted, PutStops, Ready, ReadyIn, Finishes, Runs, SoundCommutes, means, all_mean, do_means, if_means, let_means, locals_mean, loop_means, turns_mean, call_means, applies_means, finish_means, strict_means, form_means, inside_means, outside_means, update_means, swap_means, applied, accept_means, accepted_means, made_means, dosync_means, eat_means, body_means, seen_means, final_means, redone_means, step_of, thread_state};
 ghost use Rattle.txs_tree_eval_transaction.specs.Worked.{Told, ToldOf, Gives, RefCell, UpdatesRef, tx_state};
 ghost use Rattle.txs_tree_eval_node.specs.declared.evaluate.Step.TheVariants.{Value as AValue};
 ghost use Rattle.txs_tree_eval_transaction.specs.declared.stop.ThreadStop.TheVariants.{Memory};
@@ -13,7 +13,7 @@ ghost use Rattle.txs_tree_meaning.specs.Thread.{ThreadState};
 ghost use Rattle.txs_tree_meaning.specs.Transaction.{judged, valued as first_values, merged};
 ghost use Rattle.txs_tree_meaning.specs.Tree.{count};
 ghost use Rattle.txs_tree_meaning.specs.View.{tree_of, trees_of, mark_of};
-ghost use Rattle.txs_tree_eval_transaction.specs.Views.{plain_view, world_of};
+ghost use Rattle.txs_tree_eval_transaction.specs.Views.{is_whole, plain_tx_view, plain_view, world_of};
 ghost use Rattle.txs_value_data.specs.Limits.{reruns};
 ghost use Rattle.txs_value_data.specs.declared.value.Value.{Value as AnyValue};
 
@@ -23,12 +23,12 @@ use crate::seen::Seen;
 use crate::shape::{Act, Shape, Strict, shape_of};
 use crate::state::{Progress, State, Transacted};
 use crate::thread::{
-    Rerun, TRIES, end_swap, has_touched, is_retry, read_at, rerun_as, reset_at, swap_at,
+    Rerun, TRIES, end_swap, has_missed, has_touched, is_retry, read_at, rerun_as, reset_at, swap_at,
 };
 use std::alloc::{AllocError, Global};
 use txs_frame::{Commute, TxFrame, validator_of};
 use txs_tree_eval_transaction::{
-    RefView, ThreadStop, TxWork, collect, merge, operate, print_line, put_write, take_cell,
+    RefView, ThreadStop, TxView, TxWork, collect, merge, operate, print_line, put_write, take_cell,
     value_in, valued,
 };
 use txs_tree_meaning::Node;
@@ -352,7 +352,7 @@ fn evaluate_form<'a>(
 fn act_inside<'a>(
     alloc: Global,
     context: &Context<'a>,
-    world: RefView<'a>,
+    world: TxView<'a>,
     act: Act,
     value: &Value,
     args: Vec<Value>,
@@ -361,8 +361,8 @@ fn act_inside<'a>(
     tx: &mut TxWork,
 ) -> Result<Value, ThreadStop>
     requires { ReadyIn (callable context.now) in_dosync act (length args.items) }
-    ensures { Gives true result (tx_state tx.new)
-        (inside_means context.now (plain_view world.entry) act (mark_of span wanted) value.now args.items (tx_state tx.old)) }
+    ensures { Gives (is_whole world.entry.gone) result (tx_state tx.new)
+        (inside_means context.now (plain_tx_view world.entry) act (mark_of span wanted) value.now args.items (tx_state tx.old)) }
 {
     let cell = take_cell(act.form(), true, value, span)?;
     match act {
@@ -380,7 +380,7 @@ fn act_inside<'a>(
 fn update_inside<'a>(
     alloc: Global,
     context: &Context<'a>,
-    world: RefView<'a>,
+    world: TxView<'a>,
     form: UpdateForm,
     callee: Callee,
     cell: CellId,
@@ -392,8 +392,8 @@ fn update_inside<'a>(
     requires form { UpdatesRef form }
     requires cell { RefCell cell }
     requires callee { SoundCallee (callable context.now) callee (suc (length args.items)) }
-    ensures { Gives true result (tx_state tx.new)
-        (update_means context.now (plain_view world.entry) form callee cell args.items (mark_of span wanted) (tx_state tx.old)) }
+    ensures { Gives (is_whole world.entry.gone) result (tx_state tx.new)
+        (update_means context.now (plain_tx_view world.entry) form callee cell args.items (mark_of span wanted) (tx_state tx.old)) }
 {
     context.is_sound();
     let value = tx.begin_update(&world, form, cell)?;
@@ -594,11 +594,11 @@ pub fn apply_callee<'a>(
         Callee::Core(op) => operate(alloc, op, values, span),
         Callee::Function(number) => {
             context.is_sound();
-            let inner = context.on(RefView {
+            let inner = context.on(TxView::whole(RefView {
                 cells: &[],
                 swaps: None,
                 place: 0,
-            });
+            }));
             let mut state = State::new(alloc, &[]);
             let given = call(alloc, &inner, number, values, &mut state);
             drop(state);
@@ -707,8 +707,7 @@ fn end_of_tx<'a>(
     }))
 }
 
-/// A try that had to run again has the cause that its event says: the journal tells that a value was no longer kept, and the body
-/// the rest.
+/// A try that had to run again has the cause that its event says.
 #[cycle(evaluate)]
 fn rerun<'a>(
     alloc: Global,
@@ -722,7 +721,16 @@ fn rerun<'a>(
     ensures kept { OnOk result (locals.new.items ≡ locals.old.items) }
 {
     let touch = match rerun_as(event.kind) {
-        Rerun::Outdated => return Ok(()),
+        Rerun::Outdated(number) => {
+            return miss(
+                alloc,
+                context,
+                dosync,
+                event.start,
+                number,
+                locals.as_slice(),
+            );
+        }
         Rerun::Other => return Err(ThreadStop::Wrong),
         Rerun::Touched(touch) => touch,
     };
@@ -733,6 +741,32 @@ fn rerun<'a>(
     let given = has_touched(touch, &run.work);
     drop(run);
     given
+}
+
+/// The body of a dosync comes to look at the ref with this number, on a world that lacks its value.
+#[cycle(evaluate)]
+fn miss<'a>(
+    alloc: Global,
+    context: &Context<'a>,
+    dosync: Dosync<'a>,
+    world: RefView<'a>,
+    number: u16,
+    locals: &[Value],
+) -> Result<(), ThreadStop>
+    requires { SoundTree (callable context.now) in_dosync (length locals.now) None (tree_of dosync.body.now) }
+    ensures { Misses result (seen_means context.now (tree_of dosync.entry.body.now) locals.now (record { refs = plain_view world.entry; gone = Some number })) }
+{
+    context.is_sound();
+    let inner = context.on(TxView {
+        refs: world,
+        gone: Some(number),
+    });
+    let mut copies = copy_locals(alloc, locals)?;
+    let mut state = State::new(alloc, &[]);
+    let given = evaluate(alloc, &inner, dosync.body, &mut copies, &mut state);
+    drop(state);
+    drop(copies);
+    has_missed(given)
 }
 
 /// The body of a dosync on a world, as if it ran alone.
@@ -750,7 +784,7 @@ fn run_body<'a>(
     ensures kept { OnOk result (locals.new.items ≡ locals.old.items) }
 {
     context.is_sound();
-    let inner = context.on(world);
+    let inner = context.on(TxView::whole(world));
     let copies = copy_locals(alloc, locals.as_slice())?;
     let mut state = State::new(alloc, &[]);
     match evaluate(alloc, &inner, dosync.body, locals, &mut state) {

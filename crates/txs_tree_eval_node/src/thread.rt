@@ -1,7 +1,7 @@
 //! What the forms on cells do outside every transaction, at the events that they eat, but for applying callees.
 
 ghost use Rattle.std.specs.Prelude.{◌≡◌, false, length, option_copied, IfOk, MatchResult};
-ghost use Rattle.txs_tree_eval_node.specs.Evaluated.{Allows, AnswersAt, IsSwap, IsNoSwap, rerun_as, touched, thread_state, is_swap_to, sending, swap_gives};
+ghost use Rattle.txs_tree_eval_node.specs.Evaluated.{Allows, AnswersAt, miss_of, IsSwap, IsNoSwap, rerun_as, touched, thread_state, is_swap_to, sending, swap_gives};
 ghost use Rattle.txs_tree_eval_node.specs.Events.{seen_event};
 ghost use Rattle.txs_tree_eval_transaction.specs.Views.{plain_view, world_of};
 ghost use Rattle.txs_tree_eval_transaction.specs.Worked.{Gives, of_one};
@@ -42,8 +42,8 @@ pub(crate) enum Touch {
 /// Why a body had to run again.
 #[derive(Clone, Copy)]
 pub(crate) enum Rerun {
-    /// The value at its read point was no longer kept.
-    Outdated,
+    /// At its read point the value of the ref with this number was no longer kept.
+    Outdated(u16),
     /// For what it did.
     Touched(Touch),
     /// The event says something else.
@@ -56,7 +56,7 @@ pub(crate) fn rerun_as(kind: &EventKind) -> Rerun
 {
     match kind {
         EventKind::Retry { cell, cause, .. } => match cause {
-            Cause::Outdated => Rerun::Outdated,
+            Cause::Outdated => Rerun::Outdated(cell.number),
             Cause::Held => Rerun::Touched(Touch::Held(cell.number)),
             Cause::Commuted { .. } => Rerun::Touched(Touch::Redone(cell.number)),
         },
@@ -83,6 +83,22 @@ pub(crate) fn has_touched(touch: Touch, work: &TxWork) -> Result<(), ThreadStop>
         Ok(())
     } else {
         Err(ThreadStop::Wrong)
+    }
+}
+
+/// A body that gave this came to look at what its world lacks: it waits, and there is nothing else that it could wait for.
+pub(crate) fn has_missed(given: Result<Value, ThreadStop>) -> Result<(), ThreadStop>
+    ensures { result ≡ miss_of given }
+{
+    match given {
+        Ok(value) => {
+            drop(value);
+            Err(ThreadStop::Wrong)
+        }
+        Err(ThreadStop::Fault(_)) => Err(ThreadStop::Wrong),
+        Err(ThreadStop::Event | ThreadStop::Wrong) => Ok(()),
+        Err(ThreadStop::Turns) => Err(ThreadStop::Turns),
+        Err(ThreadStop::Memory) => Err(ThreadStop::Memory),
     }
 }
 

@@ -1,7 +1,8 @@
 -- The values of cells at a place of a book.
-use Rattle.std.specs.Prelude.{ℕ, List, Option, Some, None, option_copied}
+use Rattle.std.specs.Prelude.{ℕ, Bool, true, false, List, Option, Some, None, option_copied}
 use Rattle.txs_tree_eval_transaction.specs.Pasts.{entry_at}
 use Rattle.txs_tree_eval_transaction.specs.declared.view.RefView.{RefView}
+use Rattle.txs_tree_eval_transaction.specs.declared.view.TxView.{TxView}
 use Rattle.txs_value_cell.specs.Cells.{World}
 use Rattle.txs_value_base.specs.Places.{nth}
 use Rattle.txs_value_data.specs.declared.value.Value.{Value}
@@ -22,6 +23,29 @@ plain_view r = record { cells = r.cells.now; swaps = option_copied r.swaps; plac
 abbrev pub plain_world : Option RefView → Option PlainView
 plain_world None = None
 plain_world (Some r) = Some (plain_view r)
+
+-- what a transaction sees: the cells at its read point, and the number of the ref whose value is no longer kept there, if there is one
+pub record PlainTxView : Type 0 where
+  pub refs : PlainView
+  pub gone : Option ℕ
+
+-- the same as plain data
+abbrev pub plain_tx_view : TxView → PlainTxView
+plain_tx_view v = record { refs = plain_view v.refs; gone = v.gone }
+
+-- the same of one that may not be there
+abbrev pub plain_tx_world : Option TxView → Option PlainTxView
+plain_tx_world None = None
+plain_tx_world (Some v) = Some (plain_tx_view v)
+
+-- all values are kept
+abbrev pub whole_view : PlainView → PlainTxView
+whole_view r = record { refs = r; gone = None }
+
+-- whether they are
+abbrev pub is_whole : Option ℕ → Bool
+is_whole None = true
+is_whole (Some k) = false
 
 -- a value without its index
 abbrev pub value_in : Option (ℕ × Value) → Option Value

@@ -1,8 +1,8 @@
 -- What the parts of an evaluation answer, and what a transaction has done.
-use Rattle.std.specs.Prelude.{◌≡◌, ◌<◌, ◌||◌, ℕ, zero, suc, Bool, true, false, List, [], ◌∷◌, Result, Ok, Err, ⊤}
+use Rattle.std.specs.Prelude.{◌≡◌, ◌<◌, ◌||◌, ℕ, zero, suc, Bool, true, false, List, [], ◌∷◌, Option, Result, Ok, Err, ⊤}
 use Rattle.txs_frame.specs.Frame.{PlainTxFrame, set_ref, commute_ref}
 use Rattle.txs_tree_meaning.specs.Meaning.{Completion, Completes, Faults, Waits, OutOfTurns, Invalid}
-use Rattle.txs_tree_meaning.specs.Transaction.{TxState, current, done_as, taken}
+use Rattle.txs_tree_meaning.specs.Transaction.{TxState, done_as, looked, taken_lacking}
 use Rattle.txs_tree_meaning.specs.Tree.{Mark}
 use Rattle.txs_value_cell.specs.Cells.{World}
 use Rattle.txs_value_cell.specs.declared.form.UpdateForm.{UpdateForm}
@@ -27,23 +27,24 @@ with_work w t = record t { done = w }
 abbrev pub with_use : Bool → PlainTxFrame → TxState → TxState
 with_use used w t = record t { done = w; used = used }
 
--- A stop is that of the meaning, with the state that it leaves, or there was no memory. In a transaction nothing is waited for,
--- and nothing can be wrong. Outside, a thread waits for an event, or before one that isn't its own.
+-- A stop is that of the meaning, with the state that it leaves, or there was no memory. In a transaction that lacks no value nothing is
+-- waited for, and nothing can be wrong. In another one a value is waited for; outside, a thread waits for an event, or before one that
+-- isn't its own. The truth value says that it is the first of these.
 abbrev pub Stops : {S A : Type 0} → Bool → ThreadStop → S → Completion S A → Type 0
-Stops inside (Fault f) s c = c ≡ Faults f s
-Stops inside NoEvent s c = (inside ≡ false) × (c ≡ Waits s)
-Stops inside OtherEvent s c = (inside ≡ false) × (c ≡ Waits s)
-Stops inside NoTurns s c = c ≡ OutOfTurns s
-Stops inside Memory s c = ⊤
+Stops all (Fault f) s c = c ≡ Faults f s
+Stops all NoEvent s c = (all ≡ false) × (c ≡ Waits s)
+Stops all OtherEvent s c = (all ≡ false) × (c ≡ Waits s)
+Stops all NoTurns s c = c ≡ OutOfTurns s
+Stops all Memory s c = ⊤
 
 -- the items that were asked for, with the state that is left, are those of the meaning, or it stops so
 abbrev pub GivesOf : {S V A : Type 0} → (V → A) → Bool → Result V ThreadStop → S → Completion S A → Type 0
-GivesOf f inside (Ok v) s c = c ≡ Completes (f v) s
-GivesOf f inside (Err y) s c = Stops inside y s c
+GivesOf f all (Ok v) s c = c ≡ Completes (f v) s
+GivesOf f all (Err y) s c = Stops all y s c
 
 -- the value and the state that is left are those of the meaning, or it stops so
 abbrev pub Gives : {S A : Type 0} → Bool → Result A ThreadStop → S → Completion S A → Type 0
-Gives inside r s c = GivesOf (λ v. v) inside r s c
+Gives all r s c = GivesOf (λ v. v) all r s c
 
 -- the same where there is no state
 abbrev pub Told : {A : Type 0} → Result A ThreadStop → Completion (Unit {0}) A → Type 0
@@ -87,11 +88,11 @@ UpdatesRef Alter = Unit {0}
 UpdatesRef Commute = Unit {0}
 UpdatesRef Swap = ⊥
 
--- the value that it updates
-abbrev pub update_begins : World → UpdateForm → CellId → TxState → Completion TxState Value
-update_begins R Alter c t = taken R c t
-update_begins R Commute c t = Completes (current R t.done c) t
-update_begins R Swap c t = Invalid
+-- the value that it updates, on a world that may lack the value of a ref
+abbrev pub update_begins : Option ℕ → World → UpdateForm → CellId → TxState → Completion TxState Value
+update_begins lack R Alter c t = taken_lacking lack R c t
+update_begins lack R Commute c t = looked lack R c t
+update_begins lack R Swap c t = Invalid
 
 -- what it does with the value that its callee made
 abbrev pub update_ends : UpdateForm → Mark → CellId → Callee → List Value → Value → TxState → Completion TxState Value

@@ -14,6 +14,6 @@ pub use past::History;
 pub use same::same_commit;
 pub use stop::ThreadStop;
 pub use values::{collect, operate, print_line};
-pub use view::RefView;
+pub use view::{RefView, TxView};
 pub use work::{TxWork, take_cell};
 pub use writes::{merge, put_write, value_in, valued};

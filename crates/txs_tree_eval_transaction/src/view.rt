@@ -1,8 +1,9 @@
 //! The values of cells at a place of a book.
 
-ghost use Rattle.std.specs.Prelude.{◌≡◌, IfOk, option_copied};
+ghost use Rattle.std.specs.Prelude.{◌≡◌, None, IfOk, option_copied};
+ghost use Rattle.txs_tree_meaning.specs.Transaction.{lacks};
 ghost use Rattle.txs_value_base.specs.Places.{nth};
-ghost use Rattle.txs_tree_eval_transaction.specs.Views.{held, held_in, plain_view, value_of, world_of};
+ghost use Rattle.txs_tree_eval_transaction.specs.Views.{held, held_in, plain_tx_view, plain_view, value_of, whole_view, world_of};
 
 use crate::past::History;
 use std::alloc::AllocError;
@@ -60,6 +61,32 @@ impl<'a> RefView<'a> {
         match self.value(number) {
             Some(value) => copy_value(value),
             None => Ok(Value::Nil),
+        }
+    }
+}
+
+/// What a transaction sees: the cells at its read point. The value of the ref with the number that is gone is no longer kept there.
+#[derive(Clone, Copy)]
+pub struct TxView<'a> {
+    pub refs: RefView<'a>,
+    pub gone: Option<u16>,
+}
+
+impl<'a> TxView<'a> {
+    /// All values are kept.
+    pub fn whole(refs: RefView<'a>) -> TxView<'a>
+        ensures { plain_tx_view result ≡ whole_view (plain_view refs.entry) }
+    {
+        TxView { refs, gone: None }
+    }
+
+    /// Whether the value of the ref with this number is gone.
+    pub(crate) fn lacks(&self, number: u16) -> bool
+        ensures { result ≡ lacks self.now.gone None number }
+    {
+        match self.gone {
+            Some(gone) => number == gone,
+            None => false,
         }
     }
 }

@@ -6,14 +6,14 @@ ghost use Rattle.txs_frame.specs.Frame.{with_cell, has_number, commuted, set_ref
 ghost use Rattle.txs_tree_eval_transaction.specs.Worked.{Gives, Finds, Told, RefCell, UpdatesRef, of_one, tx_state, update_begins, update_ends, with_work, with_use};
 ghost use Rattle.txs_tree_meaning.specs.Meaning.{Completes, result_of};
 ghost use Rattle.txs_tree_meaning.specs.Thread.{is_held};
-ghost use Rattle.txs_tree_meaning.specs.Transaction.{own, current, value_or, noted, taken, tx_look, done_as};
+ghost use Rattle.txs_tree_meaning.specs.Transaction.{own, noted, looked, taken_lacking, tx_look_lacking, done_as};
 ghost use Rattle.txs_tree_meaning.specs.View.{mark_of};
-ghost use Rattle.txs_tree_eval_transaction.specs.Views.{plain_view, world_of};
+ghost use Rattle.txs_tree_eval_transaction.specs.Views.{is_whole, plain_view, world_of};
 ghost use Rattle.txs_value_cell.specs.Forms.{cell_of, rule};
 ghost use Rattle.txs_value_data.specs.declared.value.Value.TheVariants.{Cell};
 
 use crate::stop::ThreadStop;
-use crate::view::RefView;
+use crate::view::TxView;
 use std::alloc::AllocError;
 use txs_frame::{SetError, TxFrame};
 use txs_value_base::{Callee, Fault, FaultKind, Span};
@@ -85,13 +85,18 @@ fn has_number(cells: &[CellId], number: u16) -> bool
 }
 
 impl TxWork {
-    /// The ref's value: the transaction's own, else the world's.
-    pub fn current(&self, world: &RefView<'_>, cell: CellId) -> Result<Value, AllocError>
-        ensures { IfOk result (λ v. v ≡ current (world_of (plain_view world.now)) self.now.done cell) }
+    /// The ref's value: the transaction's own, else the world's, if that isn't gone.
+    fn current(&self, view: &TxView<'_>, cell: CellId) -> Result<Value, ThreadStop>
+        ensures { Gives (is_whole view.now.gone) result (tx_state self.now) (looked view.now.gone (world_of (plain_view view.now.refs)) cell (tx_state self.now)) }
     {
         match self.done.value(cell.number) {
-            Some(value) => copy_value(value),
-            None => world.read(cell.number),
+            Some(value) => Ok(copy_value(value)?),
+            None => {
+                if view.lacks(cell.number) {
+                    return Err(ThreadStop::Event);
+                }
+                Ok(view.refs.read(cell.number)?)
+            }
         }
     }
 
@@ -111,10 +116,10 @@ impl TxWork {
     }
 
     /// The ref's value, where it is read.
-    pub fn take(&mut self, world: &RefView<'_>, cell: CellId) -> Result<Value, ThreadStop>
-        ensures { Gives true result (tx_state self.new) (taken (world_of (plain_view world.now)) cell (tx_state self.old)) }
+    pub fn take(&mut self, view: &TxView<'_>, cell: CellId) -> Result<Value, ThreadStop>
+        ensures { Gives (is_whole view.now.gone) result (tx_state self.new) (taken_lacking view.now.gone (world_of (plain_view view.now.refs)) cell (tx_state self.old)) }
     {
-        let value = self.current(world, cell)?;
+        let value = self.current(view, cell)?;
         self.note(cell)?;
         Ok(value)
     }
@@ -122,13 +127,13 @@ impl TxWork {
     /// The forms that read a ref.
     pub fn look(
         &mut self,
-        world: &RefView<'_>,
+        view: &TxView<'_>,
         form: LookForm,
         cell: CellId,
     ) -> Result<Value, ThreadStop>
-        ensures { Gives true result (tx_state self.new) (tx_look (world_of (plain_view world.now)) form cell (tx_state self.old)) }
+        ensures { Gives (is_whole view.now.gone) result (tx_state self.new) (tx_look_lacking view.now.gone (world_of (plain_view view.now.refs)) form cell (tx_state self.old)) }
     {
-        let value = self.take(world, cell)?;
+        let value = self.take(view, cell)?;
         match form {
             LookForm::Deref => {}
             LookForm::Ensure => self.done.ensure(cell)?,
@@ -193,16 +198,16 @@ impl TxWork {
     /// The value that a form updates: `alter` reads the ref, `commute` takes the value as it is.
     pub fn begin_update(
         &mut self,
-        world: &RefView<'_>,
+        view: &TxView<'_>,
         form: UpdateForm,
         cell: CellId,
     ) -> Result<Value, ThreadStop>
         requires { UpdatesRef form }
-        ensures { Gives true result (tx_state self.new) (update_begins (world_of (plain_view world.now)) form cell (tx_state self.old)) }
+        ensures { Gives (is_whole view.now.gone) result (tx_state self.new) (update_begins view.now.gone (world_of (plain_view view.now.refs)) form cell (tx_state self.old)) }
     {
         match form {
-            UpdateForm::Alter => self.take(world, cell),
-            UpdateForm::Commute => Ok(self.current(world, cell)?),
+            UpdateForm::Alter => self.take(view, cell),
+            UpdateForm::Commute => self.current(view, cell),
             UpdateForm::Swap => unreachable!(),
         }
     }

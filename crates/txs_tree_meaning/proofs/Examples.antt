@@ -363,6 +363,25 @@ waits_for_its_end : run one_commute (retry Outdated ∷ []) ≡ Waits 0
 unfolding core
 waits_for_its_end = refl
 
+-- a ref is outdated where the body comes to look at it, whatever comes after that; what it set, it has itself
+read_as_outdated : run (Dosync (Look Deref (constant (Cell (ref_of 0))) (unwanted 0 0)) (unwanted 0 0)) (retry Outdated ∷ []) ≡ Waits 0
+read_as_outdated = refl
+
+alter_as_outdated : run alter_commute (retry Outdated ∷ []) ≡ Waits 0
+unfolding core
+alter_as_outdated = refl
+
+faulted_as_outdated : run (commute_alter (CoreOp Quot)) (retry Outdated ∷ []) ≡ Waits 0
+unfolding core
+faulted_as_outdated = refl
+
+other_as_outdated : run one_commute (seen (Retry 0 (ref_of 1) Outdated) (all_are 0) (all_are 0) (all_are 0) ∷ []) ≡ Invalid
+unfolding core
+other_as_outdated = refl
+
+own_as_outdated : run (Dosync (in_turn (Put RefSet (constant (Cell (ref_of 0))) (constant (int 5)) (unwanted 0 0)) (Look Deref (constant (Cell (ref_of 0))) (unwanted 0 0))) (unwanted 0 0)) (retry Outdated ∷ []) ≡ Invalid
+own_as_outdated = refl
+
 -- a commute is no cause to run the body again, and what was set none to redo the commutes; the ref is the try's own
 commute_as_held : run one_commute (retry Held ∷ []) ≡ Invalid
 unfolding core
@@ -396,7 +415,7 @@ one_retry_is_right : right_events (λ es. thread_in (with_tries 3) one_commute e
 unfolding core
 one_retry_is_right = refl
 
-behind_them : behind_retries 3 (record { mark = unwanted 0 30; body = one_commute; locals = []; on = λ R. Completes Nil tx_start; validators = [] }) (retry Outdated ∷ retry Held ∷ retry Outdated ∷ []) ≡ retry Held ∷ retry Outdated ∷ []
+behind_them : behind_retries 3 (record { mark = unwanted 0 30; body = one_commute; locals = []; on = λ R. Completes Nil tx_start; lacking = λ k R. Waits tx_start; validators = [] }) (retry Outdated ∷ retry Held ∷ retry Outdated ∷ []) ≡ retry Held ∷ retry Outdated ∷ []
 behind_them = refl
 
 -- ---- turns
@@ -405,10 +424,11 @@ behind_them = refl
 abbrev with_turns : ℕ → List PlainFunction → Surroundings
 with_turns n fs = record { cells = []; tries = 3; turns = n; functions = fs }
 
--- `(dosync (ref-set r (loop [] 1)))` on a commit that gives the ref 5: where the loop has no turn, the commit stays to come; where it has
+-- `(dosync @r (ref-set r (loop [] 1)))` on a commit that gives the ref 5: where the loop has no turn, the commit stays to come; where it has
 -- one, it isn't allowed
 abbrev sets_by_loop : Tree
-sets_by_loop = Dosync (Put RefSet (constant (Cell (ref_of 0))) (Loop none (constant (int 1)) (wanted 0 0)) (unwanted 0 0)) (unwanted 0 0)
+sets_by_loop =
+    Dosync (in_turn (Look Deref (constant (Cell (ref_of 0))) (unwanted 0 0)) (Put RefSet (constant (Cell (ref_of 0))) (Loop none (constant (int 1)) (wanted 0 0)) (unwanted 0 0))) (unwanted 0 0)
 
 abbrev commit_of : ℕ → SeenEvent
 commit_of n = seen (Commit 0 0 ((ref_of 0, int n) ∷ []) []) (all_are 0) (all_are 0) (all_are 0)
@@ -428,6 +448,16 @@ retry_stays_to_come = refl
 
 retry_is_right : brief (thread_in (with_turns 1 []) sets_by_loop (retry Outdated ∷ retry Held ∷ commit_of 1 ∷ [])) ≡ Completes (int 1) 0
 retry_is_right = refl
+
+-- so does one that comes where a body looks at the ref behind a loop
+abbrev looks_behind_loop : Tree
+looks_behind_loop = Dosync (in_turn (Loop none (constant (int 1)) (unwanted 0 0)) (Look Deref (constant (Cell (ref_of 0))) (unwanted 0 0))) (unwanted 0 0)
+
+outdated_stays_to_come : brief (thread_in (with_turns 0 []) looks_behind_loop (retry Outdated ∷ [])) ≡ OutOfTurns 1
+outdated_stays_to_come = refl
+
+outdated_is_right : brief (thread_in (with_turns 1 []) looks_behind_loop (retry Outdated ∷ [])) ≡ Waits 0
+outdated_is_right = refl
 
 -- a swap by a function that has no turn for its loop
 abbrev gives_one_by_loop : PlainFunction

@@ -1,5 +1,5 @@
 -- How far a thread's events are right: up to the first one that its meaning doesn't allow.
-use Rattle.std.specs.Prelude.{ℕ, zero, suc, Bool, true, false, List, [], ◌∷◌, ◌++◌, ◌==◌, length, take, if◌then◌else◌}
+use Rattle.std.specs.Prelude.{ℕ, zero, suc, Bool, true, false, List, [], ◌∷◌, ◌++◌, ◌==◌, Some, length, take, if◌then◌else◌}
 use Rattle.txs_world_protocol.specs.SeenEvent.{SeenEvent}
 use Rattle.txs_world_protocol.specs.declared.event.Cause.TheVariants as cause
 use Rattle.txs_world_protocol.specs.declared.event.EventKind.{EventKind}
@@ -7,7 +7,7 @@ use Rattle.txs_world_protocol.specs.declared.event.EventKind.TheVariants.{Retry}
 use Rattle.txs_frame.specs.Frame.{PlainTxFrame, has_number, commuted}
 use Rattle.txs_tree_meaning.specs.Meaning.{Completion, Completes, Recurs, Faults, Retries, Waits, OutOfTurns, Invalid, Effects}
 use Rattle.txs_tree_meaning.specs.Thread.{ThreadState, Transacting, is_retry, is_held, Surroundings, on_events, thread_meaning}
-use Rattle.txs_tree_meaning.specs.Transaction.{TxState, tx_meaning}
+use Rattle.txs_tree_meaning.specs.Transaction.{TxState, tx_meaning, tx_meaning_lacking}
 use Rattle.txs_tree_meaning.specs.Tree.{ThreadSource}
 use Rattle.txs_value_cell.specs.Cells.{World, validators_of}
 use Rattle.txs_value_data.specs.declared.value.Value.{Value}
@@ -58,9 +58,19 @@ ended_with p (Waits x) = false
 ended_with p (OutOfTurns x) = false
 ended_with p Invalid = false
 
+-- whether a body waits, since it came to look at the ref whose value its world lacks
+abbrev pub has_missed : Completion TxState Value → Bool
+has_missed (Completes v x) = false
+has_missed (Recurs vs x) = false
+has_missed (Faults f x) = false
+has_missed (Retries x) = false
+has_missed (Waits x) = true
+has_missed (OutOfTurns x) = false
+has_missed Invalid = false
+
 -- whether a try had to run again for the cause that this says
 abbrev pub passes : Transacting → EventKind → World → Bool
-passes d (Retry since c cause.Outdated) R = true
+passes d (Retry since c cause.Outdated) R = has_missed (d.lacking c.number R)
 passes d (Retry since c cause.Held) R = ended_with (λ w. is_held w c.number) (d.on R)
 passes d (Retry since c (cause.Commuted at)) R = ended_with (λ w. has_number (commuted w) c.number) (d.on R)
 passes d _ R = false
@@ -80,6 +90,6 @@ on_right x d = record {
   update = λ form inside m v callee vs f t. up_to t ((on_events x d).update form inside m v callee vs f t);
   send = λ inside m v callee vs t. up_to t ((on_events x d).send inside m v callee vs t);
   dosync = λ inside m node env body f t.
-      up_to (record t { todo = behind_retries x.tries (record { mark = m; body = node; locals = env; on = tx_meaning x.turns x.functions d node env; validators = validators_of x.cells }) t.todo })
+      up_to (record t { todo = behind_retries x.tries (record { mark = m; body = node; locals = env; on = tx_meaning x.turns x.functions d node env; lacking = λ k. tx_meaning_lacking x.turns x.functions d node env (Some k); validators = validators_of x.cells }) t.todo })
       ((on_events x d).dosync inside m node env body f t);
 }

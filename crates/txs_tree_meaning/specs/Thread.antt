@@ -6,7 +6,7 @@ use Rattle.txs_world_protocol.specs.declared.event.Cause.TheVariants as cause
 use Rattle.txs_world_protocol.specs.declared.event.EventKind.{EventKind}
 use Rattle.txs_world_protocol.specs.declared.event.EventKind.TheVariants.{Read, Commit, Retry, Fail, Refused, Send as Sent, SendRefused, Swap as Swapped, Broke}
 use Rattle.txs_tree_meaning.specs.Meaning.{Completion, Completes, Recurs, Faults, Retries, Waits, OutOfTurns, Invalid, closed, allowed, Applies, Effects, eval, call_at, bind, apply}
-use Rattle.txs_tree_meaning.specs.Transaction.{TxState, on_cell, tx_meaning, final_writes, validated}
+use Rattle.txs_tree_meaning.specs.Transaction.{TxState, on_cell, tx_meaning, tx_meaning_lacking, final_writes, validated}
 use Rattle.txs_tree_meaning.specs.Tree.{Mark, Tree, PlainFunction, ThreadSource}
 use Rattle.txs_value_cell.specs.Cells.{World, Validators, validators_of, validator_at}
 use Rattle.txs_value_cell.specs.Forms.{rule, may_stand}
@@ -135,12 +135,14 @@ over t (Waits x) go broke = Invalid
 over t (OutOfTurns x) go broke = OutOfTurns t
 over t Invalid go broke = Invalid
 
--- a dosync as its thread met it: its mark, its body and locals, the body's meaning on a world, and the validators of the cells
+-- a dosync as its thread met it: its mark, its body and locals, the body's meaning on a world, and on one that lacks the value of the ref
+-- with a number, and the validators of the cells
 pub record Transacting : Type 0 where
   pub mark : Mark
   pub body : Tree
   pub locals : List Value
   pub on : World → Completion TxState Value
+  pub lacking : ℕ → World → Completion TxState Value
   pub validators : Validators
 
 -- the transaction of a dosync that came to its end with this result
@@ -169,10 +171,20 @@ is_retry _ = false
 abbrev pub is_held : PlainTxFrame → ℕ → Bool
 is_held w k = has_number w.sets k || has_number w.ensures k
 
--- A try that had to run again, and what follows. Where a value was no longer kept, the journal tells the cause. Else the body came to its end on R,
--- and the ref is one that it set or ensured, or that it commuted and didn't set.
+-- what follows a body that waits, since it came to look at the ref whose value its world lacks
+abbrev pub missing : ThreadState → Completion TxState Value → Completion ThreadState Value → Completion ThreadState Value
+missing t (Completes v x) next = Invalid
+missing t (Recurs vs x) next = Invalid
+missing t (Faults f x) next = Invalid
+missing t (Retries x) next = Invalid
+missing t (Waits x) next = next
+missing t (OutOfTurns x) next = OutOfTurns t
+missing t Invalid next = Invalid
+
+-- A try that had to run again, and what follows. Where the ref's value on R was no longer kept, the body came to look at it; that it wasn't
+-- kept is told by the journal. Else the body came to its end on R, and the ref is one that it set or ensured, or that it commuted and didn't set.
 abbrev pub again : Transacting → EventKind → World → ThreadState → Completion ThreadState Value → Completion ThreadState Value
-again d (Retry since c cause.Outdated) R t next = next
+again d (Retry since c cause.Outdated) R t next = missing t (d.lacking c.number R) next
 again d (Retry since c cause.Held) R t next = over t (d.on R) (λ v x. allowed (is_held x.done c.number) next) (λ g. Invalid)
 again d (Retry since c (cause.Commuted at)) R t next = over t (d.on R) (λ v x. allowed (has_number (commuted x.done) c.number) next) (λ g. Invalid)
 again d _ R t next = Invalid
@@ -230,7 +242,7 @@ on_events x d = record {
   put = λ form inside m v w f t. outside_form (form_of.Put form) (on_cell (form_of.Put form) false m.span v (λ c t1. thread_put x form m.span c w f t1) t);
   update = λ form inside m v callee vs f t. outside_form (form_of.Update form) (on_cell (form_of.Update form) false m.span v (λ c t1. thread_update x form m.span c callee vs f t1) t);
   send = λ inside m v callee vs t. on_cell form_of.Send false m.span v (λ c t1. sends_or_holds t1.held (record { agent = c; callee = callee; args = vs; span = m.span }) m.span t1) t;
-  dosync = λ inside m node env body f t. eats_tx x.tries (record { mark = m; body = node; locals = env; on = tx_meaning x.turns x.functions d node env; validators = validators_of x.cells }) f t.todo t;
+  dosync = λ inside m node env body f t. eats_tx x.tries (record { mark = m; body = node; locals = env; on = tx_meaning x.turns x.functions d node env; lacking = λ k. tx_meaning_lacking x.turns x.functions d node env (Some k); validators = validators_of x.cells }) f t.todo t;
 }
 
 -- where a body begins, with these events to come: an action's holds its sends, of which there are none yet, and a thread's holds none

@@ -1,11 +1,12 @@
 // Reports that no run gives, in which each part alone is right: something is left to do, a stop isn't true, or the events have no order. An audit differs at each.
 use crate::audits::case::{Case, always_answers, case_of};
 use std::alloc::Global;
+use std::mem;
 use std::sync::Wait;
 use std::thread::Threads;
 use txs_audit_answer::Verdict;
 use txs_machine::Play;
-use txs_value_data::Value;
+use txs_value_data::{Listed, Value};
 use txs_world_protocol::{ActorReport, EventKind, Outcome, Place, Report};
 
 /// A thread that prints.
@@ -26,6 +27,10 @@ const LATER: &str = "(def r (ref 0)) (def g (agent 0)) (defn look [s] (println (
 const CROSS: &str = "(def r (ref 0)) (def a (atom 0))
 (future (dosync (ref-set r 1)) (reset! a 1)) (future (println @a) (println (dosync @r)))";
 
+/// Two threads that each reset an atom, and then read the other one's.
+const BUFFER: &str = "(def a (atom 0)) (def b (atom 0))
+(future (reset! a 1) (println @b)) (future (reset! b 1) (println @a))";
+
 /// What is forged of a report.
 #[derive(Clone, Copy)]
 enum Forged {
@@ -36,12 +41,17 @@ enum Forged {
     /// The first thread was stopped for steps, of which it made fewer than it might; or for a full journal.
     FewSteps,
     FullJournal,
+    /// The agent was stopped for a full journal, before its action or behind it.
+    FullBefore,
+    FullBehind,
     /// The action read before it was sent.
     Early,
     /// Its transaction began before it was sent.
     Later,
     /// The second thread's transaction began before the first one's, whose later reset it had read.
     Cross,
+    /// Each thread read before the other one's reset, which came before its own.
+    Buffer,
 }
 
 /// The first of these entries ended so, and printed nothing.
@@ -60,6 +70,13 @@ fn leave_mail(report: &mut Report) {
     }
     if let Some(cell) = report.cells.first_mut() {
         *cell = Value::Int(0);
+    }
+}
+
+/// This actor was stopped for a full journal.
+fn stop_full(ran: Option<&mut ActorReport>) {
+    if let Some(ran) = ran {
+        ran.outcome = Some(Outcome::JournalFull);
     }
 }
 
@@ -110,13 +127,35 @@ fn print_last(ran: Option<&mut ActorReport>) {
     }
 }
 
+/// The two events of each atom's book in the other order, and each thread read 0.
+fn turn_atoms(alloc: Global, report: &mut Report) {
+    for book in report.atom_books.iter_mut() {
+        let mut events = mem::replace(book, Listed::from_vec(Vec::new(alloc))).into_vec();
+        if events.len() > 1 {
+            events.swap(0, 1);
+        }
+        drop(mem::replace(book, Listed::from_vec(events)));
+    }
+    for ran in report.threads.iter_mut() {
+        for place in ran.trace.iter_mut() {
+            place.at ^= 1;
+        }
+        print_first(Some(ran), b'0');
+    }
+}
+
 /// Forges a report.
-fn forge(report: &mut Report, forged: Forged) {
+fn forge(alloc: Global, report: &mut Report, forged: Forged) {
     match forged {
         Forged::Unended => end_so(report.threads.as_mut_slice(), None),
         Forged::MailLeft => leave_mail(report),
         Forged::FewSteps => end_so(report.threads.as_mut_slice(), Some(Outcome::StepsSpent)),
         Forged::FullJournal => end_so(report.threads.as_mut_slice(), Some(Outcome::JournalFull)),
+        Forged::FullBefore => {
+            leave_mail(report);
+            stop_full(report.agents.first_mut());
+        }
+        Forged::FullBehind => stop_full(report.agents.first_mut()),
         Forged::Early => turn_round(report),
         Forged::Later => {
             begin_first(report, 2);
@@ -126,6 +165,7 @@ fn forge(report: &mut Report, forged: Forged) {
             begin_first(report, 1);
             print_last(report.threads.get_mut(1));
         }
+        Forged::Buffer => turn_atoms(alloc, report),
     }
 }
 
@@ -141,7 +181,7 @@ fn is_found<R: Threads + Wait + Sync>(
     let Some(mut case) = case else {
         return false;
     };
-    forge(&mut case.report, forged);
+    forge(alloc, &mut case.report, forged);
     let is = always_answers(rt, alloc, &case, 100, Verdict::Differs { actor, event });
     drop(case);
     is
@@ -198,6 +238,31 @@ fn a_stop_that_is_not_true_is_found(rt: HostRuntime) {
 }
 
 #[test]
+fn an_agent_at_no_full_journal_is_found(rt: HostRuntime) {
+    let alloc = rt.alloc();
+    assert!(rt;
+        is_found(
+            &rt,
+            alloc,
+            case_of(alloc, SENDS, &[]),
+            Forged::FullBefore,
+            1,
+            0
+        )
+    );
+    assert!(rt;
+        is_found(
+            &rt,
+            alloc,
+            case_of(alloc, SENDS, &[]),
+            Forged::FullBehind,
+            1,
+            1
+        )
+    );
+}
+
+#[test]
 fn an_effect_before_its_cause_is_found(rt: HostRuntime) {
     let alloc = rt.alloc();
     assert!(rt; is_found(&rt, alloc, case_of(alloc, EARLY, &[]), Forged::Early, 1, 0));
@@ -216,6 +281,21 @@ fn a_stale_read_point_is_found(rt: HostRuntime) {
             Forged::Cross,
             0,
             0
+        )
+    );
+}
+
+#[test]
+fn two_journals_crosswise_are_found(rt: HostRuntime) {
+    let alloc = rt.alloc();
+    assert!(rt;
+        is_found(
+            &rt,
+            alloc,
+            case_of(alloc, BUFFER, &[]),
+            Forged::Buffer,
+            0,
+            1
         )
     );
 }

@@ -5,7 +5,7 @@ use Rattle.txs_world_book.specs.Served.{cells_of}
 use Rattle.txs_tree_meaning.specs.View.{program_of}
 use Rattle.txs_theorem_audit.specs.Audited.{Off, place_of, ran_as}
 use Rattle.txs_theorem_audit.specs.Pieces.{acts_print}
-use Rattle.txs_theorem_audit.specs.Verdict.{action_covered, begins, is_stopped, rest_found}
+use Rattle.txs_theorem_audit.specs.Verdict.{action_covered, begins, is_full_stop, is_stopped, rest_found}
 use Rattle.txs_theorem_audit.proofs.Findings.{off_fine}
 use Rattle.txs_audit_evidence.specs.Named.{plain_trace}
 use Rattle.txs_audit_evidence.proofs.Printing.{and_no, begins_few, end_holds, end_off, left_long}
@@ -72,10 +72,11 @@ returns-clause-finding c =
     let out = c.split_at.ensures.back ∙ ap (λ m. drop m c.as_slice-printed.result.now) (many ∙ ap length (c.in_ok-outs.ensures ∙ ap (λ l. acts_print p r n [] (plain_trace l)) same)) ∙ ap (drop (length outs)) c.as_slice-printed.ensures.value in
     so c.rest_found.result c.rest_found.ensures.finding
     (λ f is.
-    is ∙ ap (λ l. rest_found p r n c.args.actor from (length l) g (drop from (plain_trace l)) c.split_at.result.1.now) same
-    ∙ ap (rest_found p r n c.args.actor from (length ran.trace.items) g (drop from (plain_trace ran.trace.items))) out
-    ∙ ap (λ m. rest_found p r n c.args.actor from m g (drop from (plain_trace ran.trace.items)) (drop (length outs) ran.printed.items)) (sym long)
-    ∙ ap (λ m. rest_found p r n c.args.actor m (length (plain_trace ran.trace.items)) g (drop from (plain_trace ran.trace.items)) (drop (length outs) ran.printed.items)) (sym left)
+    is ∙ ap (λ l. rest_found p r n c.is_full_stop-full.result c.args.actor from (length l) g (drop from (plain_trace l)) c.split_at.result.1.now) same
+    ∙ ap (λ s. rest_found p r n s c.args.actor from (length ran.trace.items) g (drop from (plain_trace ran.trace.items)) c.split_at.result.1.now) c.is_full_stop-full.ensures
+    ∙ ap (rest_found p r n (is_full_stop ran.outcome) c.args.actor from (length ran.trace.items) g (drop from (plain_trace ran.trace.items))) out
+    ∙ ap (λ m. rest_found p r n (is_full_stop ran.outcome) c.args.actor from m g (drop from (plain_trace ran.trace.items)) (drop (length outs) ran.printed.items)) (sym long)
+    ∙ ap (λ m. rest_found p r n (is_full_stop ran.outcome) c.args.actor m (length (plain_trace ran.trace.items)) g (drop from (plain_trace ran.trace.items)) (drop (length outs) ran.printed.items)) (sym left)
     ∙ end_holds p r n c.args.actor g (drop from (plain_trace ran.trace.items)) outs (ran_as ran) holds)
 
 pub returns-clause-serial : goal.returns-clause-serial

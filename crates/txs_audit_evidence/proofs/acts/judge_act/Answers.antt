@@ -12,8 +12,8 @@ use Rattle.txs_theorem_audit_eval.specs.Evaluated.{calm_found_by, covered_all_by
 use Rattle.txs_audit_piece.specs.Judged.{EndsBy, as_end, as_found, is_fine}
 use Rattle.txs_audit_evidence.specs.Acted.{acted_end}
 use Rattle.txs_audit_evidence.specs.Named.{plain_trace}
-use Rattle.txs_audit_evidence.proofs.ActionFound.{act_covered, act_is, eaten_few, end_last, many_seen, off_first, seen_few}
-use Rattle.txs_audit_evidence.proofs.ThreadFound.{fine_is, no_fine}
+use Rattle.txs_audit_evidence.proofs.ActionFound.{act_covered, act_is, eaten_few, end_last, off_first, seen_few}
+use Rattle.txs_audit_evidence.proofs.ThreadFound.{fine_is, many_seen, no_fine}
 use Rattle.txs_audit_evidence.proofs.acts.judge_act.Goals as goal
 
 pub act_ends-finding-requires : goal.act_ends-finding-requires

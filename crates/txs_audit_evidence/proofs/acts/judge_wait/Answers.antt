@@ -7,26 +7,23 @@ use Rattle.txs_tree_meaning.specs.Sound.{Sound}
 use Rattle.txs_tree_meaning.specs.View.{Parts, program_of}
 use Rattle.txs_theorem_runs.specs.Told.{seen_of}
 use Rattle.txs_theorem_audit.specs.Audited.{books_of, place_of}
-use Rattle.txs_theorem_audit.specs.Verdict.{part_printed}
+use Rattle.txs_theorem_audit.specs.Verdict.{rest_ends}
 use Rattle.txs_theorem_audit_eval.specs.Evaluated.{calm_found_by, covered_all_by, means_on}
-use Rattle.txs_audit_piece.specs.Judged.{EndsBy, as_end, as_found, is_fine}
+use Rattle.txs_audit_piece.specs.Judged.{as_found, is_fine}
 use Rattle.txs_audit_evidence.specs.Acted.{waited_end}
 use Rattle.txs_audit_evidence.specs.Named.{plain_trace}
-use Rattle.txs_audit_evidence.proofs.ActionFound.{still_covered, still_is, eaten_few, end_last, many_seen, off_first, seen_few}
-use Rattle.txs_audit_evidence.proofs.ThreadFound.{fine_is, no_fine}
+use Rattle.txs_audit_evidence.proofs.ActionFound.{end_last, off_first, rest_covered, seen_few}
+use Rattle.txs_audit_evidence.proofs.ThreadFound.{fine_is, many_seen, no_fine}
 use Rattle.txs_audit_evidence.proofs.acts.judge_wait.Goals as goal
 
-pub still_ends-requires : goal.still_ends-requires
-still_ends-requires c =
+pub rest_ends-requires-clause-fits : goal.rest_ends-requires-clause-fits
+rest_ends-requires-clause-fits c =
     let b = c.args.books.now in
-    let p = program_of b.program in
-    let x = c.args.action.now in
-    let since = plain_trace c.args.since.now in
-    let tells = subst (λ (es : List SeenEvent). TellsAction c.args.meaning.now p x.callee x.span (c.args.state.now ∷ x.args) c.args.turns es) c.requires.events c.requires.tells in
-    let ate = eaten_few p x.callee x.span (c.args.state.now ∷ x.args) c.args.turns (seen_of b.program.cells (books_of b.report) since) c.args.meaning.now tells in
-    let few = seen_few b.program.cells (books_of b.report) since in
+    let all = many_seen c.args.seen.now in
+    let same = ap (λ (es : List SeenEvent). length es) c.requires.events in
+    let few = seen_few b.program.cells (books_of b.report) (plain_trace c.args.since.now) in
     let long = length-map c.args.since.now place_of in
-    omega (arith, ate, few, long, c.requires.fits)
+    omega (arith, all, same, few, long, c.requires.fits)
 
 pub returns-then-not-is_fine : goal.returns-then-not-is_fine
 returns-then-not-is_fine c =
@@ -48,7 +45,7 @@ returns-then-not-is_fine c =
     let calm = c.in_ok-calm.ensures.found ∙ ap (λ ms. calm_found_by (cells_of p.cells) (books_of r) a i since ms) c.as_slice-txs.ensures in
     let not : is_fine f ≡ false = sym c.is_fine.ensures ∙ c.if-not-is_fine.true in
     record {
-      finding = off_first p r n x v since sound c.requires.sent m tells c.calm_is_answered.ensures c.action_is_answered.ensures a i f calm not (waited_end p r n a i k x v since out);
+      finding = off_first p r n x v since sound c.requires.sent m tells c.calm_is_answered.ensures c.action_is_answered.ensures a i f calm not (waited_end p r n c.args.full a i k x v since out);
       serial = λ fine. no_fine f not fine;
     }
 
@@ -71,14 +68,11 @@ returns c =
     let f = as_found c.in_ok-calm.calm.finding in
     let calm = c.in_ok-calm.ensures.found ∙ ap (λ ms. calm_found_by (cells_of p.cells) (books_of r) a i since ms) c.as_slice-txs.ensures in
     let fine : is_fine f ≡ true = sym c.is_fine.ensures ∙ c.if-not-is_fine.false in
-    let ends = subst (λ (q : Parts). EndsBy (program_of q) n x m (as_end c.in_ok-end.end)) c.program-2.ensures c.in_ok-end.ensures in
-    let part = c.in_ok-part.ensures ∙ ap (λ es. part_printed (means_on p n x v) es out c.as_slice-whole.result.now) c.requires.events ∙ ap (part_printed (means_on p n x v) (seen_of p.cells (books_of r) since) out) c.as_slice-whole.ensures in
-    let g = as_found c.still_ends.result in
-    let many = c.requires.many ∙ sym (many_seen c.args.seen.now) ∙ ap (λ (es : List SeenEvent). length es) c.requires.events in
-    let is = still_is p r n x v since sound c.requires.sent m tells c.still_is_answered.ensures a i k out (as_end c.in_ok-end.end) ends c.in_ok-part.part part g c.args.stretch.events many (c.still_ends.ensures) in
+    let g = as_found c.in_ok-finding.finding in
+    let is = c.in_ok-finding.ensures ∙ ap (λ es. rest_ends (books_of r) c.args.full a i k (means_on p n x v) es out (means_on p n x v es)) c.requires.events in
     record {
-      finding = is ∙ end_last p r n x v since sound c.requires.sent m tells c.calm_is_answered.ensures c.action_is_answered.ensures a i f calm fine (waited_end p r n a i k x v since out);
+      finding = is ∙ end_last p r n x v since sound c.requires.sent m tells c.calm_is_answered.ensures c.action_is_answered.ensures a i f calm fine (waited_end p r n c.args.full a i k x v since out);
       serial = λ nothing.
           c.in_ok-calm.ensures.serial (fine_is f fine) ∙ ap (covered_all_by (books_of r) since) c.as_slice-txs.ensures
-          ∙ still_covered p r n x v since sound c.requires.sent m tells c.still_is_answered.ensures a i k out (as_end c.in_ok-end.end) ends c.in_ok-part.part part g c.args.stretch.events many (c.still_ends.ensures) c.covered_is_answered.ensures c.action_is_answered.ensures nothing;
+          ∙ rest_covered p r n x v since sound c.requires.sent m tells c.covered_is_answered.ensures c.action_is_answered.ensures c.args.full a i k out g is nothing;
     }

@@ -13,7 +13,7 @@ returns-clause-finding c =
     let b = c.args.books.now in
     let part = ap plain_trace c.split_at.ensures.back ∙ map_drop c.args.from c.args.trace.now in
     so c.rest_within.result c.rest_within.ensures.finding
-    (λ f is. is ∙ ap (λ l. rest_found (program_of b.program) b.report c.args.turns c.args.actor c.args.from (length c.args.trace.now) c.args.agent l c.args.out.now) part)
+    (λ f is. is ∙ ap (λ l. rest_found (program_of b.program) b.report c.args.turns c.args.full c.args.actor c.args.from (length c.args.trace.now) c.args.agent l c.args.out.now) part)
 
 pub returns-clause-serial : goal.returns-clause-serial
 returns-clause-serial c =

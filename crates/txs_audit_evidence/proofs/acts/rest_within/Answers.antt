@@ -16,8 +16,8 @@ returns-then-not-is_short-clause-finding c =
     let g = c.args.agent in
     let since = plain_trace c.args.since.now in
     let sound = subst (λ (q : Parts). Sound (program_of q)) c.program.ensures c.is_sound.ensures in
-    bounded_finding (λ (n : ℕ). rest_found p r n c.args.stretch.actor c.args.stretch.first c.args.stretch.index g since c.args.out.now) (λ (n : ℕ). action_covered p r n r.book g since (next_action (cells_of p.cells) r.book g))
-    (still_stays c.rest_stays.ensures p r sound c.args.stretch.actor c.args.stretch.first c.args.stretch.index g since c.args.out.now)
+    bounded_finding (λ (n : ℕ). rest_found p r n c.args.full c.args.stretch.actor c.args.stretch.first c.args.stretch.index g since c.args.out.now) (λ (n : ℕ). action_covered p r n r.book g since (next_action (cells_of p.cells) r.book g))
+    (still_stays c.rest_stays.ensures p r sound c.args.full c.args.stretch.actor c.args.stretch.first c.args.stretch.index g since c.args.out.now)
     c.loop-found.bound c.args.turns c.loop-found.invariant (as_found c.in_ok-found.found.finding) (c.if-not-is_short.ensures.enough refl) c.in_ok-found.ensures.finding
 
 pub returns-then-not-is_short-clause-serial : goal.returns-then-not-is_short-clause-serial
@@ -27,6 +27,6 @@ returns-then-not-is_short-clause-serial c =
     let g = c.args.agent in
     let since = plain_trace c.args.since.now in
     let sound = subst (λ (q : Parts). Sound (program_of q)) c.program.ensures c.is_sound.ensures in
-    bounded_serial (λ (n : ℕ). rest_found p r n c.args.stretch.actor c.args.stretch.first c.args.stretch.index g since c.args.out.now) (λ (n : ℕ). action_covered p r n r.book g since (next_action (cells_of p.cells) r.book g))
-    (still_stays c.rest_stays.ensures p r sound c.args.stretch.actor c.args.stretch.first c.args.stretch.index g since c.args.out.now)
+    bounded_serial (λ (n : ℕ). rest_found p r n c.args.full c.args.stretch.actor c.args.stretch.first c.args.stretch.index g since c.args.out.now) (λ (n : ℕ). action_covered p r n r.book g since (next_action (cells_of p.cells) r.book g))
+    (still_stays c.rest_stays.ensures p r sound c.args.full c.args.stretch.actor c.args.stretch.first c.args.stretch.index g since c.args.out.now)
     c.loop-found.bound c.args.turns c.loop-found.invariant (as_found c.in_ok-found.found.finding) (c.if-not-is_short.ensures.enough refl) c.in_ok-found.ensures.finding c.in_ok-found.found.serial c.in_ok-found.ensures.serial

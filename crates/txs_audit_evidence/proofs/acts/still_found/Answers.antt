@@ -33,7 +33,7 @@ returns-in_default c =
     let next = next_action (cells_of b.program.cells) r.book g in
     let its = c.next_action.ensures g refl in
     record {
-      finding = c.off.ensures ∙ none_still p r n c.args.stretch.actor c.args.stretch.first c.args.stretch.index g since c.args.out.now next (sym (ap option_copied c.in_default.is) ∙ its);
+      finding = c.off.ensures ∙ none_still p r n c.args.full c.args.stretch.actor c.args.stretch.first c.args.stretch.index g since c.args.out.now next (sym (ap option_copied c.in_default.is) ∙ its);
       serial = λ fine. off_fine c.args.stretch.actor c.args.stretch.first (sym c.off.ensures ∙ fine);
     }
 
@@ -48,7 +48,7 @@ returns-then-not-is_sent c =
     let next = next_action (cells_of b.program.cells) r.book g in
     let its = c.next_action.ensures g refl in
     record {
-      finding = c.off-then-not-is_sent.ensures ∙ unsent_still p r n c.args.stretch.actor c.args.stretch.first c.args.stretch.index g since c.args.out.now next c.in-Some.action.now (sym (ap option_copied c.in-Some.is) ∙ its) (sym c.is_sent.ensures ∙ c.if-not-is_sent.true);
+      finding = c.off-then-not-is_sent.ensures ∙ unsent_still p r n c.args.full c.args.stretch.actor c.args.stretch.first c.args.stretch.index g since c.args.out.now next c.in-Some.action.now (sym (ap option_copied c.in-Some.is) ∙ its) (sym c.is_sent.ensures ∙ c.if-not-is_sent.true);
       serial = λ fine. off_fine c.args.stretch.actor c.args.stretch.first (sym c.off-then-not-is_sent.ensures ∙ fine);
     }
 
@@ -70,7 +70,7 @@ returns-clause-finding c =
     let all : c.len-events.result ≡ length r.book = omega (arith, size, same, c.len-events.ensures) in
     let state = last_state b g c.requires.there c.len-events.result all (option_copied c.value_at.result) c.value_at.ensures in
     so c.waited.result c.waited.ensures.finding
-    (λ f is. is ∙ sent_still p r n c.args.stretch.actor c.args.stretch.first c.args.stretch.index g since c.args.out.now next c.in-Some.action.now (sym (ap option_copied c.in-Some.is) ∙ its) c.in-Some-value_at.state.now (sym (ap option_copied c.in-Some-value_at.is) ∙ state) (sym c.is_sent.ensures ∙ c.if-not-is_sent.false))
+    (λ f is. is ∙ sent_still p r n c.args.full c.args.stretch.actor c.args.stretch.first c.args.stretch.index g since c.args.out.now next c.in-Some.action.now (sym (ap option_copied c.in-Some.is) ∙ its) c.in-Some-value_at.state.now (sym (ap option_copied c.in-Some-value_at.is) ∙ state) (sym c.is_sent.ensures ∙ c.if-not-is_sent.false))
 
 pub returns-clause-serial : goal.returns-clause-serial
 returns-clause-serial c =

@@ -7,4 +7,4 @@ use Rattle.txs_audit_evidence.proofs.ends.threads_off.Given as goal
 
 -- what is found is what the other threads give
 abbrev pub invariant-loop-i : goal.invariant-loop-i
-invariant-loop-i l = threads_over (terms_as l.terms) l.full l.i (map ran_as (drop l.i l.threads)) ≡ threads_over (terms_as l.terms) l.full 0 (map ran_as l.threads)
+invariant-loop-i l = threads_over (terms_as l.terms) l.i (map ran_as (drop l.i l.threads)) ≡ threads_over (terms_as l.terms) 0 (map ran_as l.threads)

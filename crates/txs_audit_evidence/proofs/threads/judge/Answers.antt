@@ -1,16 +1,13 @@
-use Rattle.std.proofs.Common.{◌≡◌, ◌<◌, ◌∙◌, List, false, length, subst, sym, true}
+use Rattle.std.proofs.Common.{◌≡◌, ◌∙◌, List, false, subst, sym, true}
 use Rattle.txs_world_protocol.specs.SeenEvent.{SeenEvent}
 use Rattle.txs_world_book.specs.Served.{cells_of}
 use Rattle.txs_tree_eval.specs.Told.{Tells}
-use Rattle.txs_tree_meaning.specs.View.{Parts, program_of}
+use Rattle.txs_tree_meaning.specs.View.{program_of}
 use Rattle.txs_theorem_threads.specs.FollowsAll.{source_of}
 use Rattle.txs_theorem_audit.specs.Audited.{books_of, ran_as}
 use Rattle.txs_audit_piece.specs.Judged.{as_found, is_fine}
 use Rattle.txs_audit_evidence.proofs.ThreadFound.{covered_found, end_found_last, end_so, fine_is, no_fine, off_found, told_covered, told_found}
 use Rattle.txs_audit_evidence.proofs.threads.judge.Goals as goal
-
-pub end_found-requires : goal.end_found-requires
-end_found-requires c = subst (λ (p : Parts). c.args.thread < length p.threads) (sym c.program.ensures) c.requires.there
 
 pub returns-then-not-is_fine : goal.returns-then-not-is_fine
 returns-then-not-is_fine c =
@@ -37,7 +34,7 @@ returns c =
     let calm = told_found (cells_of p.cells) (books_of b.report) c.args.thread f c.as_slice-trace.result.now c.args.ran.now.trace.items c.as_slice.result.now m.txs c.as_slice-trace.ensures.value c.as_slice.ensures c.in_ok-found.ensures.found in
     let g = as_found c.in_ok-finding.finding in
     let fine : is_fine f ≡ true = sym c.is_fine.ensures ∙ c.if-not-is_fine.false in
-    let ends = end_so c.program.result.now b.program c.program.ensures _ _ c.requires.events n a ran m g c.in_ok-finding.ensures in
+    let ends = end_so p (books_of b.report) _ _ c.requires.events n a ran m g c.in_ok-finding.ensures in
     record {
       finding = λ t e tells.
           let told = subst (λ (es : List SeenEvent). Tells m (source_of p t) n es) c.requires.events tells in

@@ -10,7 +10,7 @@ use Rattle.txs_value_data.specs.Limits.{reruns}
 use Rattle.txs_value_base.specs.Places.{nth}
 use Rattle.txs_value_data.specs.declared.value.CellId.{CellId}
 use Rattle.txs_value_data.specs.declared.value.Value.{Value}
-use Rattle.txs_tree_eval_node.specs.Evaluated.{after, BodyStops, Runs, Reruns, EndComes, EndsNone, body_means, AnswersAt, Finishes, ReadyIn, retried, SoundCommutes, part, is_on, forms_in, calls_in, Yields, GivesAll, Steps, means, all_mean, do_means, let_means, locals_mean, if_means, strict_means, loop_means, turns_mean, form_means, inside_means, outside_means, update_means, swap_means, applied, redone_means, final_means, dosync_means, transacting, at_end, eat_means, ended, closing, closes, end_stop, with_todo, thread_state, tx_run, PutAccepted, PutStops, accept_means, accepted_means, made_means}
+use Rattle.txs_tree_eval_node.specs.Evaluated.{after, has_all, Misses, seen_means, BodyStops, Runs, Reruns, EndComes, EndsNone, body_means, AnswersAt, Finishes, ReadyIn, retried, SoundCommutes, part, is_on, forms_in, calls_in, Yields, GivesAll, Steps, means, all_mean, do_means, let_means, locals_mean, if_means, strict_means, loop_means, turns_mean, form_means, inside_means, outside_means, update_means, swap_means, applied, redone_means, final_means, dosync_means, transacting, at_end, eat_means, ended, closing, closes, end_stop, with_todo, thread_state, tx_run, PutAccepted, PutStops, accept_means, accepted_means, made_means}
 use Rattle.txs_tree_eval_transaction.specs.Worked.{Gives, Stops, Told, ToldOf, of_one, tx_state}
 use Rattle.txs_tree_meaning.specs.Meaning.{Completes, Waits, result_of}
 use Rattle.txs_tree_eval_node.specs.Setting.{callable, deepest, zone_in, zone_on, on_view}
@@ -20,11 +20,11 @@ use Rattle.txs_tree_meaning.specs.Thread.{is_retry, eats_tx, uneaten, reads, res
 use Rattle.txs_tree_meaning.specs.Transaction.{merged}
 use Rattle.txs_tree_meaning.specs.Tree.{count}
 use Rattle.txs_tree_meaning.specs.View.{tree_of, trees_of, mark_of, function_of, functions_of}
-use Rattle.txs_tree_eval_transaction.specs.Views.{PlainView, or_nil, plain_view, plain_world, world_of}
+use Rattle.txs_tree_eval_transaction.specs.Views.{PlainView, PlainTxView, or_nil, plain_view, plain_world, plain_tx_view, plain_tx_world, is_whole, whole_view, world_of}
 use Rattle.txs_tree_eval_node.proofs.Acting.{redone_made, redone_unmade, acted_inside, acted_outside, sound_at, redone_stop, redone_more, phase_sound, finals_stop, finals_full, finals_refused, finals_done, commutes_deepest, accept_stop, accept_answer, accepted_stop, accepted_more, made_stop, made_then}
 use Rattle.txs_tree_eval_node.proofs.Called.{in_room, room, room-deeper, room_on, room_deepest, callee_deepest, validator_sound, depth_left, is_function, as_many, called_body, pure_here}
 use Rattle.txs_tree_eval_node.proofs.Counting.{item_smaller, nodes-some, nodes-last}
-use Rattle.txs_tree_eval_node.proofs.Ending.{unmatched, eats_none, eats_end, eats_more, eats_unrun, retried_end, retried_more, rerun_outdated, rerun_other, rerun_stop, rerun_run, closes_todo, closes_other, zone_running, body_stop, body_done, body_keeps, ended_unrun, ended_closed, ends_viewed, ends_unviewed, end_stops, running, nowhere_running, joined, begun}
+use Rattle.txs_tree_eval_node.proofs.Ending.{unmatched, eats_none, eats_end, eats_more, eats_unrun, retried_end, retried_more, rerun_outdated, rerun_other, rerun_stop, rerun_run, closes_todo, closes_other, zone_running, body_seen, misses, body_stop, body_done, body_keeps, ended_unrun, ended_closed, ends_viewed, ends_unviewed, end_stops, running, nowhere_running, joined, begun}
 use Rattle.txs_tree_eval_node.proofs.Evaluation.{halts_answers, StopsAt, collects, collects-start, cell_stop, if_stop, strict_stop, strict_done, rebound, stops_steps, stops_gives, local_done, all_more, all_stop, do_stop, do_done, locals_more, locals_stop, let_stop, let_done, loop_stop, loop_done, turn_value, turn_stop, turn_recur, take_kept, called, if_goes, args_stop, acted, const_done}
 use Rattle.txs_tree_eval_node.proofs.Forms.{IsOther, MeetsEvent, untaken_inside, untaken_outside, none_outside, refused_outside, answered, gives_at, reset_eaten, updates_ref, update_takes, update_unbegun, update_stop, update_done, update_inside, called_alone, core_done, vector_done, call_done, print_done, swap_stop, swap_done, put_inside, send_inside, put_outside, update_outside, put_takes, look_inside, look_outside, send_outside}
 use Rattle.txs_tree_eval_node.proofs.Leaf.{event_left}
@@ -140,7 +140,7 @@ evaluate_do-returns-in_err-evaluate_all-clause-value t c =
     let y = c.in_err-evaluate_all.field-0.0 in
     let whole : c.args.nodes.now ≡ c.in-Some.before.now ++ c.in-Some.last.now ∷ [] = c.in-Some.ensures.cases.0 in
     let stopped : c.from_residual.result ≡ Err y = halted c.from_residual.result y c.from_residual.ensures.1 in
-    stops_steps (is_on n.world) c.from_residual.result y (part n.world out) (do_means n (trees_of c.args.nodes.now) env c.args.state.now) stopped
+    stops_steps (has_all n.world) c.from_residual.result y (part n.world out) (do_means n (trees_of c.args.nodes.now) env c.args.state.now) stopped
     (do_stop n c.in-Some.before.now c.args.nodes.now c.in-Some.last.now env c.args.state.now whole (λ (vs : Vec Value Global). vs.items) y out c.in_err-evaluate_all.ensures.value)
 
 pub evaluate_do-evaluate_tail-requires : goal.evaluate_do-evaluate_tail-requires
@@ -209,7 +209,7 @@ run_turns-returns-in_err-value-clause-value t c =
     let many : length (drop b now) ≡ d = length-drop b now ∙ ap (λ l. l - b) c.loop-turn.invariant.1 in
     let y = c.in_err-value.field-0.0 in
     let rest = turn_stop n body b d k m (take b old) now out later left c.loop-turn.invariant.0 many y c.in_err-value.ensures.value in
-    stops_gives (λ v. v) (is_on n.world) c.from_residual.result y (part n.world later) (turns_mean n c.args.turns d body (take b old) (drop b old) c.args.state.now) (halted c.from_residual.result y c.from_residual.ensures.1) (subst (λ w. StopsAt n y later w) (sym c.loop-turn.invariant.2) rest)
+    stops_gives (λ v. v) (has_all n.world) c.from_residual.result y (part n.world later) (turns_mean n c.args.turns d body (take b old) (drop b old) c.args.state.now) (halted c.from_residual.result y c.from_residual.ensures.1) (subst (λ w. StopsAt n y later w) (sym c.loop-turn.invariant.2) rest)
 
 pub run_turns-returns-in-Value-clause-value : goal.run_turns-returns-in-Value-clause-value
 run_turns-returns-in-Value-clause-value t c =
@@ -277,7 +277,7 @@ bind_locals-returns-in_err-value-clause-value t c =
     let now = c.loop-node.locals.items in
     let rest = locals_stop n c.args.nodes.now c.loop-node.node-index c.node-item.result c.loop-node-test.true c.node-item.is now now c.loop-node.state out refl y c.in_err-value.ensures.value in
     let whole = subst (λ m. StopsAt n y out m) (sym c.loop-node.invariant.3) rest in
-    stops_gives _ (is_on n.world) c.from_residual.result y (part n.world out) (locals_mean n (trees_of c.args.nodes.now) c.args.locals.now.items c.args.state.now) (halted c.from_residual.result y c.from_residual.ensures.1) whole
+    stops_gives _ (has_all n.world) c.from_residual.result y (part n.world out) (locals_mean n (trees_of c.args.nodes.now) c.args.locals.now.items c.args.state.now) (halted c.from_residual.result y c.from_residual.ensures.1) whole
 
 pub bind_locals-loop-node-preserved : goal.bind_locals-loop-node-preserved
 bind_locals-loop-node-preserved t c =
@@ -305,7 +305,7 @@ evaluate_let-returns-in_err-bind_locals-clause-value t c =
     let es = trees_of c.args.nodes.now in
     let body = tree_of c.args.body.now in
     let out = c.bind_locals.new.state in
-    stops_steps (is_on c.args.context.now.world) c.from_residual.result y (part c.args.context.now.world out) (let_means c.args.context.now es body c.args.locals.now.items c.args.state.now) (halted c.from_residual.result y c.from_residual.ensures.1)
+    stops_steps (has_all c.args.context.now.world) c.from_residual.result y (part c.args.context.now.world out) (let_means c.args.context.now es body c.args.locals.now.items c.args.state.now) (halted c.from_residual.result y c.from_residual.ensures.1)
     (let_stop c.args.context.now es body c.args.locals.now.items c.args.state.now y out c.in_err-bind_locals.ensures.value)
 
 pub evaluate_loop-bind_locals-requires : goal.evaluate_loop-bind_locals-requires
@@ -320,7 +320,7 @@ evaluate_loop-returns-in_err-bind_locals-clause-value t c =
     let es = trees_of c.args.nodes.now in
     let body = tree_of c.args.body.now in
     let out = c.bind_locals.new.state in
-    stops_steps (is_on c.args.context.now.world) c.from_residual.result y (part c.args.context.now.world out) (loop_means c.args.context.now es body c.args.locals.now.items c.args.state.now) (halted c.from_residual.result y c.from_residual.ensures.1)
+    stops_steps (has_all c.args.context.now.world) c.from_residual.result y (part c.args.context.now.world out) (loop_means c.args.context.now es body c.args.locals.now.items c.args.state.now) (halted c.from_residual.result y c.from_residual.ensures.1)
     (loop_stop c.args.context.now es body c.args.locals.now.items c.args.state.now y out c.in_err-bind_locals.ensures.value)
 
 pub run_turns-returns-in-Value-clause-kept : goal.run_turns-returns-in-Value-clause-kept
@@ -330,12 +330,12 @@ run_turns-returns-in-Value-clause-kept t c =
 pub act_inside-returns-in_err-cell : goal.act_inside-returns-in_err-cell
 act_inside-returns-in_err-cell t c =
     let x = c.args.context.now in
-    let r = plain_view c.args.world in
+    let r = plain_tx_view c.args.world in
     let m = mark_of c.args.span c.args.wanted in
     let y = c.in_err-cell.field-0.0 in
     let before = tx_state c.args.tx.now in
     let told = subst (λ f. Told {A = CellId} (Err y) (result_of (cell_of (rule f) true c.args.value.now) c.args.span tt)) c.form.ensures c.in_err-cell.ensures in
-    stops_gives (λ v. v) true c.from_residual.result y before (inside_means x r c.args.act m c.args.value.now c.args.args.items before) (halted c.from_residual.result y c.from_residual.ensures.1) (untaken_inside x r m c.args.value.now before c.args.act c.args.args.items y c.requires told)
+    stops_gives (λ v. v) (is_whole r.gone) c.from_residual.result y before (inside_means x r c.args.act m c.args.value.now c.args.args.items before) (halted c.from_residual.result y c.from_residual.ensures.1) (untaken_inside x r m c.args.value.now before c.args.act c.args.args.items y c.requires told)
 
 pub act_outside-returns-in_err-cell : goal.act_outside-returns-in_err-cell
 act_outside-returns-in_err-cell t c =
@@ -399,15 +399,15 @@ apply_callee-call-given-requires t c =
     let x = c.args.context.now in
     let fits = subst (λ f. SoundCallee (callable x) f (length c.args.values.items)) c.in-Function.is c.requires in
     let w : PlainView = record { cells = []; swaps = None; place = 0 } in
-    let here = pure_here (on_view x w) c.in-Function.number (length c.args.values.items) fits in
-    let smaller : room c.on-inner.result < room x + 1 = omega (arith, room_on x c.on-inner.result w c.on-inner.ensures) in
-    (search (rules, smaller), subst (λ y. SoundCall (callable y) (zone_in y) c.in-Function.number (length c.args.values.items)) (sym c.on-inner.ensures) here)
+    let here = pure_here (on_view x (whole_view w)) c.in-Function.number (length c.args.values.items) fits in
+    let smaller : room c.on-inner.result < room x + 1 = omega (arith, room_on x c.on-inner.result (whole_view w) (c.on-inner.ensures ∙ ap (on_view x) c.whole.ensures)) in
+    (search (rules, smaller), subst (λ y. SoundCall (callable y) (zone_in y) c.in-Function.number (length c.args.values.items)) (sym (c.on-inner.ensures ∙ ap (on_view x) c.whole.ensures)) here)
 
 pub apply_callee-returns-in-Function : goal.apply_callee-returns-in-Function
 apply_callee-returns-in-Function t c =
     let x = c.args.context.now in
     let fits = subst (λ f. SoundCallee (callable x) f (length c.args.values.items)) c.in-Function.is c.requires in
-    called_alone x c.on-inner.result _ c.on-inner.ensures c.is_sound.ensures c.args.span c.args.callee c.in-Function.number c.args.values.items c.in-Function.is fits c.call-given.result c.new-state.result c.call-given.new.state c.call-given.ensures
+    called_alone x c.on-inner.result (record { cells = []; swaps = None; place = 0 }) (c.on-inner.ensures ∙ ap (on_view x) c.whole.ensures) c.is_sound.ensures c.args.span c.args.callee c.in-Function.number c.args.values.items c.in-Function.is fits c.call-given.result c.new-state.result c.call-given.new.state c.call-given.ensures
 
 pub evaluate_form-returns-in_err-args-clause-value : goal.evaluate_form-returns-in_err-args-clause-value
 evaluate_form-returns-in_err-args-clause-value t c =
@@ -421,7 +421,7 @@ evaluate_form-returns-in_err-args-clause-value t c =
     let v = c.in_ok-cell.cell in
     let y = c.in_err-args.field-0.0 in
     let out2 = c.evaluate_all.new.state in
-    stops_steps (is_on x.world) c.from_residual-in_err-args.result y (part x.world out2) (form_means x c.args.act m cell args env out) (halted c.from_residual-in_err-args.result y c.from_residual-in_err-args.ensures.1)
+    stops_steps (has_all x.world) c.from_residual-in_err-args.result y (part x.world out2) (form_means x c.args.act m cell args env out) (halted c.from_residual-in_err-args.result y c.from_residual-in_err-args.ensures.1)
     (args_stop x c.args.act m cell args env out v out1 c.in_ok-cell.ensures.value c.evaluate.new.locals.items c.in_ok-cell.ensures.kept (λ (vs : Vec Value Global). vs.items) y out2 c.in_err-args.ensures.value)
 
 pub evaluate_if-returns-clause-value : goal.evaluate_if-returns-clause-value
@@ -438,8 +438,8 @@ run_body-evaluate-requires t c =
     let env = c.args.locals.now.items in
     let inner = c.on-inner.result in
     let w = plain_view c.args.world in
-    let smaller : room inner + (16 * nodes body + 1) < room x + (16 * nodes body + 2) = omega (arith, room_on x inner w c.on-inner.ensures) in
-    (search (rules, smaller), subst (λ y. SoundTree (callable y) (zone_in y) (length env) None body) (sym c.on-inner.ensures) c.requires)
+    let smaller : room inner + (16 * nodes body + 1) < room x + (16 * nodes body + 2) = omega (arith, room_on x inner (whole_view w) (c.on-inner.ensures ∙ ap (on_view x) c.whole.ensures)) in
+    (search (rules, smaller), subst (λ y. SoundTree (callable y) (zone_in y) (length env) None body) (sym (c.on-inner.ensures ∙ ap (on_view x) c.whole.ensures)) c.requires)
 
 pub evaluate_tail-evaluate_do-requires : goal.evaluate_tail-evaluate_do-requires
 evaluate_tail-evaluate_do-requires t c =
@@ -560,7 +560,7 @@ pub evaluate_form-act_inside-requires : goal.evaluate_form-act_inside-requires
 evaluate_form-act_inside-requires t c =
     let x = c.args.context.now in
     let k = 16 * (nodes (tree_of c.args.cell.now) + nodes_in (trees_of c.args.args.now)) in
-    let is = sym c.world.ensures ∙ ap plain_world c.in-Some.is in
+    let is = sym c.world.ensures ∙ ap plain_tx_world c.in-Some.is in
     let smaller : room x + 5 < room x + (k + 10) = omega arith in
     let ready = subst (λ n. ReadyIn (callable x) (zone_in x) c.args.act n) (sym c.in_ok-args.ensures.count) c.requires.ready in
     (search (rules, smaller), subst (λ o. ReadyIn (callable x) (zone_on o) c.args.act (length c.in_ok-args.args.items)) is ready)
@@ -569,7 +569,7 @@ pub evaluate_form-act_outside-requires : goal.evaluate_form-act_outside-requires
 evaluate_form-act_outside-requires t c =
     let x = c.args.context.now in
     let k = 16 * (nodes (tree_of c.args.cell.now) + nodes_in (trees_of c.args.args.now)) in
-    let is = sym c.world.ensures ∙ ap plain_world c.in-None.is in
+    let is = sym c.world.ensures ∙ ap plain_tx_world c.in-None.is in
     let smaller : room x + 5 < room x + (k + 10) = omega arith in
     let ready = subst (λ n. ReadyIn (callable x) (zone_in x) c.args.act n) (sym c.in_ok-args.ensures.count) c.requires.ready in
     (search (rules, smaller), (is, subst (λ o. ReadyIn (callable x) (zone_on o) c.args.act (length c.in_ok-args.args.items)) is ready))
@@ -587,9 +587,9 @@ evaluate_form-returns-in-Some-clause-value t c =
     let r = c.act_inside.result in
     let before = c.evaluate_all.new.state in
     let after = record before { tx = c.act_inside.new.tx } in
-    let is = sym c.world.ensures ∙ ap plain_world c.in-Some.is in
+    let is = sym c.world.ensures ∙ ap plain_tx_world c.in-Some.is in
     let whole = acted x c.args.act m cell args env out v c.evaluate.new.state c.in_ok-cell.ensures.value c.evaluate.new.locals.items c.in_ok-cell.ensures.kept vs before c.in_ok-args.ensures.value in
-    let given = acted_inside x c.args.act m v vs r before after (plain_view c.in-Some.world) is c.act_inside.ensures in
+    let given = acted_inside x c.args.act m v vs r before after (plain_tx_view c.in-Some.world) is c.act_inside.ensures in
     stepped x r c.as_step.result after (form_means x c.args.act m cell args env out) c.as_step.ensures (subst (λ q. Yields x r after q) (sym whole) given)
 
 pub evaluate_form-returns-clause-value : goal.evaluate_form-returns-clause-value
@@ -605,7 +605,7 @@ evaluate_form-returns-clause-value t c =
     let r = c.act_outside.result in
     let before = c.evaluate_all.new.state in
     let after = record before { thread = c.act_outside.new.thread } in
-    let is = sym c.world.ensures ∙ ap plain_world c.in-None.is in
+    let is = sym c.world.ensures ∙ ap plain_tx_world c.in-None.is in
     let whole = acted x c.args.act m cell args env out v c.evaluate.new.state c.in_ok-cell.ensures.value c.evaluate.new.locals.items c.in_ok-cell.ensures.kept vs before c.in_ok-args.ensures.value in
     let given = acted_outside x c.args.act m v vs r before after is (c.act_outside.ensures c.args.wanted) in
     stepped x r c.as_step-in-None.result after (form_means x c.args.act m cell args env out) c.as_step-in-None.ensures (subst (λ q. Yields x r after q) (sym whole) given)
@@ -617,8 +617,8 @@ act_inside-returns-in-Put t c =
     let ready = subst (λ a. ReadyIn (callable x) in_dosync a (length c.args.args.items)) c.in-Put.is c.requires in
     let told = subst (λ f. Told (Ok c.in_ok-cell.cell) (result_of (cell_of (rule f) true c.args.value.now) c.args.span tt)) (c.form.ensures ∙ ap form_of_act c.in-Put.is) c.in_ok-cell.ensures in
     let m = mark_of c.args.span c.args.wanted in
-    let r = plain_view c.args.world in
-    subst (λ a. Gives true c.put.result (tx_state c.put.new.self) (inside_means x r a m c.args.value.now c.args.args.items (tx_state c.args.tx.now))) (sym c.in-Put.is)
+    let r = plain_tx_view c.args.world in
+    subst (λ a. Gives (is_whole r.gone) c.put.result (tx_state c.put.new.self) (inside_means x r a m c.args.value.now c.args.args.items (tx_state c.args.tx.now))) (sym c.in-Put.is)
     (put_inside x r m c.args.value.now (tx_state c.args.tx.now) c.in_ok-cell.cell c.put.result (tx_state c.put.new.self) form c.args.args.items ready told c.put.ensures)
 
 pub act_inside-returns-in-Send : goal.act_inside-returns-in-Send
@@ -626,8 +626,8 @@ act_inside-returns-in-Send t c =
     let x = c.args.context.now in
     let told = subst (λ f. Told (Ok c.in_ok-cell.cell) (result_of (cell_of (rule f) true c.args.value.now) c.args.span tt)) (c.form.ensures ∙ ap form_of_act c.in-Send.is) c.in_ok-cell.ensures in
     let m = mark_of c.args.span c.args.wanted in
-    let r = plain_view c.args.world in
-    subst (λ a. Gives true c.send.result (tx_state c.send.new.self) (inside_means x r a m c.args.value.now c.args.args.items (tx_state c.args.tx.now))) (sym c.in-Send.is)
+    let r = plain_tx_view c.args.world in
+    subst (λ a. Gives (is_whole r.gone) c.send.result (tx_state c.send.new.self) (inside_means x r a m c.args.value.now c.args.args.items (tx_state c.args.tx.now))) (sym c.in-Send.is)
     (send_inside x r m c.args.value.now (tx_state c.args.tx.now) c.in_ok-cell.cell c.send.result (tx_state c.send.new.self) c.in-Send.callee c.args.args.items told c.send.ensures)
 
 pub act_outside-returns-in_ok-event-in-Put : goal.act_outside-returns-in_ok-event-in-Put
@@ -722,7 +722,7 @@ run_body-returns-in-Err-clause-value t c =
     let body = tree_of c.args.dosync.body.now in
     let env = c.args.locals.now.items in
     let w = plain_view c.args.world in
-    body_stop x c.on-inner.result w c.on-inner.ensures body env c.new-state.result c.new-state.ensures.tx c.in-Err.stop c.evaluate.new.state c.in-Err.ensures.value
+    body_stop x c.on-inner.result w (c.on-inner.ensures ∙ ap (on_view x) c.whole.ensures) body env c.new-state.result c.new-state.ensures.tx c.in-Err.stop c.evaluate.new.state c.in-Err.ensures.value
 
 pub run_body-returns-in-Ok-clause-value : goal.run_body-returns-in-Ok-clause-value
 run_body-returns-in-Ok-clause-value t c =
@@ -733,7 +733,7 @@ run_body-returns-in-Ok-clause-value t c =
     let w = plain_view c.args.world in
     let v = c.in-Ok.value in
     let copied : c.from_vec.result ≡ env = search rules in (
-      body_done x c.on-inner.result w c.on-inner.ensures body env c.new-state.result c.new-state.ensures.tx v c.evaluate.new.state c.in-Ok.ensures.value ∙ ap (λ k. Completes v (tx_state k)) (sym c.into_tx.ensures),
+      body_done x c.on-inner.result w (c.on-inner.ensures ∙ ap (on_view x) c.whole.ensures) body env c.new-state.result c.new-state.ensures.tx v c.evaluate.new.state c.in-Ok.ensures.value ∙ ap (λ k. Completes v (tx_state k)) (sym c.into_tx.ensures),
       ap (λ l. record { body = body; locals = l; wanted = m.wanted; result = v; state = tx_state c.into_tx.result }) copied,
     )
 
@@ -744,7 +744,7 @@ run_body-returns-in-Ok-clause-sound t c =
     let env = c.args.locals.now.items in
     let w = plain_view c.args.world in
     let v = c.in-Ok.value in
-    let keeps = body_keeps x c.on-inner.result w c.on-inner.ensures body env c.new-state.result c.new-state.ensures.tx c.is_sound.ensures (length env) v c.evaluate.new.state c.requires c.in-Ok.ensures.value in
+    let keeps = body_keeps x c.on-inner.result w (c.on-inner.ensures ∙ ap (on_view x) c.whole.ensures) body env c.new-state.result c.new-state.ensures.tx c.is_sound.ensures (length env) v c.evaluate.new.state c.requires c.in-Ok.ensures.value in
     subst (λ k. SoundCommutes (callable x) k.done.commutes) (sym c.into_tx.ensures) keeps
 
 pub eat_dosync-returns-in-None-clause-value : goal.eat_dosync-returns-in-None-clause-value
@@ -795,31 +795,31 @@ eat_dosync-returns-in_err-event-clause-value t c =
 pub update_inside-returns-in_err-value : goal.update_inside-returns-in_err-value
 update_inside-returns-in_err-value t c =
     let x = c.args.context.now in
-    let r = plain_view c.args.world in
+    let r = plain_tx_view c.args.world in
     let m = mark_of c.args.span c.args.wanted in
     let y = c.in_err-value.field-0.0 in
     let before = tx_state c.args.tx.now in
     let after = tx_state c.begin_update.new.self in
-    stops_gives (λ v. v) true c.from_residual.result y after (update_means x r c.args.form c.args.callee c.args.cell c.args.args.items m before) (halted c.from_residual.result y c.from_residual.ensures.1)
+    stops_gives (λ v. v) (is_whole r.gone) c.from_residual.result y after (update_means x r c.args.form c.args.callee c.args.cell c.args.args.items m before) (halted c.from_residual.result y c.from_residual.ensures.1)
     (update_unbegun x c.is_sound.ensures r c.args.form c.args.callee c.args.cell c.args.args.items m y before after c.in_err-value.ensures)
 
 pub update_inside-returns-in_err-new : goal.update_inside-returns-in_err-new
 update_inside-returns-in_err-new t c =
     let x = c.args.context.now in
-    let r = plain_view c.args.world in
+    let r = plain_tx_view c.args.world in
     let m = mark_of c.args.span c.args.wanted in
     let y = c.in_err-new.field-0.0 in
     let v = c.in_ok-value.value in
     let before = tx_state c.args.tx.now in
     let after = tx_state c.begin_update.new.self in
     let told = subst (λ us. Told {A = Value} (Err y) (applied x c.args.callee (v ∷ us) c.args.span)) c.as_slice.ensures.value c.in_err-new.ensures in
-    stops_gives (λ v. v) true c.from_residual-in_err-new.result y after (update_means x r c.args.form c.args.callee c.args.cell c.args.args.items m before) (halted c.from_residual-in_err-new.result y c.from_residual-in_err-new.ensures.1)
+    stops_gives (λ v. v) (is_whole r.gone) c.from_residual-in_err-new.result y after (update_means x r c.args.form c.args.callee c.args.cell c.args.args.items m before) (halted c.from_residual-in_err-new.result y c.from_residual-in_err-new.ensures.1)
     (update_stop x c.is_sound.ensures r c.args.form c.args.callee c.args.cell c.args.args.items m before after v c.requires.callee c.in_ok-value.ensures y told)
 
 pub update_inside-returns : goal.update_inside-returns
 update_inside-returns t c =
     let x = c.args.context.now in
-    let r = plain_view c.args.world in
+    let r = plain_tx_view c.args.world in
     let m = mark_of c.args.span c.args.wanted in
     let v = c.in_ok-value.value in
     let before = tx_state c.args.tx.now in
@@ -840,14 +840,14 @@ act_inside-update_inside-requires t c =
 pub act_inside-returns-in-Update : goal.act_inside-returns-in-Update
 act_inside-returns-in-Update t c =
     let x = c.args.context.now in
-    let r = plain_view c.args.world in
+    let r = plain_tx_view c.args.world in
     let m = mark_of c.args.span c.args.wanted in
     let before = tx_state c.args.tx.now in
     let after = tx_state c.update_inside.new.tx in
     let told = subst (λ f. Told (Ok c.in_ok-cell.cell) (result_of (cell_of (rule f) true c.args.value.now) c.args.span tt)) (c.form.ensures ∙ ap form_of_act c.in-Update.is) c.in_ok-cell.ensures in
     let whole = update_inside x r m c.args.value.now before c.in_ok-cell.cell c.in-Update.form c.in-Update.callee c.args.args.items told in
-    subst (λ a. Gives true c.update_inside.result after (inside_means x r a m c.args.value.now c.args.args.items before)) (sym c.in-Update.is)
-    (subst (λ q. Gives true c.update_inside.result after q) whole c.update_inside.ensures)
+    subst (λ a. Gives (is_whole r.gone) c.update_inside.result after (inside_means x r a m c.args.value.now c.args.args.items before)) (sym c.in-Update.is)
+    (subst (λ q. Gives (is_whole r.gone) c.update_inside.result after q) whole c.update_inside.ensures)
 
 pub swap-returns-in_err-world : goal.swap-returns-in_err-world
 swap-returns-in_err-world t c =
@@ -1014,8 +1014,8 @@ act_inside-returns-in-Look t c =
     let x = c.args.context.now in
     let told = subst (λ f. Told (Ok c.in_ok-cell.cell) (result_of (cell_of (rule f) true c.args.value.now) c.args.span tt)) (c.form.ensures ∙ ap form_of_act c.in-Look.is) c.in_ok-cell.ensures in
     let m = mark_of c.args.span c.args.wanted in
-    let r = plain_view c.args.world in
-    subst (λ a. Gives true c.look.result (tx_state c.look.new.self) (inside_means x r a m c.args.value.now c.args.args.items (tx_state c.args.tx.now))) (sym c.in-Look.is)
+    let r = plain_tx_view c.args.world in
+    subst (λ a. Gives (is_whole r.gone) c.look.result (tx_state c.look.new.self) (inside_means x r a m c.args.value.now c.args.args.items (tx_state c.args.tx.now))) (sym c.in-Look.is)
     (look_inside x r m c.args.value.now (tx_state c.args.tx.now) c.in_ok-cell.cell c.look.result (tx_state c.look.new.self) c.in-Look.form c.args.args.items told c.look.ensures)
 
 pub act_outside-returns-in_ok-event-in-Look : goal.act_outside-returns-in_ok-event-in-Look
@@ -1060,7 +1060,7 @@ evaluate-returns-in_err-value-clause-value t c =
     let x = c.args.context.now in
     let y = c.in_err-value.field-0.0 in
     let out = c.evaluate_tail.new.state in
-    stops_gives (λ v. v) (is_on x.world) c.from_residual.result y (part x.world out) (means x (tree_of c.args.node.now) c.args.locals.now.items c.args.state.now) (halted c.from_residual.result y c.from_residual.ensures.1) c.in_err-value.ensures.value
+    stops_gives (λ v. v) (has_all x.world) c.from_residual.result y (part x.world out) (means x (tree_of c.args.node.now) c.args.locals.now.items c.args.state.now) (halted c.from_residual.result y c.from_residual.ensures.1) c.in_err-value.ensures.value
 
 pub evaluate-returns-clause-value : goal.evaluate-returns-clause-value
 evaluate-returns-clause-value t c =
@@ -1079,7 +1079,7 @@ evaluate_if-returns-in_err-value-clause-value t c =
     let no = tree_of c.args.no.now in
     let env = c.args.locals.now.items in
     let out = c.evaluate.new.state in
-    stops_steps (is_on x.world) c.from_residual.result y (part x.world out) (if_means x test yes no env c.args.state.now) (halted c.from_residual.result y c.from_residual.ensures.1) (if_stop x test yes no env c.args.state.now y out c.in_err-value.ensures.value)
+    stops_steps (has_all x.world) c.from_residual.result y (part x.world out) (if_means x test yes no env c.args.state.now) (halted c.from_residual.result y c.from_residual.ensures.1) (if_stop x test yes no env c.args.state.now y out c.in_err-value.ensures.value)
 
 pub evaluate_if-returns-then-other-clause-value : goal.evaluate_if-returns-then-other-clause-value
 evaluate_if-returns-then-other-clause-value t c =
@@ -1102,7 +1102,7 @@ evaluate_strict-returns-in_err-values-clause-value t c =
     let es = trees_of c.args.args.now in
     let env = c.args.locals.now.items in
     let out = c.evaluate_all.new.state in
-    stops_steps (is_on x.world) c.from_residual.result y (part x.world out) (strict_means x c.args.strict c.args.span es env c.args.state.now) (halted c.from_residual.result y c.from_residual.ensures.1)
+    stops_steps (has_all x.world) c.from_residual.result y (part x.world out) (strict_means x c.args.strict c.args.span es env c.args.state.now) (halted c.from_residual.result y c.from_residual.ensures.1)
     (strict_stop x c.args.strict c.args.span es env c.args.state.now out (λ (vs : Vec Value Global). vs.items) y c.in_err-values.ensures.value)
 
 pub evaluate_strict-returns-clause-value : goal.evaluate_strict-returns-clause-value
@@ -1121,7 +1121,7 @@ evaluate_form-returns-in_err-cell-clause-value t c =
     let env = c.args.locals.now.items in
     let y = c.in_err-cell.field-0.0 in
     let out = c.evaluate.new.state in
-    stops_steps (is_on x.world) c.from_residual.result y (part x.world out) (form_means x c.args.act m cell args env c.args.state.now) (halted c.from_residual.result y c.from_residual.ensures.1) (cell_stop x c.args.act m cell args env c.args.state.now y out c.in_err-cell.ensures.value)
+    stops_steps (has_all x.world) c.from_residual.result y (part x.world out) (form_means x c.args.act m cell args env c.args.state.now) (halted c.from_residual.result y c.from_residual.ensures.1) (cell_stop x c.args.act m cell args env c.args.state.now y out c.in_err-cell.ensures.value)
 
 pub evaluate_form-returns-in-Some-clause-kept : goal.evaluate_form-returns-in-Some-clause-kept
 evaluate_form-returns-in-Some-clause-kept t c = kept_by c.as_step.result (c.in_ok-args.ensures.kept ∙ c.in_ok-cell.ensures.kept)
@@ -1372,7 +1372,33 @@ pub rerun-returns-in-Outdated-clause-value : goal.rerun-returns-in-Outdated-clau
 rerun-returns-in-Outdated-clause-value t c =
     let d = transacting c.args.context.now (mark_of c.args.dosync.span c.args.dosync.wanted) (tree_of c.args.dosync.body.now) c.args.locals.now.items in
     let e = c.args.event.now in
-    rerun_outdated d (world_of (plain_view e.start)) e.kind.now c.rerun_as.result c.rerun_as.ensures {U = Unit {0}} tt c.in-Outdated.is
+    rerun_outdated d (world_of (plain_view e.start)) e.kind.now c.rerun_as.result c.rerun_as.ensures c.in-Outdated.number c.in-Outdated.is c.miss.result (subst (λ l. Misses c.miss.result (seen_means c.args.context.now (tree_of c.args.dosync.body.now) l (record { refs = plain_view e.start; gone = Some c.in-Outdated.number }))) c.as_slice.ensures.value c.miss.ensures)
+
+pub rerun-miss-requires : goal.rerun-miss-requires
+rerun-miss-requires t c =
+    let x = c.args.context.now in
+    (search rules, subst (λ l. SoundTree (callable x) in_dosync (length l) None (tree_of c.args.dosync.body.now)) (sym c.as_slice.ensures.value) c.requires)
+
+pub miss-evaluate-given-requires : goal.miss-evaluate-given-requires
+miss-evaluate-given-requires t c =
+    let x = c.args.context.now in
+    let body = tree_of c.args.dosync.body.now in
+    let env = c.args.locals.now in
+    let inner = c.on-inner.result in
+    let w : PlainTxView = record { refs = plain_view c.args.world; gone = Some c.args.number } in
+    let smaller : room inner + (16 * nodes body + 1) < room x + (16 * nodes body + 2) = omega (arith, room_on x inner w c.on-inner.ensures) in
+    let sound = subst (λ y. SoundTree (callable y) (zone_in y) (length env) None body) (sym c.on-inner.ensures) c.requires in
+    (search (rules, smaller), subst (λ l. SoundTree (callable inner) (zone_in inner) (length l) None body) (sym c.in_ok-copies.ensures) sound)
+
+pub miss-returns : goal.miss-returns
+miss-returns t c =
+    let x = c.args.context.now in
+    let body = tree_of c.args.dosync.body.now in
+    let env = c.args.locals.now in
+    let w : PlainTxView = record { refs = plain_view c.args.world; gone = Some c.args.number } in
+    let given = subst (λ l. Yields c.on-inner.result c.evaluate-given.result c.evaluate-given.new.state (means c.on-inner.result body l c.new-state.result)) c.in_ok-copies.ensures c.evaluate-given.ensures.value in
+    subst (λ q. Misses q (seen_means x body env w)) (sym c.has_missed.ensures)
+    (misses c.evaluate-given.result (tx_state c.evaluate-given.new.state.tx) (seen_means x body env w) (body_seen x c.on-inner.result w c.on-inner.ensures body env c.new-state.result c.new-state.ensures.tx c.evaluate-given.result c.evaluate-given.new.state given))
 
 pub rerun-returns-in-Other-clause-value : goal.rerun-returns-in-Other-clause-value
 rerun-returns-in-Other-clause-value t c =

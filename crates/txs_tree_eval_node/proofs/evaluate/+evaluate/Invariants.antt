@@ -78,6 +78,9 @@ decreases-end_of_tx l = room l.context.now + (16 * nodes (tree_of l.dosync.body.
 abbrev pub decreases-rerun : goal.decreases-rerun
 decreases-rerun l = room l.context.now + (16 * nodes (tree_of l.dosync.body.now) + 7)
 
+abbrev pub decreases-miss : goal.decreases-miss
+decreases-miss l = room l.context.now + (16 * nodes (tree_of l.dosync.body.now) + 2)
+
 abbrev pub decreases-run_body : goal.decreases-run_body
 decreases-run_body l = room l.context.now + (16 * nodes (tree_of l.dosync.body.now) + 2)
 

@@ -1,4 +1,4 @@
-use Rattle.std.proofs.Common.{◌≡◌, ◌<◌, ◌∙◌, ap, arith, length, subst, sym, true, false}
+use Rattle.std.proofs.Common.{◌∙◌, ap, arith, subst, sym}
 use Rattle.txs_tree_eval_transaction.proofs.Halves.{ascend_take, ascend_drop, found_left, found_right}
 use Rattle.txs_tree_eval_transaction.specs.Pasts.{Ascend, begins_by, entry_at}
 use Rattle.txs_tree_eval_transaction.proofs.past.+entry_at.Goals as goal

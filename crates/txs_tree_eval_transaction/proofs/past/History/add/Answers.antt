@@ -1,4 +1,4 @@
-use Rattle.std.proofs.Common.{◌≤◌, ap, subst, sym, ◌∙◌}
+use Rattle.std.proofs.Common.{◌≤◌, subst, sym}
 use Rattle.txs_tree_eval_transaction.proofs.Halves.{ascend_add}
 use Rattle.txs_tree_eval_transaction.specs.Pasts.{Ascend, latest}
 use Rattle.txs_tree_eval_transaction.proofs.past.History.add.Goals as goal

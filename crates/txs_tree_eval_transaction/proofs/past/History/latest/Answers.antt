@@ -1,5 +1,4 @@
-use Rattle.std.proofs.Common.{◌-◌, ◌∙◌, ap, length, sym}
-use Rattle.std.specs.List.{slice_get}
+use Rattle.std.proofs.Common.{◌∙◌, ap, sym}
 use Rattle.txs_tree_eval_transaction.proofs.Halves.{latest_is}
 use Rattle.txs_tree_eval_transaction.specs.Pasts.{latest}
 use Rattle.txs_tree_eval_transaction.proofs.past.History.latest.Goals as goal
