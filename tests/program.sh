@@ -68,6 +68,23 @@ is "both are as they were" "$(cat old.bin old.bin.part)" 'oldmine'
 printf '(future (println' >bad.clj
 is "a script that is refused writes nothing" "$(answer build bad.clj --out none.bin >/dev/null; ls none.bin 2>/dev/null)" ''
 
+# ---- the file of --record, and that of --turns-from
+two='(def c (ref 0)) (future (println (dosync (alter c inc)))) (future (println (dosync (alter c inc))))'
+printf '%s' "$two" >two.clj
+is "a run is recorded" "$("$program" run --cells two.clj --record list >recorded; echo "$?")" '0'
+is "the list makes it again" "$("$program" schedule --cells --turns-from list two.clj | cmp - recorded && echo same)" 'same'
+is "so does the list as standard input" "$("$program" schedule --cells --turns-from - two.clj <list | cmp - recorded && echo same)" 'same'
+is "a schedule by it is audited" "$("$program" schedule --audit --turns-from list two.clj | tail -n 1)" 'audit agrees serial'
+is "over its own script" "$(answer run two.clj --record ./two.clj)" '|error: the file of --record is the script itself|2'
+is "the script is as it was" "$(cat two.clj)" "$two"
+is "a folder that isn't there" "$(answer run a.clj --record none/list)" '1|write failed|2'
+is "why, explained" "$(answer run a.clj --record none/list --explain)" "$(printf '1|write failed\nnone/list: No such file or directory (os error 2)|2')"
+is "a script that is refused writes none" "$(answer run bad.clj --record none.list >/dev/null; ls none.list 2>/dev/null)" ''
+is "a list that isn't there" "$(answer schedule a.clj --turns-from none.list)" '|read failed|2'
+is "why, explained" "$(answer schedule a.clj --turns-from none.list --explain)" "$(printf '|read failed\nnone.list: No such file or directory (os error 2)|2')"
+is "a file that is no list" "$(answer schedule a.clj --turns-from two.clj)" '|wrong list|2'
+is "a list and a script from one input" "$(answer schedule --turns-from -)" "|error: the list and the script can't both be standard input|2"
+
 # ---- files that are read
 is "a script that isn't there" "$(answer run none.clj)" '|read failed|2'
 is "why, explained" "$(answer run none.clj --explain)" "$(printf '|read failed\nnone.clj: No such file or directory (os error 2)|2')"

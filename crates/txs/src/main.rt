@@ -17,8 +17,8 @@ use txs_audit_answer::{AuditError, Terms, Verdict};
 use txs_cli_args::parse_words;
 use txs_cli_report::told::{DONE, SPENT, UNUSABLE};
 use txs_cli_report::write_told;
-use txs_cli_request::{Input, Request};
-use txs_program::play_by_workers;
+use txs_cli_request::{Input, Request, RunOptions};
+use txs_program::{Record, play_by_workers, record_by_workers};
 use txs_tree_meaning::Program;
 use txs_world_protocol::Report;
 
@@ -81,7 +81,9 @@ fn input_of(request: &Request) -> Option<&Input> {
         | Request::List { input }
         | Request::Build { input, .. }
         | Request::Run { input, .. }
-        | Request::Schedule { input, .. } => Some(input),
+        | Request::Record { input, .. }
+        | Request::Schedule { input, .. }
+        | Request::Replay { input, .. } => Some(input),
         Request::Shown(_) | Request::Faulty(_) => None,
     }
 }
@@ -245,6 +247,95 @@ fn build_to<
     }
 }
 
+/// Writes the list of a run that was recorded, or says that there is none. A run that didn't happen has none, and its status says why.
+fn write_record(rt: &HostRuntime, request: &Request, out: &str, status: u8, record: Record) -> u8 {
+    match record {
+        Record::NoRun => status,
+        Record::NoList => status.max(complain(rt, b"record failed\n", SPENT)),
+        Record::List(list) => match write_list(rt, out, list) {
+            Ok(()) => status,
+            Err(error) => {
+                let failed = complain(rt, b"write failed\n", UNUSABLE);
+                explain_file(rt, request, out, &error);
+                status.max(failed)
+            }
+        },
+    }
+}
+
+/// Writes a list of plays, with a line's end behind it.
+fn write_list(rt: &HostRuntime, out: &str, list: String) -> io::Result<()> {
+    let mut line = list;
+    line.push_str("\n")?;
+    write_code(rt, out, line.as_bytes())
+}
+
+/// Runs the request's file or standard input by so many workers, and writes the list of the run to the file of this name.
+fn record_to<T: Threads + Wait + Sync>(
+    rt: &HostRuntime,
+    threads: &T,
+    request: &Request,
+    workers: u64,
+    options: RunOptions,
+    out: &str,
+) -> u8 {
+    if covers_source(rt, request, out) {
+        return complain(
+            rt,
+            b"error: the file of --record is the script itself\n",
+            UNUSABLE,
+        );
+    }
+    let (status, record) = record_on(rt, threads, request, workers, options);
+    write_record(rt, request, out, status, record)
+}
+
+/// Runs the request's file or standard input by so many workers, and records the run.
+fn record_on<T: Threads + Wait + Sync>(
+    rt: &HostRuntime,
+    threads: &T,
+    request: &Request,
+    workers: u64,
+    options: RunOptions,
+) -> (u8, Record) {
+    let alloc = rt.alloc();
+    let workers = workers as usize;
+    let shown = if explains(request) {
+        Some(file_of(request).unwrap_or("-"))
+    } else {
+        None
+    };
+    let mut writer = io::writer(rt);
+    let mut faults = rt.stderr();
+    let Some(name) = file_of(request) else {
+        return record_by_workers(
+            threads,
+            alloc,
+            workers,
+            options,
+            shown,
+            &mut rt.stdin(),
+            &mut writer,
+            &mut faults,
+        );
+    };
+    let mut source = Source::open(rt, name);
+    let ended = record_by_workers(
+        threads,
+        alloc,
+        workers,
+        options,
+        shown,
+        &mut source,
+        &mut writer,
+        &mut faults,
+    );
+    if let Some(error) = &source.fault {
+        explain_file(rt, request, name, error);
+    }
+    ended
+}
+
 /// Does what the request asks for.
 fn play_all<
     T: Threads + Wait + Sync,
@@ -255,6 +346,12 @@ fn play_all<
 {
     match request {
         Request::Build { out, .. } => build_to(rt, threads, auditor, request, out.as_str()),
+        Request::Record {
+            workers,
+            options,
+            out,
+            ..
+        } => record_to(rt, threads, request, *workers, *options, out.as_str()),
         _ => play_on(rt, threads, auditor, request, &mut io::writer(rt)),
     }
 }
@@ -320,9 +417,60 @@ fn request_of(rt: &HostRuntime) -> io::Result<Request> {
     Ok(parse_words(rt.alloc(), args.as_slice(), is_terminal)?)
 }
 
+/// The text of the file of this name, or of standard input where it is `-`.
+fn read_list(rt: &HostRuntime, from: &str) -> io::Result<String> {
+    let text = if from == "-" {
+        io::read_to_string(rt.alloc(), rt.stdin())?
+    } else {
+        fs::read_to_string(rt, from)?
+    };
+    Ok(String::from_str(rt.alloc(), text.as_str().trim_end())?)
+}
+
+/// The same request, with the list that it has from a file in the place of the file.
+fn with_list(rt: &HostRuntime, request: Request) -> Result<Request, u8> {
+    let Request::Replay {
+        input,
+        from,
+        options,
+    } = request
+    else {
+        return Ok(request);
+    };
+    if from.as_str() == "-" && input.file.is_none() {
+        return Err(complain(
+            rt,
+            b"error: the list and the script can't both be standard input\n",
+            UNUSABLE,
+        ));
+    }
+    match read_list(rt, from.as_str()) {
+        Ok(plays) => Ok(Request::Schedule {
+            input,
+            plays,
+            options,
+        }),
+        Err(error) => {
+            let status = complain(rt, b"read failed\n", UNUSABLE);
+            if input.explain {
+                let _ = eprintln!(rt; "{}: {error}", from.as_str());
+            }
+            Err(status)
+        }
+    }
+}
+
+/// Does what the request asks for, with its list read from a file where it says so.
+fn play_listed<T: Threads + Wait + Sync>(rt: &HostRuntime, threads: &T, request: Request) -> u8 {
+    match with_list(rt, request) {
+        Ok(request) => play_audited(rt, threads, &request),
+        Err(status) => status,
+    }
+}
+
 fn main(rt: HostRuntime) -> ExitCode {
     let status = match request_of(&rt) {
-        Ok(request) => play_audited(&rt, &rt, &request),
+        Ok(request) => play_listed(&rt, &rt, request),
         Err(error) => unread(&rt, &error),
     };
     ExitCode::from(status)

@@ -1,5 +1,5 @@
 -- What is told for requests to run something.
-use Rattle.std.proofs.Common.{◌≡◌, ℕ, Bool, true, false, List, [], Option, String, Global, sym, subst}
+use Rattle.std.proofs.Common.{◌≡◌, ℕ, Bool, true, false, List, [], Option, String, Global, refl, sym, subst}
 use Rattle.std.specs.Prelude.{string_bytes}
 use Rattle.std.specs.Option.{IfSome}
 use Rattle.txs_code_meaning.specs.PlainCode.{PlainCode}
@@ -8,7 +8,7 @@ use Rattle.txs_cli_report.specs.Lines.{Script}
 use Rattle.txs_cli_report.specs.Told.{Told, ScheduleTells, front}
 use Rattle.txs_cli_request.specs.declared.request.Input.{Input}
 use Rattle.txs_cli_request.specs.declared.request.Request.{Request}
-use Rattle.txs_cli_request.specs.declared.request.Request.TheVariants.{Run, Schedule}
+use Rattle.txs_cli_request.specs.declared.request.Request.TheVariants.{Record, Replay, Run, Schedule}
 use Rattle.txs_cli_request.specs.declared.request.RunOptions.{RunOptions}
 use Rattle.txs_cli.specs.CodeTold.{BytesScheduleTell}
 use Rattle.txs_cli.specs.CodeWorkersTold.{StreamWorkedCodeTells}
@@ -72,6 +72,18 @@ where_unasked known tells writes b is h = subst (λ (x : Bool). IfSome known (λ
 pub wrongly_used : (known : Option (List ℕ)) (tells : List ℕ → Told → Type 0) (writes : Told → Type 0) → ((bytes : List ℕ) → tells bytes wrong_use) → writes wrong_use
     → IfSome known (λ bytes. (t : Told) × tells bytes t × writes t)
 wrongly_used known tells writes so h = some_always known (λ bytes. (t : Told) × tells bytes t × writes t) (λ bytes. (wrong_use, so bytes, h))
+
+-- a run that is to be recorded can't be asked for here
+pub record_told : (known : Option (List ℕ)) (writes : Told → Type 0) (request : Request) (input : Input) (workers : ℕ) (options : RunOptions) (out : String Global)
+    → request ≡ Record input workers options out → writes wrong_use → IfSome known (λ bytes. (t : Told) × RequestTells bytes request t × writes t)
+record_told known writes request input workers options out is h =
+    subst (λ (r : Request). IfSome known (λ bytes. (t : Told) × RequestTells bytes r t × writes t)) (sym is) (wrongly_used known (λ bytes t. RequestTells bytes (Record input workers options out) t) writes (λ bytes. refl) h)
+
+-- nor one by a list from a file
+pub replay_told : (known : Option (List ℕ)) (writes : Told → Type 0) (request : Request) (input : Input) (from : String Global) (options : RunOptions)
+    → request ≡ Replay input from options → writes wrong_use → IfSome known (λ bytes. (t : Told) × RequestTells bytes request t × writes t)
+replay_told known writes request input from options is h =
+    subst (λ (r : Request). IfSome known (λ bytes. (t : Told) × RequestTells bytes r t × writes t)) (sym is) (wrongly_used known (λ bytes t. RequestTells bytes (Replay input from options) t) writes (λ bytes. refl) h)
 
 -- ---- what is told of an input, which is code or a script
 

@@ -4,5 +4,6 @@ pub mod Failing
 pub mod FormStream
 mod Interleaved
 pub mod Ran
+pub mod Recording
 mod Refused
 pub mod Commands

@@ -3,6 +3,7 @@ pub mod CodeStream
 pub mod CodeTold
 pub mod CodeWorkersTold
 pub mod LentCode
+pub mod Recorded
 pub mod RunTold
 pub mod Runner
 pub mod Telling

@@ -18,7 +18,7 @@ use Rattle.txs_world_protocol.specs.declared.report.Report.{Report}
 use Rattle.txs_cli_request.specs.declared.request.Input.{Input}
 use Rattle.txs_cli_request.specs.declared.request.Request.{Request}
 use Rattle.txs_cli_request.specs.declared.request.Request.TheVariants as asked
-use Rattle.txs_cli_request.specs.declared.request.Request.TheVariants.{Check, Build, Run, Schedule, Shown, Faulty}
+use Rattle.txs_cli_request.specs.declared.request.Request.TheVariants.{Check, Build, Run, Record, Schedule, Replay, Shown, Faulty}
 use Rattle.txs_cli_request.specs.declared.request.RunOptions.{RunOptions}
 
 -- the name under which lines are explained, where they are: that of the file, or "-" for the standard input
@@ -57,7 +57,9 @@ RequestTells bytes (Check input) t = Tells (script_in bytes input) wanted.Check 
 RequestTells bytes (asked.List input) t = ListTells input.code bytes input t
 RequestTells bytes (Build input out) t = Tells (script_in bytes input) wanted.Build t
 RequestTells bytes (Run input workers options) t = TurnsTell options.audit bytes input [] options t
+RequestTells bytes (Record input workers options out) t = t ≡ wrong_use
 RequestTells bytes (Schedule input plays options) t = TurnsTell options.audit bytes input (string_bytes plays) options t
+RequestTells bytes (Replay input from options) t = t ≡ wrong_use
 RequestTells bytes (Shown text) t = t ≡ record { output = string_bytes text; errors = []; status = 0 }
 RequestTells bytes (Faulty text) t = t ≡ record { output = []; errors = string_bytes text; status = 2 }
 
@@ -104,7 +106,9 @@ WorkedRequestTells failed unaudited bytes (asked.List input) t = RequestTells by
 WorkedRequestTells failed unaudited bytes (Build input out) t = RequestTells bytes (Build input out) t
 WorkedRequestTells failed unaudited bytes (Run input workers options) t =
     WorkTells (λ code. failed code workers options.steps) (λ p r e. unaudited p r (finishing options.steps) workers e) options.audit bytes input options t
+WorkedRequestTells failed unaudited bytes (Record input workers options out) t = RequestTells bytes (Record input workers options out) t
 WorkedRequestTells failed unaudited bytes (Schedule input plays options) t =
     PlaysTell (λ p r e. unaudited p r (finishing options.steps) audit_workers e) options.audit bytes input (string_bytes plays) options t
+WorkedRequestTells failed unaudited bytes (Replay input from options) t = RequestTells bytes (Replay input from options) t
 WorkedRequestTells failed unaudited bytes (Shown text) t = RequestTells bytes (Shown text) t
 WorkedRequestTells failed unaudited bytes (Faulty text) t = RequestTells bytes (Faulty text) t

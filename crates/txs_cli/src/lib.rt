@@ -12,6 +12,7 @@ mod code_play;
 mod form_stream;
 mod lines;
 pub mod program;
+pub mod record;
 mod run;
 mod schedule;
 mod script;
@@ -20,6 +21,7 @@ pub mod workers;
 mod workers_play;
 
 pub use program::{play, play_words};
+pub use record::{Record, record_run};
 pub use txs_audit_answer::{AuditError, Terms, Verdict};
 pub use txs_cli_args::parse_words;
 pub use txs_cli_request::{Input, Request, RunOptions};

@@ -128,6 +128,8 @@ pub fn play_words<R: Read, W: Write, F: Write>(
             let plays = plays.as_str();
             schedule(alloc, input, plays, *options, reader, writer, faults)
         }
+        Request::Record { .. } => refuse_use(writer, faults),
+        Request::Replay { .. } => refuse_use(writer, faults),
         Request::Shown(text) => write_told(text.as_bytes(), &[], DONE, writer, faults),
         Request::Faulty(text) => write_told(&[], text.as_bytes(), UNUSABLE, writer, faults),
     }

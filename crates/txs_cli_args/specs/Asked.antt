@@ -2,7 +2,7 @@
 use Rattle.std.specs.Prelude.{◌≡◌, true, false}
 use Rattle.txs_cli_request.specs.declared.request.Input.{Input}
 use Rattle.txs_cli_request.specs.declared.request.Request.{Request}
-use Rattle.txs_cli_request.specs.declared.request.Request.TheVariants.{Check, List, Build, Run, Schedule, Shown, Faulty}
+use Rattle.txs_cli_request.specs.declared.request.Request.TheVariants.{Check, List, Build, Run, Record, Schedule, Replay, Shown, Faulty}
 
 -- Lines are explained of a script alone: of code in its byte form there is no line to show.
 abbrev pub OfScripts : Input → Type 0
@@ -14,6 +14,8 @@ ExplainsScripts (Check input) = OfScripts input
 ExplainsScripts (List input) = OfScripts input
 ExplainsScripts (Build input out) = OfScripts input
 ExplainsScripts (Run input workers options) = OfScripts input
+ExplainsScripts (Record input workers options out) = OfScripts input
 ExplainsScripts (Schedule input plays options) = OfScripts input
+ExplainsScripts (Replay input from options) = OfScripts input
 ExplainsScripts (Shown text) = Unit {0}
 ExplainsScripts (Faulty text) = Unit {0}

@@ -35,6 +35,8 @@ enum Kind {
     Flag,
     /// A flag that excludes this other one.
     Without(&'static str),
+    /// The name of a file, which excludes these other ones.
+    Apart(&'static [&'static str]),
     /// A flag, or one of `WHEN` with a `=` before it.
     When,
     /// A text.
@@ -89,6 +91,20 @@ const TURNS: Opt = (
     Kind::Text,
 );
 
+/// The option of which file has the list of `TURNS`.
+const TURNS_FROM: Opt = (
+    "turns-from",
+    "The file that has the list of --turns, as `run --record` writes it; `-` for standard input",
+    Kind::Apart(&["turns"]),
+);
+
+/// The option of which file a run is recorded in.
+const RECORD: Opt = (
+    "record",
+    "Writes to this file the list of turns by which `schedule --turns-from` makes the run again; not with --audit or --code",
+    Kind::Apart(&["audit", "code"]),
+);
+
 /// The option of how many steps an actor makes.
 const STEPS: Opt = (
     "steps",
@@ -132,12 +148,16 @@ static COMMANDS: [Row; 5] = [
     (
         "run",
         "Runs a script",
-        &[WORKERS, STEPS, CELLS, EVENTS, AUDIT, CODE, EXPLAIN, FILE],
+        &[
+            WORKERS, STEPS, CELLS, EVENTS, RECORD, AUDIT, CODE, EXPLAIN, FILE,
+        ],
     ),
     (
         "schedule",
         "Runs a script by a schedule",
-        &[TURNS, STEPS, CELLS, EVENTS, AUDIT, CODE, EXPLAIN, FILE],
+        &[
+            TURNS, TURNS_FROM, STEPS, CELLS, EVENTS, AUDIT, CODE, EXPLAIN, FILE,
+        ],
     ),
 ];
 
@@ -159,10 +179,20 @@ fn option<'a>(alloc: Global, of: &Opt) -> Result<Arg<'a>, AllocError> {
                 .hide_possible_values(true)
                 .value_parser(WHEN.as_slice()),
         ),
+        Kind::Apart(others) => apart(arg.value_name("F"), others),
         Kind::Out => Ok(arg.value_name("F").required(true)),
         Kind::Number(most) => Ok(arg.value_parser(value_parser!(u64).range(1..=most))),
         _ => Ok(arg),
     }
+}
+
+/// An option that excludes these other ones.
+fn apart<'a>(arg: Arg<'a>, others: &[&'static str]) -> Result<Arg<'a>, AllocError> {
+    let mut arg = arg;
+    for other in others {
+        arg = arg.conflicts_with(other)?;
+    }
+    Ok(arg)
 }
 
 /// A command below the program, as its row says.
@@ -209,28 +239,53 @@ fn options_of(words: &ArgMatches<'_>) -> RunOptions {
     }
 }
 
-/// What the words of a command that runs something ask for, with its input and the text of `--turns`.
-fn run_of(name: &str, words: &ArgMatches<'_>, input: Input, plays: String) -> Request
+/// What the words of `schedule` ask for, with its input and the text of `--turns` or the name of the file that has it.
+fn schedule_of(words: &ArgMatches<'_>, input: Input, text: String) -> Request
     requires { OfScripts input }
     ensures { ExplainsScripts result }
 {
     let options = options_of(words);
-    if name == "schedule" {
-        return Request::Schedule {
+    if words.get_str("turns-from").is_some() {
+        return Request::Replay {
             input,
-            plays,
+            from: text,
             options,
         };
     }
-    drop(plays);
-    Request::Run {
+    Request::Schedule {
         input,
-        workers: words.get_one::<u64>("workers").unwrap_or(DEFAULT_WORKERS),
+        plays: text,
         options,
     }
 }
 
-/// What a command's words ask for, with its input and the text of `--turns` or `--out`.
+/// What the words of a command that runs something ask for, with its input and its text.
+fn run_of(name: &str, words: &ArgMatches<'_>, input: Input, text: String) -> Request
+    requires { OfScripts input }
+    ensures { ExplainsScripts result }
+{
+    if name == "schedule" {
+        return schedule_of(words, input, text);
+    }
+    let options = options_of(words);
+    let workers = words.get_one::<u64>("workers").unwrap_or(DEFAULT_WORKERS);
+    if words.get_str("record").is_some() {
+        return Request::Record {
+            input,
+            workers,
+            options,
+            out: text,
+        };
+    }
+    drop(text);
+    Request::Run {
+        input,
+        workers,
+        options,
+    }
+}
+
+/// What a command's words ask for, with its input and its text.
 fn request_of(name: &str, words: &ArgMatches<'_>, input: Input, text: String) -> Request
     requires { OfScripts input }
     ensures { ExplainsScripts result }
@@ -258,6 +313,16 @@ fn explain_of(words: &ArgMatches<'_>) -> Explain {
     }
 }
 
+/// The text of the option that names a file or has a list of turns, of which a command has one at most.
+fn text_of<'a>(words: &'a ArgMatches<'_>) -> Option<&'a str> {
+    for option in ["out", "record", "turns-from", "turns"] {
+        if let Some(text) = words.get_str(option) {
+            return Some(text);
+        }
+    }
+    None
+}
+
 /// What a command's words ask for, whose lines are explained or not. An option that the command lacks reads as one that isn't there.
 fn asked_of(
     alloc: Global,
@@ -269,8 +334,7 @@ fn asked_of(
     requires { code ≡ true → explain ≡ false }
     ensures { IfOk result ExplainsScripts }
 {
-    let option = if name == "build" { "out" } else { "turns" };
-    let text = String::from_str(alloc, words.get_str(option).unwrap_or(""))?;
+    let text = String::from_str(alloc, text_of(words).unwrap_or(""))?;
     let file = match words.get_str("FILE") {
         Some(name) => Some(String::from_str(alloc, name)?),
         None => None,

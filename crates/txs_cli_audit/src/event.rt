@@ -53,14 +53,14 @@ fn name_in(program: &Program, kind: CellKind, n: usize) -> Option<&str> {
 }
 
 /// Appends a word to a sentence, and a number behind it.
-fn push_number(text: &mut String, word: &str, number: usize) -> Result<(), AllocError> {
+pub(crate) fn push_number(text: &mut String, word: &str, number: usize) -> Result<(), AllocError> {
     let mut buffer = Buffer::new();
     text.push_str(word)?;
     text.push_str(buffer.format(number))
 }
 
 /// Appends a word to a sentence, and a name behind it.
-fn push_name(text: &mut String, word: &str, name: &str) -> Result<(), AllocError> {
+pub(crate) fn push_name(text: &mut String, word: &str, name: &str) -> Result<(), AllocError> {
     text.push_str(word)?;
     text.push_str(name)
 }
@@ -83,23 +83,39 @@ pub(crate) fn write_actor(
 }
 
 /// Appends which book it is: the journal, or that of an atom.
-fn write_book(text: &mut String, program: &Program, book: u32) -> Result<(), AllocError> {
+pub(crate) fn write_book(
+    text: &mut String,
+    program: &Program,
+    book: usize,
+) -> Result<(), AllocError> {
     if book == 0 {
         return text.push_str(" of the journal");
     }
-    match name_in(program, CellKind::Atom, book as usize - 1) {
+    match name_in(program, CellKind::Atom, book - 1) {
         Some(name) => push_name(text, " of the journal of atom ", name),
-        None => push_number(text, " of the journal numbered ", book as usize),
+        None => push_number(text, " of the journal numbered ", book),
     }
 }
 
 /// Appends where an event is, and its name.
 fn write_place(text: &mut String, audited: Audited<'_>, place: Place) -> Result<(), AllocError> {
     push_number(text, "index ", place.at as usize)?;
-    write_book(text, audited.program, place.book)?;
+    write_book(text, audited.program, place.book as usize)?;
     match event_in(audited.report, place) {
         Some(event) => push_name(text, ", ", name_of(&event.kind)),
         None => text.push_str(", where no event is"),
+    }
+}
+
+/// Appends that it is behind all of so many events.
+fn write_behind(text: &mut String, events: usize) -> Result<(), AllocError> {
+    match events {
+        0 => text.push_str(", which has no event,"),
+        1 => text.push_str(" behind its only event"),
+        _ => {
+            push_number(text, " behind its ", events)?;
+            text.push_str(" events")
+        }
     }
 }
 
@@ -119,11 +135,7 @@ pub(crate) fn write_event(
             write_place(text, audited, *place)?;
             text.push_str(")")
         }
-        None => push_number(
-            text,
-            " behind all its events, of which there are ",
-            entry.trace.len(),
-        ),
+        None => write_behind(text, entry.trace.len()),
     }
 }
 

@@ -7,11 +7,14 @@ ghost use Rattle.txs_cli_report.specs.Lent.{script_of, text_in};
 ghost use Rattle.txs_cli_report.specs.Lines.{lesson_of};
 ghost use Rattle.txs_value_base.specs.declared.fault.Span.{Span as PlainSpan};
 
+use crate::differs;
 use crate::event::{EventAt, form_of, write_actor, write_event};
 use std::alloc::{AllocError, Global};
-use txs_audit_answer::Verdict;
+use txs_audit_answer::{Terms, Verdict};
+use txs_audit_difference::{Difference, difference};
 use txs_cli_report::explain::{Script, write_explained};
 use txs_tree_meaning::Program;
+use txs_value_base::Span;
 use txs_world_protocol::Report;
 
 /// What is audited: a report, against a program.
@@ -21,9 +24,11 @@ pub struct Audited<'a> {
     pub report: &'a Report,
 }
 
-/// What is said of an event that the source doesn't explain.
-const DIFFERS: &str =
-    " isn't explained by the text. The run went wrong, or the report was changed.";
+/// What is said of an event that the text doesn't explain.
+const DIFFERS: &str = " isn't explained by the text";
+
+/// What a difference means.
+const MEANS: &str = ". The run went wrong, or the report was changed.";
 
 /// What is said of an event that needs more turns.
 const UNDECIDED: &str =
@@ -45,21 +50,88 @@ fn sentence_of(
     Ok(text)
 }
 
-/// Appends what explains an event, where a file is named.
-fn explain_event(
+/// The sentence of what differs at an event: a cell, or what the text explains otherwise.
+fn sentence_of_difference(
+    alloc: Global,
+    audited: Audited<'_>,
+    at: EventAt,
+    found: &Option<Difference>,
+) -> Result<String, AllocError> {
+    let Some(difference) = found else {
+        let mut text = sentence_of(alloc, audited, at, DIFFERS)?;
+        text.push_str(MEANS)?;
+        return Ok(text);
+    };
+    let mut text = String::new(alloc);
+    if !differs::push_left(alloc, &mut text, audited.program, &difference.what)? {
+        text = sentence_of(alloc, audited, at, DIFFERS)?;
+        text.push_str(": ")?;
+        differs::push_what(alloc, &mut text, audited.program, &difference.what)?;
+    }
+    text.push_str(MEANS)?;
+    Ok(text)
+}
+
+/// The form of the text that is shown: that of what differs, where it says one, else that of the event.
+fn form_of_difference(
+    audited: Audited<'_>,
+    at: EventAt,
+    found: &Option<Difference>,
+) -> Option<Span> {
+    match found {
+        Some(difference) => match differs::form_of(audited.program, difference) {
+            Some(span) => Some(span),
+            None => form_of(audited, at),
+        },
+        None => form_of(audited, at),
+    }
+}
+
+/// The sentence of what differs in a report at an event, and the form of the text that is shown.
+fn what_differs(
+    alloc: Global,
+    audited: Audited<'_>,
+    terms: Terms,
+    at: EventAt,
+) -> Result<(String, Option<Span>), AllocError> {
+    let found = difference(alloc, audited.program, audited.report, terms, terms.turns())?;
+    let sentence = sentence_of_difference(alloc, audited, at, &found)?;
+    let form = form_of_difference(audited, at, &found);
+    Ok((sentence, form))
+}
+
+/// Appends what explains a report that differs, where a file is named.
+fn explain_difference(
     alloc: Global,
     errors: &mut Vec<u8>,
     script: Script<'_>,
     audited: Audited<'_>,
+    terms: Terms,
     at: EventAt,
-    end: &str,
 ) -> Result<(), AllocError>
     ensures { OnOk result ((form : Option PlainSpan) × (sentence : List ℕ) × (errors.new.items ≡ errors.old.items ++ lesson_of (text_in script.entry.file) script.entry.text.now form (Some sentence))) }
 {
     let Some(file) = script.file else {
         return Ok(());
     };
-    let sentence = sentence_of(alloc, audited, at, end)?;
+    let (sentence, form) = what_differs(alloc, audited, terms, at)?;
+    write_explained(errors, file, script.text, form, sentence.as_str())
+}
+
+/// Appends what explains an event that needs more turns, where a file is named.
+fn explain_undecided(
+    alloc: Global,
+    errors: &mut Vec<u8>,
+    script: Script<'_>,
+    audited: Audited<'_>,
+    at: EventAt,
+) -> Result<(), AllocError>
+    ensures { OnOk result ((form : Option PlainSpan) × (sentence : List ℕ) × (errors.new.items ≡ errors.old.items ++ lesson_of (text_in script.entry.file) script.entry.text.now form (Some sentence))) }
+{
+    let Some(file) = script.file else {
+        return Ok(());
+    };
+    let sentence = sentence_of(alloc, audited, at, UNDECIDED)?;
     write_explained(
         errors,
         file,
@@ -75,6 +147,7 @@ pub(crate) fn explain(
     errors: &mut Vec<u8>,
     script: Script<'_>,
     audited: Audited<'_>,
+    terms: Terms,
     answer: Verdict,
 ) -> Result<(), AllocError>
     ensures { OnOk result ((lesson : List ℕ) × LessonOf (script_of script.entry) (as_verdict answer) lesson × (errors.new.items ≡ errors.old.items ++ lesson)) }
@@ -83,11 +156,11 @@ pub(crate) fn explain(
         Verdict::Agrees { .. } => Ok(()),
         Verdict::Differs { actor, event } => {
             let at = EventAt { actor, event };
-            explain_event(alloc, errors, script, audited, at, DIFFERS)
+            explain_difference(alloc, errors, script, audited, terms, at)
         }
         Verdict::Undecided { actor, event } => {
             let at = EventAt { actor, event };
-            explain_event(alloc, errors, script, audited, at, UNDECIDED)
+            explain_undecided(alloc, errors, script, audited, at)
         }
     }
 }

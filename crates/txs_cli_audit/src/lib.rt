@@ -2,6 +2,7 @@
 //! closure; what is told is the verdict of the definitions, or why there is none.
 #![tactic(auto)]
 
+mod differs;
 mod event;
 mod explain;
 pub mod told;

@@ -50,12 +50,13 @@ fn status_of(answer: Verdict) -> u8
     }
 }
 
-/// Adds what is told of an answer: its line behind the standard output, what explains it behind the standard error, and the status, where
-/// it is higher.
+/// Adds what is told of an answer on a run that was to do this: its line behind the standard output, what explains it behind the standard
+/// error, and the status, where it is higher.
 pub fn add_answer(
     alloc: Global,
     script: Script<'_>,
     audited: Audited<'_>,
+    terms: Terms,
     answer: Verdict,
     told: &mut Told,
 ) -> Result<(), AllocError>
@@ -64,7 +65,7 @@ pub fn add_answer(
 {
     told.status = told.status.max(status_of(answer));
     write_line(&mut told.output, answer)?;
-    explain(alloc, &mut told.errors, script, audited, answer)
+    explain(alloc, &mut told.errors, script, audited, terms, answer)
 }
 
 /// The line that says why there is no answer.
@@ -103,7 +104,7 @@ pub fn add_audit<A: Fn(Global, &Program, &Report, Terms, usize) -> Result<Verdic
     ensures told { OnOk result (AuditTells (HasNoAnswer (A.post auditor.now) audited.entry.program.now audited.entry.report.now terms workers) (script_of script.entry) (verdict (program_of audited.entry.program.now) (terms_as terms) (report_as audited.entry.report.now) (audit_turns terms.steps)) (lines_of told.old) (lines_of told.new)) }
 {
     match auditor(alloc, audited.program, audited.report, terms, workers) {
-        Ok(answer) => add_answer(alloc, script, audited, answer, told),
+        Ok(answer) => add_answer(alloc, script, audited, terms, answer, told),
         Err(failure) => add_no_answer(failure, told),
     }
 }

@@ -4,7 +4,9 @@
 pub mod events;
 pub mod plays;
 pub mod text;
+pub mod written;
 
 pub use events::write_events;
 pub use plays::{ListError, WrongPlay, read_plays};
 pub use text::{write_both, write_number};
+pub use written::write_plays;

@@ -245,7 +245,7 @@ fn form_of(alloc: Global, code: &Verified) -> Result<Told, AllocError>
 }
 
 /// Does with a script that compiles what is wanted.
-fn use_compiled(
+pub fn use_compiled(
     alloc: Global,
     script: Script<'_>,
     compiled: &(Program, Verified),

@@ -73,10 +73,23 @@ pub enum Request {
         workers: u64,
         options: RunOptions,
     },
+    /// `run --record`: to run a script by so many workers, and to write the plays by which a schedule makes the run again to the file of this name.
+    Record {
+        input: Input,
+        workers: u64,
+        options: RunOptions,
+        out: String,
+    },
     /// `schedule`: to run a script or code by a schedule, whose entries come before the rounds.
     Schedule {
         input: Input,
         plays: String,
+        options: RunOptions,
+    },
+    /// `schedule --turns-from`: the same, with the plays that the file of this name has, or the standard input if it is `-`.
+    Replay {
+        input: Input,
+        from: String,
         options: RunOptions,
     },
     /// To print a text on the standard output, which is help.

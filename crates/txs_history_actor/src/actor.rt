@@ -18,7 +18,7 @@ ghost use Rattle.txs_world_protocol.specs.declared.ask.Ask.{Ask};
 ghost use Rattle.txs_world_protocol.specs.declared.event.Outcome.{Outcome};
 
 use crate::callees::hands_out;
-use crate::step::Step;
+use crate::step::{Made, Step};
 use std::alloc::Global;
 use std::marker::Model;
 use std::mem;
@@ -340,6 +340,21 @@ impl<'a, J: Run> LoggedActor<'a, J> {
     {
         match &self.step {
             Step::Asks(ask) => Some(ask),
+            _ => None,
+        }
+    }
+
+    /// Its ask that was served, where it is to go on with the answer.
+    pub fn served(&self) -> Option<Made>
+        ensures is { IfSome result (λ m. (v : Served) × (self.now.step ≡ step.Answered m.lock v) × (m.at ≡ v.at) × (m.added ≡ v.added)) }
+        ensures none { result ≡ None → (lock : ℕ) (v : Served) → self.now.step ≡ step.Answered lock v → ⊥ }
+    {
+        match &self.step {
+            Step::Answered(lock, served) => Some(Made {
+                lock: *lock,
+                at: served.at,
+                added: served.added,
+            }),
             _ => None,
         }
     }

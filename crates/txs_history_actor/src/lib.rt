@@ -8,4 +8,4 @@ mod step;
 
 pub use actor::{AfterReply, LoggedActor, Next};
 pub use callees::sent_functions;
-pub use step::Step;
+pub use step::{Made, Step};

@@ -30,13 +30,13 @@ is_true false = ⊥
 
 -- ---- turns of which none stops for memory
 
-abbrev IsOther : Stop → Type 0
+abbrev pub IsOther : Stop → Type 0
 IsOther JournalFull = Unit {0}
 IsOther Memory = ⊥
 IsOther TurnsSpent = Unit {0}
 IsOther Unlawful = Unit {0}
 
-abbrev LacksMemory : List Play → Type 0
+abbrev pub LacksMemory : List Play → Type 0
 LacksMemory [] = Unit {0}
 LacksMemory (TakesTurn k ∷ us) = LacksMemory us
 LacksMemory (IsStopped k why ∷ us) = IsOther why × LacksMemory us
@@ -79,7 +79,7 @@ own_lacks code limit k (suc n) st = at_lacks (code_of code k) k (nat_lt (st.acto
 
 -- ---- two runs without such a stop
 
-turns_one : (code : PlainCode) (limit k n : ℕ) (st : State) (us : List Play) → AreTurnsOf code limit k n st us → LacksMemory us → us ≡ own_turns code limit k n st
+pub turns_one : (code : PlainCode) (limit k n : ℕ) (st : State) (us : List Play) → AreTurnsOf code limit k n st us → LacksMemory us → us ≡ own_turns code limit k n st
 turns_one code limit k n st us (inl e) h = e
 turns_one code limit k n st us (inr w) h = absurd (lacks_last w.0 (IsStopped k Memory ∷ []) (subst LacksMemory w.4 h)).0
 
@@ -117,10 +117,10 @@ scheduled_one code limit ys rounds us vs h g a b =
 
 -- ---- an actor that was stopped for memory stays so
 
-record IsOut (x : Actor) : Type 0 where
-  here : Configuration
-  at : x.at ≡ Unfinished here
-  why : x.stopped ≡ Some Memory
+pub record IsOut (x : Actor) : Type 0 where
+  pub here : Configuration
+  pub at : x.at ≡ Unfinished here
+  pub why : x.stopped ≡ Some Memory
 
 record Goes (x : Actor) : Type 0 where
   here : Configuration
@@ -209,7 +209,7 @@ own_goes code limit k (suc n) st (w ∷ ws) y more e =
     subst (λ z. Goes ((after_turns code (z ∷ ws) st).actors k)) (sym t.0) (own_goes code limit k n (after_turns code (TakesTurn k ∷ []) st) ws y more t.1)
 
 -- so where it isn't at the end it never was
-turns_lack : (code : PlainCode) (limit k n : ℕ) (st : State) (us : List Play) → AreTurnsOf code limit k n st us → (IsOut ((after_turns code us st).actors k) → ⊥) → LacksMemory us
+pub turns_lack : (code : PlainCode) (limit k n : ℕ) (st : State) (us : List Play) → AreTurnsOf code limit k n st us → (IsOut ((after_turns code us st).actors k) → ⊥) → LacksMemory us
 turns_lack code limit k n st us (inl e) out = subst LacksMemory (sym e) (own_lacks code limit k n st)
 turns_lack code limit k n st us (inr w) out =
     absurd (out (subst (λ l. IsOut ((after_turns code l st).actors k)) (sym w.4)

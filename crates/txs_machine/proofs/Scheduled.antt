@@ -10,6 +10,7 @@ use Rattle.txs_code_meaning.specs.Machine.{Configuration, Turned, Unfinished}
 use Rattle.txs_code_meaning.specs.PlainCode.{PlainCode}
 use Rattle.txs_machine_actor.specs.PlainActor.{PlainActor, configuration_of}
 use Rattle.txs_theorem_runs.specs.Run.{Actor, Play, State, Stop}
+use Rattle.txs_theorem_runs.specs.Run.{JournalFull, Memory, TurnsSpent, Unlawful}
 use Rattle.txs_theorem_runs.specs.Shared.{Shared}
 use Rattle.txs_value_cell.specs.declared.action.Action.{Action}
 use Rattle.txs_value_data.specs.declared.value.CellId.{CellId}
@@ -246,6 +247,22 @@ printed_so a (Some outcome.StepsSpent) at why h = sym (ap printed_at h.0)
 printed_so a (Some outcome.JournalFull) at why h = sym (ap printed_at h.1 ∙ ap (λ (u : ActorState). u.printed) h.2)
 printed_so a (Some outcome.Memory) at why h = sym (ap printed_at h.1 ∙ ap (λ (u : ActorState). u.printed) h.2)
 
+-- it wasn't stopped since an ask was unlawful
+abbrev is_lawful : Option Stop → Type 0
+is_lawful None = Unit {0}
+is_lawful (Some JournalFull) = Unit {0}
+is_lawful (Some Memory) = Unit {0}
+is_lawful (Some TurnsSpent) = Unit {0}
+is_lawful (Some Unlawful) = ⊥
+
+lawful_so : (a : PlainActor) (o : Option Outcome) (at : Turned Configuration) (why : Option Stop) → IsPlacedAs a o at why → is_lawful why
+lawful_so a None at why h = subst is_lawful (sym h.1) tt
+lawful_so a (Some outcome.Done) at why h = subst is_lawful (sym h.1) tt
+lawful_so a (Some (outcome.Failed f)) at why h = subst is_lawful (sym h.1) tt
+lawful_so a (Some outcome.StepsSpent) at why h = subst is_lawful (sym h.1) tt
+lawful_so a (Some outcome.JournalFull) at why h = subst is_lawful (sym h.3) tt
+lawful_so a (Some outcome.Memory) at why h = subst is_lawful (sym h.3) tt
+
 -- an entry is that of its actor in the run
 pub entry_so : (code : PlainCode) (books : ℕ → List Event) (k : ℕ) (x : Player) (y : Actor) (r : ActorReport) → IsPlayerOf code k books x.actor x.trace.items y → IsReported code x r → IsEntryOf code books k y r
 entry_so code books k x y r p rep = record {
@@ -253,6 +270,7 @@ entry_so code books k x y r p rep = record {
   printed = sym rep.printed ∙ printed_so x.actor x.actor.outcome y.at y.stopped p.placed;
   counted = sym rep.counted ∙ p.counted;
   traced = ap places_of (sym rep.traced) ∙ p.traced;
+  lawful = λ e. subst is_lawful e (lawful_so x.actor x.actor.outcome y.at y.stopped p.placed);
 }
 
 -- a report of players is that of the run by their turns

@@ -160,12 +160,13 @@ steps_by (Some Memory) n = suc n
 steps_by (Some TurnsSpent) n = n
 steps_by (Some Unlawful) n = n
 
--- an entry of a report is that of this actor of a run, the k-th
+-- An entry of a report is that of this actor of a run, the k-th. The actor wasn't stopped since an ask of it was unlawful.
 pub record IsEntryOf (code : PlainCode) (books : ℕ → List Event) (k : ℕ) (x : Actor) (ran : ActorReport) : Type 0 where
   pub ended : ran.outcome ≡ outcome_of x.at x.stopped
   pub printed : ran.printed.items ≡ printed_at x.at
   pub counted : ran.steps ≡ steps_by x.stopped x.turns
   pub traced : places_of ran.trace.items ≡ trace_of code.cells books k x.entries
+  pub lawful : x.stopped ≡ Some Unlawful → ⊥
 
 -- The state and the entries of a report are those of a run by the turns of this schedule.
 pub record IsScheduledRun (code : PlainCode) (limit : ℕ) (ys : List Play) (rounds : Bool) (s : PlainShared) (threads agents : List ActorReport) : Type 0 where

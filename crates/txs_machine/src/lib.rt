@@ -14,7 +14,8 @@ pub use law::{actors_explained, actors_follow, explained_reports_are_serial, sch
 pub use player::{AgentPlayer, Player, Players};
 pub use run_error::RunError;
 pub use schedule::{
-    Entries, Play, Repeated, ScheduleError, report_all, run_repeated, run_schedule,
+    Entries, Play, Repeated, ScheduleError, open_players, play_at, report_all, run_repeated,
+    run_schedule,
 };
 pub use txs_machine_actor::{Actor, Turn, actors_run, may_answer};
 pub use txs_world_protocol::{ActorReport, Outcome, Place, Report};

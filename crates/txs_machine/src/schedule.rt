@@ -178,7 +178,7 @@ fn each_once(alloc: Global, plays: &[Play]) -> Result<Vec<Repeated>, AllocError>
 
 /// Adds the actors of all threads and behind them of the agents, in the order of the cells, which may make so many steps, where there was none and nothing was
 /// done yet.
-fn open_players(
+pub fn open_players(
     alloc: Global,
     code: &Verified,
     threads: u16,
@@ -262,7 +262,7 @@ fn play_agent(
 }
 
 /// A play of one of the actors, by its number: up to so many turns, up to its end or an ask, which is served.
-fn play_at(
+pub fn play_at(
     players: &mut Players,
     code: &Verified,
     shared: &mut SharedState,

@@ -29,7 +29,7 @@ module _ (f g : PlainCode → RunError → Type 0) (more : (d : PlainCode) (e : 
   script_weaker s steps cells events t (script.of_refused told) = script.of_refused told
   script_weaker s steps cells events t (script.of_failure p d compiled failure so told output errors status) = script.of_failure p d compiled failure (more d failure so) told output errors status
 
-  stream_weaker : (s : Script) (steps : ℕ) (cells events : Bool) (t : Told) → StreamWorkedTells f s steps cells events t → StreamWorkedTells g s steps cells events t
+  pub stream_weaker : (s : Script) (steps : ℕ) (cells events : Bool) (t : Told) → StreamWorkedTells f s steps cells events t → StreamWorkedTells g s steps cells events t
   stream_weaker s steps cells events t (script.of_script told) = script.of_script (script_weaker s steps cells events t told)
   stream_weaker s steps cells events t (script.of_unread output errors status) = script.of_unread output errors status
   stream_weaker s steps cells events t (script.of_memory output errors status) = script.of_memory output errors status
@@ -78,6 +78,8 @@ told_weaker f g unaudited more bytes (asked.List input) t h = h
 told_weaker f g unaudited more bytes (asked.Build input out) t h = h
 told_weaker f g unaudited more bytes (asked.Run input workers options) t h =
     work_weaker (λ d. f d workers options.steps) (λ d. g d workers options.steps) (λ d e. more d workers options.steps e) (λ p r e. unaudited p r (finishing options.steps) workers e) options.audit bytes input options t h
+told_weaker f g unaudited more bytes (asked.Record input workers options out) t h = h
 told_weaker f g unaudited more bytes (asked.Schedule input plays options) t h = h
+told_weaker f g unaudited more bytes (asked.Replay input from options) t h = h
 told_weaker f g unaudited more bytes (asked.Shown text) t h = h
 told_weaker f g unaudited more bytes (asked.Faulty text) t h = h

@@ -3,4 +3,5 @@
 
 pub mod play;
 
-pub use play::play_by_workers;
+pub use play::{play_by_workers, record_by_workers};
+pub use txs_cli::Record;

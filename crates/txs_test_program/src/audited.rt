@@ -5,7 +5,8 @@ ghost use Rattle.txs_theorem_runs.specs.Shared.{untouched};
 ghost use Rattle.txs_world_shared.specs.SharedState.{shared_of};
 
 use std::alloc::{AllocError, Global};
-use txs_audit_answer::Verdict;
+use std::mem;
+use txs_audit_answer::{Terms, Verdict};
 use txs_cli_audit::{Audited, add_answer};
 use txs_cli_report::explain::Script;
 use txs_cli_report::told::{Told, answer};
@@ -13,6 +14,8 @@ use txs_code_meaning::Verified;
 use txs_compile::{CompileError, compile};
 use txs_machine::{Report, SharedState, run_schedule};
 use txs_tree_meaning::Program;
+use txs_value_data::{CellId, CellKind, Listed, Value};
+use txs_world_protocol::{Event, EventKind};
 
 // Two threads and an agent: thread 0 commits, thread 1 sends.
 const SCRIPT: &[u8] = b"(def g (agent 1))
@@ -58,9 +61,99 @@ fn run(alloc: Global) -> Result<(Program, Report), CompileError> {
     }
 }
 
-// What is told of this answer, where lines are explained.
-fn told_of(alloc: Global, answered: Verdict) -> Result<Told, CompileError> {
-    let (program, report) = run(alloc)?;
+// What is changed of a right report.
+#[derive(Clone, Copy)]
+enum Changed {
+    Nothing,
+    // The ref is 12, and no longer 11.
+    Cell,
+    // So it is, and the commit wrote it.
+    Write,
+    // The commit wrote nothing, and the ref is 1.
+    NoWrite,
+    // The action's new state is 4, and so is the agent.
+    Act,
+    // The first thread hasn't ended.
+    Left,
+}
+
+// What a commit wrote is this, or nothing.
+fn write(alloc: Global, kind: &mut EventKind, value: Option<i64>) -> Result<(), AllocError> {
+    let mut all = Vec::new(alloc);
+    if let Some(value) = value {
+        let cell = CellId {
+            kind: CellKind::Ref,
+            number: 1,
+        };
+        all.push((cell, Value::Int(value)))?;
+    }
+    match kind {
+        EventKind::Commit { writes, .. } => drop(mem::replace(writes, Listed::from_vec(all))),
+        _ => drop(all),
+    }
+    Ok(())
+}
+
+// What the commit of a book wrote is this, or nothing.
+fn write_all(alloc: Global, book: &mut Vec<Event>, value: Option<i64>) -> Result<(), AllocError> {
+    for event in book.iter_mut() {
+        write(alloc, &mut event.kind, value)?;
+    }
+    Ok(())
+}
+
+// The action of a book gave this state.
+fn give(book: &mut Vec<Event>, state: i64) {
+    for event in book.iter_mut() {
+        if let EventKind::Act { new, .. } = &mut event.kind {
+            drop(mem::replace(new, Ok(Value::Int(state))));
+        }
+    }
+}
+
+// The cell with this number has this value.
+fn set(cells: &mut Vec<Value>, number: usize, value: i64) {
+    if let Some(cell) = cells.get_mut(number) {
+        *cell = Value::Int(value);
+    }
+}
+
+// Changes a report.
+fn change(alloc: Global, report: &mut Report, changed: Changed) -> Result<(), AllocError> {
+    match changed {
+        Changed::Nothing => {}
+        Changed::Cell => set(&mut report.cells, 1, 12),
+        Changed::Write => {
+            set(&mut report.cells, 1, 12);
+            write_all(alloc, &mut report.book, Some(12))?;
+        }
+        Changed::NoWrite => {
+            set(&mut report.cells, 1, 1);
+            write_all(alloc, &mut report.book, None)?;
+        }
+        Changed::Act => {
+            set(&mut report.cells, 0, 4);
+            give(&mut report.book, 4);
+        }
+        Changed::Left => {
+            if let Some(ran) = report.threads.first_mut() {
+                ran.outcome = None;
+            }
+        }
+    }
+    Ok(())
+}
+
+// What the run was to do.
+const TERMS: Terms = Terms {
+    finishes: true,
+    steps: 1000,
+};
+
+// What is told of this answer on a report that is changed so, where lines are explained.
+fn told_of(alloc: Global, changed: Changed, answered: Verdict) -> Result<Told, CompileError> {
+    let (program, mut report) = run(alloc)?;
+    change(alloc, &mut report, changed)?;
     let audited = Audited {
         program: &program,
         report: &report,
@@ -70,13 +163,13 @@ fn told_of(alloc: Global, answered: Verdict) -> Result<Told, CompileError> {
         file: Some("a.clj"),
     };
     let mut told = answer(Vec::new(alloc), alloc);
-    add_answer(alloc, script, audited, answered, &mut told)?;
+    add_answer(alloc, script, audited, TERMS, answered, &mut told)?;
     Ok(told)
 }
 
 // Whether this is told of the answer.
 fn tells(alloc: Global, answered: Verdict, line: &str, errors: &str, status: u8) -> bool {
-    match told_of(alloc, answered) {
+    match told_of(alloc, Changed::Nothing, answered) {
         Ok(told) => {
             told.output.as_slice() == line.as_bytes()
                 && told.errors.as_slice() == errors.as_bytes()
@@ -100,6 +193,25 @@ const ACT: &str =
         ^^^^^^^^^^^^
 ";
 
+// Of a cell.
+const CELL: &str =
+    "a.clj:2:1: Cell r is 12; its journal leaves 11. The run went wrong, or the report was changed.\n";
+
+// Of what a commit wrote.
+const WROTE: &str =
+    "a.clj:3:9: What thread 0 did at its event 0 (index 2 of the journal, commit) isn't explained by the text: it wrote r = 12; the text gives 11. The run went wrong, or the report was changed.\n";
+
+const WROTE_NOTHING: &str =
+    "a.clj:3:9: What thread 0 did at its event 0 (index 2 of the journal, commit) isn't explained by the text: it wrote r";
+
+// Of what an action gave.
+const GAVE: &str =
+    "a.clj:4:9: What agent g did at its event 0 (index 1 of the journal, act) isn't explained by the text: it came to 4; the text gives 3. The run went wrong, or the report was changed.\n";
+
+// Of a thread.
+const LEFT: &str =
+    "a.clj:3:1: What thread 0 did behind its only event isn't explained by the text: it has something to do, and the run went on to its end. The run went wrong, or the report was changed.\n";
+
 #[test]
 fn an_audit_may_differ(rt: HostRuntime) {
     let differs = Verdict::Differs { actor: 0, event: 0 };
@@ -110,4 +222,37 @@ fn an_audit_may_differ(rt: HostRuntime) {
 fn an_audit_may_be_undecided(rt: HostRuntime) {
     let undecided = Verdict::Undecided { actor: 2, event: 0 };
     assert!(rt; tells(rt.alloc(), undecided, "audit undecided 2 0\n", ACT, 0));
+}
+
+// Whether the sentence of a changed report, in which an audit differs at this event, begins so.
+fn says(alloc: Global, changed: Changed, actor: u16, event: usize, sentence: &str) -> bool {
+    match told_of(alloc, changed, Verdict::Differs { actor, event }) {
+        Ok(told) => told.errors.as_slice().starts_with(sentence.as_bytes()),
+        Err(_) => false,
+    }
+}
+
+#[test]
+fn a_wrong_cell_is_named(rt: HostRuntime) {
+    let alloc = rt.alloc();
+    assert!(rt; says(alloc, Changed::Cell, 0, 1, CELL));
+}
+
+#[test]
+fn what_a_commit_wrote_is_named(rt: HostRuntime) {
+    let alloc = rt.alloc();
+    assert!(rt; says(alloc, Changed::Write, 0, 0, WROTE));
+    assert!(rt; says(alloc, Changed::NoWrite, 0, 0, WROTE_NOTHING));
+}
+
+#[test]
+fn what_an_action_gave_is_named(rt: HostRuntime) {
+    let alloc = rt.alloc();
+    assert!(rt; says(alloc, Changed::Act, 2, 0, GAVE));
+}
+
+#[test]
+fn a_thread_that_has_not_ended_is_named(rt: HostRuntime) {
+    let alloc = rt.alloc();
+    assert!(rt; says(alloc, Changed::Left, 0, 1, LEFT));
 }

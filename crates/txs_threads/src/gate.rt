@@ -3,6 +3,7 @@
 ghost use Rattle.std.specs.Prelude.{◌≡◌};
 ghost use Rattle.txs_threads.specs.Kinds.{kind_of};
 
+use txs_history_actor::Made;
 use txs_world_protocol::Ask;
 
 /// Which ask was answered.
@@ -40,6 +41,9 @@ pub trait Gate: Sync {
     }
 
     fn pass(&self, actor: u16, moment: Moment);
+
+    /// An actor's ask was served. Each actor's asks are noted in their order.
+    fn note(&self, _actor: u16, _made: Made) {}
 }
 
 /// Lets all pass, and all turns up to an ask at once.

@@ -166,6 +166,9 @@ fn serve_ask<R: Wait, S: Journal, A: Drop, P: AsksStore<S> + AsksAtom<A>, G: Gat
     if !serve_under(rt, scheduler, atoms, to, actor, wanted.atom) {
         return Some(Handover::Rests(None));
     }
+    if let Some(made) = actor.served() {
+        gate.note(actor.number(), made);
+    }
     let next = actor.go_on();
     if !matches!(next, AfterReply::Broken) {
         gate.pass(actor.number(), Moment::Answered(wanted.kind));

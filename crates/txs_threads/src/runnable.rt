@@ -1,7 +1,7 @@
 //! What workers know of an actor, and of what lies under the store's lock.
 
 use crate::gate::{AskKind, kind_of};
-use txs_history_actor::{AfterReply, LoggedActor, Next};
+use txs_history_actor::{AfterReply, LoggedActor, Made, Next};
 use txs_history_store::{LoggedAtom, LoggedStore, Run};
 use txs_value_data::CellId;
 use txs_world_protocol::{Ask, Event};
@@ -35,6 +35,9 @@ pub trait Runnable: Drop {
 
     /// Up to so many turns: an ask or an end is the last.
     fn run(&mut self, budget: u64) -> Ran;
+
+    /// Its ask that was served, where it is to go on with the answer.
+    fn served(&self) -> Option<Made>;
 
     /// It goes on with the answer to its ask.
     fn go_on(&mut self) -> AfterReply;
@@ -92,6 +95,10 @@ impl<'a, J: Run> Runnable for LoggedActor<'a, J> {
             },
             Next::Ended | Next::Waits => Ran::Ended,
         }
+    }
+
+    fn served(&self) -> Option<Made> {
+        LoggedActor::served(self)
     }
 
     fn go_on(&mut self) -> AfterReply {

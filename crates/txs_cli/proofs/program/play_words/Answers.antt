@@ -1,6 +1,6 @@
 use Rattle.std.proofs.Common.{rules}
 use Rattle.txs_cli_report.specs.Told.{Told, Written}
-use Rattle.txs_cli.proofs.Commands.{run_told, schedule_told}
+use Rattle.txs_cli.proofs.Commands.{record_told, replay_told, run_told, schedule_told}
 use Rattle.txs_cli.proofs.program.play_words.Goals as goal
 
 pub returns-in-Check : goal.returns-in-Check
@@ -17,3 +17,17 @@ returns-in-Schedule g c =
     let r = c.in-Schedule in
     let writes : Told → Type 0 = λ t. Written (g.W.Write.contents c.args.writer.now) (g.W.Write.contents c.schedule-in-Schedule.new.writer) (g.F.Write.contents c.args.faults.now) (g.F.Write.contents c.schedule-in-Schedule.new.faults) t c.schedule-in-Schedule.result in
     schedule_told (g.R.Read.remaining c.args.reader.now) writes c.args.request.now r.input r.plays r.options c.as_str-plays.result.now r.is c.as_str-plays.ensures.value c.schedule-in-Schedule.ensures
+
+-- a run can't be recorded here, nor a list be read from a file
+pub returns-in-Record : goal.returns-in-Record
+returns-in-Record g c =
+    let r = c.in-Record in
+    let writes : Told → Type 0 = λ t. Written (g.W.Write.contents c.args.writer.now) (g.W.Write.contents c.refuse_use.new.writer) (g.F.Write.contents c.args.faults.now) (g.F.Write.contents c.refuse_use.new.faults) t c.refuse_use.result in
+    record_told (g.R.Read.remaining c.args.reader.now) writes c.args.request.now r.input r.workers r.options r.out r.is c.refuse_use.ensures
+
+pub returns-in-Replay : goal.returns-in-Replay
+returns-in-Replay g c =
+    let r = c.in-Replay in
+    let refused = c.refuse_use-in-Replay in
+    let writes : Told → Type 0 = λ t. Written (g.W.Write.contents c.args.writer.now) (g.W.Write.contents refused.new.writer) (g.F.Write.contents c.args.faults.now) (g.F.Write.contents refused.new.faults) t refused.result in
+    replay_told (g.R.Read.remaining c.args.reader.now) writes c.args.request.now r.input r.from r.options r.is refused.ensures

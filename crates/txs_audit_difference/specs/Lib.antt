@@ -1,0 +1,5 @@
+pub mod Difference
+pub mod Left
+pub mod Pieces
+pub mod Truth
+pub mod Walked

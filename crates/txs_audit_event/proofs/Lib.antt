@@ -1,0 +1,10 @@
+pub mod Answered
+pub mod Asked
+pub mod Disturbed
+pub mod Given
+pub mod Lining
+pub mod Meaning
+pub mod Sending
+pub mod Standing
+pub mod Truly
+pub mod Writing

@@ -1,0 +1,15 @@
+pub mod Agreeing
+pub mod Asking
+pub mod Calming
+pub mod Careful
+pub mod Ending
+pub mod Exchanging
+pub mod Few
+pub mod Looking
+pub mod Marking
+pub mod Playing
+pub mod Running
+pub mod Runs
+pub mod Searching
+pub mod Sound
+pub mod Walking
