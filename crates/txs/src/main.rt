@@ -11,14 +11,15 @@ use std::io::{ErrorKind, IsTerminal, Read, Write};
 use std::process::ExitCode;
 use std::sync::Wait;
 use std::thread::Threads;
+use std::time::{Duration, Instant};
 use std::{env, fs, io};
 use txs_audit::audit;
 use txs_audit_answer::{AuditError, Terms, Verdict};
 use txs_cli_args::parse_words;
 use txs_cli_report::told::{DONE, SPENT, UNUSABLE};
 use txs_cli_report::write_told;
-use txs_cli_request::{Input, Request, RunOptions};
-use txs_program::{Record, play_by_workers, record_by_workers};
+use txs_cli_request::{Exploring, Input, Request, RunOptions};
+use txs_program::{Record, explore_run, play_by_workers, record_by_workers};
 use txs_tree_meaning::Program;
 use txs_world_protocol::Report;
 
@@ -83,7 +84,8 @@ fn input_of(request: &Request) -> Option<&Input> {
         | Request::Run { input, .. }
         | Request::Record { input, .. }
         | Request::Schedule { input, .. }
-        | Request::Replay { input, .. } => Some(input),
+        | Request::Replay { input, .. }
+        | Request::Explore { input, .. } => Some(input),
         Request::Shown(_) | Request::Faulty(_) => None,
     }
 }
@@ -336,6 +338,70 @@ fn record_on<T: Threads + Wait + Sync>(
     ended
 }
 
+/// Whether it is longer than a second since then. Where there is no clock, it isn't.
+fn is_long(rt: &HostRuntime, start: &io::Result<Instant>) -> bool {
+    let Ok(start) = start else {
+        return false;
+    };
+    match start.elapsed(rt) {
+        Ok(since) => since > Duration::from_secs(1),
+        Err(_) => false,
+    }
+}
+
+/// Lists all outcomes of the request's file or of standard input. Where that takes longer than a second, it says on the standard error how far it is.
+fn explore_on<A: Fn(Global, &Program, &Report, Terms, usize) -> Result<Verdict, AuditError>>(
+    rt: &HostRuntime,
+    auditor: &A,
+    request: &Request,
+    exploring: Exploring,
+) -> u8
+    requires audit { (a : _) (p : _) (r : _) (w : _) (n : _) → A.pre auditor.now a p r w n }
+    requires right { (a : _) (p : _) (r : _) (w : _) (n : _) (v : _) → A.post auditor.now a p r w n v → IsRight p.now r.now w v }
+{
+    let alloc = rt.alloc();
+    let shown = if explains(request) {
+        Some(file_of(request).unwrap_or("-"))
+    } else {
+        None
+    };
+    let start = Instant::now(rt);
+    let progress = |asks: u64, outcomes: usize| {
+        if is_long(rt, &start) {
+            let _ = eprintln!(rt; "requests: {asks}, outcomes so far: {outcomes}");
+        }
+    };
+    let mut writer = io::writer(rt);
+    let mut faults = rt.stderr();
+    let Some(name) = file_of(request) else {
+        return explore_run(
+            alloc,
+            auditor,
+            &progress,
+            exploring,
+            shown,
+            &mut rt.stdin(),
+            &mut writer,
+            &mut faults,
+        );
+    };
+    let mut source = Source::open(rt, name);
+    let status = explore_run(
+        alloc,
+        auditor,
+        &progress,
+        exploring,
+        shown,
+        &mut source,
+        &mut writer,
+        &mut faults,
+    );
+    if let Some(error) = &source.fault {
+        explain_file(rt, request, name, error);
+    }
+    status
+}
+
 /// Does what the request asks for.
 fn play_all<
     T: Threads + Wait + Sync,
@@ -352,6 +418,7 @@ fn play_all<
             out,
             ..
         } => record_to(rt, threads, request, *workers, *options, out.as_str()),
+        Request::Explore { exploring, .. } => explore_on(rt, auditor, request, *exploring),
         _ => play_on(rt, threads, auditor, request, &mut io::writer(rt)),
     }
 }

@@ -6,9 +6,10 @@ use Rattle.txs_code_meaning.specs.PlainCode.{PlainCode}
 use Rattle.txs_machine.specs.declared.run_error.RunError.{RunError}
 use Rattle.txs_cli_report.specs.Lines.{Script}
 use Rattle.txs_cli_report.specs.Told.{Told, ScheduleTells, front}
+use Rattle.txs_cli_request.specs.declared.request.Exploring.{Exploring}
 use Rattle.txs_cli_request.specs.declared.request.Input.{Input}
 use Rattle.txs_cli_request.specs.declared.request.Request.{Request}
-use Rattle.txs_cli_request.specs.declared.request.Request.TheVariants.{Record, Replay, Run, Schedule}
+use Rattle.txs_cli_request.specs.declared.request.Request.TheVariants.{Record, Replay, Run, Schedule, Explore}
 use Rattle.txs_cli_request.specs.declared.request.RunOptions.{RunOptions}
 use Rattle.txs_cli.specs.CodeTold.{BytesScheduleTell}
 use Rattle.txs_cli.specs.CodeWorkersTold.{StreamWorkedCodeTells}
@@ -84,6 +85,12 @@ pub replay_told : (known : Option (List ℕ)) (writes : Told → Type 0) (reques
     → request ≡ Replay input from options → writes wrong_use → IfSome known (λ bytes. (t : Told) × RequestTells bytes request t × writes t)
 replay_told known writes request input from options is h =
     subst (λ (r : Request). IfSome known (λ bytes. (t : Told) × RequestTells bytes r t × writes t)) (sym is) (wrongly_used known (λ bytes t. RequestTells bytes (Replay input from options) t) writes (λ bytes. refl) h)
+
+-- nor outcomes be listed
+pub explore_told : (known : Option (List ℕ)) (writes : Told → Type 0) (request : Request) (input : Input) (exploring : Exploring)
+    → request ≡ Explore input exploring → writes wrong_use → IfSome known (λ bytes. (t : Told) × RequestTells bytes request t × writes t)
+explore_told known writes request input exploring is h =
+    subst (λ (r : Request). IfSome known (λ bytes. (t : Told) × RequestTells bytes r t × writes t)) (sym is) (wrongly_used known (λ bytes t. RequestTells bytes (Explore input exploring) t) writes (λ bytes. refl) h)
 
 -- ---- what is told of an input, which is code or a script
 

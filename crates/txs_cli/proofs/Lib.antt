@@ -7,3 +7,4 @@ pub mod Ran
 pub mod Recording
 mod Refused
 pub mod Commands
+pub mod LastLine

@@ -6,10 +6,16 @@ ghost use Rattle.txs_cli_args.specs.Asked.{ExplainsScripts, OfScripts};
 use clap::error::ErrorKind;
 use clap::{Arg, ArgAction, ArgMatches, Command, Error, value_parser};
 use std::alloc::{AllocError, Global};
-use txs_cli_request::{Explain, Input, Request, RunOptions};
+use txs_cli_request::{Explain, Exploring, Input, Request, RunOptions};
 
 /// How many steps an actor makes at most, where the words don't say it.
 const DEFAULT_STEPS: u64 = 100_000_000;
+
+/// How many steps an actor makes at most where outcomes are looked for, and the words don't say it.
+const EXPLORED_STEPS: u64 = 1_000_000;
+
+/// How many asks a search makes at most, where the words don't say it.
+const DEFAULT_LIMIT: u64 = 1_000_000;
 
 /// How many workers there are, where the words don't say it.
 const DEFAULT_WORKERS: u64 = 4;
@@ -129,11 +135,39 @@ const AUDIT: Opt = (
     Kind::Without("code"),
 );
 
+/// The option of how many asks a search makes.
+const LIMIT: Opt = (
+    "limit",
+    "How many requests a search makes at most, from 1 to 1,000,000,000,000; else 1,000,000",
+    Kind::Number(1_000_000_000_000),
+);
+
+/// The option of how many steps an actor makes in each schedule.
+const STEPS_EACH: Opt = (
+    "steps",
+    "How many steps each thread and each agent makes at most, from 1 to 1,000,000,000,000; else 1,000,000",
+    Kind::Number(1_000_000_000_000),
+);
+
+/// The flag by which there is to be one outcome alone.
+const SAME: Opt = (
+    "same",
+    "Ends with status 3 if there are several outcomes",
+    Kind::Flag,
+);
+
+/// The flag by which the run of each outcome is checked against the script.
+const AUDIT_EACH: Opt = (
+    "audit",
+    "Checks the report of each outcome's run against the script, and prints what that gives",
+    Kind::Flag,
+);
+
 /// A command: its name, what it does, and its options.
 type Row = (&'static str, &'static str, &'static [Opt]);
 
 /// The commands.
-static COMMANDS: [Row; 5] = [
+static COMMANDS: [Row; 6] = [
     (
         "check",
         "Checks a script without running it",
@@ -158,6 +192,11 @@ static COMMANDS: [Row; 5] = [
         &[
             TURNS, TURNS_FROM, STEPS, CELLS, EVENTS, AUDIT, CODE, EXPLAIN, FILE,
         ],
+    ),
+    (
+        "explore",
+        "Lists all outcomes of a script, each with a schedule",
+        &[LIMIT, STEPS_EACH, SAME, AUDIT_EACH, EXPLAIN, FILE],
     ),
 ];
 
@@ -239,6 +278,16 @@ fn options_of(words: &ArgMatches<'_>) -> RunOptions {
     }
 }
 
+/// How outcomes are looked for, by the words of the command.
+fn exploring_of(words: &ArgMatches<'_>) -> Exploring {
+    Exploring {
+        asks: words.get_one::<u64>("limit").unwrap_or(DEFAULT_LIMIT),
+        steps: words.get_one::<u64>("steps").unwrap_or(EXPLORED_STEPS),
+        same: words.get_flag("same"),
+        audit: words.get_flag("audit"),
+    }
+}
+
 /// What the words of `schedule` ask for, with its input and the text of `--turns` or the name of the file that has it.
 fn schedule_of(words: &ArgMatches<'_>, input: Input, text: String) -> Request
     requires { OfScripts input }
@@ -300,6 +349,13 @@ fn request_of(name: &str, words: &ArgMatches<'_>, input: Input, text: String) ->
     if name == "dis" {
         drop(text);
         return Request::List { input };
+    }
+    if name == "explore" {
+        drop(text);
+        return Request::Explore {
+            input,
+            exploring: exploring_of(words),
+        };
     }
     run_of(name, words, input, text)
 }

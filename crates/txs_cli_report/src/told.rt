@@ -93,7 +93,7 @@ pub const REFUSED: u8 = 1;
 pub const UNUSABLE: u8 = 2;
 
 /// A thread or an agent failed.
-const FAILED: u8 = 3;
+pub const FAILED: u8 = 3;
 
 /// Steps or memory didn't suffice.
 pub const SPENT: u8 = 4;

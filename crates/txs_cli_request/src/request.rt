@@ -51,6 +51,19 @@ pub struct RunOptions {
     pub audit: bool,
 }
 
+/// How the outcomes of a script are looked for.
+#[derive(Clone, Copy)]
+pub struct Exploring {
+    /// How many asks a search makes at most.
+    pub asks: u64,
+    /// How many steps each thread and each agent makes at most.
+    pub steps: u64,
+    /// Whether there is to be one outcome alone.
+    pub same: bool,
+    /// Whether the report of each outcome's run is audited.
+    pub audit: bool,
+}
+
 /// What the program is asked for.
 #[derive(Drop)]
 pub enum Request {
@@ -91,6 +104,11 @@ pub enum Request {
         input: Input,
         from: String,
         options: RunOptions,
+    },
+    /// `explore`: to list all outcomes of a script.
+    Explore {
+        input: Input,
+        exploring: Exploring,
     },
     /// To print a text on the standard output, which is help.
     Shown(String),

@@ -81,5 +81,6 @@ told_weaker f g unaudited more bytes (asked.Run input workers options) t h =
 told_weaker f g unaudited more bytes (asked.Record input workers options out) t h = h
 told_weaker f g unaudited more bytes (asked.Schedule input plays options) t h = h
 told_weaker f g unaudited more bytes (asked.Replay input from options) t h = h
+told_weaker f g unaudited more bytes (asked.Explore input exploring) t h = h
 told_weaker f g unaudited more bytes (asked.Shown text) t h = h
 told_weaker f g unaudited more bytes (asked.Faulty text) t h = h

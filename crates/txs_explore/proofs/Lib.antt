@@ -1,0 +1,15 @@
+pub mod Adding
+pub mod Covering
+pub mod Lists
+pub mod Looks
+pub mod Loops
+pub mod Nodes
+pub mod Outs
+pub mod Promised
+pub mod Settling
+pub mod Stages
+pub mod Telling
+pub mod Tests
+pub mod Turns
+pub mod Waiting
+pub mod Workers
