@@ -39,6 +39,8 @@ def main():
 
     # (a crate's stamp has those of all below it: each is made once)
     kit.RT.Crate.stamp = stamp
+    if not hasattr(kit.RT, "Kept"):
+        sys.exit("this kit keeps nothing of what the gate proved")
     kept = kit.RT.Kept(crates)
     for crate in [it for it in crates if not it.is_program]:
         if any(it.name not in kept.rlibs for it in crate.below()) or not (crate.is_built() or takes(kept, crate, stamp(crate))):

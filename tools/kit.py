@@ -1,4 +1,5 @@
 """What the tools beside it share: the kit's own `rt` as a module, and the crates of a clone of this repository as it sees them."""
+import hashlib
 import importlib.machinery
 import importlib.util
 import os
@@ -40,9 +41,22 @@ def is_there(crate):
     return os.path.isfile(f"{crate.rlib}/format")
 
 
-def key_of(kept, crate):
-    """The sum of all that a check of the crate reads: the kit, its own text, and the libraries below as they stand in out/."""
-    for it in crate.below():
-        if it.name not in kept.rlibs:
-            kept.is_built(it)
-    return kept.key(crate)
+def texts_below(crate):
+    """The files of a crate and of all crates below it that a check reads, by their paths in the repository."""
+    found = []
+    for it in [crate, *crate.below()]:
+        for part in ("src", "specs", "proofs"):
+            for at, _, names in os.walk(f"{it.folder}/{part}"):
+                found += [os.path.join(at, name) for name in names]
+    return sorted(found)
+
+
+def sum_below(crate):
+    """The sum of all that a check of the crate reads: the kit, its own text, and the texts below. A library is what its texts give."""
+    whole = hashlib.sha256()
+    with open(f"{RT.KIT}/KIT-ID", "rb") as file:
+        whole.update(file.read())
+    for path in texts_below(crate):
+        with open(path, "rb") as file:
+            whole.update(repr((os.path.relpath(path, ROOT), hashlib.sha256(file.read()).hexdigest())).encode())
+    return whole.hexdigest()
