@@ -132,6 +132,46 @@ def growths(t, count, is_long):
     print("growths: %d in %d runs; answers: %s" % (growths, sum(kinds.values()), ", ".join("%d %s" % (kinds[it], it) for it in sorted(kinds, key=str))))
 
 
+# what is shown of a run, with the words of the plain one; nothing for lines of JSON, which stand in its place
+SHOWN = [("schedule --cells --events=full", "schedule --cells"), ("schedule --cells --timeline /dev/null", "schedule --cells"), ("schedule --json", None)]
+
+
+def kind_of_shown(ran, whole, plain):
+    """The same of a run of which more is shown behind its plain output: all of that, or why nothing is."""
+    if answer(ran) == REFUSED:
+        return "refused"
+    for more, said in ((whole.out[len(plain.out):], b""), (b"", b"out of memory\n"), (b"", b"show failed\n")):
+        if ran.out.endswith(more) and ran.err.endswith(said) and (ran.status == 4 or not said):
+            rest = trial.Ran(ran.out[:len(ran.out) - len(more)], ran.err[:len(ran.err) - len(said)], ran.status, None)
+            if (rest.out, rest.err) == (plain.out, plain.err) or kind_of(rest, plain) == "stopped":
+                return "unshown" if said else "shown"
+    return None
+
+
+def kind_of_json(ran, whole):
+    """The same of lines of JSON: the whole ones, with the status of the plain run; or that of a problem."""
+    if ran.is_like(whole) or answer(ran) == REFUSED:
+        return "whole" if ran.is_like(whole) else "refused"
+    *lines, last = ran.out.decode().splitlines() or [""]
+    if ran.err or ran.status != 4 or last != '{"status":4,"type":"end"}':
+        return None
+    is_problem = len(lines) == 1 and lines[0] == '{"message":"show failed","type":"problem"}'
+    return "unshown" if is_problem else "shown" if lines == whole.out.decode().splitlines()[:-1] else None
+
+
+def shown(t, count, is_long):
+    """Each growth refused of runs of which more is shown, or in another form."""
+    for script in (SHARED, CHECKED, ACTING):
+        for words, plain_words in SHOWN:
+            whole = t.run(words.split(), script.encode())
+            plain = plain_words and t.run(plain_words.split(), script.encode())
+            most = whole.counts["growths"] + 1
+            tries = [letter + str(n) for n in range(1, most + 1, 1 if is_long else 1 + most // 60) for letter in "aA"]
+            for how, ran in zip(tries, trial.each(lambda how: t.run(words.split(), script.encode(), how), tries)):
+                kind = kind_of_shown(ran, whole, plain) if plain else kind_of_json(ran, whole)
+                count.take("%s of %s, where %s" % (words, script, how), kind, ran)
+
+
 def threads(t, count, is_long):
     """Each thread that isn't started, with those behind it or alone: the run says so and ends."""
     for workers in (2, 3, 8) + ((64,) if is_long else ()):
@@ -222,7 +262,7 @@ def files(t, count, is_long):
         count.take("build, where %s" % how, is_well, "%s, the file is %r beside %s" % (ran, left, os.listdir(here)))
 
 
-PARTS = {"growths": growths, "threads": threads, "reads": reads, "writes": writes, "files": files}
+PARTS = {"growths": growths, "shown": shown, "threads": threads, "reads": reads, "writes": writes, "files": files}
 
 
 if __name__ == "__main__":

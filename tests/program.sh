@@ -85,6 +85,32 @@ is "why, explained" "$(answer schedule a.clj --turns-from none.list --explain)" 
 is "a file that is no list" "$(answer schedule a.clj --turns-from two.clj)" '|wrong list|2'
 is "a list and a script from one input" "$(answer schedule --turns-from -)" "|error: the list and the script can't both be standard input|2"
 
+# ---- the file of --timeline, the folder of that of explore, and lines of JSON
+is "a picture of a run" "$(answer run a.clj --timeline run.svg)" '1||0'
+is "a picture by a schedule" "$(answer schedule a.clj --timeline again.svg)" '1||0'
+is "of a run without requests it is the same" "$(cmp run.svg again.svg && echo same)" 'same'
+is "it is a picture" "$(grep -c '<svg ' run.svg)" '1'
+is "nothing is left beside it" "$(ls run.svg*)" 'run.svg'
+is "over its own script" "$(answer run a.clj --timeline ./a.clj)" '|error: the file of --timeline is the script itself|2'
+is "over its own script that is standard input" "$("$program" run --timeline a.clj <a.clj 2>&1; echo "$?")" "$(printf 'error: the file of --timeline is the script itself\n2')"
+is "the script is as it was" "$(cat a.clj)" "$script"
+is "a picture in a folder that isn't there" "$(answer run a.clj --timeline none/run.svg)" '1|write failed|2'
+is "why, explained" "$(answer run a.clj --timeline none/run.svg --explain)" "$(printf '1|write failed\nnone/run.svg: No such file or directory (os error 2)|2')"
+is "a script that is refused has no picture" "$(answer run bad.clj --timeline bad.svg >/dev/null; ls bad.svg 2>/dev/null)" ''
+is "a picture beside the lines of an audit" "$(answer run --audit a.clj --timeline run.svg)" "$(printf '1\naudit agrees serial||0')"
+mkdir pictures
+is "pictures of outcomes" "$(answer explore two.clj --timeline pictures >/dev/null; ls pictures)" "$(printf 'outcome-1.svg\noutcome-2.svg')"
+is "they are replaced" "$(answer explore a.clj --timeline pictures >/dev/null; cmp pictures/outcome-1.svg run.svg && echo same)" 'same'
+is "pictures in a folder that isn't there" "$(answer explore a.clj --timeline none | tail -n 1)" 'complete: each schedule ends in this outcome|write failed|2'
+is "a line of JSON of a check" "$(answer check a.clj --json)" '{"type":"ok"}||0'
+is "of a script that is refused" "$(answer check bad.clj --json | grep -o '"type":"refused"}.*')" '"type":"refused"}||1'
+is "of a file that isn't there" "$(answer run none.clj --json)" '|read failed|2'
+is "of a list that isn't one" "$(answer schedule a.clj --json --turns z)" "$(printf '{"message":"wrong list","type":"problem"}\n{"status":2,"type":"end"}||2')"
+is "of a list that names no actor" "$(answer schedule a.clj --json --turns 1)" "$(printf '{"message":"run failed: NoActor","type":"problem"}\n{"status":2,"type":"end"}||2')"
+is "of a run whose picture can't be written" "$(answer run a.clj --json --timeline none/run.svg | tail -n 1)" '{"status":2,"type":"end"}|write failed|2'
+is "lines of JSON to no device" "$("$program" run a.clj --json >/dev/full 2>errors; printf '%s' "$?"; cat errors)" "$(printf '2write failed')"
+is "the list for lines of JSON as standard input" "$(printf '0' | "$program" schedule a.clj --json --turns-from - | tail -n 1)" '{"status":0,"type":"end"}'
+
 # ---- files that are read
 is "a script that isn't there" "$(answer run none.clj)" '|read failed|2'
 is "why, explained" "$(answer run none.clj --explain)" "$(printf '|read failed\nnone.clj: No such file or directory (os error 2)|2')"

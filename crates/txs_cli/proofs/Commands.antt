@@ -9,8 +9,10 @@ use Rattle.txs_cli_report.specs.Told.{Told, ScheduleTells, front}
 use Rattle.txs_cli_request.specs.declared.request.Exploring.{Exploring}
 use Rattle.txs_cli_request.specs.declared.request.Input.{Input}
 use Rattle.txs_cli_request.specs.declared.request.Request.{Request}
-use Rattle.txs_cli_request.specs.declared.request.Request.TheVariants.{Record, Replay, Run, Schedule, Explore}
+use Rattle.txs_cli_request.specs.declared.request.Request.TheVariants.{Record, Replay, Run, Schedule, Show, CheckJson, Explore}
 use Rattle.txs_cli_request.specs.declared.request.RunOptions.{RunOptions}
+use Rattle.txs_cli_request.specs.declared.request.Scheduling.{Scheduling}
+use Rattle.txs_cli_request.specs.declared.request.Showing.{Showing}
 use Rattle.txs_cli.specs.CodeTold.{BytesScheduleTell}
 use Rattle.txs_cli.specs.CodeWorkersTold.{StreamWorkedCodeTells}
 use Rattle.txs_cli.specs.WorkersTold.{StreamWorkedTells}
@@ -86,11 +88,23 @@ pub replay_told : (known : Option (List ℕ)) (writes : Told → Type 0) (reques
 replay_told known writes request input from options is h =
     subst (λ (r : Request). IfSome known (λ bytes. (t : Told) × RequestTells bytes r t × writes t)) (sym is) (wrongly_used known (λ bytes t. RequestTells bytes (Replay input from options) t) writes (λ bytes. refl) h)
 
+-- nor more be shown of it
+pub show_told : (known : Option (List ℕ)) (writes : Told → Type 0) (request : Request) (input : Input) (scheduling : Scheduling) (options : RunOptions) (showing : Showing)
+    → request ≡ Show input scheduling options showing → writes wrong_use → IfSome known (λ bytes. (t : Told) × RequestTells bytes request t × writes t)
+show_told known writes request input scheduling options showing is h =
+    subst (λ (r : Request). IfSome known (λ bytes. (t : Told) × RequestTells bytes r t × writes t)) (sym is) (wrongly_used known (λ bytes t. RequestTells bytes (Show input scheduling options showing) t) writes (λ bytes. refl) h)
+
+-- nor lines of JSON be printed of a check
+pub check_json_told : (known : Option (List ℕ)) (writes : Told → Type 0) (request : Request) (input : Input)
+    → request ≡ CheckJson input → writes wrong_use → IfSome known (λ bytes. (t : Told) × RequestTells bytes request t × writes t)
+check_json_told known writes request input is h =
+    subst (λ (r : Request). IfSome known (λ bytes. (t : Told) × RequestTells bytes r t × writes t)) (sym is) (wrongly_used known (λ bytes t. RequestTells bytes (CheckJson input) t) writes (λ bytes. refl) h)
+
 -- nor outcomes be listed
-pub explore_told : (known : Option (List ℕ)) (writes : Told → Type 0) (request : Request) (input : Input) (exploring : Exploring)
-    → request ≡ Explore input exploring → writes wrong_use → IfSome known (λ bytes. (t : Told) × RequestTells bytes request t × writes t)
-explore_told known writes request input exploring is h =
-    subst (λ (r : Request). IfSome known (λ bytes. (t : Told) × RequestTells bytes r t × writes t)) (sym is) (wrongly_used known (λ bytes t. RequestTells bytes (Explore input exploring) t) writes (λ bytes. refl) h)
+pub explore_told : (known : Option (List ℕ)) (writes : Told → Type 0) (request : Request) (input : Input) (exploring : Exploring) (timeline : Option (String Global))
+    → request ≡ Explore input exploring timeline → writes wrong_use → IfSome known (λ bytes. (t : Told) × RequestTells bytes request t × writes t)
+explore_told known writes request input exploring timeline is h =
+    subst (λ (r : Request). IfSome known (λ bytes. (t : Told) × RequestTells bytes r t × writes t)) (sym is) (wrongly_used known (λ bytes t. RequestTells bytes (Explore input exploring timeline) t) writes (λ bytes. refl) h)
 
 -- ---- what is told of an input, which is code or a script
 

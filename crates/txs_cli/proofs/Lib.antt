@@ -7,4 +7,3 @@ pub mod Ran
 pub mod Recording
 mod Refused
 pub mod Commands
-pub mod LastLine

@@ -3,7 +3,6 @@ pub mod CodeStream
 pub mod CodeTold
 pub mod CodeWorkersTold
 pub mod LentCode
-pub mod Explored
 pub mod Recorded
 pub mod RunTold
 pub mod Runner

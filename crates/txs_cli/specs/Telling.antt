@@ -18,7 +18,7 @@ use Rattle.txs_world_protocol.specs.declared.report.Report.{Report}
 use Rattle.txs_cli_request.specs.declared.request.Input.{Input}
 use Rattle.txs_cli_request.specs.declared.request.Request.{Request}
 use Rattle.txs_cli_request.specs.declared.request.Request.TheVariants as asked
-use Rattle.txs_cli_request.specs.declared.request.Request.TheVariants.{Check, Build, Run, Record, Schedule, Replay, Explore, Shown, Faulty}
+use Rattle.txs_cli_request.specs.declared.request.Request.TheVariants.{Check, Build, Run, Record, Schedule, Replay, Show, CheckJson, Explore, Shown, Faulty}
 use Rattle.txs_cli_request.specs.declared.request.RunOptions.{RunOptions}
 
 -- the name under which lines are explained, where they are: that of the file, or "-" for the standard input
@@ -60,7 +60,9 @@ RequestTells bytes (Run input workers options) t = TurnsTell options.audit bytes
 RequestTells bytes (Record input workers options out) t = t ≡ wrong_use
 RequestTells bytes (Schedule input plays options) t = TurnsTell options.audit bytes input (string_bytes plays) options t
 RequestTells bytes (Replay input from options) t = t ≡ wrong_use
-RequestTells bytes (Explore input exploring) t = t ≡ wrong_use
+RequestTells bytes (Show input scheduling options showing) t = t ≡ wrong_use
+RequestTells bytes (CheckJson input) t = t ≡ wrong_use
+RequestTells bytes (Explore input exploring timeline) t = t ≡ wrong_use
 RequestTells bytes (Shown text) t = t ≡ record { output = string_bytes text; errors = []; status = 0 }
 RequestTells bytes (Faulty text) t = t ≡ record { output = []; errors = string_bytes text; status = 2 }
 
@@ -111,6 +113,8 @@ WorkedRequestTells failed unaudited bytes (Record input workers options out) t =
 WorkedRequestTells failed unaudited bytes (Schedule input plays options) t =
     PlaysTell (λ p r e. unaudited p r (finishing options.steps) audit_workers e) options.audit bytes input (string_bytes plays) options t
 WorkedRequestTells failed unaudited bytes (Replay input from options) t = RequestTells bytes (Replay input from options) t
-WorkedRequestTells failed unaudited bytes (Explore input exploring) t = RequestTells bytes (Explore input exploring) t
+WorkedRequestTells failed unaudited bytes (Show input scheduling options showing) t = RequestTells bytes (Show input scheduling options showing) t
+WorkedRequestTells failed unaudited bytes (CheckJson input) t = RequestTells bytes (CheckJson input) t
+WorkedRequestTells failed unaudited bytes (Explore input exploring timeline) t = RequestTells bytes (Explore input exploring timeline) t
 WorkedRequestTells failed unaudited bytes (Shown text) t = RequestTells bytes (Shown text) t
 WorkedRequestTells failed unaudited bytes (Faulty text) t = RequestTells bytes (Faulty text) t

@@ -29,7 +29,7 @@ fn is_alone(code: &Verified) -> bool
 ///
 /// # Errors
 /// `NoActor` where a play names no actor, and nothing ran; `Memory`.
-pub(crate) fn run_plays(
+pub fn run_plays(
     alloc: Global,
     code: &Verified,
     plays: &[Repeated],

@@ -30,9 +30,7 @@ use txs_world_protocol::Report;
 use txs_world_shared::SharedState;
 
 /// What is told of a run of a script's code that is over, and of the audit of its report by so many workers.
-pub(crate) fn audit_run<
-    A: Fn(Global, &Program, &Report, Terms, usize) -> Result<Verdict, AuditError>,
->(
+pub fn audit_run<A: Fn(Global, &Program, &Report, Terms, usize) -> Result<Verdict, AuditError>>(
     alloc: Global,
     auditor: &A,
     script: Script<'_>,

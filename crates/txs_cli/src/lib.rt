@@ -3,25 +3,23 @@
 //! how workers run, and how a report is audited: this crate starts nothing and waits for nobody.
 #![tactic(auto)]
 
-mod alone;
-mod audited;
+pub mod alone;
+pub mod audited;
 mod audited_stream;
 mod bytes;
 mod code;
 mod code_play;
-pub mod explore;
 mod form_stream;
 mod lines;
 pub mod program;
 pub mod record;
 mod run;
 mod schedule;
-mod script;
+pub mod script;
 mod usage;
 pub mod workers;
-mod workers_play;
+pub mod workers_play;
 
-pub use explore::explore_run;
 pub use program::{play, play_words};
 pub use record::{Record, record_run};
 pub use txs_audit_answer::{AuditError, Terms, Verdict};

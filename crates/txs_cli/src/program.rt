@@ -130,6 +130,8 @@ pub fn play_words<R: Read, W: Write, F: Write>(
         }
         Request::Record { .. } => refuse_use(writer, faults),
         Request::Replay { .. } => refuse_use(writer, faults),
+        Request::Show { .. } => refuse_use(writer, faults),
+        Request::CheckJson { .. } => refuse_use(writer, faults),
         Request::Explore { .. } => refuse_use(writer, faults),
         Request::Shown(text) => write_told(text.as_bytes(), &[], DONE, writer, faults),
         Request::Faulty(text) => write_told(&[], text.as_bytes(), UNUSABLE, writer, faults),

@@ -17,9 +17,10 @@ use txs_world_shared::SharedState;
 
 /// A run by so many workers.
 #[derive(Clone, Copy)]
-pub(crate) struct Working {
-    pub(crate) workers: usize,
-    pub(crate) options: RunOptions,
+pub struct Working {
+    /// How many workers run it, or audit it.
+    pub workers: usize,
+    pub options: RunOptions,
 }
 
 /// Runs the script's threads and agents by workers, and tells of its cells and events where they are wanted.

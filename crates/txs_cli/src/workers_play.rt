@@ -18,7 +18,7 @@ use txs_machine::{Entries, RunError};
 use txs_world_shared::SharedState;
 
 /// What is told of a stream that couldn't be read. Of want of memory the program tells otherwise.
-pub(crate) fn unread(alloc: Global, fault: ReadFault) -> Result<Told, AllocError>
+pub fn unread(alloc: Global, fault: ReadFault) -> Result<Told, AllocError>
     ensures { IfOk result (λ t. ((told_of t).output ≡ []) × (t.errors.items ≡ codes "read failed" ++ codes "\n") × (t.status ≡ 2)) }
 {
     match fault {

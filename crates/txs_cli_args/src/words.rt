@@ -6,7 +6,7 @@ ghost use Rattle.txs_cli_args.specs.Asked.{ExplainsScripts, OfScripts};
 use clap::error::ErrorKind;
 use clap::{Arg, ArgAction, ArgMatches, Command, Error, value_parser};
 use std::alloc::{AllocError, Global};
-use txs_cli_request::{Explain, Exploring, Input, Request, RunOptions};
+use txs_cli_request::{Explain, Exploring, Input, Request, RunOptions, Scheduling, Showing};
 
 /// How many steps an actor makes at most, where the words don't say it.
 const DEFAULT_STEPS: u64 = 100_000_000;
@@ -23,7 +23,7 @@ const DEFAULT_WORKERS: u64 = 4;
 /// What `--version` says behind the program's name: with the kit that the sources are for. A checked program is made of the same sources, and says the
 /// same; so this says nothing of proofs.
 const VERSION: &str =
-    "0.1.0 (a profile of Clojure 1.11; byte forms TXS1 and TXS2; for rattle-kit-13f)";
+    "0.1.0 (a profile of Clojure 1.11; byte forms TXS1 and TXS2; for rattle-kit-13b)";
 
 /// What stands below each text of help: what the statuses say, of which the highest that applies counts.
 const STATUSES: &str = "Statuses, of which the highest that applies counts:
@@ -45,10 +45,14 @@ enum Kind {
     Apart(&'static [&'static str]),
     /// A flag, or one of `WHEN` with a `=` before it.
     When,
+    /// A flag, or one of `FORMS` with a `=` before it.
+    Form,
     /// A text.
     Text,
     /// The name of a file, which has to be there.
     Out,
+    /// The name of a folder.
+    Folder,
     /// A number from 1 to this one.
     Number(i64),
 }
@@ -61,6 +65,9 @@ const FILE: Opt = ("FILE", "The script; without it, standard input", Kind::File)
 
 /// When a command explains what it complains of, as words.
 static WHEN: [&str; 3] = ["always", "never", "auto"];
+
+/// The forms in which events are printed, as words.
+static FORMS: [&str; 2] = ["short", "full"];
 
 /// The option of when a command explains what it complains of.
 const EXPLAIN: Opt = (
@@ -108,7 +115,7 @@ const TURNS_FROM: Opt = (
 const RECORD: Opt = (
     "record",
     "Writes to this file the list of turns by which `schedule --turns-from` makes the run again; not with --audit or --code",
-    Kind::Apart(&["audit", "code"]),
+    Kind::Apart(&["audit", "code", "timeline", "json"]),
 );
 
 /// The option of how many steps an actor makes.
@@ -125,8 +132,40 @@ const CELLS: Opt = (
     Kind::Flag,
 );
 
-/// The flag by which a command prints the events.
-const EVENTS: Opt = ("events", "Prints each event of the journal", Kind::Flag);
+/// The option of in which form a command prints the events.
+const EVENTS: Opt = (
+    "events",
+    "Prints each event: `short` (also without FORM), those of the journal; or `full`, those of atoms too, with all their parts, in the order of the run; `full` not with --record or --code",
+    Kind::Form,
+);
+
+/// The option of which file gets the picture of a run.
+const TIMELINE: Opt = (
+    "timeline",
+    "Writes to this file a picture of the run, as SVG; not with --record or --code",
+    Kind::Apart(&["code"]),
+);
+
+/// The option of which folder gets the pictures of all outcomes.
+const TIMELINES: Opt = (
+    "timeline",
+    "Writes to this folder a picture of each outcome's run, as outcome-1.svg and so on",
+    Kind::Folder,
+);
+
+/// The flag by which a run is told as lines of JSON.
+const JSON: Opt = (
+    "json",
+    "Prints lines of JSON in place of all other output; not with --record or --code",
+    Kind::Without("code"),
+);
+
+/// The flag by which a check is told as a line of JSON.
+const JSON_CHECK: Opt = (
+    "json",
+    "Prints a line of JSON in place of all other output",
+    Kind::Flag,
+);
 
 /// The flag by which a run is checked against its script.
 const AUDIT: Opt = (
@@ -171,7 +210,7 @@ static COMMANDS: [Row; 6] = [
     (
         "check",
         "Checks a script without running it",
-        &[EXPLAIN, FILE],
+        &[JSON_CHECK, EXPLAIN, FILE],
     ),
     ("dis", "Lists the code of a script", &[EXPLAIN, FILE, CODE]),
     (
@@ -183,20 +222,22 @@ static COMMANDS: [Row; 6] = [
         "run",
         "Runs a script",
         &[
-            WORKERS, STEPS, CELLS, EVENTS, RECORD, AUDIT, CODE, EXPLAIN, FILE,
+            WORKERS, STEPS, CELLS, EVENTS, TIMELINE, JSON, RECORD, AUDIT, CODE, EXPLAIN, FILE,
         ],
     ),
     (
         "schedule",
         "Runs a script by a schedule",
         &[
-            TURNS, TURNS_FROM, STEPS, CELLS, EVENTS, AUDIT, CODE, EXPLAIN, FILE,
+            TURNS, TURNS_FROM, STEPS, CELLS, EVENTS, TIMELINE, JSON, AUDIT, CODE, EXPLAIN, FILE,
         ],
     ),
     (
         "explore",
         "Lists all outcomes of a script, each with a schedule",
-        &[LIMIT, STEPS_EACH, SAME, AUDIT_EACH, EXPLAIN, FILE],
+        &[
+            LIMIT, STEPS_EACH, SAME, AUDIT_EACH, TIMELINES, EXPLAIN, FILE,
+        ],
     ),
 ];
 
@@ -211,18 +252,28 @@ fn option<'a>(alloc: Global, of: &Opt) -> Result<Arg<'a>, AllocError> {
         Kind::Flag => Ok(arg.action(ArgAction::SetTrue)),
         Kind::Without(other) => arg.action(ArgAction::SetTrue).conflicts_with(other),
         Kind::When => Ok(
-            arg.value_name("WHEN")
-                .num_args(0..=1)
-                .require_equals(true)
+            one_of(arg.value_name("WHEN"))
                 .default_missing_value("always")
-                .hide_possible_values(true)
                 .value_parser(WHEN.as_slice()),
+        ),
+        Kind::Form => Ok(
+            one_of(arg.value_name("FORM"))
+                .default_missing_value("short")
+                .value_parser(FORMS.as_slice()),
         ),
         Kind::Apart(others) => apart(arg.value_name("F"), others),
         Kind::Out => Ok(arg.value_name("F").required(true)),
+        Kind::Folder => Ok(arg.value_name("DIR")),
         Kind::Number(most) => Ok(arg.value_parser(value_parser!(u64).range(1..=most))),
         _ => Ok(arg),
     }
+}
+
+/// An option that is a flag, or has a word of a few with a `=` before it, which its help names.
+fn one_of<'a>(arg: Arg<'a>) -> Arg<'a> {
+    arg.num_args(0..=1)
+        .require_equals(true)
+        .hide_possible_values(true)
 }
 
 /// An option that excludes these other ones.
@@ -273,7 +324,7 @@ fn options_of(words: &ArgMatches<'_>) -> RunOptions {
     RunOptions {
         steps: words.get_one::<u64>("steps").unwrap_or(DEFAULT_STEPS),
         cells: words.get_flag("cells"),
-        events: words.get_flag("events"),
+        events: words.get_str("events").unwrap_or("") == "short",
         audit: words.get_flag("audit"),
     }
 }
@@ -286,6 +337,20 @@ fn exploring_of(words: &ArgMatches<'_>) -> Exploring {
         same: words.get_flag("same"),
         audit: words.get_flag("audit"),
     }
+}
+
+/// Whether the words ask for the long form of events.
+fn is_full(words: &ArgMatches<'_>) -> bool {
+    words.get_str("events").unwrap_or("") == "full"
+}
+
+/// The texts of a command's options.
+#[derive(Drop)]
+struct Texts {
+    /// A list of plays, or the name of the file that has it or that is written; nothing where there is neither.
+    text: String,
+    /// Where pictures go.
+    timeline: Option<String>,
 }
 
 /// What the words of `schedule` ask for, with its input and the text of `--turns` or the name of the file that has it.
@@ -308,16 +373,18 @@ fn schedule_of(words: &ArgMatches<'_>, input: Input, text: String) -> Request
     }
 }
 
-/// What the words of a command that runs something ask for, with its input and its text.
-fn run_of(name: &str, words: &ArgMatches<'_>, input: Input, text: String) -> Request
+/// How many workers the words of `run` ask for.
+fn workers_of(words: &ArgMatches<'_>) -> u64 {
+    words.get_one::<u64>("workers").unwrap_or(DEFAULT_WORKERS)
+}
+
+/// What the words of `run` ask for, with its input and the name of the file that it is recorded in.
+fn work_of(words: &ArgMatches<'_>, input: Input, text: String) -> Request
     requires { OfScripts input }
     ensures { ExplainsScripts result }
 {
-    if name == "schedule" {
-        return schedule_of(words, input, text);
-    }
     let options = options_of(words);
-    let workers = words.get_one::<u64>("workers").unwrap_or(DEFAULT_WORKERS);
+    let workers = workers_of(words);
     if words.get_str("record").is_some() {
         return Request::Record {
             input,
@@ -334,30 +401,81 @@ fn run_of(name: &str, words: &ArgMatches<'_>, input: Input, text: String) -> Req
     }
 }
 
-/// What a command's words ask for, with its input and its text.
-fn request_of(name: &str, words: &ArgMatches<'_>, input: Input, text: String) -> Request
+/// How the words of a command that runs something say that it is scheduled, with its text.
+fn scheduling_of(name: &str, words: &ArgMatches<'_>, text: String) -> Scheduling {
+    if name == "run" {
+        drop(text);
+        return Scheduling::Workers(workers_of(words));
+    }
+    if words.get_str("turns-from").is_some() {
+        return Scheduling::TurnsFrom(text);
+    }
+    Scheduling::Turns(text)
+}
+
+/// What the words of a command that runs something ask for, with its input and its texts.
+fn run_of(name: &str, words: &ArgMatches<'_>, input: Input, texts: Texts) -> Request
     requires { OfScripts input }
     ensures { ExplainsScripts result }
 {
-    if name == "build" {
-        return Request::Build { input, out: text };
+    let Texts { text, timeline } = texts;
+    let (full, json) = (is_full(words), words.get_flag("json"));
+    if full || json || timeline.is_some() {
+        return Request::Show {
+            input,
+            scheduling: scheduling_of(name, words, text),
+            options: options_of(words),
+            showing: Showing {
+                full,
+                json,
+                timeline,
+            },
+        };
     }
-    if name == "check" {
-        drop(text);
-        return Request::Check { input };
+    drop(timeline);
+    if name == "run" {
+        return work_of(words, input, text);
     }
+    schedule_of(words, input, text)
+}
+
+/// What the words of a command that runs nothing ask for, with its input.
+fn check_of(name: &str, words: &ArgMatches<'_>, input: Input) -> Request
+    requires { OfScripts input }
+    ensures { ExplainsScripts result }
+{
     if name == "dis" {
-        drop(text);
         return Request::List { input };
     }
+    if words.get_flag("json") {
+        return Request::CheckJson { input };
+    }
+    Request::Check { input }
+}
+
+/// What a command's words ask for, with its input and its texts.
+fn request_of(name: &str, words: &ArgMatches<'_>, input: Input, texts: Texts) -> Request
+    requires { OfScripts input }
+    ensures { ExplainsScripts result }
+{
+    if name == "run" || name == "schedule" {
+        return run_of(name, words, input, texts);
+    }
+    let Texts { text, timeline } = texts;
+    if name == "build" {
+        drop(timeline);
+        return Request::Build { input, out: text };
+    }
+    drop(text);
     if name == "explore" {
-        drop(text);
         return Request::Explore {
             input,
             exploring: exploring_of(words),
+            timeline,
         };
     }
-    run_of(name, words, input, text)
+    drop(timeline);
+    check_of(name, words, input)
 }
 
 /// When the words of a command say that lines are explained.
@@ -379,6 +497,14 @@ fn text_of<'a>(words: &'a ArgMatches<'_>) -> Option<&'a str> {
     None
 }
 
+/// A copy of a text, if there is one.
+fn copy_of(alloc: Global, text: Option<&str>) -> Result<Option<String>, AllocError> {
+    match text {
+        Some(text) => Ok(Some(String::from_str(alloc, text)?)),
+        None => Ok(None),
+    }
+}
+
 /// What a command's words ask for, whose lines are explained or not. An option that the command lacks reads as one that isn't there.
 fn asked_of(
     alloc: Global,
@@ -391,16 +517,14 @@ fn asked_of(
     ensures { IfOk result ExplainsScripts }
 {
     let text = String::from_str(alloc, text_of(words).unwrap_or(""))?;
-    let file = match words.get_str("FILE") {
-        Some(name) => Some(String::from_str(alloc, name)?),
-        None => None,
-    };
+    let timeline = copy_of(alloc, words.get_str("timeline"))?;
+    let texts = Texts { text, timeline };
     let input = Input {
-        file,
+        file: copy_of(alloc, words.get_str("FILE"))?,
         code,
         explain,
     };
-    Ok(request_of(name, words, input, text))
+    Ok(request_of(name, words, input, texts))
 }
 
 /// What the matched words ask for, where the standard error is a terminal or isn't. Of code nothing is explained, since there is no script to show.
@@ -410,15 +534,31 @@ fn asked(alloc: Global, matches: &ArgMatches<'_>, is_terminal: bool) -> Result<R
     let Some((name, words)) = matches.subcommand() else {
         return Ok(Request::Faulty(String::new(alloc)));
     };
-    match (explain_of(words), words.get_flag("code")) {
-        (Explain::Always, true) => excluded(alloc, name),
-        (_, true) => asked_of(alloc, name, words, true, false),
-        (when, false) => asked_of(alloc, name, words, false, when.is_meant(is_terminal)),
+    if let Some(fault) = conflict_of(words) {
+        return excluded(alloc, name, fault);
+    }
+    if words.get_flag("code") {
+        return asked_of(alloc, name, words, true, false);
+    }
+    let explain = explain_of(words).is_meant(is_terminal);
+    asked_of(alloc, name, words, false, explain)
+}
+
+/// What is wrong with words of which two can't be used together, where that depends on an option's value.
+fn conflict_of(words: &ArgMatches<'_>) -> Option<&'static str> {
+    let (code, full) = (words.get_flag("code"), is_full(words));
+    match explain_of(words) {
+        Explain::Always if code => { Some("the argument '--code' cannot be used with '--explain'") }
+        _ if full && code => Some("the argument '--code' cannot be used with '--events=full'"),
+        _ if full && words.get_str("record").is_some() => {
+            Some("the argument '--record <F>' cannot be used with '--events=full'")
+        }
+        _ => None,
     }
 }
 
-/// The usage fault of words of this command that ask for code, and that it be explained.
-fn excluded(alloc: Global, name: &str) -> Result<Request, AllocError>
+/// The usage fault of words of this command, of which two can't be used together.
+fn excluded(alloc: Global, name: &str, fault: &str) -> Result<Request, AllocError>
     ensures { IfOk result ExplainsScripts }
 {
     let Some(row) = COMMANDS.iter().find(|row| row.0 == name) else {
@@ -426,10 +566,7 @@ fn excluded(alloc: Global, name: &str) -> Result<Request, AllocError>
     };
     let full = format!(in alloc; "txs {name}")?;
     let mut command = below(alloc, row)?.bin_name(full.as_str())?;
-    let error = command.error(
-        ErrorKind::ArgumentConflict,
-        "the argument '--code' cannot be used with '--explain'",
-    )?;
+    let error = command.error(ErrorKind::ArgumentConflict, fault)?;
     told(alloc, &error)
 }
 

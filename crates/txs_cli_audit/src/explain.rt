@@ -141,6 +141,27 @@ fn explain_undecided(
     )
 }
 
+/// The sentence that explains an answer, and the form of the text that is shown, if there is one. Of an answer that agrees there is none.
+pub fn reason_of(
+    alloc: Global,
+    audited: Audited<'_>,
+    terms: Terms,
+    answer: Verdict,
+) -> Result<Option<(String, Option<Span>)>, AllocError> {
+    match answer {
+        Verdict::Agrees { .. } => Ok(None),
+        Verdict::Differs { actor, event } => {
+            let at = EventAt { actor, event };
+            Ok(Some(what_differs(alloc, audited, terms, at)?))
+        }
+        Verdict::Undecided { actor, event } => {
+            let at = EventAt { actor, event };
+            let sentence = sentence_of(alloc, audited, at, UNDECIDED)?;
+            Ok(Some((sentence, form_of(audited, at))))
+        }
+    }
+}
+
 /// Appends what explains an answer, where a file is named: of one that agrees nothing.
 pub(crate) fn explain(
     alloc: Global,

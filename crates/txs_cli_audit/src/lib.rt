@@ -7,5 +7,5 @@ mod event;
 mod explain;
 pub mod told;
 
-pub use explain::Audited;
-pub use told::{add_answer, add_audit};
+pub use explain::{Audited, reason_of};
+pub use told::{add_answer, add_audit, status_of};

@@ -41,7 +41,7 @@ fn write_line(output: &mut Vec<u8>, answer: Verdict) -> Result<(), AllocError>
 }
 
 /// How an answer counts in the status.
-fn status_of(answer: Verdict) -> u8
+pub fn status_of(answer: Verdict) -> u8
     ensures { result ≡ audit_status (as_verdict answer) }
 {
     match answer {

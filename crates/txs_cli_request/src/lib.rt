@@ -3,4 +3,4 @@
 
 pub mod request;
 
-pub use request::{Explain, Exploring, Input, Request, RunOptions};
+pub use request::{Explain, Exploring, Input, Request, RunOptions, Scheduling, Showing};

@@ -45,7 +45,7 @@ pub struct RunOptions {
     pub steps: u64,
     /// Whether the cells are printed.
     pub cells: bool,
-    /// Whether the events of the journal are printed.
+    /// Whether the events of the journal are printed in their short form.
     pub events: bool,
     /// Whether the report is audited, which has to be of a script.
     pub audit: bool,
@@ -62,6 +62,28 @@ pub struct Exploring {
     pub same: bool,
     /// Whether the report of each outcome's run is audited.
     pub audit: bool,
+}
+
+/// How a run is scheduled of which more is shown.
+#[derive(Drop)]
+pub enum Scheduling {
+    /// By so many workers.
+    Workers(u64),
+    /// By the plays of this list, and then in rounds.
+    Turns(String),
+    /// The same, with the list that the file of this name has, or the standard input if it is `-`.
+    TurnsFrom(String),
+}
+
+/// What is shown of a run beside its plain output, or in its place.
+#[derive(Drop)]
+pub struct Showing {
+    /// Whether the events are printed in their long form.
+    pub full: bool,
+    /// Whether lines of JSON are printed in place of the plain output.
+    pub json: bool,
+    /// The file that the run's picture is written to, if one is.
+    pub timeline: Option<String>,
 }
 
 /// What the program is asked for.
@@ -105,10 +127,22 @@ pub enum Request {
         from: String,
         options: RunOptions,
     },
-    /// `explore`: to list all outcomes of a script.
+    /// `run` or `schedule` with `--events=full`, `--timeline` or `--json`: to run a script, and to show more of the run, or in another form.
+    Show {
+        input: Input,
+        scheduling: Scheduling,
+        options: RunOptions,
+        showing: Showing,
+    },
+    /// `check --json`: to check a script, and to say as a line of JSON what comes of it.
+    CheckJson {
+        input: Input,
+    },
+    /// `explore`: to list all outcomes of a script; `--timeline` names the folder that gets a picture for each outcome.
     Explore {
         input: Input,
         exploring: Exploring,
+        timeline: Option<String>,
     },
     /// To print a text on the standard output, which is help.
     Shown(String),

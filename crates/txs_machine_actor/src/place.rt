@@ -24,8 +24,8 @@ fn place_in(bodies: &[Body], i: usize, at: usize) -> Option<Span>
 }
 
 impl Actor {
-    /// The span of the instruction that is next, if there is one.
-    fn next_place(&self, code: &Verified) -> Option<Span>
+    /// The span of the instruction that is next, if there is one: of an actor that asks, of the instruction by which it does.
+    pub fn next_place(&self, code: &Verified) -> Option<Span>
         ensures { result ≡ next_place code.now self.now }
     {
         let at = self.stack.place();

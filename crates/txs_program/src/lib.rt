@@ -4,4 +4,5 @@
 pub mod play;
 
 pub use play::{play_by_workers, record_by_workers};
-pub use txs_cli::{Record, explore_run};
+pub use txs_cli::Record;
+pub use txs_cli_explore::explore_run;

@@ -1,6 +1,6 @@
 use Rattle.std.proofs.Common.{rules}
 use Rattle.txs_cli_report.specs.Told.{Told, Written}
-use Rattle.txs_cli.proofs.Commands.{explore_told, record_told, replay_told, run_told, schedule_told}
+use Rattle.txs_cli.proofs.Commands.{check_json_told, explore_told, record_told, replay_told, run_told, schedule_told, show_told}
 use Rattle.txs_cli.proofs.program.play_words.Goals as goal
 
 pub returns-in-Check : goal.returns-in-Check
@@ -32,9 +32,24 @@ returns-in-Replay g c =
     let writes : Told → Type 0 = λ t. Written (g.W.Write.contents c.args.writer.now) (g.W.Write.contents refused.new.writer) (g.F.Write.contents c.args.faults.now) (g.F.Write.contents refused.new.faults) t refused.result in
     replay_told (g.R.Read.remaining c.args.reader.now) writes c.args.request.now r.input r.from r.options r.is refused.ensures
 
+-- nor more be shown of it
+pub returns-in-Show : goal.returns-in-Show
+returns-in-Show g c =
+    let r = c.in-Show in
+    let refused = c.refuse_use-in-Show in
+    let writes : Told → Type 0 = λ t. Written (g.W.Write.contents c.args.writer.now) (g.W.Write.contents refused.new.writer) (g.F.Write.contents c.args.faults.now) (g.F.Write.contents refused.new.faults) t refused.result in
+    show_told (g.R.Read.remaining c.args.reader.now) writes c.args.request.now r.input r.scheduling r.options r.showing r.is refused.ensures
+
+pub returns-in-CheckJson : goal.returns-in-CheckJson
+returns-in-CheckJson g c =
+    let r = c.in-CheckJson in
+    let refused = c.refuse_use-in-CheckJson in
+    let writes : Told → Type 0 = λ t. Written (g.W.Write.contents c.args.writer.now) (g.W.Write.contents refused.new.writer) (g.F.Write.contents c.args.faults.now) (g.F.Write.contents refused.new.faults) t refused.result in
+    check_json_told (g.R.Read.remaining c.args.reader.now) writes c.args.request.now r.input r.is refused.ensures
+
 pub returns-in-Explore : goal.returns-in-Explore
 returns-in-Explore g c =
     let r = c.in-Explore in
     let refused = c.refuse_use-in-Explore in
     let writes : Told → Type 0 = λ t. Written (g.W.Write.contents c.args.writer.now) (g.W.Write.contents refused.new.writer) (g.F.Write.contents c.args.faults.now) (g.F.Write.contents refused.new.faults) t refused.result in
-    explore_told (g.R.Read.remaining c.args.reader.now) writes c.args.request.now r.input r.exploring r.is refused.ensures
+    explore_told (g.R.Read.remaining c.args.reader.now) writes c.args.request.now r.input r.exploring r.timeline r.is refused.ensures

@@ -1,0 +1,3 @@
+pub mod LongLines
+pub mod Run
+pub mod Shown

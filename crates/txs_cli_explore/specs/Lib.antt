@@ -1,0 +1,4 @@
+pub mod Changes
+pub mod Explored
+pub mod Outcomes
+pub mod Laws

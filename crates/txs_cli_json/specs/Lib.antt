@@ -1,0 +1,4 @@
+pub mod Cells
+pub mod Json
+pub mod Members
+pub mod ValueForm

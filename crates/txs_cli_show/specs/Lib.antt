@@ -1,0 +1,3 @@
+pub mod Json
+pub mod Picture
+pub mod Shown

@@ -1,0 +1,3 @@
+pub mod Appended
+pub mod Entities
+pub mod Escaped
