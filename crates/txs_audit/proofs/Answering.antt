@@ -1,13 +1,12 @@
 -- The verdict, by the first test that finds something.
-use Rattle.std.proofs.Common.{◌≡◌, ◌≤◌, ◌<◌, ℕ, suc, ◌+◌, ◌&&◌, Bool, true, false, List, [], ◌∷◌, ◌++◌, length, refl, sym, ap, ◌∙◌, subst, arith}
+use Rattle.std.proofs.Common.{◌≡◌, ℕ, suc, ◌+◌, ◌&&◌, Bool, true, false, ◌++◌, length, refl, sym, ap, ◌∙◌}
 use Rattle.std.proofs.lemmas.Bool.{false≢true}
 use Rattle.txs_value_cell.specs.Agents.{agents_from}
 use Rattle.txs_tree_meaning.specs.Tree.{PlainProgram}
-use Rattle.txs_world_protocol.specs.declared.event.Event.{Event}
 use Rattle.txs_theorem_audit.specs.Audited as audited
-use Rattle.txs_theorem_audit.specs.Audited.{PlainActorReport, PlainReport, PlainTerms, books_of, Finding, Fine, Off, Short, and_then, check, answer}
+use Rattle.txs_theorem_audit.specs.Audited.{PlainReport, PlainTerms, books_of, Finding, Fine, Off, Short, and_then, check, answer}
 use Rattle.txs_theorem_audit.specs.Pieces.{PiecesAreAll, pieces_finding, pieces_of, pieces_serial}
-use Rattle.txs_theorem_audit.specs.Verdict.{agents_found, agents_serial, are_serial, atoms_found, atoms_from, ends_found, fits_sizes, order_found, store_found, threads_found, trace_found, traces_found, verdict}
+use Rattle.txs_theorem_audit.specs.Verdict.{agents_found, agents_serial, are_serial, atoms_found, atoms_from, ends_found, fits_sizes, order_found, store_found, threads_found, traces_found, verdict}
 use Rattle.txs_theorem_audit.proofs.Findings.{and_fine}
 use Rattle.txs_audit_piece.specs.Judged.{is_fine}
 use Rattle.txs_audit.specs.Started.{actors_found}
@@ -81,27 +80,3 @@ module _ (p : PlainProgram) (w : PlainTerms) (r : PlainReport) (n : ℕ) where
       go Fine h = (let x = and_fine (ends_found p w r) (order_found p r) h in sym (all p w r n fits (sym fine) store each x.0 x.1))
       go (Off a i) h = ap (λ f. answer (and_then f pieces) serial) (sym h) ∙ whole
       go (Short a i) h = ap (λ f. answer (and_then f pieces) serial) (sym h) ∙ whole
-
--- ---- where a trace is off
-
-abbrev IsActor : ℕ → Finding → Type 0
-IsActor n Fine = Unit {0}
-IsActor n (Off a i) = a < n
-IsActor n (Short a i) = Unit {0}
-
-checked : (b : Bool) (a i n : ℕ) → a < n → IsActor n (check b a i)
-checked true a i n lt = tt
-checked false a i n lt = lt
-
-first_actor : (f g : Finding) (n : ℕ) → IsActor n f → IsActor n g → IsActor n (and_then f g)
-first_actor Fine g n x y = y
-first_actor (Off a i) g n x y = x
-first_actor (Short a i) g n x y = x
-
--- an actor whose trace is off has an entry
-traces_within : (books : ℕ → List Event) (count a : ℕ) (rans : List PlainActorReport) (n : ℕ) → a + length rans ≤ n → IsActor n (traces_found books count a rans)
-traces_within books count a [] n le = tt
-traces_within books count a (x ∷ xs) n le = first_actor (trace_found books count a x.trace) (traces_found books count (suc a) xs) n (checked _ a _ n (omega (arith, le))) (traces_within books count (suc a) xs n (omega (arith, le)))
-
-pub off_within : (books : ℕ → List Event) (count : ℕ) (rans : List PlainActorReport) (a i : ℕ) → Off a i ≡ traces_found books count 0 rans → a < length rans
-off_within books count rans a i h = subst (IsActor (length rans)) (sym h) (traces_within books count 0 rans (length rans) (omega arith))

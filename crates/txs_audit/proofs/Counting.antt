@@ -1,7 +1,7 @@
 -- The pieces of a report, counted.
 use Rattle.std.proofs.Common.{◌≡◌, ◌≤◌, ◌<◌, ℕ, zero, suc, ◌+◌, Bool, true, false, List, [], ◌∷◌, ◌++◌, if◌then◌else◌, drop, get_or, length, refl, sym, ap, ◌∙◌, append_assoc, append-nil, arith, Some}
 use Rattle.std.specs.Prelude.{map}
-use Rattle.std.proofs.lemmas.List.{drop_all, drop_more, length-append}
+use Rattle.std.proofs.lemmas.List.{drop_all, drop_more}
 use Rattle.txs_value_cell.specs.Agents.{agents_from, with_agent}
 use Rattle.txs_value_cell.specs.declared.cell.CellDefinition.{CellDefinition}
 use Rattle.txs_value_data.specs.declared.value.CellKind.{CellKind}
@@ -14,15 +14,12 @@ use Rattle.txs_theorem_serial.specs.Whole.{is_act}
 use Rattle.txs_world_protocol.specs.declared.event.Event.{Event}
 use Rattle.txs_world_protocol.specs.declared.event.Place.{Place}
 use Rattle.txs_world_protocol.specs.declared.report.ActorReport.{ActorReport}
-use Rattle.txs_tree_meaning.specs.Tree.{PlainProgram}
-use Rattle.txs_theorem_audit.specs.Audited.{PlainReport, Off, books_of, place_of, ran_as}
-use Rattle.txs_theorem_audit.specs.Verdict.{fits_sizes, traces_found}
+use Rattle.txs_theorem_audit.specs.Audited.{place_of, ran_as}
 use Rattle.txs_theorem_audit.specs.Pieces as plain
 use Rattle.txs_theorem_audit.specs.Pieces.{act_pieces, agent_pieces, thread_pieces}
 use Rattle.txs_theorem_audit.proofs.Agreeing.{sized_of}
 use Rattle.txs_theorem_audit.proofs.Findings.{not_there}
 use Rattle.txs_audit_evidence.specs.Evidence.{PlainBooks, AreLegal}
-use Rattle.txs_audit.proofs.Answering.{off_within}
 use Rattle.txs_audit.specs.Pieced.{acts_left, piece_as, pieces_as}
 use Rattle.txs_audit.specs.declared.pieces.Piece.{Piece}
 use Rattle.txs_audit.specs.declared.pieces.Piece.TheVariants as piece
@@ -153,12 +150,3 @@ few_agents b legal sound rans is =
     let many = ap length is in
     let same = many_as rans in
     omega (arith, agents, few, cells, many, same)
-
--- an actor whose trace is off has a small number
-pub few_off : (p : PlainProgram) (r : PlainReport) → Sound p → fits_sizes p r ≡ true → (a i : ℕ) → Off a i ≡ traces_found (books_of r) (suc (length r.atom_books)) 0 (r.threads ++ r.agents) → a < 65536
-few_off p r sound fits a i off =
-    let sized = sized_of p r fits in
-    let within = off_within (books_of r) (suc (length r.atom_books)) (r.threads ++ r.agents) a i off in
-    let many = length-append r.threads r.agents in
-    let few = agents_few 0 p.cells in
-    omega (arith, within, many, few, sized.threads, sized.agents, sound.scoped.few_cells, sound.scoped.few_threads)

@@ -1,6 +1,5 @@
 -- What is lent to the workers of an audit: the books of a report, the program and the report, down to values.
 use denote.Builtin
-use denote.RattleType.{RattleType}
 use denote.Ref.{NamedLft}
 use denote.Param.Send.{IsSync, sendable, plain_sync, recorded_sync, struct_sync, enum_sync, view_sync, shr_sync, shr_slice_sync}
 use denote.Struct.Declared as S
@@ -61,9 +60,6 @@ value_field_sync = search (crosses, knot.crosses, sendable) depth 60 fits 20000
 
 pub cell_definition_sync : IsSync cell_definition_is.the_row
 cell_definition_sync = recorded_sync (cell_definition_is.the_field).row _ _ (cell_definition_is.the_type).to_one (struct_sync (S.shape cell_definition_is.the_type) (search (value_field_sync, name_sent.the_sync, error_mode_sent.the_field_sync, callee_sent.the_sync, option.the_field_sync, crosses, sendable) depth 60 fits 20000))
-
-pub node_sync : IsSync node_is.the_row
-node_sync = search (crosses, tree.crosses, value_field_sync, op_sent.the_field_sync, look_sent.the_field_sync, put_sent.the_field_sync, update_sent.the_field_sync, callee_sent.the_field_sync, span_sent.the_field_sync, sendable) depth 60 fits 20000
 
 pub node_field_sync : IsSync (node_is.the_field).row
 node_field_sync = search (crosses, tree.crosses, value_field_sync, op_sent.the_field_sync, look_sent.the_field_sync, put_sent.the_field_sync, update_sent.the_field_sync, callee_sent.the_field_sync, span_sent.the_field_sync, sendable) depth 60 fits 20000

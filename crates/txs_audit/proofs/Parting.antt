@@ -1,20 +1,15 @@
 -- What is sought of pieces, put together.
 use Rattle.std.proofs.Common.{◌≡◌, ℕ, ◌&&◌, Bool, true, false, List, [], ◌∷◌, ◌++◌, take, drop, Result, refl, sym, ap, ◌∙◌, subst, arith}
 use Rattle.std.specs.Prelude.{length, Ok, Err, IfOk, OnOk}
-use Rattle.std.proofs.lemmas.List.{map-append, take-append-drop}
+use Rattle.std.proofs.lemmas.List.{take-append-drop}
 use Rattle.core.specs.declared.thread.PromisedHandle.{PromisedHandle}
-use Rattle.txs_tree_meaning.specs.View.{program_of}
 use Rattle.txs_theorem_audit.specs.Audited.{Finding, Fine, Off, Short, and_then, answer}
-use Rattle.txs_theorem_audit.specs.Pieces as plain
-use Rattle.txs_theorem_audit.specs.Pieces.{HalvesAreWhole}
 use Rattle.txs_audit_piece.specs.Judged.{as_found}
-use Rattle.txs_audit_evidence.specs.Evidence.{PlainBooks}
 use Rattle.txs_audit_evidence.specs.declared.transactions.Found.{Found}
 use Rattle.txs_audit.specs.Parted.{sought_by, sought_in}
-use Rattle.txs_audit.specs.Pieced.{IsFound, Sought, both, nothing, piece_as, pieces_as, sought_of}
+use Rattle.txs_audit.specs.Pieced.{IsFound, Sought, both, nothing}
 use Rattle.txs_audit.specs.declared.judging.Judge as Judge
 use Rattle.txs_audit.specs.declared.parts.Part.{Part}
-use Rattle.txs_audit.specs.declared.pieces.Piece.{Piece}
 use Rattle.txs_audit_answer.specs.declared.verdict.AuditError.{AuditError}
 
 abbrev IsFine : Finding → Type 0
@@ -63,15 +58,6 @@ module _ {J : Type 0} (g : Judge.Ghosts J) where
   pub sought_more : (hs : List (PromisedHandle (Result Found AuditError) (Part J))) (h : PromisedHandle (Result Found AuditError) (Part J)) → sought_by g (hs ++ h ∷ []) ≡ both (sought_by g hs) (sought_in g h.promise)
   sought_more [] h = both_nothing (sought_in g h.promise)
   sought_more (x ∷ xs) h = ap (both (sought_in g x.promise)) (sought_more xs h) ∙ sym (both_three (sought_in g x.promise) (sought_by g xs) (sought_in g h.promise))
-
--- these and those
-pub sought_both : HalvesAreWhole → (b : PlainBooks) (n : ℕ) (xs ys : List Piece) → sought_of b n (pieces_as (xs ++ ys)) ≡ both (sought_of b n (pieces_as xs)) (sought_of b n (pieces_as ys))
-sought_both law b n xs ys =
-    let p = program_of b.program in
-    let l = law p b.report n (pieces_as xs) (pieces_as ys) in
-    ap (sought_of b n) (map-append piece_as xs ys)
-    ∙ same (plain.pieces_finding p b.report n (pieces_as xs ++ pieces_as ys)) (and_then (plain.pieces_finding p b.report n (pieces_as xs)) (plain.pieces_finding p b.report n (pieces_as ys)))
-    (plain.pieces_serial p b.report n (pieces_as xs ++ pieces_as ys)) (plain.pieces_serial p b.report n (pieces_as xs) && plain.pieces_serial p b.report n (pieces_as ys)) l.0 l.1
 
 -- what was found of these and then of those
 pub found_both : (s t : Sought) (f g : Found) (r : Found) → IsFound s f → IsFound t g → as_found r.finding ≡ and_then (as_found f.finding) (as_found g.finding) → r.serial ≡ (f.serial && g.serial) → IsFound (both s t) r

@@ -21,8 +21,8 @@ use txs_audit_answer::{AuditError, Terms, Verdict};
 use txs_audit_evidence::transactions::Found;
 use txs_audit_evidence::{Books, ends_off, open_books};
 use txs_audit_trace::{has_sizes, traces_off};
+use txs_gate::{Gate, OpenGate};
 use txs_theorem_audit::pieces_are_all;
-use txs_threads::{Gate, OpenGate};
 use txs_tree_meaning::Program;
 use txs_world_protocol::Report;
 

@@ -16,7 +16,7 @@ use std::thread;
 use std::thread::{PromisedHandle, Scope, Threads};
 use txs_audit_answer::AuditError;
 use txs_audit_evidence::transactions::Found;
-use txs_threads::{Gate, Moment};
+use txs_gate::{Gate, Moment};
 
 /// The bytes of a worker's stack. An evaluator calls itself for each level of a program, of which there are at most 1,000.
 const STACK: usize = 64 * 1024 * 1024;

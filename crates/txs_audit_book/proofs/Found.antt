@@ -1,13 +1,13 @@
 -- A book's events found one by one.
 use Rattle.std.proofs.Common.{◌≡◌, ◌≤◌, ◌<◌, ◌+◌, ℕ, zero, suc, Bool, true, false, ◌&&◌, nat_lt, List, [], ◌∷◌, ◌++◌, length, take, drop, get_or, Some, refl, sym, ap, ◌∙◌, arith}
 use Rattle.std.proofs.lemmas.Bool.{lt-ltb, le-ltb}
-use Rattle.std.proofs.lemmas.List.{drop_more, take_more, drop_all, length-take-le}
+use Rattle.std.proofs.lemmas.List.{drop_more, take_more, length-take-le}
 use Rattle.txs_value_base.specs.Places.{nth}
 use Rattle.txs_value_data.specs.Limits.{most_events}
 use Rattle.txs_world_protocol.specs.declared.event.Event.{Event}
 use Rattle.txs_theorem_audit.specs.Audited.{Off, and_then, check}
 use Rattle.txs_theorem_audit.specs.Verdict.{book_found}
-use Rattle.txs_audit_book.specs.Replayed.{IsLegalBook, IsOffAt, actor_in}
+use Rattle.txs_audit_book.specs.Replayed.{IsOffAt, actor_in}
 
 nth_at : (xs : List Event) (i : ℕ) (x : Event) → i < length xs → x ≡ get_or xs i x → nth xs i ≡ Some x
 nth_at [] i x lt is = absurd (omega (arith, lt))
@@ -60,7 +60,3 @@ module _ (test : List Event → Event → Bool) (book : List Event) (i : ℕ) (e
       and_none : (b : Bool) → (b && false) ≡ false
       and_none true = refl
       and_none false = refl
-
--- all may
-pub found_all : (test : List Event → Event → Bool) (book : List Event) (i : ℕ) → length book ≤ i → ((index : ℕ → ℕ → ℕ) → book_found test index (take i book) (drop i book) ≡ book_found test index [] book) → IsLegalBook test book
-found_all test book i le rest index = sym (rest index) ∙ ap (book_found test index (take i book)) (drop_all i book le)

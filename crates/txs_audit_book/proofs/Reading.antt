@@ -1,7 +1,6 @@
 -- What is kept, as it is read.
-use Rattle.std.proofs.Common.{◌≡◌, ◌≤◌, ◌<◌, ◌-◌, ◌+◌, ◌==◌, ℕ, zero, suc, Bool, true, false, not, ◌&&◌, nat_eq, nat_le, nat_lt, List, [], ◌∷◌, ◌++◌, length, map, take, drop, get_or, Option, Some, None, refl, sym, ap, ◌∙◌, subst, arith, if◌then◌else◌}
+use Rattle.std.proofs.Common.{◌≡◌, ◌≤◌, ◌<◌, ◌-◌, ◌+◌, ◌==◌, ℕ, zero, suc, Bool, true, false, not, ◌&&◌, nat_eq, nat_le, nat_lt, List, [], ◌∷◌, length, map, take, get_or, Option, Some, None, refl, sym, ap, ◌∙◌, subst, arith, if◌then◌else◌}
 use Rattle.std.specs.Prelude.{is_some}
-use Rattle.std.specs.List.{slice_get}
 use Rattle.std.proofs.lemmas.Bool.{le-ltb, lt-ltb, ltb-true}
 use Rattle.std.proofs.lemmas.Bool.Decides.{nat_tests}
 use Rattle.std.proofs.lemmas.List.{take_all}
@@ -13,10 +12,8 @@ use Rattle.txs_value_data.specs.declared.value.Value.TheVariants.{Nil}
 use Rattle.txs_world_book.specs.Book.{Mail, after, goes_on, is_failed, is_there, mail_after, value_or, opening, waits, written}
 use Rattle.txs_world_book.specs.declared.cell.StoreCell.{StoreCell}
 use Rattle.txs_world_protocol.specs.declared.event.Event.{Event}
-use Rattle.txs_value_cell.specs.declared.action.Action.{Action}
 use Rattle.txs_value_data.specs.declared.value.CellId.{CellId}
-use Rattle.txs_audit_book.specs.Gone.{IsGone, IsHistory, IsInbox, IsPast, PlainInbox, Queued, index_in, no_inbox, plain_inbox, plain_inboxes}
-use Rattle.txs_audit_book.specs.Replayed.{PlainReplay, IsRun, plain_replay}
+use Rattle.txs_audit_book.specs.Gone.{IsGone, IsHistory, IsInbox, IsPast, PlainInbox, index_in, no_inbox, plain_inbox, plain_inboxes}
 use Rattle.txs_audit_book.specs.declared.inbox.Inbox.{Inbox}
 use Rattle.txs_audit_book.proofs.Boxes.{old_plain, plain_many}
 use Rattle.txs_audit_book.proofs.Earlier.{past_open}
@@ -88,12 +85,6 @@ module _ (cells : List StoreCell) (histories : List (List (ℕ × Value))) (bs :
       some_there : (o : Option Fault) → is_some o ≡ is_there o
       some_there None = refl
       some_there (Some f) = refl
-
-  -- what waited for it then
-  pub had_queued : (k i j : ℕ) (b : Inbox) → k < length cells → j ≤ length done → i ≡ k → b ≡ get_or bs i b → Queued (mail_after cells (take j done) k) (plain_inbox b)
-  had_queued k i j b lt le is at =
-      let below = in_boxes k lt in
-      (subst (IsPast (goes_on (nth cells k)) k done) (sym (old_plain bs i k b at is below)) (g.past k (let n = plain_many bs in omega (arith, below, n)))).queued j le
 
 -- ---- the opening
 
@@ -226,36 +217,12 @@ module _ (cells : List StoreCell) (histories : List (List (ℕ × Value))) (bs :
   pub moved_read : (k i p j : ℕ) (h : List (ℕ × Value)) → i ≡ k → i < length histories → j ≤ length done → h ≡ get_or histories i h → nat_lt p (index_in (entry_at h j)) ≡ written k p (take j done)
   moved_read k i p j h is lt le at = sym ((read_is k i h is lt at).moved j le p)
 
--- the action that an agent ran is the first that waited
-pub ran_read : (m : Mail) (b : PlainInbox) (x : Action) (xs : List Action) → Queued m b → m.actions ≡ x ∷ xs → slice_get b.sent m.acts ≡ Some x
-ran_read m b x xs q is = at b.sent m.acts (q.queue ∙ ap (λ l. l ++ q.rest) is)
-  where
-    at : (l : List Action) (n : ℕ) → drop n l ≡ x ∷ (xs ++ q.rest) → slice_get l n ≡ Some x
-    at [] zero e = absurd cc
-    at [] (suc n) e = absurd cc
-    at (y ∷ l) zero e = ap (λ (u : List Action). slice_get u 0) e
-    at (y ∷ l) (suc n) e = at l n e
-
 -- of an inbox that has no fault, and of one that has
 pub none_failed : (o : Option Fault) (r b t : Bool) → is_some o ≡ not r → r ≡ true → (is_some o && b) ≡ t → false ≡ t
 none_failed o r b t e q h = sym (ap (λ x. x && b) (e ∙ ap not q)) ∙ h
 
 pub some_failed : (o : Option Fault) (r b t : Bool) → is_some o ≡ not r → r ≡ false → (is_some o && b) ≡ t → b ≡ t
 some_failed o r b t e q h = sym (ap (λ x. x && b) (e ∙ ap not q)) ∙ h
-
--- the so many-th action
-pub none_run : (r : PlainReplay) (k n : ℕ) → n ≡ 0 → IsRun r k n None
-none_run r k n e j le is x xs q = absurd (omega (arith, e, is))
-
-pub run_read : (cells : List StoreCell) (threads : ℕ) (histories : List (List (ℕ × Value))) (bs : List Inbox) (views tries : List ℕ) (done : List Event) (r : PlainReplay) (k i n : ℕ) (b : Inbox) → IsGone cells histories (plain_inboxes bs) views tries done
-    → plain_replay cells threads done ≡ r → k < length cells → i ≡ k → b ≡ get_or bs i b → IsRun r k n (slice_get b.sent.items (n - 1))
-run_read cells threads histories bs views tries done r k i n b g view lt is at = subst (λ (s : PlainReplay). IsRun s k n (slice_get b.sent.items (n - 1))) view runs
-  where
-    runs : IsRun (plain_replay cells threads done) k n (slice_get b.sent.items (n - 1))
-    runs j le e x xs q =
-        let m = mail_after cells (take j done) k in
-        let less : n - 1 ≡ m.acts = omega (arith, e) in
-        ap (slice_get b.sent.items) less ∙ ran_read m (plain_inbox b) x xs (had_queued cells histories bs views tries done g k i j b lt le is at) q
 
 -- ---- an agent's next action
 

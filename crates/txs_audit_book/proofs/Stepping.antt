@@ -1,22 +1,21 @@
 -- What is kept agrees with one more event.
 use Rattle.std.proofs.Common.{◌≡◌, ◌≤◌, ◌<◌, ℕ, zero, suc, Bool, true, false, ◌&&◌, ◌==◌, nat_lt, nat_le, List, [], ◌∷◌, ◌++◌, length, get_or, Some, None, Result, Ok, Err, refl, sym, ap, ◌∙◌, subst, arith, length-append, if◌then◌else◌}
-use Rattle.std.proofs.lemmas.Bool.{false≢true, leb-true, leb-false, ltb-true}
+use Rattle.std.proofs.lemmas.Bool.{leb-true, leb-false, ltb-true}
 use Rattle.std.proofs.lemmas.Bool.Decides.{nat_tests}
 use Rattle.txs_tree_eval_transaction.specs.Pasts.{latest}
 use Rattle.txs_value_base.specs.Places.{nth}
 use Rattle.txs_value_base.specs.declared.fault.Fault.{Fault}
 use Rattle.txs_value_cell.specs.Cells.{World}
-use Rattle.txs_value_cell.specs.Forms.{same_kind}
 use Rattle.txs_value_cell.specs.declared.action.Action.{Action}
 use Rattle.txs_value_data.specs.Limits.{most_events}
 use Rattle.txs_value_data.specs.declared.value.CellId.{CellId}
-use Rattle.txs_value_data.specs.declared.value.CellKind.TheVariants.{Ref, Agent}
 use Rattle.txs_value_data.specs.declared.value.Value.{Value}
 use Rattle.txs_value_data.specs.declared.value.Value.TheVariants.{Nil}
-use Rattle.txs_world_book.specs.Book.{after, are_refs, are_sends, cells_in, counts, goes_on, has_agent, has_cell, has_ref, is_of_kind, mail_after, mail_changed, no_mail, opening, state_of, value_or, writes_of}
+use Rattle.txs_world_book.specs.Book.{after, are_refs, are_sends, cells_in, counts, goes_on, has_agent, has_ref, mail_after, mail_changed, no_mail, opening, state_of, value_or, writes_of}
 use Rattle.txs_world_book.specs.Served.{event_of}
 use Rattle.txs_world_book.specs.Stands.{Marked}
 use Rattle.txs_world_book.specs.declared.cell.StoreCell.{StoreCell}
+use Rattle.txs_world.proofs.Kept.{ref_in, agent_in}
 use Rattle.txs_world_book.proofs.Growth.{after_front, mail_last}
 use Rattle.txs_world_book.proofs.Outcomes.{both}
 use Rattle.txs_world_book.proofs.Standing.{actor_more}
@@ -33,21 +32,6 @@ use Rattle.txs_audit_book.proofs.Histories.{Apart, after_end, history_more, refs
 
 below : (k n : ℕ) → k < n → nat_lt k n ≡ true
 below k n lt = grind (arith, nat_tests)
-
--- a cell that is there has its number below theirs
-pub cell_in : (cells : List StoreCell) (c : CellId) → has_cell cells c ≡ true → c.number < length cells
-cell_in cells c h = go cells c.number h
-  where
-    go : (cs : List StoreCell) (k : ℕ) → is_of_kind c.kind (nth cs k) ≡ true → k < length cs
-    go [] k e = absurd (false≢true e)
-    go (d ∷ cs) zero e = omega arith
-    go (d ∷ cs) (suc k) e = let r = go cs k e in omega (arith, r)
-
-pub ref_in : (cells : List StoreCell) (c : CellId) → has_ref cells c ≡ true → c.number < length cells
-ref_in cells c h = cell_in cells c (both (same_kind c.kind Ref) (has_cell cells c) h).1
-
-pub agent_in : (cells : List StoreCell) (c : CellId) → has_agent cells c ≡ true → c.number < length cells
-agent_in cells c h = cell_in cells c (both (same_kind c.kind Agent) (has_cell cells c) h).1
 
 refs_below : (cells : List StoreCell) (n m : ℕ) (ws : Writes) → n ≡ length cells → are_refs cells m (cells_in ws) ≡ true → all_below n ws ≡ true
 refs_below cells n m [] e h = refl

@@ -87,6 +87,3 @@ gone_swaps h now views vs done more a n d g is put marks to =
       ascend = r.2;
       all = λ b. actor_more true views vs done a d b (subst (λ i. Marked true a i views vs) is marks) (g.all b);
     }))
-
-pub open_swaps : GoneSwaps [] [] []
-open_swaps = record { are = λ v p. refl; within = omega arith; ascend = tt; all = λ a. record { stands = λ p h. refl; passed = λ p h. absurd (omega (arith, h)) } }

@@ -2,8 +2,8 @@
 
 ghost use Rattle.std.specs.Prelude.{◌≡◌, ◌<◌, ◌&&◌, ◌==◌, ◌++◌, ◌∷◌, [], nat_lt, not, suc, length, false, true, IfOk, OnOk};
 ghost use Rattle.txs_value_data.specs.Limits.{most_events};
-ghost use Rattle.txs_world_book.specs.Book.{actor_of, actors, makes, is_outdated, may_name, may_end, may_rerun, may_send, has_ref, has_agent, are_sends, are_refs, cells_in, first_failed, is_failed, is_there, mail_after, waits, written};
-ghost use Rattle.txs_world_book.specs.Served.{cells_of, event_of};
+ghost use Rattle.txs_world_book.specs.Book.{actor_of, actors, makes, is_outdated, may_name, may_end, may_rerun, may_send, has_ref, has_agent, are_sends, first_failed, is_failed, is_there, mail_after, waits, written};
+ghost use Rattle.txs_world_book.specs.Served.{cells_of};
 ghost use Rattle.txs_world_protocol.specs.declared.event.EventKind.TheVariants as event;
 ghost use Rattle.txs_audit_book.specs.Gone.{GoneParts, plain_inboxes};
 ghost use Rattle.txs_audit_book.specs.Moves.{MayPut, mail_put};
@@ -11,13 +11,14 @@ ghost use Rattle.txs_theorem_audit.specs.Verdict.{is_legal_kind};
 ghost use Rattle.txs_audit_book.specs.Tests.{store_test};
 
 use crate::inbox::{Inbox, act_at, open_inboxes, send_all, send_one};
-use crate::stands::{is_no_redo, mark};
+use crate::stands::mark;
 use crate::values::{index_in, open_histories, put_values};
 use std::alloc::{AllocError, Global};
 use txs_tree_eval_transaction::History;
 use txs_value_base::Fault;
 use txs_value_cell::{Action, CellDefinition};
 use txs_value_data::{CellId, Listed, Value};
+use txs_world_book::journal::is_no_redo;
 use txs_world_book::{
     Cells, StoreCell, are_sends, are_written, has_agent, has_readable, has_ref, may_send, stand_of,
 };

@@ -1,12 +1,9 @@
 -- Who wrote what a transaction held.
-use Rattle.std.proofs.Common.{◌≡◌, ◌≤◌, ◌<◌, ◌||◌, ◌==◌, ℕ, zero, suc, ◌+◌, ◌-◌, Bool, true, false, List, [], ◌∷◌, length, drop, get_or, Option, Some, None, refl, sym, ap, ◌∙◌, arith, if◌then◌else◌, ⊎_elim}
-use Rattle.std.proofs.lemmas.Bool.{cases_lt, false≢true}
-use Rattle.std.proofs.lemmas.List.{drop_all, drop_more}
-use Rattle.txs_value_data.specs.declared.value.CellId.{CellId}
-use Rattle.txs_world_protocol.specs.Ask.{Writes, buffered}
+use Rattle.std.proofs.Common.{◌≡◌, ◌≤◌, ◌<◌, ℕ, zero, suc, ◌+◌, true, false, List, [], ◌∷◌, length, drop, get_or, refl, sym, ap, ◌∙◌, arith, if◌then◌else◌}
+use Rattle.std.proofs.lemmas.List.{drop_more}
 use Rattle.txs_world_protocol.specs.declared.event.Event.{Event}
-use Rattle.txs_world_book.specs.Book.{written, writes_to}
-use Rattle.txs_audit_event.specs.Transactions.{first_written, writer_of}
+use Rattle.txs_world_book.specs.Book.{writes_to}
+use Rattle.txs_audit_event.specs.Transactions.{writer_of}
 
 -- behind the first p events it is asked of the others
 pub writer_behind : (k p : ℕ) (es : List Event) → p ≤ length es → writer_of k p es ≡ p + writer_of k 0 (drop p es)

@@ -1,5 +1,5 @@
 -- What differs of what an action came to, by how it ends.
-use Rattle.std.proofs.Common.{◌≡◌, ◌≤◌, ◌⊎◌, ℕ, suc, Bool, true, false, List, [], ◌∷◌, length, take, Option, Some, None, Result, Ok, Err, refl, sym, ap, ◌∙◌, subst, ⊎_elim}
+use Rattle.std.proofs.Common.{◌≡◌, ◌≤◌, ◌⊎◌, ℕ, suc, true, false, List, [], ◌∷◌, length, take, Option, Some, None, Result, Ok, Err, refl, sym, ap, ◌∙◌, subst, ⊎_elim}
 use Rattle.txs_value_base.specs.declared.fault.Fault.{Fault}
 use Rattle.txs_value_base.specs.declared.fault.Span.{Span}
 use Rattle.txs_value_cell.specs.Cells.{validator_at, validators_of}
@@ -21,15 +21,14 @@ use Rattle.txs_tree_eval.specs.declared.meaning.Needs.TheVariants as needs
 use Rattle.txs_tree_eval.specs.declared.pure_call.EvalStop.{EvalStop}
 use Rattle.txs_theorem_threads.proofs.Meant.{Any}
 use Rattle.txs_theorem_threads.specs.FollowsAgent.{SoundAction}
-use Rattle.txs_theorem_audit.specs.Verdict.{held_by, is_sent_call, sends_if}
+use Rattle.txs_theorem_audit.specs.Verdict.{is_sent_call, sends_if}
 use Rattle.txs_theorem_audit.proofs.Onward.{Step, action_leads}
-use Rattle.txs_theorem_audit_eval.specs.Evaluated.{ActionEnd, ActionGives, HandedIn, LacksEvent, LacksTurns, Disallows, end_by_answers, means_on}
+use Rattle.txs_theorem_audit_eval.specs.Evaluated.{ActionEnd, ActionGives, end_by_answers, means_on}
 use Rattle.txs_theorem_audit_eval.proofs.Evaluating.{found_so}
 use Rattle.txs_audit_piece.specs.Judged.{EndsBy}
 use Rattle.txs_audit_event.proofs.Sending.{sent_of, source, source_sound}
 use Rattle.txs_audit_event.specs.Given.{gave_by, is_open, is_short_end}
 use Rattle.txs_audit_event.specs.Transactions.{gave_what, valued_what}
-use Rattle.txs_audit_event.specs.declared.what.What.{What}
 
 held_same : (o : Option (List Action)) → sends_if o ≡ sends_held o
 held_same None = refl

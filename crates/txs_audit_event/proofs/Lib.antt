@@ -1,5 +1,4 @@
 pub mod Answered
-pub mod Asked
 pub mod Disturbed
 pub mod Given
 pub mod Lining

@@ -1,7 +1,6 @@
 -- What is answered of a thread or an action tells what it means, with as many turns as suffice and with more.
-use Rattle.std.proofs.Common.{◌≡◌, ◌≤◌, ◌<◌, ◌⊎◌, inl, inr, ℕ, zero, suc, ◌+◌, ◌-◌, Bool, true, false, List, [], ◌∷◌, length, take, Option, Some, None, Result, Ok, Err, IfSome, refl, sym, ap, ◌∙◌, subst, ⊎_elim, arith}
+use Rattle.std.proofs.Common.{◌≡◌, ◌≤◌, ◌<◌, ◌⊎◌, ℕ, suc, ◌-◌, true, false, List, [], ◌∷◌, length, Option, Some, None, Result, Ok, Err, refl, sym, ap, ◌∙◌, subst, ⊎_elim, arith}
 use Rattle.std.specs.Prelude.{not}
-use Rattle.std.proofs.lemmas.Bool.{false≢true}
 use Rattle.txs_value_base.specs.Places.{nth}
 use Rattle.txs_value_base.specs.declared.fault.Fault.{Fault}
 use Rattle.txs_value_cell.specs.declared.action.Action.{Action}
@@ -19,13 +18,12 @@ use Rattle.txs_tree_eval.specs.ActionTold.{ActionAccount, ActionTellsOf, ActionT
 use Rattle.txs_tree_eval.specs.Told.{Account, TellsOf, TellsWrong}
 use Rattle.txs_tree_eval.specs.declared.action.ActionMeaning.{ActionMeaning}
 use Rattle.txs_tree_eval.specs.declared.meaning.Needs.{Needs}
-use Rattle.txs_tree_eval.specs.declared.meaning.Needs.TheVariants.{Nothing, Event, Turns, Wrong}
+use Rattle.txs_tree_eval.specs.declared.meaning.Needs.TheVariants.{Nothing, Event, Turns}
 use Rattle.txs_tree_eval.specs.declared.meaning.ThreadMeaning.{ThreadMeaning}
 use Rattle.txs_theorem_threads.proofs.Meant.{Any, none_some}
-use Rattle.txs_theorem_threads.specs.FollowsAgent.{SoundAction}
 use Rattle.txs_theorem_threads.specs.FollowsAll.{source_of}
-use Rattle.txs_theorem_audit.specs.Verdict.{is_sent_call, printed_by}
-use Rattle.txs_theorem_audit.proofs.Onward.{From, Onward, Step, applied_leads, none_later, thread_leads}
+use Rattle.txs_theorem_audit.specs.Verdict.{printed_by}
+use Rattle.txs_theorem_audit.proofs.Onward.{From, Step, applied_leads, thread_leads}
 use Rattle.txs_theorem_audit_eval.specs.Evaluated.{prints_by}
 use Rattle.txs_audit_piece.proofs.Sources as piece
 use Rattle.txs_audit_event.proofs.Sending.{sent_of, source, source_sound}

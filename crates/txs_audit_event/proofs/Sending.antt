@@ -1,5 +1,5 @@
 -- An action that may be sent has a sound callee, and is as sound as a source without a body.
-use Rattle.std.proofs.Common.{◌≡◌, ℕ, suc, Bool, true, false, ◌==◌, ◌&&◌, List, ◌∷◌, length, Option, Some, None, refl}
+use Rattle.std.proofs.Common.{◌≡◌, ℕ, Bool, true, false, ◌==◌, List, Option, Some, None, refl}
 use Rattle.std.specs.Prelude.{nat_le, not}
 use Rattle.std.proofs.lemmas.Bool.{eqb-true, false≢true, leb-true}
 use Rattle.txs_value_apply.specs.Core.{takes}
@@ -10,7 +10,7 @@ use Rattle.txs_value_cell.specs.declared.action.Action.{Action}
 use Rattle.txs_value_data.specs.Limits.{most_items}
 use Rattle.txs_value_data.specs.declared.value.Value.TheVariants.{Nil}
 use Rattle.txs_tree_meaning.proofs.Callable.{both}
-use Rattle.txs_tree_meaning.specs.Known.{Known, known}
+use Rattle.txs_tree_meaning.specs.Known.{Known}
 use Rattle.txs_tree_meaning.specs.Sound.{Sound, SentCall, SoundSent, SoundSource}
 use Rattle.txs_tree_meaning.specs.Tree.{Const, PlainProgram, ThreadSource}
 use Rattle.txs_theorem_audit.specs.Verdict.{is_sent_call, is_sent_known}

@@ -6,7 +6,6 @@ use Rattle.std.proofs.lemmas.List.{length_push}
 use Rattle.txs_value_base.specs.Places.{nth}
 use Rattle.txs_value_base.specs.declared.fault.Fault.{Fault}
 use Rattle.txs_value_base.specs.declared.fault.Span.{Span}
-use Rattle.txs_value_base.specs.declared.op.Op.{Op}
 use Rattle.txs_value_base.specs.declared.op.Callee.{Callee}
 use Rattle.txs_value_base.specs.declared.op.Callee.TheVariants.{Core as CoreOp, Function}
 use Rattle.txs_value_apply.specs.Core.{takes}
@@ -42,7 +41,9 @@ use Rattle.txs_theorem_audit.proofs.Findings.{not_there}
 use Rattle.txs_theorem_audit_eval.specs.Evaluated.{ActBy, ActionEnd, ActionGives, ActionNotedBy, CalmBy, CoveredBy, RestFullBy, StillBy, act_by, calm_found_by, covered_all_by, means_on, prints_by, rest_full_by, still_by}
 use Rattle.txs_audit_piece.proofs.Sources.{all_but_last}
 use Rattle.txs_audit_piece.specs.Judged.{EndsBy, is_fine}
-use Rattle.txs_audit_evidence.specs.Acted.{acted, calm_since, covered_since, waited}
+use Rattle.txs_audit_evidence.specs.Acted.{acted, calm_since, covered_since, end_by, waited}
+use Rattle.txs_audit_evidence.specs.declared.acts.Ending.{Ending}
+use Rattle.txs_audit_evidence.specs.declared.acts.Ending.TheVariants as ending
 use Rattle.txs_audit_evidence.proofs.ThreadFound.{fine_is, first_found}
 
 -- ---- callees
@@ -56,12 +57,6 @@ bool_is : (a b : Bool) → (a ≡ true → b ≡ true) → (b ≡ true → a ≡
 bool_is true b h k = sym (h refl)
 bool_is false true h k = k refl
 bool_is false false h k = refl
-
--- an operation that may be applied to as many values as a form may have
-pub operation_sent : (ks : List Known) (c : Callee) (n : ℕ) (op : Op) → CoreOp op ≡ c → (sent : Bool) → (sent ≡ true → SentCallee ks c n) → (SentCallee ks c n → sent ≡ true) → (sent && nat_le n most_items) ≡ is_sent_call ks c n
-operation_sent ks c n op is sent h k =
-    let same : sent ≡ takes op n = bool_is sent (takes op n) (λ e. subst (λ d. SentCallee ks d n) (sym is) (h e)) (λ e. k (subst (λ d. SentCallee ks d n) is e)) in
-    ap (λ b. b && nat_le n most_items) same ∙ ap (λ d. is_sent_call ks d n) is
 
 pub function_sent : (ks : List Known) (c : Callee) (n f : ℕ) → Function f ≡ c → (sent : Bool) → (sent ≡ true → SentCallee ks c n) → (SentCallee ks c n → sent ≡ true) → sent ≡ is_sent_call ks c n
 function_sent ks c n f is sent h k =
@@ -209,45 +204,42 @@ module _ (p : PlainProgram) (r : PlainReport) (n : ℕ) (x : Action) (v : Value)
       ∙ sym (covered (books_of r) since (noted_in means es))
       ∙ ap (λ b. covered_all (books_of r) since (txs_of (if b then means (take (right_events means [] es) es) else means es))) right
 
-  -- the end of an action that is over
-  module _ (law : ActBy) (a i k : ℕ) (done : List Event) (new : Result Value Fault) (sends : List Action) (end : ActionEnd) (ends : EndsBy p n x m end) (f : Finding) (count : ℕ) (many : count ≡ length es)
-      (is : f ≡ act_by (cells_of p.cells) done x.span a i k count m.eaten m.sends new sends end) where
-    pub act_is : f ≡ act_ends (cells_of p.cells) done x.span a i k means es new sends (means es)
-    act_is =
-        is ∙ ap (λ c. act_by (cells_of p.cells) done x.span a i k c m.eaten m.sends new sends end) many
-        ∙ ap (act_by (cells_of p.cells) done x.span a i k (length es) m.eaten m.sends new sends) ends.1
-        ∙ sym (law p n a i k (cells_of p.cells) done x v es new sends m ends.0 sound fits (record { tells = tells; validator = λ w there. ends.2 w (value_needs p x.callee x.span (v ∷ x.args) n es m tells w there) there }))
+  -- so they are where nothing is found of its end
+  pub end_covered : CoveredBy → ActionNotedBy → (a i k : ℕ) (e : Ending) (f : Finding) → f ≡ end_by p r n a i k x v since e → f ≡ Fine → covered_all_by (books_of r) since m.txs ≡ covered_since p r n x v since
+  end_covered covered noted a i k (ending.Act act) f is fine =
+      covered_is covered noted (act_right (cells_of p.cells) (take act.at r.book) x.span a i k means es act.new.now act.sends.now (means es) (sym is ∙ fine))
+  end_covered covered noted a i k (ending.Waits full out) f is fine = covered_is covered noted (rest_right (books_of r) full a i k means es out.now (means es) (sym is ∙ fine))
 
-    pub act_covered : CoveredBy → ActionNotedBy → f ≡ Fine → covered_all_by (books_of r) since m.txs ≡ covered_since p r n x v since
-    act_covered covered noted fine = covered_is covered noted (act_right (cells_of p.cells) done x.span a i k means es new sends (means es) (sym act_is ∙ fine))
-
-  -- that of one that isn't
-  pub rest_covered : CoveredBy → ActionNotedBy → (full : Bool) (a i k : ℕ) (out : List ℕ) (f : Finding) → f ≡ rest_ends (books_of r) full a i k means es out (means es) → f ≡ Fine
-      → covered_all_by (books_of r) since m.txs ≡ covered_since p r n x v since
-  rest_covered covered noted full a i k out f is fine = covered_is covered noted (rest_right (books_of r) full a i k means es out (means es) (sym is ∙ fine))
-
--- ---- the end of an action that isn't over
+-- ---- the end of an action
 
 module _ (p : PlainProgram) (n : ℕ) (x : Action) (v : Value) (es : List SeenEvent) (sound : Sound p) (sent : is_sent_call (known p.functions) x.callee (suc (length x.args)) ≡ true) (m : ActionMeaning)
-    (tells : TellsAction m p x.callee x.span (v ∷ x.args) n es) (a i k : ℕ) (out : List ℕ) (end : ActionEnd) (ends : EndsBy p n x m end) (f : Finding) (count : ℕ) (many : count ≡ length es) where
+    (tells : TellsAction m p x.callee x.span (v ∷ x.args) n es) (a i k : ℕ) (end : ActionEnd) (ends : EndsBy p n x m end) (f : Finding) (count : ℕ) (many : count ≡ length es) where
   fits_here : SoundAction p.functions x
   fits_here = sent_of (known p.functions) x.callee (suc (length x.args)) sent
 
   gives : ActionGives p n x v es m ends.0
   gives = record { tells = tells; validator = λ w there. ends.2 w (value_needs p x.callee x.span (v ∷ x.args) n es m tells w there) there }
 
-  -- by whether it printed a part
-  pub still_is : StillBy → (part : Bool) → part ≡ part_printed (means_on p n x v) es out m.printed → f ≡ still_by a i k count m.eaten part end → f ≡ still_ends a i k (means_on p n x v) es out (means_on p n x v es)
-  still_is law part printed is =
+  -- of one that is over, by its act
+  pub over_is : ActBy → (cells : List StoreCell) (done : List Event) (new : Result Value Fault) (sends : List Action) → f ≡ act_by cells done x.span a i k count m.eaten m.sends new sends end
+      → f ≡ act_ends cells done x.span a i k (means_on p n x v) es new sends (means_on p n x v es)
+  over_is law cells done new sends is =
+      is ∙ ap (λ c. act_by cells done x.span a i k c m.eaten m.sends new sends end) many
+      ∙ ap (act_by cells done x.span a i k (length es) m.eaten m.sends new sends) ends.1
+      ∙ sym (law p n a i k cells done x v es new sends m ends.0 sound fits_here gives)
+
+  -- of one that isn't, by whether it printed a part
+  pub still_is : (out : List ℕ) → StillBy → (part : Bool) → part ≡ part_printed (means_on p n x v) es out m.printed → f ≡ still_by a i k count m.eaten part end → f ≡ still_ends a i k (means_on p n x v) es out (means_on p n x v es)
+  still_is out law part printed is =
       is ∙ ap (λ c. still_by a i k c m.eaten part end) many
       ∙ ap (λ b. still_by a i k (length es) m.eaten b end) printed
       ∙ ap (still_by a i k (length es) m.eaten (part_printed (means_on p n x v) es out m.printed)) ends.1
       ∙ sym (law p n a i k x v es out m ends.0 sound fits_here gives)
 
   -- by whether the books are full
-  pub full_is : RestFullBy → (books : ℕ → List Event) (store full : Bool) → store ≡ is_full_book books (Some 0) → full ≡ is_full_book books m.asks → f ≡ rest_full_by a i k count m.eaten store full (same_numbers out m.printed) end
+  pub full_is : (out : List ℕ) → RestFullBy → (books : ℕ → List Event) (store full : Bool) → store ≡ is_full_book books (Some 0) → full ≡ is_full_book books m.asks → f ≡ rest_full_by a i k count m.eaten store full (same_numbers out m.printed) end
       → f ≡ full_ends books a i k (means_on p n x v) es out (means_on p n x v es)
-  full_is law books store full store_is asked_is is =
+  full_is out law books store full store_is asked_is is =
       is ∙ ap (λ c. rest_full_by a i k c m.eaten store full (same_numbers out m.printed) end) many
       ∙ ap (λ b. rest_full_by a i k (length es) m.eaten b full (same_numbers out m.printed) end) store_is
       ∙ ap (λ b. rest_full_by a i k (length es) m.eaten (is_full_book books (Some 0)) b (same_numbers out m.printed) end) asked_is

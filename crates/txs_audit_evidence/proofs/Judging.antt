@@ -44,13 +44,6 @@ not_true false e = refl
 
 -- ---- the events that end transactions
 
--- what a test says of an event that ends a transaction
-pub ends_there : (e : Event) (b : Bool) → b ≡ is_end e.kind → b ≡ true → end_of e ≡ Some e.kind
-ends_there e b is so = ap (λ t. if t then Some e.kind else None) (sym is ∙ so)
-
-pub ends_not : (e : Event) (b : Bool) → b ≡ is_end e.kind → b ≡ false → end_of e ≡ None
-ends_not e b is so = ap (λ t. if t then Some e.kind else None) (sym is ∙ so)
-
 -- an event of no transaction has none
 no_end_of : (e : Event) → is_end e.kind ≡ false → end_of e ≡ None
 no_end_of e off = ap (λ t. if t then Some e.kind else None) off

@@ -1,5 +1,6 @@
 -- The cells of a kind.
-use Rattle.std.proofs.Common.{◌≡◌, ◌≤◌, ◌<◌, ◌+◌, ℕ, zero, suc, Bool, true, false, List, [], ◌∷◌, length, Some, refl, sym, ap, ◌∙◌, subst, arith, if◌then◌else◌}
+use Rattle.std.proofs.Common.{◌≡◌, ◌≤◌, ◌<◌, ◌+◌, ℕ, zero, suc, Bool, true, false, List, [], ◌∷◌, ◌++◌, length, Some, refl, sym, ap, ◌∙◌, subst, arith, if◌then◌else◌}
+use Rattle.std.proofs.lemmas.List.{length-append}
 use Rattle.txs_value_base.specs.Places.{nth}
 use Rattle.txs_value_cell.specs.Agents.{agents_from, with_agent}
 use Rattle.txs_value_cell.specs.Forms.{same_kind}
@@ -7,8 +8,12 @@ use Rattle.txs_value_cell.specs.declared.cell.CellDefinition.{CellDefinition}
 use Rattle.txs_value_data.specs.declared.value.CellId.{CellId}
 use Rattle.txs_value_data.specs.declared.value.CellKind.{CellKind}
 use Rattle.txs_value_data.specs.declared.value.CellKind.TheVariants.{Ref, Atom, Agent}
-use Rattle.txs_theorem_audit.specs.Verdict.{atoms_from}
-use Rattle.txs_theorem_audit.proofs.Findings.{not_there}
+use Rattle.txs_tree_meaning.specs.Sound.{Sound}
+use Rattle.txs_tree_meaning.specs.Tree.{PlainProgram}
+use Rattle.txs_theorem_audit.specs.Audited.{PlainReport, Off, books_of}
+use Rattle.txs_theorem_audit.specs.Verdict.{atoms_from, fits_sizes, traces_found}
+use Rattle.txs_theorem_audit.proofs.Agreeing.{sized_of}
+use Rattle.txs_theorem_audit.proofs.Findings.{not_there, off_within}
 use Rattle.txs_audit_evidence.specs.Numbered.{of_kind}
 
 pub kind_atoms : (n : ℕ) (ds : List CellDefinition) → of_kind Atom n ds ≡ atoms_from n ds
@@ -58,3 +63,12 @@ atoms_few ds = subst (λ l. length l ≤ length ds) (kind_atoms 0 ds) (kind_few 
 
 pub agents_few : (ds : List CellDefinition) → length (agents_from 0 ds) ≤ length ds
 agents_few ds = subst (λ l. length l ≤ length ds) (kind_agents 0 ds) (kind_few Agent 0 ds)
+
+-- an actor whose trace is off has a small number
+pub few_off : (p : PlainProgram) (r : PlainReport) → Sound p → fits_sizes p r ≡ true → (a i : ℕ) → Off a i ≡ traces_found (books_of r) (suc (length r.atom_books)) 0 (r.threads ++ r.agents) → a < 65536
+few_off p r sound fits a i off =
+    let sized = sized_of p r fits in
+    let within = off_within (books_of r) (suc (length r.atom_books)) (r.threads ++ r.agents) a i off in
+    let many = length-append r.threads r.agents in
+    let few = agents_few p.cells in
+    omega (arith, within, many, few, sized.threads, sized.agents, sound.scoped.few_cells, sound.scoped.few_threads)

@@ -57,10 +57,6 @@ there_below [] k x there = not_there there
 there_below (y ∷ xs) zero x there = omega arith
 there_below (y ∷ xs) (suc k) x there = let lt = there_below xs k x there in omega (arith, lt)
 
--- how long a part is
-pub part_long : (trace : List Place) (i k : ℕ) → i ≤ k → k ≤ length trace → length (part_of i k trace) ≡ k - i
-part_long trace i k le within = length-drop i (take k trace) ∙ ap (λ m. m - i) (take_long trace k within)
-
 -- a part of a trace by its pieces
 map_take : (k : ℕ) (ps : List event.Place) → plain_trace (take k ps) ≡ take k (plain_trace ps)
 map_take zero ps = refl
@@ -96,11 +92,6 @@ pub got_no_place : (trace : List event.Place) (k : ℕ) → None ≡ nth trace k
 got_no_place [] k is = refl
 got_no_place (p ∷ ps) zero is = not_there is
 got_no_place (p ∷ ps) (suc k) is = got_no_place ps k is
-
-pub no_entry : (trace : List event.Place) (k : ℕ) → length trace ≤ k → nth (plain_trace trace) k ≡ None
-no_entry [] k le = refl
-no_entry (p ∷ ps) zero le = absurd (omega (arith, le))
-no_entry (p ∷ ps) (suc k) le = no_entry ps k (omega (arith, le))
 
 -- ---- what an entry says
 

@@ -1,5 +1,5 @@
 -- Acts of agents, as a trace names them, and what is found of actions.
-use Rattle.std.specs.Prelude.{◌≡◌, ◌≤◌, ℕ, suc, Bool, false, List, ◌++◌, drop, Option, Some, None, Result}
+use Rattle.std.specs.Prelude.{◌≡◌, ◌≤◌, ℕ, suc, Bool, false, List, ◌++◌, drop, take, Option, Some, None, Result}
 use Rattle.txs_value_base.specs.Places.{nth}
 use Rattle.txs_value_base.specs.declared.fault.Fault.{Fault}
 use Rattle.txs_value_cell.specs.declared.action.Action.{Action}
@@ -18,6 +18,8 @@ use Rattle.txs_theorem_audit.specs.Verdict.{act_ends, calm_found, covered_all, n
 use Rattle.txs_theorem_audit_eval.specs.Evaluated.{means_on}
 use Rattle.txs_audit_evidence.specs.Evidence.{PlainBooks}
 use Rattle.txs_audit_evidence.specs.declared.acts.Act.{Act}
+use Rattle.txs_audit_evidence.specs.declared.acts.Ending.{Ending}
+use Rattle.txs_audit_evidence.specs.declared.acts.Ending.TheVariants as ending
 
 -- what is known of an event of this kind with so many before it: what an act says, of any other nothing
 abbrev pub IsAct : EventKind → ℕ → Option Act → Type 0
@@ -54,6 +56,15 @@ waited_end p r n full a i k x v since out =
 -- all that is found of it
 abbrev pub waited : PlainProgram → PlainReport → ℕ → Bool → ℕ → ℕ → ℕ → Action → Value → List Place → List ℕ → Finding
 waited p r n full a i k x v since out = and_then (calm_since p r n a i x v since) (waited_end p r n full a i k x v since out)
+
+-- the end of an action, by what it is judged by
+abbrev pub end_by : PlainProgram → PlainReport → ℕ → ℕ → ℕ → ℕ → Action → Value → List Place → Ending → Finding
+end_by p r n a i k x v since (ending.Act act) = acted_end p r n a i k (take act.at r.book) x v since act.new.now act.sends.now
+end_by p r n a i k x v since (ending.Waits full out) = waited_end p r n full a i k x v since out.now
+
+-- all that is found of it
+abbrev pub judged : PlainProgram → PlainReport → ℕ → ℕ → ℕ → ℕ → Action → Value → List Place → Ending → Finding
+judged p r n a i k x v since e = and_then (calm_since p r n a i x v since) (end_by p r n a i k x v since e)
 
 -- whether its commits are covered
 abbrev pub covered_since : PlainProgram → PlainReport → ℕ → Action → Value → List Place → Bool

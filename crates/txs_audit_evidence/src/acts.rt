@@ -13,10 +13,10 @@ ghost use Rattle.txs_tree_eval_node.specs.Events.{seen_events};
 ghost use Rattle.txs_theorem_runs.specs.Told.{seen_of};
 ghost use Rattle.txs_theorem_audit.specs.Audited.{Fine, Off, books_of, place_of, ran_as};
 ghost use Rattle.txs_theorem_audit.specs.Pieces.{OfAct, OfEnd, act_finding, act_finding_at, acts_print, end_finding, end_serial, event_serial, part_of, piece_finding, piece_serial, serial_at};
-ghost use Rattle.txs_theorem_audit.specs.Verdict.{action_covered, action_found, action_prints, agent_end, begins, is_full_stop, is_sent_call, least_of, part_printed, printed_by, rest_ends, rest_found, still_found};
+ghost use Rattle.txs_theorem_audit.specs.Verdict.{act_ends, action_covered, action_found, action_prints, agent_end, begins, is_full_stop, is_sent_call, least_of, part_printed, printed_by, rest_ends, rest_found, still_found};
 ghost use Rattle.txs_theorem_audit_eval.specs.Evaluated.{means_on, prints_by};
 ghost use Rattle.txs_audit_piece.specs.Judged.{as_found};
-ghost use Rattle.txs_audit_evidence.specs.Acted.{HasAct, IsAct, NamesAct, PrintsOn, acted, covered_since, waited};
+ghost use Rattle.txs_audit_evidence.specs.Acted.{HasAct, IsAct, NamesAct, PrintsOn, covered_since, end_by, judged};
 ghost use Rattle.txs_audit_evidence.specs.Named.{plain_entry, plain_trace};
 
 use crate::books::Books;
@@ -48,6 +48,14 @@ pub struct Act<'a> {
     pub new: &'a Result<Value, Fault>,
     pub sends: &'a [Action],
     pub at: u32,
+}
+
+/// What an action is judged by at its end: the act with which it is over; or, where it isn't over, whether its agent's actor was
+/// stopped for a full book, and what that printed since its last act.
+#[derive(Clone, Copy)]
+pub enum Ending<'a> {
+    Act(Act<'a>),
+    Waits(bool, &'a [u8]),
 }
 
 /// The act that this event is, if it is one. The store's book has so many events before it.
@@ -204,86 +212,6 @@ fn fine() -> Found
 
 // ---- actions that are over
 
-/// What is found of this action on this state by its act, on the part of the trace that is the action's, where its events are these and this
-/// is answered of it.
-fn judge_act<'b>(
-    alloc: Global,
-    books: &'b Books<'_>,
-    turns: u32,
-    stretch: Stretch,
-    since: &[Place],
-    action: &Action,
-    state: &Value,
-    act: Act<'_>,
-    seen: &'b [Seen<'b>],
-    meaning: &ActionMeaning,
-) -> Result<Found, AllocError>
-    requires sent { is_sent_call (known (functions_of books.now.program.functions)) action.now.callee (suc (length action.now.args)) ≡ true }
-    requires fits { stretch.first + length since.now < 2 ^ 64 }
-    requires many { stretch.events ≡ length seen.now }
-    requires events { seen_events seen.now ≡ seen_of books.now.program.cells (books_of books.now.report) (plain_trace since.now) }
-    requires tells { TellsAction meaning.now (program_of books.now.program) action.now.callee action.now.span (state.now ∷ action.now.args) turns (seen_events seen.now) }
-    ensures finding { IfOk result (λ f. as_found f.finding ≡ acted (program_of books.now.program) books.now.report turns stretch.actor stretch.first stretch.index (take act.entry.at books.now.report.book) action.now state.now (plain_trace since.now) act.entry.new.now act.entry.sends.now) }
-    ensures serial { IfOk result (λ f. as_found f.finding ≡ Fine → f.serial ≡ covered_since (program_of books.now.program) books.now.report turns action.now state.now (plain_trace since.now)) }
-{
-    // Laws that the proof uses; they do nothing when they run.
-    act_is_answered();
-    action_is_answered();
-    calm_is_answered();
-    covered_is_answered();
-    books.program().is_sound();
-    let txs = meaning.txs.as_slice();
-    let calm = transactions_found(books, stretch.actor, stretch.first, since, txs)?;
-    if !calm.finding.is_fine() {
-        return Ok(calm);
-    }
-    let end = action_end(alloc, books.program(), turns, action, meaning)?;
-    let failed = first_failed(books, meaning.sends.as_slice(), act.at);
-    let finding = act_ends(
-        stretch,
-        action.span,
-        failed,
-        meaning,
-        &end,
-        act.new,
-        act.sends,
-    );
-    Ok(Found {
-        finding,
-        serial: calm.serial,
-    })
-}
-
-/// What is found of this action on this state by its act, on the part of the trace that is the action's, where its events are these.
-fn acted<'b>(
-    alloc: Global,
-    books: &'b Books<'_>,
-    turns: u32,
-    stretch: Stretch,
-    since: &[Place],
-    action: &Action,
-    state: &Value,
-    act: Act<'_>,
-    seen: &'b [Seen<'b>],
-) -> Result<Found, AllocError>
-    requires sent { is_sent_call (known (functions_of books.now.program.functions)) action.now.callee (suc (length action.now.args)) ≡ true }
-    requires fits { stretch.first + length since.now < 2 ^ 64 }
-    requires events { seen_events seen.now ≡ seen_of books.now.program.cells (books_of books.now.report) (plain_trace since.now) }
-    ensures finding { IfOk result (λ f. as_found f.finding ≡ acted (program_of books.now.program) books.now.report turns stretch.actor stretch.first stretch.index (take act.entry.at books.now.report.book) action.now state.now (plain_trace since.now) act.entry.new.now act.entry.sends.now) }
-    ensures serial { IfOk result (λ f. as_found f.finding ≡ Fine → f.serial ≡ covered_since (program_of books.now.program) books.now.report turns action.now state.now (plain_trace since.now)) }
-{
-    let meaning = answered(alloc, books, turns, action, state, seen)?;
-    let its = Stretch {
-        actor: stretch.actor,
-        first: stretch.first,
-        events: seen.len(),
-        index: stretch.index,
-    };
-    judge_act(
-        alloc, books, turns, its, since, action, state, act, seen, &meaning,
-    )
-}
-
 /// What is found of an act, on the part of the trace since the act before it, where its events are these and each loop makes at most so many turns.
 fn ran_with<'b>(
     alloc: Global,
@@ -309,8 +237,9 @@ fn ran_with<'b>(
     if !is_sent(books, action) {
         return Ok(off(stretch.actor, stretch.index));
     }
-    acted(
-        alloc, books, turns, stretch, since, action, state, act, seen,
+    let ending = Ending::Act(act);
+    judged(
+        alloc, books, turns, stretch, since, action, state, ending, seen,
     )
 }
 
@@ -675,17 +604,81 @@ fn rest_ends<'b>(
     Ok(still_ends(stretch, meaning, &end, part))
 }
 
-/// What is found of this action on this state, which isn't over and has printed this, where its events are these and this is answered of it.
-fn judge_wait<'b>(
+/// What is found of the end of this action on this state by its act, where its events are these and this is answered of it.
+fn over_ends<'b>(
     alloc: Global,
     books: &'b Books<'_>,
     turns: u32,
-    full: bool,
+    stretch: Stretch,
+    action: &Action,
+    state: &Value,
+    act: Act<'_>,
+    seen: &'b [Seen<'b>],
+    meaning: &ActionMeaning,
+) -> Result<Finding, AllocError>
+    requires sent { is_sent_call (known (functions_of books.now.program.functions)) action.now.callee (suc (length action.now.args)) ≡ true }
+    requires fits { stretch.first + length seen.now < 2 ^ 64 }
+    requires many { stretch.events ≡ length seen.now }
+    requires tells { TellsAction meaning.now (program_of books.now.program) action.now.callee action.now.span (state.now ∷ action.now.args) turns (seen_events seen.now) }
+    ensures { IfOk result (λ f. as_found f ≡ act_ends (cells_of books.now.program.cells) (take act.entry.at books.now.report.book) action.now.span stretch.actor stretch.first stretch.index (means_on (program_of books.now.program) turns action.now state.now) (seen_events seen.now) act.entry.new.now act.entry.sends.now (means_on (program_of books.now.program) turns action.now state.now (seen_events seen.now))) }
+{
+    // A law and a step of the proof, which do nothing when they run.
+    act_is_answered();
+    books.program().is_sound();
+    let end = action_end(alloc, books.program(), turns, action, meaning)?;
+    let failed = first_failed(books, meaning.sends.as_slice(), act.at);
+    Ok(act_ends(
+        stretch,
+        action.span,
+        failed,
+        meaning,
+        &end,
+        act.new,
+        act.sends,
+    ))
+}
+
+/// What is found of the end of this action on this state, where its events are these and this is answered of it.
+fn end_found<'b>(
+    alloc: Global,
+    books: &'b Books<'_>,
+    turns: u32,
     stretch: Stretch,
     since: &[Place],
     action: &Action,
     state: &Value,
-    out: &[u8],
+    ending: Ending<'_>,
+    seen: &'b [Seen<'b>],
+    meaning: &ActionMeaning,
+) -> Result<Finding, AllocError>
+    requires sent { is_sent_call (known (functions_of books.now.program.functions)) action.now.callee (suc (length action.now.args)) ≡ true }
+    requires fits { stretch.first + length since.now < 2 ^ 64 }
+    requires many { stretch.events ≡ length seen.now }
+    requires events { seen_events seen.now ≡ seen_of books.now.program.cells (books_of books.now.report) (plain_trace since.now) }
+    requires tells { TellsAction meaning.now (program_of books.now.program) action.now.callee action.now.span (state.now ∷ action.now.args) turns (seen_events seen.now) }
+    ensures { IfOk result (λ f. as_found f ≡ end_by (program_of books.now.program) books.now.report turns stretch.actor stretch.first stretch.index action.now state.now (plain_trace since.now) ending.entry) }
+{
+    match ending {
+        Ending::Act(act) => over_ends(
+            alloc, books, turns, stretch, action, state, act, seen, meaning,
+        ),
+        Ending::Waits(full, out) => rest_ends(
+            alloc, books, turns, full, stretch, action, state, out, seen, meaning,
+        ),
+    }
+}
+
+/// What is found of this action on this state, on the part of the trace that is the action's, where its events are these and this is
+/// answered of it.
+fn judge<'b>(
+    alloc: Global,
+    books: &'b Books<'_>,
+    turns: u32,
+    stretch: Stretch,
+    since: &[Place],
+    action: &Action,
+    state: &Value,
+    ending: Ending<'_>,
     seen: &'b [Seen<'b>],
     meaning: &ActionMeaning,
 ) -> Result<Found, AllocError>
@@ -694,7 +687,7 @@ fn judge_wait<'b>(
     requires many { stretch.events ≡ length seen.now }
     requires events { seen_events seen.now ≡ seen_of books.now.program.cells (books_of books.now.report) (plain_trace since.now) }
     requires tells { TellsAction meaning.now (program_of books.now.program) action.now.callee action.now.span (state.now ∷ action.now.args) turns (seen_events seen.now) }
-    ensures finding { IfOk result (λ f. as_found f.finding ≡ waited (program_of books.now.program) books.now.report turns full stretch.actor stretch.first stretch.index action.now state.now (plain_trace since.now) out.now) }
+    ensures finding { IfOk result (λ f. as_found f.finding ≡ judged (program_of books.now.program) books.now.report turns stretch.actor stretch.first stretch.index action.now state.now (plain_trace since.now) ending.entry) }
     ensures serial { IfOk result (λ f. as_found f.finding ≡ Fine → f.serial ≡ covered_since (program_of books.now.program) books.now.report turns action.now state.now (plain_trace since.now)) }
 {
     // Laws that the proof uses; they do nothing when they run.
@@ -707,8 +700,8 @@ fn judge_wait<'b>(
     if !calm.finding.is_fine() {
         return Ok(calm);
     }
-    let finding = rest_ends(
-        alloc, books, turns, full, stretch, action, state, out, seen, meaning,
+    let finding = end_found(
+        alloc, books, turns, stretch, since, action, state, ending, seen, meaning,
     )?;
     Ok(Found {
         finding,
@@ -716,23 +709,22 @@ fn judge_wait<'b>(
     })
 }
 
-/// What is found of this action on this state, which isn't over and has printed this, where its events are these.
-fn waited<'b>(
+/// What is found of this action on this state, on the part of the trace that is the action's, where its events are these.
+fn judged<'b>(
     alloc: Global,
     books: &'b Books<'_>,
     turns: u32,
-    full: bool,
     stretch: Stretch,
     since: &[Place],
     action: &Action,
     state: &Value,
-    out: &[u8],
+    ending: Ending<'_>,
     seen: &'b [Seen<'b>],
 ) -> Result<Found, AllocError>
     requires sent { is_sent_call (known (functions_of books.now.program.functions)) action.now.callee (suc (length action.now.args)) ≡ true }
     requires fits { stretch.first + length since.now < 2 ^ 64 }
     requires events { seen_events seen.now ≡ seen_of books.now.program.cells (books_of books.now.report) (plain_trace since.now) }
-    ensures finding { IfOk result (λ f. as_found f.finding ≡ waited (program_of books.now.program) books.now.report turns full stretch.actor stretch.first stretch.index action.now state.now (plain_trace since.now) out.now) }
+    ensures finding { IfOk result (λ f. as_found f.finding ≡ judged (program_of books.now.program) books.now.report turns stretch.actor stretch.first stretch.index action.now state.now (plain_trace since.now) ending.entry) }
     ensures serial { IfOk result (λ f. as_found f.finding ≡ Fine → f.serial ≡ covered_since (program_of books.now.program) books.now.report turns action.now state.now (plain_trace since.now)) }
 {
     let meaning = answered(alloc, books, turns, action, state, seen)?;
@@ -742,8 +734,8 @@ fn waited<'b>(
         events: seen.len(),
         index: stretch.index,
     };
-    judge_wait(
-        alloc, books, turns, full, its, since, action, state, out, seen, &meaning,
+    judge(
+        alloc, books, turns, its, since, action, state, ending, seen, &meaning,
     )
 }
 
@@ -777,8 +769,9 @@ fn still_found<'b>(
     if !is_sent(books, action) {
         return Ok(off(stretch.actor, stretch.first));
     }
-    waited(
-        alloc, books, turns, full, stretch, since, action, state, out, seen,
+    let ending = Ending::Waits(full, out);
+    judged(
+        alloc, books, turns, stretch, since, action, state, ending, seen,
     )
 }
 

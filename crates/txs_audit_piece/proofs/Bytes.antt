@@ -1,6 +1,5 @@
 -- Bytes that begin others.
-use Rattle.std.proofs.Common.{◌≡◌, ℕ, suc, ◌+◌, ◌<◌, ◌≤◌, ◌==◌, ◌&&◌, true, false, List, [], ◌∷◌, length, get_or, drop, refl, sym, ap, ◌∙◌, arith}
-use Rattle.std.proofs.lemmas.List.{drop_all, drop_more}
+use Rattle.std.proofs.Common.{◌≡◌, ℕ, suc, ◌<◌, ◌==◌, ◌&&◌, false, List, [], ◌∷◌, length, refl, ap, ◌∙◌, arith}
 use Rattle.std.proofs.Math.Bool.{and-false}
 use Rattle.txs_theorem_audit.specs.Verdict.{begins, same_numbers}
 
@@ -23,14 +22,3 @@ as_long [] [] h = refl
 as_long [] (y ∷ ys) h = absurd (omega (arith, h))
 as_long (x ∷ xs) [] h = absurd (omega (arith, h))
 as_long (x ∷ xs) (y ∷ ys) h = ap (λ b. x == y && b) (as_long xs ys (omega (arith, h)))
-
--- one more byte
-pub begins_next : (xs ys : List ℕ) (i x y : ℕ) → i < length xs → i < length ys → x ≡ get_or xs i x → y ≡ get_or ys i y
-    → begins (drop i xs) (drop i ys) ≡ (x == y && begins (drop (i + 1) xs) (drop (i + 1) ys))
-begins_next xs ys i x y lt less ex ey =
-    ap (λ l. begins l (drop i ys)) (drop_more xs i x lt ∙ ap (λ z. z ∷ drop (i + 1) xs) (sym ex))
-    ∙ ap (λ l. begins (x ∷ drop (i + 1) xs) l) (drop_more ys i y less ∙ ap (λ z. z ∷ drop (i + 1) ys) (sym ey))
-
--- no more bytes
-pub begins_end : (xs ys : List ℕ) (i : ℕ) → length xs ≤ i → begins (drop i xs) (drop i ys) ≡ true
-begins_end xs ys i le = ap (λ l. begins l (drop i ys)) (drop_all i xs le)

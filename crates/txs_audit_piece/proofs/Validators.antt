@@ -21,7 +21,6 @@ use Rattle.txs_tree_eval.specs.declared.meaning.Needs.{Needs}
 use Rattle.txs_tree_eval.specs.declared.meaning.Needs.TheVariants as needs
 use Rattle.txs_tree_meaning.specs.Tree.{PlainProgram}
 use Rattle.txs_theorem_audit_eval.specs.Evaluated as evaluated
-use Rattle.txs_theorem_audit_eval.specs.Evaluated.{ValidatorGives}
 use Rattle.txs_audit_piece.specs.Judged.{AcceptedBy, EndsBy, ValueEnds, is_no_memory}
 
 -- of a value that is logically false the second is chosen
@@ -80,24 +79,11 @@ value_or d None = d
 value_or d (Some (Ok y)) = y
 value_or d (Some (Err f)) = d
 
-value_same : (o : Option (Result Value Fault)) (v w : Value) → o ≡ Some (Ok v) → o ≡ Some (Ok w) → v ≡ w
-value_same o v w p q = ap (value_or v) (sym p ∙ q)
-
 no_value : (o : Option (Result Value Fault)) (w : Value) → o ≡ None → o ≡ Some (Ok w) → ⊥
 no_value o w p q = cc
 
 no_such_value : (o : Option (Result Value Fault)) (f : Fault) (w : Value) → o ≡ Some (Err f) → o ≡ Some (Ok w) → ⊥
 no_such_value o f w p q = cc
-
--- an action that has a value
-pub ends_by_value : (p : PlainProgram) (n : ℕ) (x : Action) (m : ActionMeaning) (v : Value) → m.needs ≡ needs.Nothing → m.result ≡ Some (Ok v) → (end : evaluated.ActionEnd) → ValueEnds p n x v end → EndsBy p n x m end
-ends_by_value p n x m v lack result end h =
-    let guard = validator_at (validators_of p.cells) x.agent.number in
-    let accepted = λ (w : Value). evaluated.accepted_by guard x.span w h.0 in (
-      h.0,
-      h.1 ∙ sym (ap (λ l. evaluated.end_of_action l m.result accepted) lack ∙ ap (λ r. evaluated.end_of_action needs.Nothing r accepted) result),
-      λ w less there. subst (λ y. ValidatorGives n p.functions guard y h.0) (value_same m.result v w result there) h.2,
-    )
 
 -- of any other the validator isn't asked
 module _ (p : PlainProgram) (n : ℕ) (x : Action) (m : ActionMeaning) (end : evaluated.ActionEnd) where

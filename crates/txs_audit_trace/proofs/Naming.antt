@@ -8,7 +8,7 @@ use Rattle.txs_theorem_order.specs.Order.{book_or_none}
 use Rattle.txs_theorem_audit.specs.Verdict.{begins, same_numbers, names_all}
 use Rattle.txs_theorem_runs.specs.Told.{Place, places_in, places_by}
 use Rattle.std.proofs.lemmas.List.{get_or-set_same, get_or-set_other, length-set, get_or_read}
-use Rattle.txs_audit_trace.specs.Named.{HasActor, HasActors, Outside, is_this}
+use Rattle.txs_audit_trace.specs.Named.{HasActor, Outside, is_this}
 use Rattle.txs_audit_trace.specs.Rows.{AreRows, AllRows, with_index}
 use Rattle.txs_value_base.specs.Places.{nth}
 use Rattle.txs_world_protocol.specs.declared.event.Event.{Event}
@@ -209,13 +209,6 @@ book_at r i b lt is = ap book_or_none (nth_at r.atom_books i b lt is)
 pub books_out : (r : PlainReport) → Outside (suc (length r.atom_books)) (books_of r)
 books_out r zero le = absurd (omega (arith, le))
 books_out r (suc n) le = ap book_or_none (nth_past r.atom_books n (omega (arith, le)))
-
--- each actor has its row
-pub has_actors : (actors count first many : ℕ) (books : ℕ → List Event) (all : List (List (List ℕ))) → AllRows actors count books all → first + many ≤ actors → HasActors first many all
-has_actors actors count first many books all h le k lt n low =
-    let size = h.many in
-    let as_many = (h.each n (omega (arith, low, size))).many in
-    omega (arith, le, lt, as_many)
 
 -- an actor's row in a book
 pub row_read : (all : List (List (List ℕ))) (i a : ℕ) (book rows : List (List ℕ)) (row items : List ℕ) → i < length all → HasActor a all → book ≡ get_or all i book → rows ≡ book → row ≡ get_or rows a row → items ≡ row → items ≡ get_or (get_or all i []) a []

@@ -79,11 +79,6 @@ pub five_3 : (a b c d e f g h i j : ℕ) → a ≡ b → c ≡ d → (e ≡ f �
 five_3 a b c d e f g h i j one two off =
     ap (λ x. x && (c == d && (e == f && (g == h && i == j)))) (eq-eqb a b one) ∙ ap (λ x. x && (e == f && (g == h && i == j))) (eq-eqb c d two) ∙ ap (λ x. x && (g == h && i == j)) (ne_eqb e f off)
 
-pub five_4 : (a b c d e f g h i j : ℕ) → a ≡ b → c ≡ d → e ≡ f → (g ≡ h → ⊥) → five a b c d e f g h i j ≡ false
-five_4 a b c d e f g h i j one two three off =
-    ap (λ x. x && (c == d && (e == f && (g == h && i == j)))) (eq-eqb a b one) ∙ ap (λ x. x && (e == f && (g == h && i == j))) (eq-eqb c d two) ∙ ap (λ x. x && (g == h && i == j)) (eq-eqb e f three)
-    ∙ ap (λ x. x && i == j) (ne_eqb g h off)
-
 -- or only the last two may
 pub five_5 : (a b c d e f g h i j : ℕ) → a ≡ b → c ≡ d → e ≡ f → g ≡ h → five a b c d e f g h i j ≡ (i == j)
 five_5 a b c d e f g h i j one two three four =

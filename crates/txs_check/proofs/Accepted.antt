@@ -12,7 +12,7 @@ use Rattle.txs_value_base.specs.declared.op.Callee.{Callee}
 use Rattle.txs_value_base.specs.declared.op.Callee.TheVariants.{Core as CoreOp, Function}
 use Rattle.txs_tree_meaning.specs.Known.{Known, is_pure}
 use Rattle.txs_tree_meaning.specs.Scoped.{ScopedTree, ScopedAll, ScopedLet}
-use Rattle.txs_tree_meaning.specs.Sound.{SoundTree, SoundAll, SoundLet, SoundDo, SoundCall, SoundCallee, SoundSent, PureCall, SentCall, TakesFew, MayCall, MayStand, in_function, in_thread, in_dosync}
+use Rattle.txs_tree_meaning.specs.Sound.{SoundTree, SoundAll, SoundLet, SoundDo, SoundCall, SoundCallee, SoundSent, PureCall, SentCall, MayCall, MayStand, in_function, in_thread, in_dosync}
 use Rattle.txs_tree_meaning.specs.Sound as sound
 use Rattle.txs_tree_meaning.specs.Tree.{Tree, Const, Local, If, Do, Let, Loop, Recur, Core, Call, VectorOf, Println, Dosync, Look, Put, Update, Send, Trees, none, more, count}
 use Rattle.txs_check.specs.declared.error.CheckErrorKind.TheVariants.{RecurNotTail, RecurCount, RecurAcrossDosync, Arity, NotPure, InsideOnly, OutsideOnly}

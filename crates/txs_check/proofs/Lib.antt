@@ -1,6 +1,5 @@
 pub mod Accepted
 pub mod Callees
-pub mod Counting
 pub mod InOrder
 pub mod InTurn
 pub mod Laws

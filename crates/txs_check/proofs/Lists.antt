@@ -1,7 +1,7 @@
 -- Nodes, functions and threads from a place on.
 use Rattle.std.proofs.Common.{◌≡◌, ℕ, zero, suc, ◌+◌, ◌<◌, List, [], ◌∷◌, ◌++◌, length, get_or, map, take, drop, refl, sym, ap, ◌∙◌}
 use Rattle.std.proofs.lemmas.List.{drop_more}
-use Rattle.txs_tree_meaning.specs.Tree.{Mark, more, count}
+use Rattle.txs_tree_meaning.specs.Tree.{Mark, count}
 use Rattle.txs_tree_meaning.specs.View.{kind_tree, mark_of, tree_of, trees_of, function_of, functions_of, thread_of, threads_of}
 use Rattle.txs_tree_meaning.specs.declared.node.Function.{Function}
 use Rattle.txs_tree_meaning.specs.declared.node.Node.{Node}
@@ -10,14 +10,8 @@ use Rattle.txs_tree_meaning.specs.declared.node.Thread.{Thread}
 use Rattle.txs_check.specs.Refused.{◌>>=◌, place_of, before, function_body, thread_body, in_order, taken, room}
 use Rattle.txs_check.proofs.Order.{room_append}
 
-pub trees_left : (ns : List Node) (i : ℕ) (n : Node) → i < length ns → n ≡ get_or ns i n → trees_of (drop i ns) ≡ more (tree_of n) (trees_of (drop (i + 1) ns))
-trees_left ns i n lt is = ap trees_of (drop_more ns i n lt) ∙ ap (λ m. more (tree_of m) (trees_of (drop (i + 1) ns))) (sym is)
-
 pub functions_left : (fs : List Function) (i : ℕ) (f : Function) → i < length fs → f ≡ get_or fs i f → functions_of (drop i fs) ≡ function_of f ∷ functions_of (drop (i + 1) fs)
 functions_left fs i f lt is = ap functions_of (drop_more fs i f lt) ∙ ap (λ g. function_of g ∷ functions_of (drop (i + 1) fs)) (sym is)
-
-pub threads_left : (ts : List Thread) (i : ℕ) (t : Thread) → i < length ts → t ≡ get_or ts i t → threads_of (drop i ts) ≡ thread_of t ∷ threads_of (drop (i + 1) ts)
-threads_left ts i t lt is = ap threads_of (drop_more ts i t lt) ∙ ap (λ u. thread_of u ∷ threads_of (drop (i + 1) ts)) (sym is)
 
 pub count_nodes : (ns : List Node) → count (trees_of ns) ≡ length ns
 count_nodes [] = refl

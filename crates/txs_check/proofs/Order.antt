@@ -1,5 +1,5 @@
 -- The bodies of a program in script order are its functions and its threads.
-use Rattle.std.proofs.Common.{◌≡◌, ℕ, zero, suc, ◌+◌, ◌-◌, ◌≤◌, ◌<◌, Bool, true, false, leb, if◌then◌else◌, List, [], ◌∷◌, ◌++◌, map, take, drop, Result, Ok, Err, refl, sym, ap, ◌∙◌, arith}
+use Rattle.std.proofs.Common.{◌≡◌, ℕ, zero, suc, ◌+◌, ◌-◌, ◌≤◌, Bool, true, false, leb, if◌then◌else◌, List, [], ◌∷◌, ◌++◌, map, take, drop, Result, Ok, Err, refl, sym, ap, ◌∙◌, arith}
 use Rattle.std.proofs.lemmas.Bool.{leb-true, le-leb}
 use Rattle.txs_value_base.specs.declared.fault.Span.{Span}
 use Rattle.txs_tree_meaning.specs.Known.{Known}
@@ -89,13 +89,6 @@ total_order (f ∷ fs) ts =
 
 pub taken_some : (left : ℕ) (e : Tree) (at : Span) → nodes e ≤ left → taken left e at ≡ Ok (left - nodes e)
 taken_some left e at le = ap (λ x. if x then Ok (left - nodes e) else Err (record { kind = CodeTooLarge; at = at })) (le-leb (nodes e) left le)
-
-pub taken_none : (left : ℕ) (e : Tree) (at : Span) → left < nodes e → taken left e at ≡ Err (record { kind = CodeTooLarge; at = at })
-taken_none left e at lt = by (leb (nodes e) left) refl
-  where
-    by : (x : Bool) → leb (nodes e) left ≡ x → taken left e at ≡ Err (record { kind = CodeTooLarge; at = at })
-    by true is = absurd (omega (arith, lt, leb-true (nodes e) left is))
-    by false is = ap (λ x. if x then Ok (left - nodes e) else Err (record { kind = CodeTooLarge; at = at })) is
 
 pub room_few : (left : ℕ) (bs : List Body) → total bs ≤ left → few (room left bs) ≡ fine
 room_few left [] le = refl

@@ -1,5 +1,5 @@
 -- What is said of a tree rests on the functions that it names alone, and not on how deep they are.
-use Rattle.std.proofs.Common.{◌≡◌, ℕ, zero, suc, ◌+◌, ◌<◌, ◌&&◌, ◌||◌, true, List, [], ◌∷◌, ◌++◌, length, get_or, Option, Some, None, refl, sym, ap, ◌∙◌, append_assoc, arith}
+use Rattle.std.proofs.Common.{◌≡◌, ℕ, zero, suc, ◌+◌, ◌<◌, ◌&&◌, ◌||◌, true, List, [], ◌∷◌, ◌++◌, length, Option, Some, None, refl, sym, ap, ◌∙◌, append_assoc, arith}
 use Rattle.std.proofs.lemmas.List.{append-nil, map-append}
 use Rattle.txs_value_cell.specs.Forms.{rule}
 use Rattle.txs_value_base.specs.Places.{nth}
@@ -210,21 +210,6 @@ from_same ks ls [] same = same
 from_same ks ls (f ∷ fs) same =
     from_same (ks ++ known_of ks f ∷ []) (ls ++ known_of ls f ∷ []) fs
     (map-append bare_one ls (known_of ls f ∷ []) ∙ (λ i. same i ++ known_same ks ls same f i ∷ []) ∙ sym (map-append bare_one ks (known_of ks f ∷ [])))
-
-pub bare_bare : (ks : List Known) → bare (bare ks) ≡ bare ks
-bare_bare [] = refl
-bare_bare (k ∷ ks) = ap (λ l. bare_one k ∷ l) (bare_bare ks)
-
--- a row of the table
-pub row_at : (ss : List Signature) (f : ℕ) (s : Signature) → f < length ss → s ≡ get_or ss f s → nth (known_as ss) f ≡ Some (known_row s)
-row_at [] f s lt is = absurd (omega (arith, lt))
-row_at (r ∷ ss) zero s lt is = ap (λ x. Some (known_row x)) (sym is)
-row_at (r ∷ ss) (suc f) s lt is = row_at ss f s (omega (arith, lt)) is
-
-pub no_row : (ss : List Signature) (f : ℕ) → (f < length ss → ⊥) → nth (known_as ss) f ≡ None
-no_row [] f no_such = refl
-no_row (r ∷ ss) zero no_such = absurd (no_such (omega arith))
-no_row (r ∷ ss) (suc f) no_such = no_row ss f (λ lt. no_such (omega (arith, lt)))
 
 -- functions that come later change nothing
 nth_front : (ks ms : List Known) (f : ℕ) → f < length ks → nth (ks ++ ms) f ≡ nth ks f

@@ -1,7 +1,7 @@
 -- Bodies and validators in script order are all of them, and stand in script order.
 use Rattle.std.proofs.Common.{◌≡◌, ℕ, zero, suc, ◌≤◌, Bool, true, false, nat_lt, if◌then◌else◌, List, [], ◌∷◌, ◌++◌, map, take, drop, refl, ap, ◌∙◌, arith}
 use Rattle.std.proofs.lemmas.Bool.{leb-true, ltb-false}
-use Rattle.txs_check.specs.Order.{BeginFrom, Ascend, begin, EachFrom, EachAscends, with_body, with_validator, bodies_in, only_validators}
+use Rattle.txs_check.specs.Order.{BeginFrom, Ascend, EachFrom, EachAscends, with_body, with_validator, bodies_in, only_validators}
 use Rattle.txs_check.specs.Refused.{Body, Validator, Checkable, of_body, of_validator, earlier, together}
 
 abbrev of_all : List Validator → List Checkable

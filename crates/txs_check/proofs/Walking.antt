@@ -1,6 +1,5 @@
 -- The walk over bodies and validators gives the first refusal in them.
-use Rattle.std.proofs.Common.{◌≡◌, ℕ, zero, suc, ◌+◌, ◌<◌, ◌≤◌, Bool, true, false, nat_lt, if◌then◌else◌, List, [], ◌∷◌, ◌++◌, length, get_or, map, take, drop, Result, Ok, Err, refl, sym, ap, subst, ◌∙◌, arith}
-use Rattle.std.proofs.lemmas.Bool.Decides.{nat_tests}
+use Rattle.std.proofs.Common.{◌≡◌, ℕ, zero, suc, ◌+◌, ◌<◌, Bool, true, false, nat_lt, if◌then◌else◌, List, [], ◌∷◌, ◌++◌, length, get_or, map, take, drop, Result, Ok, Err, refl, sym, ap, ◌∙◌}
 use Rattle.txs_tree_meaning.specs.Known.{Known}
 use Rattle.txs_tree_meaning.specs.View.{function_of, functions_of, threads_of}
 use Rattle.txs_tree_meaning.specs.declared.node.Function.{Function}
@@ -113,21 +112,7 @@ module _ (ks : List Known) where
       let g : x >> w ≡ fine = validators_split n vs ∙ q in
       each_append ks (map of_validator (take n vs)) (of_body b ∷ together bs (drop n vs))
       ∙ both x (y >> z) (first x w g) (both y z (first y v p) (accepted_each bs (drop n vs) (second y v p) (second x w g)))
-
   -- ---- the first of the validators that are left
-
-  pub behind_ends : (from : ℕ) (vs : List Validator) → vs ≡ [] → behind ks from vs ≡ Ok vs
-  behind_ends from vs e = subst (λ (l : List Validator). behind ks from l ≡ Ok l) (sym e) refl
-
-  pub behind_stops : (from : ℕ) (vs ws : List Validator) (v : Validator) → vs ≡ v ∷ ws → from ≤ v.span.from → behind ks from vs ≡ Ok vs
-  behind_stops from vs ws v e le =
-      let no : nat_lt v.span.from from ≡ false = grind (arith, nat_tests, le) in
-      subst (λ (l : List Validator). behind ks from l ≡ Ok l) (sym e) (ap (λ (y : Bool). if y then further (validates ks v.callee v.span) (λ u. behind ks from ws) else Ok (v ∷ ws)) no)
-
-  pub behind_goes : (from : ℕ) (vs ws : List Validator) (v : Validator) → vs ≡ v ∷ ws → v.span.from < from → behind ks from vs ≡ further (validates ks v.callee v.span) (λ u. behind ks from ws)
-  behind_goes from vs ws v e lt =
-      let yes : nat_lt v.span.from from ≡ true = grind (arith, nat_tests, lt) in
-      ap (behind ks from) e ∙ ap (λ (y : Bool). if y then further (validates ks v.callee v.span) (λ u. behind ks from ws) else Ok (v ∷ ws)) yes
 
 -- a step of the walk over the bodies in script order: the threads before the next function, and the function
 pub bodies_step : (fs : List Function) (i : ℕ) (f : Function) → i < length fs → f ≡ get_or fs i f → (ts : List Thread) (n : ℕ) → n ≡ before f.span.from (threads_of ts) → (ks : List Known) (vs : List Validator)

@@ -1,6 +1,6 @@
 -- The formats of operations, callees and cells are exact.
 use Rattle.std.proofs.Common.{◌≡◌, ℕ, Bool, true, false, [], Option, Some, None, refl, sym, ap}
-use Rattle.txs_value_base.specs.Operations.{op_number}
+use Rattle.txs_value_base.specs.Operations.{op_number, operations}
 use Rattle.txs_value_base.specs.declared.op.Callee.{Callee}
 use Rattle.txs_value_base.specs.declared.op.Callee.TheVariants as callee
 use Rattle.txs_value_data.specs.Limits.{most_definitions}
@@ -13,7 +13,7 @@ use Rattle.txs_code_decode.specs.declared.tag.ValidatorTag.{ValidatorTag}
 use Rattle.txs_code_decode.specs.declared.tag.ValidatorTag.TheVariants as validator_tag
 use Rattle.txs_code_decode.specs.CellForm.{kinds, kind_byte, modes, mode_byte, kind_format, mode_format, validator_tags, validator_byte, validator_tag_of, validator_callee, validator_body, validator_format, cell_format}
 use Rattle.txs_code_decode.specs.Format.{byte}
-use Rattle.txs_code_decode.specs.InstrForm.{operations, op_format, callee_tags, callee_byte, callee_tag_of, callee_op, callee_function, callee_body, callee_format}
+use Rattle.txs_code_decode.specs.InstrForm.{op_format, callee_tags, callee_byte, callee_tag_of, callee_op, callee_function, callee_body, callee_format}
 use Rattle.txs_code_decode.specs.ValueForm.{below}
 use Rattle.txs_code_decode.proofs.Exact.{Exact, InOrder, byte_exact, tested_exact, one_of_exact, only_exact, pair_exact, mapped_exact, tagged_exact}
 use Rattle.txs_code_decode.proofs.Lists.{in_order}

@@ -1,5 +1,5 @@
 -- The formats of instructions, bodies and code are exact.
-use Rattle.std.proofs.Common.{◌≡◌, ℕ, zero, suc, ◌-◌, ◌^◌, ◌<◌, Bool, true, false, List, [], ◌∷◌, length, map, None, is_some, refl, sym, ap, arith}
+use Rattle.std.proofs.Common.{◌≡◌, ℕ, zero, suc, ◌-◌, Bool, true, false, List, [], ◌∷◌, length, map, None, is_some, refl, sym, ap}
 use Rattle.std.specs.Prelude.{◌==◌, ◌||◌}
 use Rattle.std.specs.List.{AllByRecursion}
 use Rattle.std.specs.Int.{w16, w32}
@@ -9,8 +9,7 @@ use Rattle.txs_value_cell.specs.declared.cell.CellDefinition.{CellDefinition}
 use Rattle.txs_value_base.specs.declared.fault.Span.{Span}
 use Rattle.txs_value_base.specs.declared.op.Callee.{Callee}
 use Rattle.txs_value_data.specs.declared.value.CellKind.{CellKind}
-use Rattle.txs_value_data.specs.declared.value.Value.{Value}
-use Rattle.txs_code_meaning.specs.PlainCode.{CodeBody, PlainCode}
+use Rattle.txs_code_meaning.specs.PlainCode.{CodeBody}
 use Rattle.txs_code_meaning.specs.declared.instr.Instr.{Instr}
 use Rattle.txs_code_meaning.specs.declared.instr.Instr.TheVariants as instr
 use Rattle.txs_code_meaning.specs.declared.instr.OpenForm.TheVariants as open_form
@@ -24,10 +23,10 @@ use Rattle.txs_code_decode.specs.declared.opcode.Opcode.TheVariants as opcode
 use Rattle.txs_code_decode.specs.CellForm.{cell_format, constant_format, kinds_of, validator_format}
 use Rattle.txs_code_meaning.specs.Validating.{has_validator, is_validated}
 use Rattle.txs_code_decode.specs.CodeForm.{paired, body_parts, body_of, parameters_format, body_format, instructions, all_instructions, bodies_format, functions_format, threads_format, most_instructions, magic, magic_1, magic_2, magic_format, cells_format, told_cells_format, constants_format, program_format, code_format}
-use Rattle.txs_code_decode.specs.Format.{Format, byte, number, tested, one_of, only, pair, mapped, counted, tagged, SharingFits, sharing}
+use Rattle.txs_code_decode.specs.Format.{Format, byte, number, tested, SharingFits, sharing}
 use Rattle.txs_code_decode.specs.InstrForm.{op_format, callee_format, opcodes, opcode_byte, opcode_of, opcode_format, operand, operation, named, callee_and_count, operands, instr_format, span_format, placed_format}
 use Rattle.txs_code_decode.specs.ValueForm.{must, below, at_most}
-use Rattle.txs_code_decode.proofs.Exact.{Exact, InOrder, byte_exact, tested_exact, before_exact, one_of_exact, only_exact, pair_exact, mapped_exact, counted_exact, tagged_exact, sharing_exact}
+use Rattle.txs_code_decode.proofs.Exact.{Exact, InOrder, in_order_by, byte_exact, tested_exact, before_exact, one_of_exact, only_exact, pair_exact, mapped_exact, counted_exact, tagged_exact, sharing_exact}
 use Rattle.txs_code_decode.proofs.CellExact.{op_exact, callee_exact, cell_exact}
 use Rattle.txs_code_decode.proofs.ValueExact.{n16, n32, constant_exact}
 
@@ -93,8 +92,7 @@ opcode_tells ks fs opcode.Send i fits = ap opcode_of (sym fits.1)
 opcode_tells ks fs opcode.Halt i fits = ap opcode_of fits
 
 opcodes_in_order : InOrder opcode_byte 0 opcodes
-opcodes_in_order =
-    (refl, (refl, (refl, (refl, (refl, (refl, (refl, (refl, (refl, (refl, (refl, (refl, (refl, (refl, (refl, (refl, (refl, (refl, (refl, (refl, (refl, (refl, (refl, (refl, (refl, tt)))))))))))))))))))))))))
+opcodes_in_order = in_order_by opcode_byte 0 opcodes refl
 
 opcode_exact : Exact opcode_format
 unfolding opcode_format

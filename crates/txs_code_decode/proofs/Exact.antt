@@ -1,13 +1,13 @@
 -- In a format that is exact what is read is spelled so, and what is spelled so is read, whatever follows. Each way to put
 -- formats together keeps that.
-use Rattle.std.proofs.Common.{◌≡◌, ℕ, zero, suc, ◌+◌, ◌-◌, ◌*◌, ◌^◌, ◌<◌, ◌≤◌, Bool, true, false, cond, ltb, eqb, List, [], ◌∷◌, ◌++◌, length, get_or, take, drop, Option, Some, None, Result, Ok, Err, refl, sym, ap, subst, ◌∙◌, append_assoc, arith, inl, inr}
+use Rattle.std.proofs.Common.{◌≡◌, ℕ, zero, suc, ◌+◌, ◌-◌, ◌<◌, ◌≤◌, Bool, true, false, cond, ltb, eqb, List, [], ◌∷◌, ◌++◌, length, map, get_or, take, drop, Option, Some, None, Result, Ok, Err, refl, sym, ap, subst, ◌∙◌, append_assoc, arith, inl, inr}
 use Rattle.std.specs.Int.{Width, w16, w32, w64, byte_len, from_be_bytes, to_be_bytes}
 use Rattle.std.specs.List.{flat_map, AllByRecursion}
 use Rattle.std.proofs.lemmas.Bool.{eqb-true, cases_lt, ltb-false, le-ltb}
 use Rattle.std.proofs.lemmas.List.{append-nil, nil_from_length, take_at, drop_at, take-append-drop, length-append, length-take, get_or-drop, get_or-take, get_or_past}
 use Rattle.std.proofs.lemmas.List.Concat.{flat_map-cons}
 use Rattle.std.proofs.lemmas.Nat.{be_bytes_2, be_bytes_4, be_bytes_8, from_be_bytes-to_be_bytes_2, from_be_bytes-to_be_bytes_4, from_be_bytes-to_be_bytes_8}
-use Rattle.txs_value_base.specs.Places.{nth}
+use Rattle.txs_value_base.specs.Places.{nth, numbers_from}
 use Rattle.txs_code_decode.specs.declared.error.CodeErrorKind.{CodeErrorKind}
 use Rattle.txs_code_decode.specs.declared.error.CodeErrorKind.TheVariants.{Truncated, Trailing}
 use Rattle.txs_code_decode.specs.declared.error.Refusal.{Refusal}
@@ -200,6 +200,11 @@ found_ok kind (Some a) bytes rest x e = (a, refl, ok_is (a, rest) x e)
 abbrev pub InOrder : {A : Type 0} → (A → ℕ) → ℕ → List A → Type 0
 InOrder place n [] = Unit {0}
 InOrder place n (x ∷ xs) = (place x ≡ n) × InOrder place (suc n) xs
+
+-- where the places are the numbers from this one on
+pub in_order_by : {A : Type 0} (place : A → ℕ) (n : ℕ) (all : List A) → map place all ≡ numbers_from n (length all) → InOrder place n all
+in_order_by place n [] e = tt
+in_order_by place n (x ∷ xs) e = (ap (λ ns. get_or ns 0 n) e, in_order_by place (suc n) xs (ap (drop 1) e))
 
 pub some_is : {A : Type 0} (x y : A) → Some x ≡ Some y → x ≡ y
 some_is x y e = cc

@@ -1,9 +1,9 @@
 -- The bytes of the formats are those that are written.
-use Rattle.std.proofs.Common.{◌≡◌, ℕ, zero, suc, ◌+◌, ◌-◌, ◌^◌, ◌<◌, ◌≤◌, Bool, true, false, List, [], ◌∷◌, ◌++◌, length, map, get_or, take, Option, Some, None, refl, sym, ap, ◌∙◌, append_assoc, arith}
+use Rattle.std.proofs.Common.{◌≡◌, ℕ, zero, suc, ◌+◌, ◌-◌, ◌^◌, ◌<◌, Bool, true, false, List, [], ◌∷◌, ◌++◌, length, map, get_or, Option, Some, None, refl, sym, ap, ◌∙◌, append_assoc, arith}
 use Rattle.std.specs.List.{flat_map, AllByRecursion}
-use Rattle.std.specs.Int.{Width, w16, w32, to_be_bytes}
+use Rattle.std.specs.Int.{w16, w32, to_be_bytes}
 use Rattle.std.proofs.lemmas.List.Concat.{flat_map-cons}
-use Rattle.txs_value_data.specs.PlainValue.{PlainValue, PlainValues, nil, truth, int, key, text, vector, cell, end, more, plain_row, plain_list}
+use Rattle.txs_value_data.specs.PlainValue.{PlainValue, PlainValues, nil, truth, int, key, text, vector, cell, end, more, plain_list}
 use Rattle.txs_value_data.specs.View.{plain_of}
 use Rattle.txs_value_cell.specs.declared.cell.CellDefinition.{CellDefinition}
 use Rattle.txs_value_base.specs.declared.fault.Span.{Span}
@@ -18,10 +18,9 @@ use Rattle.txs_code_meaning.specs.PlainCode.{CodeBody, PlainCode}
 use Rattle.txs_code_meaning.specs.declared.instr.Instr.{Instr}
 use Rattle.txs_code_meaning.specs.declared.instr.Instr.TheVariants as instr
 use Rattle.txs_code_meaning.specs.declared.instr.OpenForm.TheVariants as open_form
-use Rattle.txs_code_decode.specs.declared.error.CodeErrorKind.{CodeErrorKind}
 use Rattle.txs_code_decode.specs.CellForm.{kind_byte, mode_byte, kind_format, mode_format, constant_format, cell_format, kinds_of, validator_bytes, validator_format, cell_bytes, constant_bytes}
 use Rattle.txs_code_meaning.specs.Validating.{has_validator}
-use Rattle.txs_code_decode.specs.CodeForm.{paired, body_format, instructions, all_instructions, most_instructions, magic_bytes, magic_format, cells_format, told_cells_format, constants_format, functions_format, threads_format, program_format, code_format, HasForm, counted_bytes, body_bytes, form, AreBodies, AreCells, AreConstants, IsSmall}
+use Rattle.txs_code_decode.specs.CodeForm.{paired, body_format, instructions, all_instructions, most_instructions, magic_bytes, magic_format, cells_format, told_cells_format, constants_format, functions_format, threads_format, program_format, code_format, HasForm, counted_bytes, body_bytes, form, AreBodies, IsSmall}
 use Rattle.txs_code_decode.specs.Format.{Format, sharing_form, SharingFits}
 use Rattle.txs_code_decode.specs.InstrForm.{op_format, callee_format, callee_bytes, opcode_format, instr_format, instr_bytes, span_format, placed_format, placed_bytes}
 use Rattle.txs_code_decode.specs.ValueForm.{tag_format, keyword_format, cell_name_format, text_format, value_format, name_bytes, value_bytes, row_bytes, IsWritable, AreWritable}

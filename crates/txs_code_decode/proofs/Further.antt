@@ -5,7 +5,7 @@ use Rattle.std.proofs.lemmas.Bool.{ltb-false, le-ltb}
 use Rattle.std.proofs.lemmas.Bool.Decides.{eqb_tells}
 use Rattle.std.proofs.lemmas.List.{length-append, length-take, take-append-drop, take_at, drop_at}
 use Rattle.txs_value_base.specs.Places.{nth}
-use Rattle.txs_value_base.specs.Operations.{op_number}
+use Rattle.txs_value_base.specs.Operations.{operations, op_number}
 use Rattle.txs_value_data.specs.Limits.{most_definitions, most_threads}
 use Rattle.txs_value_data.specs.PlainValue.{PlainValue}
 use Rattle.txs_value_data.specs.View.{plain_of, value_of}
@@ -29,7 +29,7 @@ use Rattle.txs_code_decode.specs.declared.tag.Tag.TheVariants as tag
 use Rattle.txs_code_decode.specs.CellForm.{kinds, kind_byte, modes, mode_byte, kind_format, mode_format, constant_format, validator_tags, validator_byte, validator_tag_of, validator_body, validator_format, cell_format, kinds_of}
 use Rattle.txs_code_decode.specs.CodeForm.{at_place, all_instructions, bodies_format, body_format, body_of, body_parts, cells_format, code_format, constants_format, decoded, functions_format, instructions, magic_format, most_instructions, parameters_format, program_format, refusal_of, threads_format, told_cells_format}
 use Rattle.txs_code_decode.specs.Format.{Read, refuse, ◌>>=◌, Test, judge, judge_left, found, Format, byte_at, byte, bytes_at, some_bytes, number_at, number, tested, tested_before, one_of, only, never, pair, mapped, many_at, many, counted, tagged, sharing_at, sharing, whole}
-use Rattle.txs_code_decode.specs.InstrForm.{callee_and_count, callee_body, callee_byte, callee_format, callee_tag_of, callee_tags, instr_format, op_format, opcode_format, opcode_of, opcodes, opcode_byte, operands, operations, placed_format, span_format}
+use Rattle.txs_code_decode.specs.InstrForm.{callee_and_count, callee_body, callee_byte, callee_format, callee_tag_of, callee_tags, instr_format, op_format, opcode_format, opcode_of, opcodes, opcode_byte, operands, placed_format, span_format}
 use Rattle.txs_code_decode.specs.Names.{names_cell, names_keyword}
 use Rattle.txs_code_decode.specs.ValueForm.{at_most, below, cell_name_format, keyword_format, name_over, tag_byte, tag_format, tag_of, tag_test, tags, text_format, value_body, value_format}
 

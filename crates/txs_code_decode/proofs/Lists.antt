@@ -2,7 +2,7 @@
 use Rattle.std.proofs.Common.{◌≡◌, ◌≢◌, ℕ, zero, suc, ◌+◌, ◌<◌, ◌≤◌, List, [], ◌∷◌, ◌++◌, length, map, get_or, take, add-one, Bool, Ok, Option, Some, None, refl, sym, ap, ◌∙◌, arith, inl, inr}
 use Rattle.std.specs.Prelude.{MatchOption}
 use Rattle.std.proofs.lemmas.Bool.{cases_lt}
-use Rattle.txs_value_base.specs.Operations.{op_number}
+use Rattle.txs_value_base.specs.Operations.{op_number, operations}
 use Rattle.txs_value_base.specs.Places.{nth}
 use Rattle.txs_value_base.specs.declared.fault.Span.{Span}
 use Rattle.txs_value_base.specs.declared.op.Op.{Op}
@@ -13,8 +13,9 @@ use Rattle.txs_code_meaning.specs.PlainCode.{CodeBody}
 use Rattle.txs_code_decode.specs.CodeForm.{all_instructions, body_format, instructions, paired, parameters_format}
 use Rattle.txs_code_decode.specs.Format.{byte_at, counted, number, tested}
 use Rattle.txs_code_decode.specs.ValueForm.{at_most}
-use Rattle.txs_code_decode.specs.InstrForm.{operations, placed_format}
-use Rattle.txs_code_decode.proofs.Exact.{InOrder, placed_at}
+use Rattle.txs_code_decode.specs.InstrForm.{placed_format}
+use Rattle.txs_value_base.proofs.OperationsLemmas.{number-of_operation, op_there}
+use Rattle.txs_code_decode.proofs.Exact.{InOrder, in_order_by}
 
 -- past its end a list has nothing
 pub nth_past : {A : Type 0} (xs : List A) (i : ℕ) → length xs ≤ i → nth xs i ≡ None
@@ -28,50 +29,19 @@ nth_is [] i d lt = absurd (omega (arith, lt))
 nth_is (x ∷ xs) zero d lt = refl
 nth_is (x ∷ xs) (suc i) d lt = nth_is xs i d (omega (arith, lt))
 
--- an operation stands at its number
-pub op_there : (op : Op) → nth operations (op_number op) ≡ Some op
-op_there ops.Add = refl
-op_there ops.Subtract = refl
-op_there ops.Multiply = refl
-op_there ops.Inc = refl
-op_there ops.Dec = refl
-op_there ops.Quot = refl
-op_there ops.Rem = refl
-op_there ops.Mod = refl
-op_there ops.Equal = refl
-op_there ops.NotEqual = refl
-op_there ops.Less = refl
-op_there ops.Greater = refl
-op_there ops.LessOrEqual = refl
-op_there ops.GreaterOrEqual = refl
-op_there ops.Max = refl
-op_there ops.Min = refl
-op_there ops.Not = refl
-op_there ops.IsNil = refl
-op_there ops.IsZero = refl
-op_there ops.IsPositive = refl
-op_there ops.IsNegative = refl
-op_there ops.Count = refl
-op_there ops.Nth = refl
-op_there ops.Conj = refl
-op_there ops.Assoc = refl
-op_there ops.Peek = refl
-op_there ops.Pop = refl
-
 -- the operation of a number stands there
 pub op_found : (op : Op) (n : ℕ) → op_number op ≡ n → nth operations n ≡ Some op
 op_found op n e = ap (nth operations) (sym e) ∙ op_there op
 
 pub in_order : InOrder op_number 0 operations
-in_order =
-    (refl, (refl, (refl, (refl, (refl, (refl, (refl, (refl, (refl, (refl, (refl, (refl, (refl, (refl, (refl, (refl, (refl, (refl, (refl, (refl, (refl, (refl, (refl, (refl, (refl, (refl, (refl, tt)))))))))))))))))))))))))))
+in_order = in_order_by op_number 0 operations refl
 
 -- the operation that was found of a number, if there is one, is the one that stands there
 pub op_answer : (r : Option Op) (n : ℕ) → MatchOption r ((op : Op) → op_number op ≢ n) (λ op. op_number op ≡ n) → r ≡ nth operations n
 op_answer (Some op) n h = sym (op_found op n h)
 op_answer None n h =
-    elim (cases_lt n 27) [
-      | inl lt ↦ absurd (h (get_or operations n ops.Add) (placed_at op_number operations in_order n (get_or operations n ops.Add) (nth_is operations n ops.Add lt)))
+    elim (cases_lt n (length operations)) [
+      | inl lt ↦ absurd (h (get_or operations n ops.Add) (number-of_operation n ops.Add lt))
       | inr le ↦ sym (nth_past operations n le)
     ]
 

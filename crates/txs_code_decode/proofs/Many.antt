@@ -1,8 +1,7 @@
 -- A loop that reads so many values one behind the other: what is read so far, with what reading the rest gives, is what reading
 -- all gives.
-use Rattle.std.proofs.Common.{◌≡◌, ℕ, zero, suc, ◌+◌, ◌-◌, ◌<◌, ◌≤◌, List, [], ◌∷◌, ◌++◌, Result, Ok, Err, refl, sym, ap, ◌∙◌, append_assoc, arith}
+use Rattle.std.proofs.Common.{◌≡◌, ℕ, suc, ◌+◌, ◌-◌, ◌<◌, ◌≤◌, List, [], ◌∷◌, ◌++◌, Ok, Err, refl, sym, ap, ◌∙◌, append_assoc, arith}
 use Rattle.std.proofs.lemmas.List.{append-nil}
-use Rattle.txs_code_decode.specs.declared.error.Refusal.{Refusal}
 use Rattle.txs_code_decode.specs.declared.error.Stop.{Stop}
 use Rattle.txs_code_decode.specs.declared.error.Stop.TheVariants as stops
 use Rattle.txs_code_decode.specs.Format.{Read, ◌>>=◌, Format, many_at, sharing_at, Fails}

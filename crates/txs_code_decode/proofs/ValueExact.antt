@@ -1,5 +1,5 @@
 -- The formats of names, texts and values are exact, as each that they are put together from.
-use Rattle.std.proofs.Common.{◌≡◌, ℕ, zero, suc, ◌^◌, ◌<◌, Bool, true, false, List, [], ◌∷◌, length, Option, Some, None, refl, sym, ap, ◌∙◌, arith}
+use Rattle.std.proofs.Common.{◌≡◌, ℕ, zero, suc, ◌^◌, ◌<◌, Bool, true, false, List, [], ◌∷◌, refl, sym, ap}
 use Rattle.std.specs.Int.{w16, w32, w64}
 use Rattle.std.proofs.lemmas.Int.{of_z-to_z}
 use mir.Val.{to_z, of_z}
@@ -12,10 +12,10 @@ use Rattle.txs_code_decode.specs.declared.error.CodeErrorKind.TheVariants.{BadOp
 use Rattle.txs_code_decode.specs.declared.tag.Tag.{Tag}
 use Rattle.txs_code_decode.specs.declared.tag.Tag.TheVariants as tag
 use Rattle.txs_code_decode.specs.CellForm.{constant_format}
-use Rattle.txs_code_decode.specs.Format.{Format, byte, some_bytes, number, tested, one_of, only, never, pair, mapped, counted, tagged}
+use Rattle.txs_code_decode.specs.Format.{Format, byte, some_bytes, number, one_of, never, counted}
 use Rattle.txs_code_decode.specs.Names.{names_cell, names_keyword}
-use Rattle.txs_code_decode.specs.ValueForm.{name_over, keyword_format, cell_name_format, text_format, tags, tag_byte, tag_of, tag_test, tag_format, int_of, key_of, text_of, items_of, cell_number, cell_at, value_body, value_over, value_format}
-use Rattle.txs_code_decode.proofs.Exact.{Exact, InOrder, byte_exact, some_exact, wide16, wide32, wide64, number_exact, tested_exact, one_of_exact, only_exact, never_exact, pair_exact, mapped_exact, counted_exact, tagged_exact}
+use Rattle.txs_code_decode.specs.ValueForm.{name_over, keyword_format, cell_name_format, text_format, tags, tag_byte, tag_of, tag_test, tag_format, key_of, text_of, items_of, cell_number, cell_at, value_body, value_over, value_format}
+use Rattle.txs_code_decode.proofs.Exact.{Exact, InOrder, in_order_by, byte_exact, some_exact, wide16, wide32, wide64, number_exact, tested_exact, one_of_exact, only_exact, never_exact, pair_exact, mapped_exact, counted_exact, tagged_exact}
 
 pub n16 : Exact (number w16)
 n16 = number_exact w16 wide16
@@ -55,7 +55,7 @@ number_back : (n : ℕ) → n < 2 ^ 64 → of_z w64 (to_z w64 n) ≡ n
 number_back n lt = of_z-to_z w64 n lt
 
 tags_in_order : InOrder tag_byte 0 tags
-tags_in_order = (refl, (refl, (refl, (refl, (refl, (refl, (refl, (refl, tt))))))))
+tags_in_order = in_order_by tag_byte 0 tags refl
 
 tag_exact : (cells : Bool) (room : ℕ) → Exact (tag_format cells room)
 unfolding tag_format

@@ -1,7 +1,7 @@
 -- The byte form of instructions.
-use Rattle.std.specs.Prelude.{◌≡◌, ℕ, zero, suc, Bool, true, false, nat_le, List, [], ◌∷◌, ◌++◌, length, Option, Some, None}
+use Rattle.std.specs.Prelude.{ℕ, nat_le, List, [], ◌∷◌, ◌++◌}
 use Rattle.std.specs.Int.{w16, w32, to_be_bytes}
-use Rattle.txs_value_base.specs.Operations.{op_number}
+use Rattle.txs_value_base.specs.Operations.{op_number, operations}
 use Rattle.txs_value_base.specs.declared.fault.Span.{Span}
 use Rattle.txs_value_cell.specs.declared.form.LookForm.TheVariants.{Deref, Ensure}
 use Rattle.txs_value_cell.specs.declared.form.PutForm.TheVariants.{RefSet, Reset}
@@ -26,12 +26,6 @@ use Rattle.txs_code_decode.specs.Format.{Format, byte, number, tested, one_of, o
 use Rattle.txs_code_decode.specs.ValueForm.{must, below}
 
 -- ---- operations and callees
-
--- the core operations, each at the place that is its number
-abbrev pub operations : List Op
-operations =
-    ops.Add ∷ ops.Subtract ∷ ops.Multiply ∷ ops.Inc ∷ ops.Dec ∷ ops.Quot ∷ ops.Rem ∷ ops.Mod ∷ ops.Equal ∷ ops.NotEqual ∷ ops.Less ∷ ops.Greater ∷ ops.LessOrEqual ∷ ops.GreaterOrEqual
-    ∷ ops.Max ∷ ops.Min ∷ ops.Not ∷ ops.IsNil ∷ ops.IsZero ∷ ops.IsPositive ∷ ops.IsNegative ∷ ops.Count ∷ ops.Nth ∷ ops.Conj ∷ ops.Assoc ∷ ops.Peek ∷ ops.Pop ∷ []
 
 -- an operation in a byte
 unfoldable pub op_format : Format Op

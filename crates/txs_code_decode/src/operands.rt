@@ -3,11 +3,11 @@
 ghost use Rattle.std.specs.Prelude.{◌≡◌};
 ghost use Rattle.std.specs.Int.{w16};
 ghost use Rattle.txs_value_base.specs.Places.{nth};
-ghost use Rattle.txs_value_base.specs.Operations.{op_number};
+ghost use Rattle.txs_value_base.specs.Operations.{op_number, operations};
 ghost use Rattle.txs_code_decode.specs.declared.error.CodeErrorKind.TheVariants.{BadOperand};
 ghost use Rattle.txs_code_decode.specs.declared.opcode.Opcode.TheVariants as opcode;
 ghost use Rattle.txs_code_decode.specs.Format.{Gives, number, one_of, tested};
-ghost use Rattle.txs_code_decode.specs.InstrForm.{operations, op_format, callee_format, called_instr, callee_and_count, numbered_opcode, operands};
+ghost use Rattle.txs_code_decode.specs.InstrForm.{op_format, callee_format, called_instr, callee_and_count, numbered_opcode, operands};
 ghost use Rattle.txs_code_decode.specs.ValueForm.{below};
 
 use crate::error::{CodeErrorKind, Stop, refused};
@@ -20,7 +20,7 @@ use txs_value_base::{Callee, Op};
 fn op_of(number: u16) -> Option<Op>
     ensures { result ≡ nth operations number }
 {
-    if number < 27 {
+    if number < 256 {
         Op::from_number(number as u8)
     } else {
         None

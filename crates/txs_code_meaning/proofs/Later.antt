@@ -475,11 +475,3 @@ module _ (ys : List Exchange) where
 -- turns that are unfinished are the same with more exchanges to come
 pub more_to_come : (code : ThreadCode) (m : ℕ) (c d : Configuration) (ys : List Exchange) → run code m c ≡ Unfinished d → run code m (given ys c) ≡ Unfinished (given ys d)
 more_to_come code m c d ys e = subst (λ o. More ys o (run code m (given ys c))) e (run_later ys code m c)
-
--- so is an end
-pub ends_the_same : (code : ThreadCode) (m : ℕ) (c : Configuration) (s : ActorState) (ys : List Exchange) → run code m c ≡ Ended s → run code m (given ys c) ≡ Ended (record s { todo = s.todo ++ ys })
-ends_the_same code m c s ys e = subst (λ o. More ys o (run code m (given ys c))) e (run_later ys code m c)
-
--- and a fault
-pub fails_the_same : (code : ThreadCode) (m : ℕ) (c : Configuration) (f : Fault) (s : ActorState) (ys : List Exchange) → run code m c ≡ Failed f s → run code m (given ys c) ≡ Failed f (record s { todo = s.todo ++ ys })
-fails_the_same code m c f s ys e = subst (λ o. More ys o (run code m (given ys c))) e (run_later ys code m c)

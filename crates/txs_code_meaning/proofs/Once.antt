@@ -137,14 +137,6 @@ ask_then_some before (Redo s) go h k = h
 ask_then_some before (Await s) go h k = h
 ask_then_some before Malformed go h k = tt
 
--- what takes one at most takes some at most
-some_once : {A : Type 0} (before : List Exchange) (r : StepResult A) → StepTakesOne before r → StepTakesSome before r
-some_once before (Continue a s) h = h
-some_once before (Break f s) h = none_taken before s.todo h
-some_once before (Redo s) h = h
-some_once before (Await s) h = h
-some_once before Malformed h = tt
-
 -- a test, and then a step
 then_once : {A B : Type 0} (r : Result A FaultKind) (span : Span) (s : ActorState) (go : A → ActorState → StepResult B) → ((a : A) → StepTakesOne s.todo (go a s)) → StepTakesOne s.todo (on_step (step_of r span s) go)
 then_once (Ok a) span s go k = k a

@@ -1,14 +1,14 @@
 -- The code of an optimised program: what it names, follows and sends.
-use Rattle.std.proofs.Common.{◌≡◌, ◌++◌, ℕ, List, [], ◌∷◌, ℤ, sym, ap, subst}
+use Rattle.std.proofs.Common.{◌≡◌, ◌++◌, ℕ, List, [], ◌∷◌, sym, ap, subst}
 use Rattle.std.specs.List.{AllByRecursion}
-use Rattle.txs_value_data.specs.PlainValue.{PlainValue, vector, plain_row}
+use Rattle.txs_value_data.specs.PlainValue.{PlainValue, plain_row}
 use Rattle.txs_value_cell.specs.Cells.{validators_of}
 use Rattle.txs_value_cell.specs.declared.cell.CellDefinition.{CellDefinition}
 use Rattle.txs_value_data.specs.declared.value.Value.{Value}
 use Rattle.txs_tree_meaning.specs.Known.{known}
 use Rattle.txs_tree_meaning.specs.Sound.{Sound}
 use Rattle.txs_tree_meaning.specs.Tree.{Tree, Const, Local, If, Do, Let, Loop, Recur, Core, Call, VectorOf, Println, Dosync, Look, Put, Update, Send, Trees, none, more, PlainFunction, PlainThread, PlainProgram}
-use Rattle.txs_tree_build.specs.Everywhere.{Facts, Everywhere, EverywhereIn, InFunction, InThread, InProgram}
+use Rattle.txs_tree_build.specs.Everywhere.{Facts, Everywhere, EverywhereIn, InFunction, InThread}
 use Rattle.txs_code_meaning.specs.OwnCells.{HoldsDefined, RowHoldsDefined, NamesDefined, NameDefined, NamesOwnCells}
 use Rattle.txs_code_meaning.specs.PlainCode.{PlainCode, library_of}
 use Rattle.txs_theorem_threads.specs.FollowsAgent.{FollowsAgents}
@@ -20,7 +20,7 @@ use Rattle.txs_gen.specs.Generated.{IsCodeOf, constants_of, constants_in, consta
 use Rattle.txs_gen.specs.OwnCells.{ProgramNamesOwnCells}
 use Rattle.txs_gen.specs.Sends.{sound_sends, SoundProgramSendsSound, CodeOfProgramSendsSound}
 use Rattle.txs_gen.proofs.OwnCells.{code_names_own_cells}
-use Rattle.txs_opt.proofs.CoreKeeps.{Rules, core_keeps, vector_keeps}
+use Rattle.txs_value_apply.proofs.CoreKeeps.{AnyItems, AnyNumber, Rules, by_items, core_keeps, vector_keeps}
 use Rattle.txs_opt.proofs.FoldedEverywhere.{KeptByOperations}
 use Rattle.txs_theorem_opt.proofs.Programs.{optimised_sound, optimised_has}
 use Rattle.txs_opt.specs.Optimised.{optimised}
@@ -39,30 +39,8 @@ module _ (cells : List CellDefinition) where
   all_row [] h = tt
   all_row (d ∷ ds) h = (h.0, all_row ds h.1)
 
-  abbrev AnyNumber : ℤ → Type 0
-  AnyNumber z = Unit {0}
-
-  abbrev AnyItems : List PlainValue → Type 0
-  AnyItems ds = Unit {0}
-
   rules : Rules (HoldsDefined cells) AnyNumber AnyItems
-  rules = record {
-    nothing = tt;
-    truths = λ b. tt;
-    number = λ z h. tt;
-    of_int = λ z h. tt;
-    fitting = λ z h. tt;
-    by_rem = λ x y some h. tt;
-    by_mod = λ x n h. tt;
-    by_mod_below = λ x n h. tt;
-    counted = λ ds w. tt;
-    items = λ ds h. (row_all ds h, tt);
-    vectors = λ ds h w. all_row ds h;
-    made = λ ds few low. tt;
-    pushed = λ ds d w few low. tt;
-    put = λ ds n d w le few low. tt;
-    cut = λ ds n w. tt;
-  }
+  rules = by_items (HoldsDefined cells) tt (λ b. tt) (λ z. tt) row_all all_row
 
   -- each constant names defined cells alone
   abbrev names : Facts

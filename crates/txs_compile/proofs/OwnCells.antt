@@ -1,14 +1,11 @@
 -- The program that the forms of a script are names its own cells alone.
-use Rattle.std.proofs.Common.{◌≡◌, ◌||◌, ◌==◌, ◌-◌, ℕ, zero, suc, Bool, true, false, nat_lt, bytes_eq, if◌then◌else◌, List, [], ◌∷◌, ◌++◌, length, Option, Some, None, Ok, Err, refl, sym, subst}
-use Rattle.std.specs.List.{list_any}
+use Rattle.std.proofs.Common.{◌≡◌, ◌||◌, ◌==◌, ◌-◌, ℕ, zero, suc, Bool, true, false, nat_lt, if◌then◌else◌, List, [], ◌∷◌, ◌++◌, length, Option, Some, None, Ok, Err, refl, sym, subst}
 use Rattle.txs_value_data.specs.Limits.{most_definitions, most_depth, most_items, most_levels, most_threads}
-use Rattle.txs_value_base.specs.Operations.{op_name}
 use Rattle.txs_value_data.specs.PlainValue.{PlainValue, nil, truth, int, key, text, vector, cell, PlainValues, end, plain_row}
 use Rattle.txs_value_data.specs.PlainValue as plain
 use Rattle.txs_value_data.specs.View.{plain_of, plains_of}
 use Rattle.txs_value_cell.specs.declared.cell.CellDefinition.{CellDefinition}
 use Rattle.txs_value_base.specs.declared.fault.Span.{Span}
-use Rattle.txs_value_base.specs.declared.op.Op.{Op}
 use Rattle.txs_value_base.specs.declared.op.Callee.{Callee}
 use Rattle.txs_value_data.specs.declared.value.CellKind.{CellKind}
 use Rattle.txs_value_data.specs.declared.value.Value.{Value}
@@ -23,7 +20,8 @@ use Rattle.txs_resolve_scope.specs.declared.names.FormName.{FormName}
 use Rattle.txs_resolve_scope.specs.declared.names.FormName.TheVariants as kind
 use Rattle.txs_resolve_scope.specs.declared.scope.Definition.{Definition}
 use Rattle.txs_resolve_scope.specs.declared.scope.Definition.TheVariants.{Constant, Cell as ACell, Function as AFunction}
-use Rattle.txs_resolve_scope.specs.Scope.{Scope, Entry, Meaning, a_form, dotted, a_local, the_current, defined_as, operation, unknown, or_form, or_local, or_defined, or_unknown, meaning, definition_of, local_number, is_current, with_name, form_name, form_names, operations, is_dot, with_local}
+use Rattle.txs_resolve_scope.specs.Scope.{Scope, Entry, Meaning, a_form, dotted, a_local, the_current, defined_as, operation, unknown, meaning, with_local}
+use Rattle.txs_resolve_scope.proofs.Meanings.{AllDefined, definition_so, meaning_so}
 use Rattle.txs_resolve.specs.declared.definition.CellSort.{CellSort}
 use Rattle.txs_resolve.specs.declared.definition.Validation.{Validation}
 use Rattle.txs_resolve_expand.specs.declared.error.ResolveError.{ResolveError}
@@ -165,19 +163,7 @@ module _ (cells : List CellDefinition) where
   IsNamed (AFunction n l) = Unit {0}
 
   abbrev AreNamed : List Entry → Type 0
-  AreNamed [] = Unit {0}
-  AreNamed (e ∷ es) = IsNamed e.what × AreNamed es
-
-  abbrev NamedIf : Option Definition → Type 0
-  NamedIf None = Unit {0}
-  NamedIf (Some what) = IsNamed what
-
-  definition_named : (name : List ℕ) (es : List Entry) → AreNamed es → NamedIf (definition_of name es)
-  definition_named name [] h = tt
-  definition_named name (e ∷ es) h = here (bytes_eq e.name name) (definition_of name es) (definition_named name es h.1) where
-    here : (b : Bool) (o : Option Definition) → NamedIf o → NamedIf (if b then Some e.what else o)
-    here true o k = h.0
-    here false o k = k
+  AreNamed es = AllDefined IsNamed es
 
   abbrev Meant : Meaning → Type 0
   Meant (a_form f) = Unit {0}
@@ -188,38 +174,8 @@ module _ (cells : List CellDefinition) where
   Meant (operation op) = Unit {0}
   Meant unknown = Unit {0}
 
-  form_meant : (o : Option FormName) (m : Meaning) → Meant m → Meant (or_form o m)
-  form_meant None m h = h
-  form_meant (Some f) m h = tt
-
-  if_meant : (b : Bool) (n m : Meaning) → Meant n → Meant m → Meant (if b then n else m)
-  if_meant true n m h k = h
-  if_meant false n m h k = k
-
-  local_meant : (o : Option ℕ) (m : Meaning) → Meant m → Meant (or_local o m)
-  local_meant None m h = h
-  local_meant (Some i) m h = tt
-
-  defined_meant : (o : Option Definition) (m : Meaning) → NamedIf o → Meant m → Meant (or_defined o m)
-  defined_meant None m k h = h
-  defined_meant (Some what) m k h = k
-
-  unknown_meant : (o : Option Op) → Meant (or_unknown o)
-  unknown_meant None = tt
-  unknown_meant (Some op) = tt
-
   meaning_meant : (name : List ℕ) (scope : Scope) → AreNamed scope.defined → Meant (meaning name scope)
-  unfolding meaning
-  meaning_meant name scope h =
-      let last = or_unknown (with_name op_name name operations) in
-      let defined = or_defined (definition_of name scope.defined) last in
-      let current = if is_current name scope.current then the_current else defined in
-      let local = or_local (local_number name scope) current in
-      form_meant (with_name form_name name form_names) (if list_any is_dot name then dotted else local)
-      (if_meant (list_any is_dot name) dotted local tt
-      (local_meant (local_number name scope) current
-      (if_meant (is_current name scope.current) the_current defined tt
-      (defined_meant (definition_of name scope.defined) last (definition_named name scope.defined h) (unknown_meant (with_name op_name name operations))))))
+  meaning_meant name scope h = meaning_so Meant (λ f. tt) tt (λ op. tt) tt name scope (λ i e. tt) (λ e. tt) (λ d e. definition_so IsNamed name scope.defined h d e)
 
   -- ---- trees
 

@@ -1,7 +1,6 @@
 -- What holds of a transaction's end from its beginning on.
 use Rattle.std.proofs.Common.{◌≡◌, ℕ, zero, suc, ◌+◌, slice_index_or, ◌<◌, ◌≤◌, ◌==◌, Bool, true, false, if◌then◌else◌, List, [], ◌∷◌, ◌++◌, length, map, take, set, get_or, Option, Some, None, Result, Ok, Err, is_some, refl, sym, ap, subst, ◌∙◌, arith}
 use Rattle.std.specs.Prelude.{nat_lt, drop}
-use Rattle.std.specs.List.{slice_get}
 use Rattle.std.proofs.lemmas.Bool.{eq-eqb, eqb-true, ltb-true, ltb-false, false≢true}
 use Rattle.txs_world_protocol.specs.Ask.{Writes, buffered, with_write}
 use Rattle.txs_value_base.specs.declared.op.Callee.{Callee}
@@ -10,7 +9,7 @@ use Rattle.txs_value_data.specs.declared.value.Value.{Value}
 use Rattle.txs_value_data.specs.declared.value.Value.TheVariants.{Nil}
 use Rattle.txs_frame.specs.Frame.{PlainTxFrame, with_cell, with_cells, has_number, outside_of, refs_of, commuted, written, commutes_of, by_ref, phase_work}
 use Rattle.txs_frame.specs.Kept.{Ascends, IsPlaceOf, item_of, with_item, cell_number}
-use Rattle.txs_frame.specs.Phase.{with_validation, validations, tasks_of, blank, filled, callee_of, next_callee, value_or_nil, first_of, to_write, write_number, behind_next, IsViewed, AreViewed, IsPhase}
+use Rattle.txs_frame.specs.Phase.{with_validation, validations, tasks_of, blank, filled, callee_of, next_callee, value_or_nil, first_of, to_write, write_number, behind_next, AreViewed, IsPhase}
 use Rattle.txs_frame.specs.declared.frame.Commute.{Commute}
 use Rattle.txs_frame.specs.declared.phase.Task.{Task}
 use Rattle.txs_frame.specs.declared.phase.Task.TheVariants.{Redoes, Validates}
@@ -220,35 +219,10 @@ gives ws k ks v h =
 
 -- ---- what is left of a list
 
-pub some_left : {X : Type 0} (xs : List X) (i : ℕ) → 0 < length (drop i xs) → i < length xs
-some_left [] zero h = h
-some_left [] (suc i) h = absurd (omega (arith, h))
-some_left (x ∷ xs) zero h = omega arith
-some_left (x ∷ xs) (suc i) h = let g = some_left xs i h in omega (arith, g)
-
 -- the callee of a task, if there is one
 pub callee_in : Option Task → Option Callee
 callee_in None = None
 callee_in (Some x) = Some (callee_of x)
-
-pub next_at : (ks : List Task) (i : ℕ) → callee_in (slice_get ks i) ≡ next_callee (drop i ks)
-unfolding callee_in
-next_at [] zero = refl
-next_at [] (suc i) = refl
-next_at (k ∷ ks) zero = refl
-next_at (k ∷ ks) (suc i) = next_at ks i
-
--- the first task, if there is one
-pub first_task : List Task → Option Task
-first_task [] = None
-first_task (x ∷ xs) = Some x
-
-pub task_at : (ks : List Task) (i : ℕ) → slice_get ks i ≡ first_task (drop i ks)
-unfolding first_task
-task_at [] zero = refl
-task_at [] (suc i) = refl
-task_at (k ∷ ks) zero = refl
-task_at (k ∷ ks) (suc i) = task_at ks i
 
 -- where no callee is next no task is left
 pub none_left : (ks : List Task) → next_callee ks ≡ None → ks ≡ []
@@ -264,11 +238,6 @@ pub next_left : (ks : List Task) (c : Callee) → next_callee ks ≡ Some c → 
 unfolding callee_or
 next_left [] c e = absurd (false≢true (ap (λ (o : Option Callee). is_some o) e))
 next_left (k ∷ ks) c e = (k, ks, refl, ap (callee_or c) e)
-
--- each ref has its place
-pub blank_length : (cs : List CellId) → length (blank cs) ≡ length cs
-blank_length [] = refl
-blank_length (c ∷ cs) = ap suc (blank_length cs)
 
 pub blank_more : (cs : List CellId) (c : CellId) → blank (cs ++ c ∷ []) ≡ blank cs ++ (c, Nil) ∷ []
 blank_more [] c = refl

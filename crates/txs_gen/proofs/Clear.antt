@@ -1,10 +1,10 @@
 -- No step but a validator's answer leaves an answer of a validator.
 use Rattle.std.proofs.Common.{ℕ, Bool, true, false, List, [], ◌∷◌, Option, Some, None, Result, Ok, Err, if◌then◌else◌}
-use Rattle.txs_world_protocol.specs.Ask.{Writes, buffered, Exchange, same_ask}
+use Rattle.txs_world_protocol.specs.Ask.{buffered, Exchange, same_ask}
 use Rattle.txs_world_protocol.specs.declared.ask.Ask.{Ask}
 use Rattle.txs_world_protocol.specs.declared.ask.Ask.TheVariants as ask
 use Rattle.txs_world_protocol.specs.declared.ask.Reply.{Reply}
-use Rattle.txs_frame.specs.Frame.{commuted, set_writes, set_ref, sends_of_commit}
+use Rattle.txs_frame.specs.Frame.{set_ref}
 use Rattle.txs_frame.specs.declared.frame.Commute.{Commute}
 use Rattle.txs_value_cell.specs.Forms.{rule, cell_of}
 use Rattle.txs_value_cell.specs.declared.action.Action.{Action}
@@ -20,7 +20,7 @@ use Rattle.txs_value_cell.specs.declared.form.UpdateForm.TheVariants as update
 use Rattle.txs_value_base.specs.declared.op.Callee.{Callee}
 use Rattle.txs_value_data.specs.declared.value.CellId.{CellId}
 use Rattle.txs_value_data.specs.declared.value.Value.{Value}
-use Rattle.txs_code_meaning.specs.ActorState.{ActorState, Reception, Replied, Unreplied, receives, asks, StepResult, Continue, Break, Redo, Await, Malformed, on_step, step_of, Reading, Says, SaysRetry, SaysNothing, read_as, heard, read_point, just_done, value_there, newest_value, views, Verdict, Landed, Outdated, Undone, Denied, commit_verdict, opened, swap_verdict, send_verdict, sent, begun, begin, buffered_or, look, paired, viewed, view, commit, peek, SwapInHand, open_atom, close_swap, reset_atom, send_now, cell_at, read_cell, read, set_own, assign_cell, assign, RefUpdate, update_form, open_update, close_own, close_update, open_swap, send_action, send_to, print, InHand, held_in, landed, send_or_hold}
+use Rattle.txs_code_meaning.specs.ActorState.{ActorState, Reception, Replied, Unreplied, receives, asks, StepResult, Continue, Break, Redo, Await, Malformed, on_step, step_of, Reading, Says, SaysRetry, SaysNothing, read_as, heard, just_done, value_there, newest_value, Verdict, Landed, Outdated, Undone, Denied, opened, swap_verdict, send_verdict, sent, buffered_or, look, peek, SwapInHand, open_atom, close_swap, reset_atom, send_now, cell_at, read_cell, read, set_own, assign_cell, assign, RefUpdate, update_form, open_update, close_own, close_update, open_swap, send_action, send_to, print, InHand, send_or_hold}
 use Rattle.txs_code_meaning.specs.Machine.{ThreadCode, Activity, Configuration, Unfinished, raise, retried, on}
 use Rattle.txs_theorem_threads.specs.OnReplies.{res}
 use Rattle.txs_gen.proofs.Steps.{Lands, of, Simulates, raised_by, one_to, one_comes}
@@ -75,10 +75,6 @@ step_clear (Err k) span s e = tt
 
 -- ---- transactions
 
-pub begin_clear : (s : ActorState) → Clear s → StepClear (begin s)
-unfolding begin
-begin_clear s e = then_clear (heard read_point (asks ask.Begin s)) begun (ask_clear read_point ask.Begin s e) (λ p t h. h)
-
 own_clear : (s : ActorState) (o : Option Value) (x : StepResult Value) → Clear s → StepClear x → StepClear (buffered_or o s x)
 own_clear s (Some v) x e h = e
 own_clear s None x e h = h
@@ -86,29 +82,6 @@ own_clear s None x e h = h
 look_clear : (c : CellId) (s : ActorState) → Clear s → StepClear (look c s)
 unfolding look
 look_clear c s e = own_clear s (buffered s.done.values c.number) (heard value_there (asks (ask.Look c s.at) s)) e (ask_clear value_there (ask.Look c s.at) s e)
-
-viewed_clear : (q : ℕ) (o : Option Writes) (s : ActorState) → Clear s → StepClear (viewed q o s)
-viewed_clear q None s e = tt
-viewed_clear q (Some ws) s e = e
-
-pub view_clear : (s : ActorState) → Clear s → StepClear (view s)
-unfolding view
-view_clear s e =
-    let q = ask.View (commuted s.done) in
-    let go : ℕ × List Value → ActorState → StepResult Writes = λ x s1. viewed x.0 (paired (commuted s.done) x.1) s1 in
-    then_clear (heard views (asks q s)) go (ask_clear views q s e) (λ x t h. viewed_clear x.0 (paired (commuted s.done) x.1) t h)
-
-landed_clear : (d : Verdict) (s : ActorState) → Clear s → StepClear (landed d s)
-landed_clear Landed s e = e
-landed_clear Outdated s e = e
-landed_clear Undone s e = e
-landed_clear Denied s e = e
-
-pub commit_clear : (ws : Writes) (s : ActorState) → Clear s → StepClear (commit ws s)
-unfolding commit
-commit_clear ws s e =
-    let q = ask.Commit s.at (set_writes s.done) s.done.ensures s.view ws (sends_of_commit (held_in s.acting) s.done.sends) in
-    then_clear (heard commit_verdict (asks q s)) landed (ask_clear commit_verdict q s e) landed_clear
 
 -- ---- outside transactions
 

@@ -19,8 +19,7 @@ use Rattle.txs_tree_meaning.specs.declared.node.Node.{Node}
 use Rattle.txs_code_meaning.specs.declared.instr.Instr.{Instr}
 use Rattle.txs_code_meaning.specs.declared.instr.Instr.TheVariants as instr
 use Rattle.txs_gen.specs.Generated.{copies, spans_of, spans_of_all, spans_of_let, spans_of_do, constants_of, constants_in}
-use Rattle.txs_gen.specs.Gen.{opening}
-use Rattle.txs_gen.specs.Emission.{Emission, above, then_instrs, if_instrs, stores_from, callee_instrs, update_instrs, instrs_of, instrs_of_all, instrs_of_let, instrs_of_do, stored, stored_in, stored_let, top, top_in, top_args, emits, emits_all, emits_let, emits_do, emits_if, emits_bound, emits_loop, emits_dosync, emits_update, emits_recur, with_instr, with_constant, with_room, with_locals, with_pop, with_stores, with_call, with_update, with_set, Place, IsWithin, IsPlaced, IsPlacedDo}
+use Rattle.txs_gen.specs.Emission.{Emission, above, then_instrs, if_instrs, stores_from, callee_instrs, update_instrs, instrs_of, instrs_of_all, instrs_of_let, instrs_of_do, stored, stored_in, stored_let, top, top_in, top_args, emits, emits_all, emits_let, emits_do, emits_if, emits_bound, emits_loop, emits_dosync, emits_update, emits_recur, with_instr, with_constant, with_room, with_locals, with_pop, with_stores, with_update, with_set, Place, IsWithin, IsPlaced, IsPlacedDo}
 use Rattle.txs_gen.specs.declared.emit.Around.{Around}
 
 abbrev pub make : List Instr → List Span → List Value → ℕ → ℕ → Emission
@@ -284,17 +283,6 @@ emits_send cell callee args m at e =
     (append_assoc (e.spans ++ spans_of cell) (spans_of_all args) (m.span ∷ []) ∙ append_assoc e.spans (spans_of cell) (spans_of_all args ++ m.span ∷ []))
     (append_assoc e.constants (constants_of cell) (constants_in args)) l r
 
--- the open, the call and the close of an update, one after the other
-pub update_made : (form : UpdateForm) (callee : Callee) (n : ℕ) (span : Span) (e : Emission) → with_instr (instr.Close form) span (with_call callee (suc n) span (with_instr (instr.Open (opening form callee) n) span e)) ≡ with_update form callee n span e
-update_made form callee n span e =
-    let first = instr.Open (opening form callee) n in
-    let call = callee_instrs callee (suc n) in
-    let close = instr.Close form ∷ [] in
-    same _ _ _ _ _ _ _ _ _ _
-    (append_assoc (e.instrs ++ first ∷ []) call close ∙ append_assoc e.instrs (first ∷ []) (call ++ close))
-    (append_assoc (e.spans ++ span ∷ []) (span ∷ []) (span ∷ []) ∙ append_assoc e.spans (span ∷ []) (span ∷ span ∷ []))
-    refl refl refl
-
 -- the test of a choice, and the jump past its first branch, as yet to nowhere
 abbrev pub if_tested : Tree → Span → Around → Emission → Emission
 if_tested c span at e = with_instr (instr.JumpFalse 0) span (emits c at e)
@@ -374,9 +362,6 @@ emits_do_more t (more u ts) span at e =
 pub emits_do_none : (span : Span) (at : Around) (e : Emission) → emits_do none span at e ≡ e
 unfolding emits_do
 emits_do_none span at e = same _ _ _ _ _ _ _ _ _ _ (append-nil e.instrs) (append-nil e.spans) (append-nil e.constants) (max-zero e.locals) (max-zero e.room)
-
-pub stores_none : (i : ℕ) (span : Span) (e : Emission) → with_stores i 0 span e ≡ e
-stores_none i span e = same _ _ _ _ _ _ _ _ _ _ (append-nil e.instrs) (append-nil e.spans) refl refl refl
 
 -- one store, and then those of the locals before it
 pub stores_more : (i n : ℕ) (span : Span) (e : Emission) → with_stores i (suc n) span e ≡ with_stores i n span (with_instr (instr.Store (i + n)) span e)

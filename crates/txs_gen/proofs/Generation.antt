@@ -1,14 +1,12 @@
 -- The code of a tree is what it should be, and well typed.
-use Rattle.std.proofs.Common.{◌≡◌, ℕ, zero, suc, ◌+◌, ◌-◌, ◌<◌, ◌≤◌, max, eqb, leb, Bool, true, false, ◌||◌, ◌&&◌, List, [], ◌∷◌, ◌++◌, length, Option, Some, None, refl, sym, ap, ◌∙◌, subst, length-append, arith, slice_index_or}
+use Rattle.std.proofs.Common.{◌≡◌, ℕ, zero, suc, ◌+◌, ◌-◌, ◌<◌, ◌≤◌, max, Bool, true, false, ◌||◌, ◌&&◌, List, [], ◌∷◌, ◌++◌, length, Option, Some, None, refl, sym, ap, ◌∙◌, subst, length-append, arith, slice_index_or}
 use Rattle.std.proofs.lemmas.List.{append-nil}
-use Rattle.std.proofs.lemmas.Bool.{eqb-true, leb-true}
 use Rattle.std.proofs.lemmas.Bool.{false≢true}
 use Rattle.txs_value_apply.specs.Core.{takes}
+use Rattle.txs_value_apply.proofs.CoreLemmas.{takes_some}
 use Rattle.txs_value_base.specs.Places.{nth}
 use Rattle.txs_value_base.specs.declared.fault.Span.{Span}
 use Rattle.txs_value_base.specs.declared.op.Callee.TheVariants.{Core as CoreOp, Function}
-use Rattle.txs_value_base.specs.declared.op.Op.{Op}
-use Rattle.txs_value_base.specs.declared.op.Op.TheVariants as op
 use Rattle.txs_value_cell.specs.Forms.{rule}
 use Rattle.txs_value_cell.specs.declared.form.CellForm.TheVariants as form_of
 use Rattle.txs_value_cell.specs.declared.form.Standing.{Standing}
@@ -23,49 +21,12 @@ use Rattle.txs_code_meaning.specs.declared.instr.Instr.{Instr}
 use Rattle.txs_code_meaning.specs.declared.instr.Instr.TheVariants as instr
 use Rattle.txs_code_meaning.specs.Machine.{PlainInstr, Push, Store, Jump, JumpFalse, Pop, CallOf, OpenOf, CloseOf, SendOf, PutOf}
 use Rattle.txs_code_meaning.specs.PlainCode.{plain_instr}
-use Rattle.txs_code_meaning.specs.WellTyped.{Functions, FunctionKind, Owner, a_thread, a_function, IsImpure, MayStandInside, MayStandOutside, KindMayStand, IsPureCallee, MayBeSent, IsNamed, CalleeTakes, NamedTakes, IsFollowed, Depths, depth_at, plain, opened, applied, Stages, stage_at, TakesParameters}
+use Rattle.txs_code_meaning.specs.WellTyped.{Functions, FunctionKind, Owner, a_thread, IsImpure, MayStandInside, MayStandOutside, KindMayStand, MayBeSent, IsNamed, CalleeTakes, NamedTakes, Depths, depth_at, plain, opened, applied, Stages, stage_at, TakesParameters}
 use Rattle.txs_code_meaning.specs.WellTyped as typed
 use Rattle.txs_gen.specs.Gen.{opening, callee_code, gen, gen_all, gen_let, gen_do, stores, if_code, locals_in, locals_in_all, locals_in_let}
 use Rattle.txs_gen.specs.Generated.{copies, spans_of, spans_of_all, spans_of_let, spans_of_do, constants_of, constants_in, numbers_in}
 use Rattle.txs_gen.specs.Emission.{instrs_of, instrs_of_all, instrs_of_let, instrs_of_do, update_instrs, stores_from, stored, stored_in, stored_let, top, top_in, top_args}
 use Rattle.txs_gen.proofs.Segments.{At, at_first, at_rest, State, state, Here, On, on_first, Setting, may_jump, Segment, segment_nil, segment_one, segment_cons, segment_join, segment_is, seen_length, seen_then, states_rest}
-
-one_positive : (n k : ℕ) → eqb n (suc k) ≡ true → 0 < n
-one_positive n k e = omega (arith, eqb-true n (suc k) e)
-
-many_positive : (n k : ℕ) → leb (suc k) n ≡ true → 0 < n
-many_positive n k e = omega (arith, leb-true (suc k) n e)
-
--- every operation takes an argument
-pub takes_positive : (o : Op) (n : ℕ) → takes o n ≡ true → 0 < n
-unfolding takes
-takes_positive op.Add n e = many_positive n 1 e
-takes_positive op.Subtract n e = many_positive n 0 e
-takes_positive op.Multiply n e = many_positive n 1 e
-takes_positive op.Inc n e = one_positive n 0 e
-takes_positive op.Dec n e = one_positive n 0 e
-takes_positive op.Quot n e = one_positive n 1 e
-takes_positive op.Rem n e = one_positive n 1 e
-takes_positive op.Mod n e = one_positive n 1 e
-takes_positive op.Equal n e = one_positive n 1 e
-takes_positive op.NotEqual n e = one_positive n 1 e
-takes_positive op.Less n e = one_positive n 1 e
-takes_positive op.Greater n e = one_positive n 1 e
-takes_positive op.LessOrEqual n e = one_positive n 1 e
-takes_positive op.GreaterOrEqual n e = one_positive n 1 e
-takes_positive op.Max n e = one_positive n 1 e
-takes_positive op.Min n e = one_positive n 1 e
-takes_positive op.Not n e = one_positive n 0 e
-takes_positive op.IsNil n e = one_positive n 0 e
-takes_positive op.IsZero n e = one_positive n 0 e
-takes_positive op.IsPositive n e = one_positive n 0 e
-takes_positive op.IsNegative n e = one_positive n 0 e
-takes_positive op.Count n e = one_positive n 0 e
-takes_positive op.Nth n e = one_positive n 1 e
-takes_positive op.Conj n e = one_positive n 1 e
-takes_positive op.Assoc n e = one_positive n 2 e
-takes_positive op.Peek n e = one_positive n 0 e
-takes_positive op.Pop n e = one_positive n 0 e
 
 -- the locals of a let are stored
 pub let_reaches : (ts : Trees) (d : ℕ) → d + count ts ≤ max d (stored_let ts d)
@@ -312,11 +273,6 @@ module _ (x : Setting) (ks : List Known) (tells : Tells x.functions x.callable k
   abbrev pub NestedAll : ℕ → Zone → Trees → Type 0
   NestedAll u zone ts = Nested x.owner u zone (any_inside ks ts) (any_outside ks ts) (all_pure ks ts)
 
-  -- callees are pure, and take so many
-  callee_pure : (callee : Callee) (n : ℕ) → SoundCallee ks callee n → IsPureCallee x.functions.kinds callee
-  callee_pure (CoreOp op) n q = tt
-  callee_pure (Function f) n q = (kind_of q.function, (tells f q.function q.found).2, q.pure)
-
   callee_takes : (callee : Callee) (c : ℕ) → SoundCallee ks callee (suc c) → CalleeTakes x.callable x.functions.parameters callee (c + 1)
   callee_takes (CoreOp op) c q = let e : suc c ≡ c + 1 = omega arith in subst (λ n. takes op n ≡ true) e q.0
   callee_takes (Function f) c q =
@@ -483,7 +439,7 @@ module _ (x : Setting) (ks : List Known) (tells : Tells x.functions x.callable k
         let n1 = at + length is in
         let one = all_segment args zone u d k h base start at j p.1 a l s g r e (on_first x.depths x.stages (at + 1) (afters_all args u h) (state (h + 1) (plain u) ∷ []) o) in
         let o2 = states_rest x k _ at (h + count args) (plain u) (afters_all args u h) is (spans_of_all args) _ one (state (h + 1) (plain u) ∷ []) o in
-        let some = takes_positive f (count args) p.0.0 in
+        let some = takes_some f (count args) p.0.0 in
         let c : h + 1 ≡ h + count args - count args + 1 = omega arith in
         let two = segment_one x (k + length (constants_in args)) 0 n1 (h + count args) (h + 1) (plain u) (plain u) (instr.Core f (count args)) m.span refl one.leaves one.high
         (omega arith, some, subst (λ n. depth_at x.depths (n1 + 1) ≡ Some n) c o2.0.0) o2.0.1 o2.0 (omega (arith, one.high, some)) (λ w. p.0.0) in

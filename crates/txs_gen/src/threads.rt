@@ -14,8 +14,8 @@ use std::alloc::{AllocError, Global};
 use txs_code_meaning::{Body, Code, Instr, Verified};
 use txs_tree_meaning::{Function, Node, Program, Thread};
 use txs_value_base::Span;
-use txs_value_cell::CellDefinition;
-use txs_value_data::{Value, copy_value};
+use txs_value_cell::copy_cells;
+use txs_value_data::Value;
 
 /// Constants, and bodies that push them, with how many values each has on the stack at most.
 #[derive(Drop)]
@@ -131,28 +131,4 @@ fn body_code(
     emit(&mut made, body, outermost)?;
     made.put(last, span)?;
     Ok(made)
-}
-
-/// The same cells again.
-fn copy_cells(alloc: Global, cells: &[CellDefinition]) -> Result<Vec<CellDefinition>, AllocError>
-    ensures { IfOk result (λ copies. copies.items ≡ cells.now) }
-{
-    let mut copies = Vec::with_capacity(alloc, cells.len())?;
-    for cell in cells {
-        copies.push(copy_cell(cell)?)?;
-    }
-    Ok(copies)
-}
-
-/// The same cell again.
-fn copy_cell(cell: &CellDefinition) -> Result<CellDefinition, AllocError>
-    ensures { IfOk result (λ copy. copy ≡ cell.now) }
-{
-    Ok(CellDefinition {
-        kind: cell.kind,
-        name: cell.name.share()?,
-        opening: copy_value(&cell.opening)?,
-        error_mode: cell.error_mode,
-        validator: cell.validator,
-    })
 }

@@ -154,21 +154,6 @@ idle_on laws code es a q e f may h = record {
   thread = λ below. (let t = h.thread (subst (λ n. n < length code.threads) (idle_number a) below) in absurd (idle_never t.stage q (as_known a t.stage None (Some q) e f t.here).0 may));
 }
 
--- an actor that asks hasn't ended
-pub asker_goes : (code : PlainCode) (a : PlainActor) (q : Ask) → Lives code a → unanswered a ≡ Some q → a.outcome ≡ None
-asker_goes code a q (inl h) f = go a.outcome refl a.pending f h.goes
-  where
-    go : (o : Option Outcome) → a.outcome ≡ o → (p : Option Pending) → asked_for p (is_running a.tx) a.at a.view (applied_in a.tx) a.done ≡ Some q → CanGoOn code h.kinds h.body a o p → a.outcome ≡ None
-    go None e p g x = e
-    go (Some o) e None g x = cc
-    go (Some o) e (Some p) g x = absurd x
-asker_goes code a q (inr h) f = go a.outcome refl a.pending f h.attends
-  where
-    go : (o : Option Outcome) → a.outcome ≡ o → (p : Option Pending) → asked_for p (is_running a.tx) a.at a.view (applied_in a.tx) a.done ≡ Some q → AttendsOn code h.agent a o p → a.outcome ≡ None
-    go None e p x g = e
-    go (Some o) e None x g = cc
-    go (Some o) e (Some p) x g = absurd g
-
 -- an actor of the same limit and number
 abbrev pub IsSameActor : PlainActor → PlainActor → Type 0
 IsSameActor a b = (b.limit ≡ a.limit) × (b.number ≡ a.number)

@@ -23,7 +23,8 @@ use Rattle.txs_theorem_history.proofs.Following.{new_follows, follows_strolls, f
 use Rattle.txs_machine.specs.Running.{IsPlacedAs}
 use Rattle.txs_machine.specs.RunOver.{places_of}
 use Rattle.txs_machine.specs.Scheduled.{steps_by}
-use Rattle.txs_machine.proofs.RunOver.{Unfilled, move_unfilled}
+use Rattle.txs_machine.proofs.Going.{full_never}
+use Rattle.txs_machine.proofs.RunOver.{Unfilled}
 use Rattle.txs_history_actor.specs.Actor.{IsFollowing, IsOn, IsWaiting}
 use Rattle.txs_history_actor.proofs.On.{new_on, turns_on, ended_free}
 
@@ -149,28 +150,6 @@ module _ (code : PlainCode) (k : ℕ) where
       go more turned.Went c l g = then_led x c b r l (more c l.to l.lands.2 (record { number = l.number; counted = l.lands.3; at = l.lands.0; free = l.lands.1 }) g)
       go more (turned.Asks q) c l g = subst (λ s. Led x s b) (sym g.0) (subst (λ y. Led x (turned.Asks q) y) (sym g.1) l)
       go more (turned.Ended o) c l g = subst (λ s. Led x s b) (sym g.0) (subst (λ y. Led x (turned.Ended o) y) (sym g.1) l)
-
--- turns fill no book
-full_never : (code : PlainCode) (n : ℕ) (a b : PlainActor) (r : Turn) → a.outcome ≡ None → TurnsOf code n a r b → b.outcome ≡ Some outcome.JournalFull → ⊥
-full_never code zero a b r e t f = absurd (subst Unfilled (sym (ap (λ (x : PlainActor). x.outcome) t.1 ∙ e) ∙ f) tt)
-full_never code (suc n) a b r e t f = go (λ c o x. full_never code n c b r o x f) t.0 t.1 (subst (λ o. TurnsFrom code a o t.0 t.1) e t.2) t.3
-  where
-    unfilled : (c : PlainActor) (s : Turn) → Moves code a (nat_lt a.steps a.limit) s c → Unfilled c.outcome
-    unfilled c s u = move_unfilled code a c s (nat_lt a.steps a.limit) u
-
-    went : (c : PlainActor) (may : Bool) → Moves code a may turned.Went c → c.outcome ≡ None
-    went c true u = u.1.outcome
-    went c false u = absurd (subst NotWent (sym u.0) tt)
-      where
-        NotWent : Turn → Type 0
-        NotWent turned.Went = ⊥
-        NotWent (turned.Asks q) = ⊥
-        NotWent (turned.Ended o) = Unit {0}
-
-    go : ((c : PlainActor) → c.outcome ≡ None → TurnsOf code n c r b → ⊥) → (s : Turn) (c : PlainActor) → Moves code a (nat_lt a.steps a.limit) s c → GoesOnAfter s (TurnsOf code n c r b) ((r ≡ s) × (b ≡ c)) → ⊥
-    go more turned.Went c u g = more c (went c (nat_lt a.steps a.limit) u) g
-    go more (turned.Asks q) c u g = absurd (subst Unfilled (sym (ap (λ (x : PlainActor). x.outcome) g.1) ∙ f) (unfilled c (turned.Asks q) u))
-    go more (turned.Ended o) c u g = absurd (subst Unfilled (sym (ap (λ (x : PlainActor). x.outcome) g.1) ∙ f) (unfilled c (turned.Ended o) u))
 
 -- ---- an actor and its history
 

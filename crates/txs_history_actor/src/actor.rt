@@ -18,11 +18,12 @@ ghost use Rattle.txs_world_protocol.specs.declared.ask.Ask.{Ask};
 ghost use Rattle.txs_world_protocol.specs.declared.event.Outcome.{Outcome};
 
 use crate::callees::hands_out;
-use crate::step::{Made, Step};
+use crate::step::Step;
 use std::alloc::Global;
 use std::marker::Model;
 use std::mem;
 use txs_code_meaning::Verified;
+use txs_gate::Made;
 use txs_history::{Past, StandsFor};
 use txs_history_store::{LoggedAtom, LoggedStore, Run, Served};
 use txs_machine::Player;

@@ -8,4 +8,5 @@ mod step;
 
 pub use actor::{AfterReply, LoggedActor, Next};
 pub use callees::sent_functions;
-pub use step::{Made, Step};
+pub use step::Step;
+pub use txs_gate::Made;

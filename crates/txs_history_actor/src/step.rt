@@ -15,11 +15,3 @@ pub enum Step {
     /// It met what no run gives, and does no more.
     Broken,
 }
-
-/// An ask that was served, without what was asked: under which lock, how many events the book there had before, and whether it has one more now.
-#[derive(Clone, Copy)]
-pub struct Made {
-    pub lock: u64,
-    pub at: u32,
-    pub added: bool,
-}

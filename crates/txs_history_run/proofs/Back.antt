@@ -17,7 +17,7 @@ use Rattle.txs_history_actor.proofs.Answering.{follows_longer}
 use Rattle.txs_machine.specs.Running.{attendants}
 use Rattle.txs_machine.specs.declared.player.AgentPlayer.{AgentPlayer}
 use Rattle.txs_machine.specs.declared.player.Player.{Player}
-use Rattle.txs_history_run.specs.Back.{ActorsFollow, ActorsSeen, AreBack, ArePlaced, AreWhole, AtomsLeft, AtomsSeen, IsLeftBy, IsPlaced, IsWhole, asked_of, asked_at}
+use Rattle.txs_history_run.specs.Back.{ActorsFollow, ActorsSeen, AreBack, ArePlaced, AreWhole, AtomsLeft, AtomsSeen, IsLeftBy, IsWhole, asked_of, asked_at}
 use Rattle.txs_history_run.specs.Settled.{IsSettled, asks_by}
 use Rattle.txs_history_run.proofs.Counting.{sum_next, sum_below}
 use Rattle.txs_history_run.proofs.Lists.{is_some, or_else, same_at, within_of}
@@ -52,9 +52,6 @@ atoms_later n atoms h g p seen k a less e = prefix_trans a.log.log h g (seen k a
 
 pub actors_next : (actors : List PlainLogged) (i : ℕ) (x : PlainLogged) (h g : History) → IsPrefix h g → nth actors i ≡ Some x → IsPrefix x.past g → ActorsSeen i actors h → ActorsSeen (i + 1) actors g
 actors_next actors i x h g p at here before = one_more (λ k (z : PlainLogged). IsPrefix z.past g) actors i x at here (λ j z less e. prefix_trans z.past h g (before j z less e) p)
-
-pub actors_later : (n : ℕ) (actors : List PlainLogged) (h g : History) → IsPrefix h g → ActorsSeen n actors h → ActorsSeen n actors g
-actors_later n actors h g p seen k x less e = prefix_trans x.past h g (seen k x less e) p
 
 -- ---- what was counted
 
@@ -124,10 +121,6 @@ atoms_over cells h atoms i a sum count at asked before less over w =
     let next = sum_next i (asked_at cells h atoms) in
     let below = sum_below (i + 1) (length atoms) (asked_at cells h atoms) (omega (arith, less)) in
     omega (arith, one, next, before.counted, below, over, w.few)
-
--- an actor that isn't placed
-pub not_placed : (actors : List PlainLogged) (i : ℕ) (x : PlainLogged) → nth actors i ≡ Some x → (IsPlaced i x → ⊥) → ArePlaced actors → ⊥
-not_placed actors i x at not p = not (p.each i x at)
 
 -- the first actors alone made as many asks as none may make
 pub actors_over : (code : PlainCode) (limit : ℕ) (actors : List PlainLogged) (i : ℕ) (x : PlainLogged) (sum count : ℕ) → nth actors i ≡ Some x → count ≡ x.asks → ActorsFollow code limit i actors sum

@@ -1,8 +1,8 @@
 -- How many locks a history has, as it goes on.
-use Rattle.std.proofs.Common.{◌≡◌, ◌<◌, List, subst, ◌∙◌, arith}
+use Rattle.std.proofs.Common.{◌≡◌, ◌<◌, List, ◌∙◌, arith}
 use mathlib.Core.List.{IsPrefix}
 use Rattle.txs_value_cell.specs.declared.cell.CellDefinition.{CellDefinition}
-use Rattle.txs_history.specs.History.{locks_in, IsWithin}
+use Rattle.txs_history.specs.History.{locks_in}
 use Rattle.txs_history.proofs.Beginnings.{locks_prefix}
 use Rattle.txs_theorem_history.specs.History.{History}
 use Rattle.txs_history_store.specs.Logged.{locks_of}
@@ -11,6 +11,3 @@ pub locks_on : (cells : List CellDefinition) (h g : History) → IsPrefix h g �
 locks_on cells h g p locks =
     let some : 0 < locks_in h = omega (arith, locks) in
     locks_prefix 0 h g some p ∙ locks
-
-pub within_on : (cells : List CellDefinition) (h g : History) → IsPrefix h g → locks_in h ≡ locks_of cells → IsWithin (locks_in g) g → IsWithin (locks_of cells) g
-within_on cells h g p locks w = subst (λ n. IsWithin n g) (locks_on cells h g p locks) w

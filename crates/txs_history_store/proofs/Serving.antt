@@ -1,5 +1,5 @@
 -- What the store or an atom answered is what is answered behind the history, and it is then what the history leaves.
-use Rattle.std.proofs.Common.{◌≡◌, ℕ, Bool, true, false, nat_lt, List, [], ◌∷◌, ◌++◌, length, Option, Some, None, refl, sym, ap, subst, ◌∙◌}
+use Rattle.std.proofs.Common.{◌≡◌, ℕ, Bool, true, false, nat_lt, List, [], ◌∷◌, ◌++◌, length, None, refl, sym, ap, subst, ◌∙◌}
 use Rattle.std.proofs.lemmas.Bool.{false≢true}
 use Rattle.std.proofs.lemmas.Bool.Decides.{nat_tests}
 use Rattle.std.proofs.Common.{arith}
@@ -7,7 +7,6 @@ use Rattle.txs_value_cell.specs.declared.cell.CellDefinition.{CellDefinition}
 use Rattle.txs_value_data.specs.declared.value.CellId.{CellId}
 use Rattle.txs_world_protocol.specs.SeenEvent.{home}
 use Rattle.txs_world_protocol.specs.declared.ask.Ask.{Ask}
-use Rattle.txs_world_protocol.specs.declared.ask.Ask.TheVariants as ask
 use Rattle.txs_world_protocol.specs.declared.ask.Reply.{Reply}
 use Rattle.txs_world_protocol.specs.declared.ask.Reply.TheVariants as reply
 use Rattle.txs_code_meaning.specs.PlainCode.{PlainCode}
@@ -18,7 +17,7 @@ use Rattle.txs_world_book.specs.Served as base
 use Rattle.txs_world_book.specs.Served.{cells_of}
 use Rattle.txs_world.specs.Store.{PlainStore, store_with, is_lawful, serve, store_after, taken_after, TakesMemory, Answers}
 use Rattle.txs_history.specs.declared.log.Entry.TheVariants as entry
-use Rattle.txs_history.specs.History.{PlainLog, events_of, locks_in}
+use Rattle.txs_history.specs.History.{PlainLog, events_of}
 use Rattle.txs_theorem_runs.specs.Shared.{store_of, atom_of, has_atom, may_ask, serve_on}
 use Rattle.txs_theorem_history.specs.declared.asked.Asked.{Asked}
 use Rattle.txs_theorem_history.specs.History.{History, asked_by, shared_by}
@@ -26,6 +25,7 @@ use Rattle.txs_theorem_history.proofs.Sharing.{book_same, taken_same, book_next,
 use Rattle.txs_world_shared.specs.Apart.{may_ask_atom}
 use Rattle.txs_world_shared.specs.Kept.{atom_named}
 use Rattle.txs_world_shared.specs.SharedState.{TakesMemoryFor}
+use Rattle.txs_world_shared.proofs.Serving.{atom_takes, store_takes}
 use Rattle.txs_world_shared.proofs.Asking.{AsksAtom, AsksStore, asks_atom, asks_store}
 use Rattle.txs_history_store.specs.declared.serve.Served.{Served}
 use Rattle.txs_history_store.specs.Logged.{IsLoggedStore, IsLoggedAtom, MayNot, is_memory, WasAnswered, WasDone, WasServed, StoreServed, AtomServed, Noted, WasNoted}
@@ -96,53 +96,6 @@ atom_stays s v reply.Idle t is h = absurd (false≢true is)
 atom_stays s v (reply.Opened p x) t is h = absurd (false≢true is)
 atom_stays s v reply.Full t is h = absurd (false≢true is)
 atom_stays s v reply.Memory t is h = h
-
--- what takes memory of an atom's book takes some of the store's, too
-more_takes : (r : Reply) → AtomTakesMemory r → TakesMemory r
-more_takes (reply.At p) h = absurd h
-more_takes (reply.Is v) h = tt
-more_takes (reply.Views p vs) h = absurd h
-more_takes reply.Done h = tt
-more_takes (reply.Retry c) h = absurd h
-more_takes (reply.Changed c) h = absurd h
-more_takes (reply.AgentIsFailed g) h = absurd h
-more_takes (reply.Action n x v) h = absurd h
-more_takes reply.Idle h = absurd h
-more_takes (reply.Opened p v) h = tt
-more_takes reply.Full h = absurd h
-more_takes reply.Memory h = absurd h
-
-atom_takes : (q : Ask) (r : Reply) → AtomTakesMemory r → TakesMemoryFor q r
-atom_takes ask.Begin r h = more_takes r h
-atom_takes (ask.Look c at) r h = more_takes r h
-atom_takes (ask.View cs) r h = more_takes r h
-atom_takes (ask.Commit at sets ensured view commuted sends) r h = more_takes r h
-atom_takes (ask.Fail at view) r h = more_takes r h
-atom_takes (ask.Peek c) r h = more_takes r h
-atom_takes (ask.Send x) r h = more_takes r h
-atom_takes (ask.Take g) r h = more_takes r h
-atom_takes (ask.Finish g new sends) r h = more_takes r h
-atom_takes (ask.OpenAt c) r h = h
-atom_takes (ask.CloseAt c at new) r h = h
-atom_takes (ask.Broke c at) r h = h
-
-abbrev is_none : {A : Type 0} → Option A → Type 0
-is_none None = Unit {0}
-is_none (Some x) = ⊥
-
-store_takes : (q : Ask) (r : Reply) → atom_named q ≡ None → TakesMemory r → TakesMemoryFor q r
-store_takes ask.Begin r e h = h
-store_takes (ask.Look c at) r e h = h
-store_takes (ask.View cs) r e h = h
-store_takes (ask.Commit at sets ensured view commuted sends) r e h = h
-store_takes (ask.Fail at view) r e h = h
-store_takes (ask.Peek c) r e h = h
-store_takes (ask.Send x) r e h = h
-store_takes (ask.Take g) r e h = h
-store_takes (ask.Finish g new sends) r e h = h
-store_takes (ask.OpenAt c) r e h = absurd (subst is_none (sym e) tt)
-store_takes (ask.CloseAt c at new) r e h = absurd (subst is_none (sym e) tt)
-store_takes (ask.Broke c at) r e h = absurd (subst is_none (sym e) tt)
 
 -- an atom keeps its cell
 pub cell_stays : (n : ℕ) (s : PlainAtom) (a : ℕ) (q : Ask) (v : Served) (t : PlainAtom) → AtomServed n s a q v t → t.cell ≡ s.cell
@@ -329,19 +282,6 @@ atom_goes code n s l m b a q past seen v t e works kept h key noted is =
       },
       subst (λ k. WasServed cells threads k a q past seen v) kept.key r.0,
     )
-
--- one that is broken is still the atom of its lock
-pub atom_breaks : (code : PlainCode) (n : ℕ) (s : PlainAtom) (l m : PlainLog Asked) (b : Bool) (a : ℕ) (q : Ask) (v : Served) (t : PlainAtom)
-    → IsLoggedAtom code n s l b → AtomServed n s a q v t → m ≡ l → IsLoggedAtom code n t m true
-atom_breaks code n s l m b a q v t kept h same =
-    let cell = cell_stays n s a q v t h in
-    record {
-      there = subst (λ c. has_atom code.cells c ≡ true) (sym cell) kept.there;
-      actors_are = kept.actors_are;
-      key = ap (λ (x : PlainLog Asked). x.key) same ∙ (kept.key ∙ ap (home code.cells) (sym cell));
-      locks = ap (λ (x : PlainLog Asked). locks_in x.log) same ∙ kept.locks;
-      is = λ w. absurd (false≢true (sym w));
-    }
 
 pub atom_refuses : (code : PlainCode) (n : ℕ) (s : PlainAtom) (l : PlainLog Asked) (b : Bool) (a : ℕ) (q : Ask) → b ≡ false → IsLoggedAtom code n s l b → may_ask_atom n a q s ≡ false
     → MayNot code.cells (length code.threads) (home code.cells s.cell) a q l.log

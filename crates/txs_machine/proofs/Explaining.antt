@@ -14,8 +14,8 @@ use Rattle.txs_tree_meaning.specs.Thread.{ThreadState, thread_meaning}
 use Rattle.txs_tree_meaning.specs.Tree.{PlainThread, PlainProgram, ThreadSource}
 use Rattle.txs_code_meaning.proofs.Acts.{stated, run_more, exec_run}
 use Rattle.txs_code_meaning.specs.ActorState.{ActorState}
-use Rattle.txs_code_meaning.specs.Machine.{ThreadCode, Asking, and_then, turn, run}
-use Rattle.txs_code_meaning.specs.Opening.{opening, target}
+use Rattle.txs_code_meaning.specs.Machine.{Asking, and_then, turn, run}
+use Rattle.txs_code_meaning.specs.Opening.{opening}
 use Rattle.txs_code_meaning.specs.PlainCode.{CodeBody, PlainCode, thread_code, function_codes}
 use Rattle.txs_theorem_threads.specs.Follows.{Follows}
 use Rattle.txs_theorem_threads.specs.FollowsAll.{source_of, FollowsAll}

@@ -545,7 +545,7 @@ stands_placed code k limit b (turned.Asks x) y q h = absurd q
 stands_placed code k limit b (turned.Ended o) y q h = subst (λ o. IsPlacedAs b o y.at y.stopped) (sym h.0) h.1
 
 -- turns fill no book
-full_never : (code : PlainCode) (n : ℕ) (a b : PlainActor) (r : Turn) → a.outcome ≡ None → TurnsOf code n a r b → b.outcome ≡ Some outcome.JournalFull → ⊥
+pub full_never : (code : PlainCode) (n : ℕ) (a b : PlainActor) (r : Turn) → a.outcome ≡ None → TurnsOf code n a r b → b.outcome ≡ Some outcome.JournalFull → ⊥
 full_never code zero a b r e t f = absurd (subst Unfilled (sym (ap (λ (x : PlainActor). x.outcome) t.1 ∙ e) ∙ f) tt)
 full_never code (suc n) a b r e t f = go (λ c o x. full_never code n c b r o x f) t.0 t.1 (subst (λ o. TurnsFrom code a o t.0 t.1) e t.2) t.3
   where

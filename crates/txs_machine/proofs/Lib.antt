@@ -9,7 +9,6 @@ pub mod OwnCells
 pub mod Playing
 pub mod RunOver
 pub mod Going
-pub mod Stopped
 pub mod Together
 pub mod Played
 pub mod Working

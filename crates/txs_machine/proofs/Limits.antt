@@ -153,16 +153,6 @@ abbrev pub rounds_left : Option Outcome → PlainActor → ℕ
 rounds_left None a = suc (a.limit - a.steps)
 rounds_left (Some o) a = 0
 
--- after a round that ended it, or in which it made a step, there are fewer
-pub rounds_less : (limit : ℕ) (a b : PlainActor) (o p : Option Outcome) → o ≡ None → (p ≡ None → a.steps < b.steps) → IsLimited limit a → IsLimited limit b → rounds_left p b < rounds_left o a
-rounds_less limit a b (Some x) p e more h g = absurd (subst has_none e tt)
-  where
-    has_none : Option Outcome → Type 0
-    has_none None = ⊥
-    has_none (Some y) = Unit {0}
-rounds_less limit a b None (Some x) e more h g = omega arith
-rounds_less limit a b None None e more h g = let m = more refl in omega (arith, m, h.limited, g.limited, g.within)
-
 -- ---- after the end
 
 -- an answer that isn't an ask

@@ -1,5 +1,5 @@
 -- The actors of agents before their first turns.
-use Rattle.std.proofs.Common.{◌≡◌, ◌<◌, ◌≤◌, ◌+◌, ℕ, zero, suc, true, false, List, [], ◌∷◌, ◌++◌, length, get_or, take, drop, Some, Result, Ok, Err, IfOk, refl, sym, ap, subst, ◌∙◌, arith}
+use Rattle.std.proofs.Common.{◌≡◌, ◌<◌, ◌≤◌, ◌+◌, ℕ, zero, suc, true, false, List, [], ◌∷◌, ◌++◌, length, get_or, take, drop, Some, refl, sym, ap, subst, ◌∙◌, arith}
 use Rattle.std.proofs.lemmas.Bool.{false≢true}
 use Rattle.txs_value_cell.specs.Forms.{same_kind}
 use Rattle.txs_value_base.specs.Places.{nth}
@@ -20,11 +20,6 @@ use Rattle.txs_machine.specs.declared.player.AgentPlayer.{AgentPlayer}
 use Rattle.txs_machine.proofs.Limits.{new_limited}
 use Rattle.txs_machine.proofs.Playing.{nth_read, taken_read}
 use Rattle.txs_machine.proofs.Together.{agent_at, as_attending}
-
--- what follows of an answer, where there is one
-pub ok_then : {T E : Type 0} (P Q : T → Type 0) (r : Result T E) → ((x : T) → P x → Q x) → IfOk r P → IfOk r Q
-ok_then P Q (Ok x) f h = f x h
-ok_then P Q (Err e) f h = tt
 
 -- the actor of an agent before its first turn
 pub new_attending : (code : PlainCode) (g : CellId) (k limit : ℕ) (x : AgentPlayer) → x.agent ≡ g → IsAgentAt code g k → Lives code x.player.actor → IsNew code k limit x.player.actor → IsAttending code g k limit x

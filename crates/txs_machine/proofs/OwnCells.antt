@@ -13,7 +13,7 @@ use Rattle.txs_value_data.specs.declared.value.Value.{Value}
 use Rattle.txs_value_data.specs.declared.value.Value.TheVariants.{Nil}
 use Rattle.txs_code_meaning.specs.Machine.{PlainInstr, Push, fetch, instr_at}
 use Rattle.txs_code_meaning.specs.OwnCells.{kind_at, HoldsDefined, RowHoldsDefined, NameDefined, OpeningsNameNone, NamesOwnCells}
-use Rattle.txs_code_meaning.specs.PlainCode.{CodeBody, PlainCode, parameters_of, plain_instr, plain_instrs, plain_bodies, thread_code}
+use Rattle.txs_code_meaning.specs.PlainCode.{CodeBody, PlainCode, parameters_of, plain_instr, plain_instrs, plain_bodies}
 use Rattle.txs_code_meaning.specs.declared.instr.Instr.{Instr}
 use Rattle.txs_code_meaning.specs.declared.instr.Instr.TheVariants as instr
 use Rattle.txs_machine_actor.specs.PlainActor.{agent_or_none, own_body, code_of}
@@ -112,13 +112,6 @@ module _ (cells : List CellDefinition) where
 
 pub openings_known : (code : PlainCode) → NamesOwnCells code → OpeningIsKnown code.cells
 openings_known code h k = opens_known code.cells code.cells h.openings k
-
-pub thread_known : (code : PlainCode) (b : CodeBody) → NamesOwnCells code → CodeIsKnown code.cells (thread_code code b)
-thread_known code b h f at v e = subst (FoundKnown code.cells) e (found f)
-  where
-    found : (f : ℕ) → FoundKnown code.cells (fetch (thread_code code b) f at)
-    found zero = nth_known code.cells (parameters_of code.functions) code.constants b.instrs b.spans at h.constants
-    found (suc f) = body_known code.cells (parameters_of code.functions) code.constants code.functions f at h.constants
 
 -- the code of each actor
 pub code_known : (code : PlainCode) (n : ℕ) → NamesOwnCells code → CodeIsKnown code.cells (code_of code n)

@@ -4,14 +4,14 @@ use Rattle.std.proofs.lemmas.List.{take_more}
 use Rattle.std.proofs.lemmas.Bool.Decides.{nat_tests}
 use Rattle.txs_world_protocol.specs.declared.event.Event.{Event}
 use Rattle.txs_world_protocol.specs.declared.event.Outcome.{Outcome}
-use Rattle.txs_value_data.proofs.SameLemmas.{and_both, number-itself}
+use Rattle.txs_value_data.proofs.SameLemmas.{number-itself}
 use Rattle.txs_value_base.specs.Places.{nth}
 use Rattle.txs_code_meaning.specs.PlainCode.{PlainCode}
 use Rattle.txs_machine_actor.specs.PlainActor.{PlainActor}
 use Rattle.txs_theorem_runs.proofs.Growing.{Grown, differ}
 use Rattle.txs_machine.specs.RunOver.{IsLimited}
 use Rattle.txs_machine.specs.Playing.{IsBetween, AreBetween, IsPlayed, ArePlayedAt, AreLater, HaveSteps, AllEnded, IsUnended, IsReported, AreReported}
-use Rattle.txs_machine.specs.Schedule.{player, plays_of, all_named}
+use Rattle.txs_machine.specs.Schedule.{player, plays_of}
 use Rattle.txs_machine.specs.Running.{attendants}
 use Rattle.txs_machine.specs.declared.player.AgentPlayer.{AgentPlayer}
 use Rattle.txs_machine.specs.declared.player.Player.{Player}
@@ -223,13 +223,6 @@ nth_read (y ∷ xs) (suc i) x l e = nth_read xs i x (omega (arith, l)) e
 -- with one more of a list at hand
 pub taken_read : {A : Type 0} (xs : List A) (i : ℕ) (x : A) → i < length xs → x ≡ get_or xs i x → take (i + 1) xs ≡ take i xs ++ x ∷ []
 taken_read xs i x l e = take_more xs i x l ∙ ap (λ z. take i xs ++ z ∷ []) (sym e)
-
--- ---- which plays name actors
-
-pub named_read : (n i : ℕ) (ys : List Play) (d : Play) → i < length ys → all_named n ys ≡ true → player (get_or ys i d) < n
-named_read n i [] d l h = absurd (omega (arith, l))
-named_read n zero (x ∷ ys) d l h = let g = (and_both (nat_lt (player x) n) (all_named n ys) h).0 in grind (arith, nat_tests, g)
-named_read n (suc i) (x ∷ ys) d l h = named_read n i ys d (omega (arith, l)) (and_both (nat_lt (player x) n) (all_named n ys) h).1
 
 -- ---- plays of agents
 

@@ -1,9 +1,8 @@
 -- An actor's run over what is shared, step by step.
-use Rattle.std.proofs.Common.{◌≡◌, ◌==◌, ℕ, zero, suc, List, [], ◌∷◌, ◌++◌, length, map, take, get_or, true, false, Bool, ◌&&◌, nat_lt, ◌≤◌, ◌<◌, Option, Some, None, Result, refl, sym, ap, subst, ◌∙◌, ◌+◌, ◌⊎◌, inl, inr, if◌then◌else◌, arith}
+use Rattle.std.proofs.Common.{◌≡◌, ◌==◌, ℕ, zero, suc, List, [], ◌∷◌, ◌++◌, length, map, take, get_or, true, false, Bool, nat_lt, ◌≤◌, ◌<◌, Option, Some, None, Result, refl, sym, ap, subst, ◌∙◌, ◌+◌, ◌⊎◌, inl, inr, if◌then◌else◌, arith}
 use Rattle.std.proofs.lemmas.Bool.{false≢true}
 use Rattle.std.proofs.lemmas.Bool.Decides.{nat_tests}
 use Rattle.txs_world_protocol.specs.Ask.{Writes, Exchange}
-use Rattle.txs_world_protocol.specs.SeenEvent.{atoms_below}
 use Rattle.txs_world_protocol.specs.declared.ask.Ask.{Ask}
 use Rattle.txs_world_protocol.specs.declared.ask.Ask.TheVariants as ask
 use Rattle.txs_world_protocol.specs.declared.ask.Reply.{Reply}
@@ -12,7 +11,7 @@ use Rattle.txs_world_protocol.specs.declared.event.Event.{Event}
 use Rattle.txs_world_protocol.specs.declared.event.EventKind.{EventKind}
 use Rattle.txs_world_protocol.specs.declared.event.Outcome.{Outcome}
 use Rattle.txs_world_protocol.specs.declared.event.Outcome.TheVariants as outcome
-use Rattle.txs_value_data.proofs.SameLemmas.{and_both, numbers, number-itself}
+use Rattle.txs_value_data.proofs.SameLemmas.{numbers, number-itself}
 use Rattle.txs_value_cell.specs.Cells.{World, validators_of}
 use Rattle.txs_value_base.specs.Places.{nth}
 use Rattle.txs_value_cell.specs.declared.action.Action.{Action}
@@ -35,9 +34,8 @@ use Rattle.txs_machine_actor.specs.declared.outcome.Turn.TheVariants as turned
 use Rattle.txs_machine_actor.proofs.Following.{Unstopped, unstopped_if}
 use Rattle.txs_machine_actor.proofs.Saying.{turn_says}
 use Rattle.txs_world_book.specs.Book as world_book
-use Rattle.txs_world.proofs.Merging.{joined}
 use Rattle.txs_world_book.specs.Atom.{closes, closes_at, swapped_since}
-use Rattle.txs_world_book.specs.Book.{is_outdated, least_written, cells_in, is_failed, first_failed, has_cell}
+use Rattle.txs_world_book.specs.Book.{is_outdated, least_written, cells_in, is_failed, first_failed}
 use Rattle.txs_world_book.specs.Served as entry
 use Rattle.txs_world.specs.Store as world
 use Rattle.txs_world_book.specs.Served.{cells_of, Served}
@@ -46,7 +44,7 @@ use Rattle.txs_value_data.specs.Limits.{most_events}
 use Rattle.txs_theorem_runs.specs.Invariant.{SharedStands}
 use Rattle.txs_theorem_runs.specs.Laws.{with_book, ServedIsTold}
 use Rattle.txs_theorem_runs.specs.Run.{entry}
-use Rattle.txs_theorem_runs.specs.Shared.{Shared, is_atom, has_atom, atom_of, serve_atom, book_for, serve_on, may_ask, may_close}
+use Rattle.txs_theorem_runs.specs.Shared.{Shared, is_atom, atom_of, serve_atom, book_for, serve_on, may_ask}
 use Rattle.txs_theorem_runs.specs.Staged.{StagedCode, TurnIsStaged, IsStaged, StagedFrom, stage_of}
 use Rattle.txs_theorem_runs.specs.Stages.{Stage, Idle, AsksIn, stage_after}
 use Rattle.txs_theorem_runs.specs.Stages as stages
@@ -1009,31 +1007,6 @@ reads_alone s t a q r tr none g = inl (record {
     quiet (reply.Opened p v) x = after x.1
     quiet reply.Full x = after x.1
     quiet reply.Memory x = unmoved t (ap (λ (u : PlainShared). (shared_of u).books (book_for s.cells q)) x.1)
-
--- the book for a lawful ask has no more events than it may have
-pub few_for : (s : PlainShared) (a : ℕ) (q : Ask) → is_lawful s a q ≡ true → SharedStands s.cells s.threads (shared_of s) → length (numbered_book s (book_for s.cells q)) ≤ most_events
-few_for s a ask.Begin h w = w.store.legal.few
-few_for s a (ask.Look c p) h w = w.store.legal.few
-few_for s a (ask.View cs) h w = w.store.legal.few
-few_for s a (ask.Commit p sets ensured q commuted sends) h w = w.store.legal.few
-few_for s a (ask.Fail p q) h w = w.store.legal.few
-few_for s a (ask.Send x) h w = w.store.legal.few
-few_for s a (ask.Take g) h w = w.store.legal.few
-few_for s a (ask.Finish g new sends) h w = w.store.legal.few
-few_for s a (ask.Peek c) h w = go (is_atom c) refl
-  where
-    go : (b : Bool) → is_atom c ≡ b → length (numbered_book s (if b then suc (atoms_below s.cells c.number) else 0)) ≤ most_events
-    go true e =
-        subst (λ t. length (numbered_book s (if t then suc (atoms_below s.cells c.number) else 0)) ≤ most_events) e
-        (w.atoms c (joined (is_atom c) (has_cell (cells_of s.cells) c) e (and_both (nat_lt a (world_book.actors s.threads (cells_of s.cells))) (has_cell (cells_of s.cells) c) h).1)).few
-    go false e = w.store.legal.few
-few_for s a (ask.OpenAt c) h w = (w.atoms c (and_both (nat_lt a (world_book.actors s.threads (cells_of s.cells))) (has_atom s.cells c) h).1).few
-few_for s a (ask.CloseAt c p v) h w =
-    let may = may_close (numbered_book s (book_for s.cells (ask.CloseAt c p v))) a p in
-    (w.atoms c (and_both (has_atom s.cells c) may (and_both (nat_lt a (world_book.actors s.threads (cells_of s.cells))) (has_atom s.cells c && may) h).1).0).few
-few_for s a (ask.Broke c p) h w =
-    let may = world_book.may_name true (numbered_book s (book_for s.cells (ask.Broke c p))) a p in
-    (w.atoms c (and_both (has_atom s.cells c) may (and_both (nat_lt a (world_book.actors s.threads (cells_of s.cells))) (has_atom s.cells c && may) h).1).0).few
 
 -- ---- the end
 

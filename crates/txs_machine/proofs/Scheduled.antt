@@ -50,10 +50,6 @@ then_on code limit P Q R s t u all next last f g h turns playing =
 pub none_on : (code : PlainCode) (limit : ℕ) (P : State → List Play → Type 0) (s : PlainShared) (all : Players) → ((st : State) → P st []) → GoOnBy code limit P s all s all
 none_on code limit P s all h turns playing = ([], h (run_of code turns), subst (ArePlayingBy code limit s all) (sym (append-nil turns)) playing)
 
--- what holds of the same turns
-pub as_on : (code : PlainCode) (limit : ℕ) (P Q : State → List Play → Type 0) (s t : PlainShared) (all next : Players) → ((st : State) (us : List Play) → P st us → Q st us) → GoOnBy code limit P s all t next → GoOnBy code limit Q s all t next
-as_on code limit P Q s t all next f g turns playing = let a = g turns playing in (a.0, f (run_of code turns) a.0 a.1, a.2)
-
 -- plays behind others
 pub plays_append : (code : PlainCode) (limit : ℕ) (xs ys : List AnyPlay) (st : State) (us vs : List Play) → ArePlays code limit xs st us → ArePlays code limit ys (after_turns code us st) vs → ArePlays code limit (xs ++ ys) st (us ++ vs)
 plays_append code limit [] ys st us vs e h = subst (λ l. ArePlays code limit ys st (l ++ vs)) (sym e) (subst (λ l. ArePlays code limit ys (after_turns code l st) vs) e h)

@@ -38,18 +38,17 @@ use Rattle.txs_machine.specs.Agents.{agents_of, AgentHasDone, AgentsAreDone, Are
 use Rattle.txs_machine.specs.Playing.{IsReported, AreReported}
 use Rattle.txs_machine.specs.RunOver.{books_of, places_of}
 use Rattle.txs_machine.specs.RunTheorem.{NeverEnds, ExplainsAgent}
-use Rattle.txs_machine.specs.Running.{IsPlacedAs, IsPlayerOf, IsRunBy, ComesTo, GoesAs, IsAgentAt, IsAttending, AreAttending, AreIdle, HasWork, ArePlayingBy, attendants}
+use Rattle.txs_machine.specs.Running.{IsPlacedAs, IsPlayerOf, IsRunBy, ComesTo, GoesAs, IsAgentAt, IsAttending, AreAttending, AreIdle, HasWork, attendants}
 use Rattle.txs_machine.specs.Scheduled.{run_of, after_turns, AreTurnsOf}
 use Rattle.txs_machine.specs.Schedule.{IsExplainedBy}
 use Rattle.txs_machine.specs.declared.player.AgentPlayer.{AgentPlayer}
 use Rattle.txs_world_protocol.specs.declared.event.Place.{Place}
 use Rattle.txs_machine.specs.declared.player.Player.{Player}
-use Rattle.txs_machine.specs.declared.player.Players.{Players}
 use Rattle.txs_world_protocol.specs.declared.report.ActorReport.{ActorReport}
 use Rattle.txs_machine.proofs.Explaining.{reported_at, as_many, length_map}
 use Rattle.txs_machine.proofs.Going.{turns_append, others_left, turns_of}
 use Rattle.txs_machine.proofs.RunOver.{longer}
-use Rattle.txs_machine.proofs.Stopped.{ends_full}
+use Rattle.txs_theorem_runs.proofs.FullStops.{ends_full}
 use Rattle.txs_value_cell.specs.Cells.{validators_of}
 
 abbrev is_some : {A : Type 0} → Option A → Type 0

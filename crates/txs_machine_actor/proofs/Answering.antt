@@ -1,5 +1,5 @@
 -- An actor can take the answers that it may have, and can go on after them.
-use Rattle.std.proofs.Common.{◌≡◌, ℕ, zero, suc, ◌+◌, ◌-◌, ◌<◌, ◌≤◌, Bool, true, false, List, [], ◌∷◌, length, Option, Some, None, refl, sym, ap, ◌∙◌, subst, arith, ◌⊎◌, inl, inr}
+use Rattle.std.proofs.Common.{◌≡◌, ℕ, zero, suc, ◌+◌, ◌-◌, ◌<◌, ◌≤◌, Bool, true, false, List, [], length, Option, Some, None, refl, sym, ap, ◌∙◌, subst, arith, ◌⊎◌, inl, inr}
 use Rattle.txs_world_protocol.specs.Ask.{Writes}
 use Rattle.txs_world_protocol.specs.declared.ask.Reply.{Reply}
 use Rattle.txs_world_protocol.specs.declared.ask.Reply.TheVariants.{At, Is, Done, Opened, Full, Memory}
@@ -15,7 +15,7 @@ use Rattle.txs_value_base.specs.declared.fault.FaultKind.TheVariants.{RetryLimit
 use Rattle.txs_value_cell.specs.declared.form.LookForm.TheVariants.{Deref, Ensure}
 use Rattle.txs_value_cell.specs.declared.form.PutForm.TheVariants.{Reset}
 use Rattle.txs_value_cell.specs.declared.form.UpdateForm.TheVariants as update
-use Rattle.txs_machine_calls.specs.Travels.{body_at}
+use Rattle.txs_machine_stack.specs.Travels.{body_at}
 use Rattle.txs_code_meaning.specs.Machine.{Frame}
 use Rattle.txs_code_meaning.specs.PlainCode.{PlainCode, CodeBody}
 use Rattle.txs_code_meaning.specs.WellTyped.{FunctionKind, form_of}

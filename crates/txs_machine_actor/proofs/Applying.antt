@@ -1,8 +1,8 @@
 -- Commutes that can be applied, and where they are.
-use Rattle.std.proofs.Common.{◌≡◌, ℕ, zero, suc, ◌+◌, ◌==◌, ◌<◌, ◌≤◌, ◌||◌, Bool, true, false, is_some, if◌then◌else◌, List, [], ◌∷◌, ◌++◌, map, length, Option, Some, None, Ok, Err, refl, sym, ap, ◌∙◌, subst, arith}
+use Rattle.std.proofs.Common.{◌≡◌, ℕ, zero, suc, ◌+◌, ◌==◌, ◌<◌, ◌≤◌, ◌||◌, Bool, true, false, is_some, if◌then◌else◌, List, [], ◌∷◌, ◌++◌, map, length, Option, Some, None, refl, sym, ap, ◌∙◌, subst, arith}
 use Rattle.txs_world_protocol.specs.Ask.{Writes}
 use Rattle.txs_frame.specs.Frame.{PlainTxFrame, commuted, commutes_of, by_ref, phase_work, written}
-use Rattle.txs_frame.specs.Phase.{behind_next, blank, given, next_arguments, next_callee, tasks_of, validations, with_validation}
+use Rattle.txs_frame.specs.Phase.{blank, next_callee, tasks_of, validations, with_validation}
 use Rattle.txs_frame.specs.declared.frame.Commute.{Commute}
 use Rattle.txs_frame.specs.declared.phase.Task.{Task}
 use Rattle.txs_frame.specs.declared.phase.Task.TheVariants.{Redoes, Validates}
@@ -10,26 +10,21 @@ use Rattle.txs_value_cell.specs.Cells.{Validators, validators_of, validator_at}
 use Rattle.txs_value_cell.specs.declared.cell.CellDefinition.{CellDefinition}
 use Rattle.txs_value_base.specs.declared.fault.Span.{Span}
 use Rattle.txs_code_meaning.specs.Validating.{has_validator, is_validated}
-use Rattle.txs_value_apply.specs.Core.{core, takes}
-use Rattle.txs_value_base.specs.Places.{nth, fault_at}
-use Rattle.txs_value_base.specs.declared.fault.FaultKind.{FaultKind}
+use Rattle.txs_value_apply.specs.Core.{takes}
+use Rattle.txs_value_base.specs.Places.{nth}
 use Rattle.txs_value_base.specs.declared.op.Callee.{Callee}
 use Rattle.txs_value_base.specs.declared.op.Callee.TheVariants as callee
-use Rattle.txs_value_base.specs.declared.op.Op.{Op}
 use Rattle.txs_value_data.specs.declared.value.CellId.{CellId}
-use Rattle.txs_value_data.specs.declared.value.Value.{Value}
 use Rattle.txs_code_meaning.specs.Machine.{Frame}
 use Rattle.txs_code_meaning.specs.PlainCode.{PlainCode, CodeBody}
 use Rattle.txs_code_meaning.specs.WellTyped.{Functions, FunctionKind, CalleeTakes, IsPureCallee, IsImpure, WellTypedValidators}
 use Rattle.txs_code_meaning.specs.declared.instr.Instr.{Instr}
 use Rattle.txs_code_meaning.specs.declared.instr.Instr.TheVariants.{TxBegin, TxEnd}
-use Rattle.txs_machine_transaction.specs.Effect.{stays, waits, falls, applying, applies_as, applies, goes_through, IsOperation, Operates, LeftApply}
-use Rattle.txs_machine_actor.specs.PlainActor.{owner_of, functions_of, added, Callers, IsFirst, IsPureBody, first_in, BeganBy, swaps_in, NoneAside, InSwap, CanApply, AllApply, CanDo, AllCanDo, AppliesWell}
+use Rattle.txs_machine_transaction.specs.Effect.{IsOperation, Operates, LeftApply}
+use Rattle.txs_machine_actor.specs.PlainActor.{owner_of, functions_of, added, Callers, IsFirst, IsPureBody, first_in, BeganBy, swaps_in, NoneAside, InSwap, CanApply, AllApply, AllCanDo, AppliesWell}
 use Rattle.txs_machine_transaction.specs.Transaction.{depth_in, IsSwapping, IsUnapplied}
 use Rattle.txs_machine_actor.specs.Turns.{function_of, next_function, task_check, end_check}
 use Rattle.txs_machine_stack.specs.PlainFrame.{PlainFrame}
-use Rattle.txs_machine_transaction.specs.declared.state.Savepoint.{Savepoint}
-use Rattle.txs_machine_transaction.specs.declared.state.Pending.TheVariants as pending
 use Rattle.txs_machine_transaction.specs.declared.state.Transaction.{Transaction}
 use Rattle.txs_machine_transaction.specs.declared.state.Transaction.TheVariants.{Outside, Restarting, Running, Applying, Evaluating, Swapping, Judging, Weighing}
 
@@ -93,11 +88,6 @@ module _ (fs : Functions) (validated : Bool) where
   -- all tasks of a transaction's end can be done
   pub tasks_do : (vs : Validators) → AllLook vs → (w : PlainTxFrame) → AllApply fs w.commutes → AllCanDo fs validated (tasks_of vs w)
   tasks_do vs look w all = tasks_append (map Redoes (phase_work w)) (validations vs (written w)) (all_redone (phase_work w) (all_by_ref fs (commuted w) w.commutes all)) (validations_do vs look (written w))
-
-  -- and so can those behind the next one
-  pub behind_do : (xs : List Task) → AllCanDo fs validated xs → AllCanDo fs validated (behind_next xs)
-  behind_do [] all = all
-  behind_do (x ∷ xs) all = all.1
 
   -- where the next task is no validator's and of no function, it is a commute of an operation
   pub all_operate : (xs : List Task) (ws : Writes) (w : PlainTxFrame) (span : Span) → AllCanDo fs validated xs → (validated ≡ true → task_check xs ws w span ≡ None) → function_of (next_callee xs) ≡ None → Operates xs

@@ -10,7 +10,7 @@ use Rattle.txs_world_protocol.specs.declared.ask.Reply.TheVariants as reply
 use Rattle.txs_world_protocol.specs.declared.event.Outcome.{Outcome}
 use Rattle.txs_world_protocol.specs.declared.event.Outcome.TheVariants as outcome
 use Rattle.txs_frame.specs.Frame.{PlainTxFrame, empty_frame}
-use Rattle.txs_machine_calls.specs.Travels.{Needs}
+use Rattle.txs_machine_stack.specs.Travels.{Needs}
 use Rattle.txs_code_meaning.specs.Opening.{given, opening}
 use Rattle.txs_frame.specs.declared.frame.Commute.{Commute}
 use Rattle.txs_value_apply.specs.Core.{Answer, core}
@@ -35,7 +35,7 @@ use Rattle.txs_machine_loop.specs.Ready.{Ready}
 use Rattle.txs_machine_loop.specs.Values.{stack_in}
 use Rattle.txs_machine_loop.proofs.Lists.{length_nils}
 use Rattle.txs_machine_actor.specs.Paces.{MayStep, IsOver}
-use Rattle.txs_machine_actor.specs.PlainActor.{PlainActor, state_of, configuration_of, code_of, IsActorOf, ServesWell, in_hand, asked_for, unanswered, MayAnswerIf, stops_as, stands_at, answered, answered_if, answered_for, attends_anew, kind_or_pure, owner_of, functions_of, setting_of, CalledIn, IsPureBody, CanApply, AllApply, OpenApplies, ActsFor, AsksWell, GoesOn, CanGoOn, Runs, attending_at, MayRun, CanSend, has_failed, HandsOut, MayBreak, BreaksAt, AttendsAt, waits, has_taken, has_value, AttendsFor, AttendsOn, Attends, Lives, Awaits}
+use Rattle.txs_machine_actor.specs.PlainActor.{PlainActor, state_of, configuration_of, code_of, IsActorOf, ServesWell, in_hand, asked_for, unanswered, MayAnswerIf, stops_as, stands_at, answered, answered_if, answered_for, attends_anew, kind_or_pure, owner_of, functions_of, setting_of, CalledIn, CanApply, AllApply, OpenApplies, ActsFor, AsksWell, GoesOn, CanGoOn, Runs, attending_at, MayRun, CanSend, has_failed, HandsOut, MayBreak, BreaksAt, AttendsAt, waits, has_taken, has_value, AttendsFor, AttendsOn, Attends, Lives, Awaits}
 use Rattle.txs_machine_transaction.specs.Asks.{ask_for, applied_in}
 use Rattle.txs_machine_transaction.specs.Transaction.{is_running}
 use Rattle.txs_machine_actor.specs.Turns.{IsNew, OneStep, Answers, Moves, TurnsFrom, Turns, AsksFor, TakesAnswer, IsAttending, OperatedAs, Operates, begins_acting, BeginsActing, CanApplyFor, AppliesFor, CanAttend, AttendsSo, CanCheck, CanJudge, check_of, verdict, AnsweredFor, begins_judging, BeginsJudging, JudgesFor, HandedBy, Hands, CanHandIn, HandsInBy, HasJudged}

@@ -1,7 +1,7 @@
 -- What the machine does where a validator has to look at a value that is written, by what the validator answered.
 use Rattle.std.proofs.Common.{◌≡◌, ℕ, zero, suc, ◌+◌, ◌<◌, Bool, true, false, List, [], ◌∷◌, ◌++◌, length, map, Option, Some, None, Result, Ok, Err, refl, sym, ap, ◌∙◌, subst}
 use Rattle.txs_world_protocol.specs.Ask.{Exchange, Writes}
-use Rattle.txs_frame.specs.Frame.{PlainTxFrame, commuted, phase_work, by_ref, written}
+use Rattle.txs_frame.specs.Frame.{PlainTxFrame, commuted, by_ref, written}
 use Rattle.txs_frame.specs.Phase.{tasks_of, validations, with_validation}
 use Rattle.txs_frame.specs.declared.frame.Commute.{Commute}
 use Rattle.txs_frame.specs.declared.phase.Task.{Task}
@@ -19,21 +19,17 @@ use Rattle.txs_value_cell.specs.declared.form.UpdateForm.TheVariants as update
 use Rattle.txs_value_data.specs.declared.value.CellId.{CellId}
 use Rattle.txs_value_data.specs.declared.value.Value.{Value}
 use Rattle.txs_code_meaning.specs.ActorState.{ActorState, assign_cell, close_swap, step_of}
-use Rattle.txs_code_meaning.specs.Machine.{ThreadCode, Frame, Configuration, Turned, act, raise, on, is_inside, swap_decided, where_accepted}
+use Rattle.txs_code_meaning.specs.Machine.{ThreadCode, Frame, Configuration, Turned, act, raise, on, is_inside, swap_decided}
 use Rattle.txs_code_meaning.specs.Machine as machine
-use Rattle.txs_code_meaning.specs.PlainCode.{plain_instr}
-use Rattle.txs_code_meaning.specs.declared.instr.Instr.{Instr}
-use Rattle.txs_code_meaning.specs.declared.instr.Instr.TheVariants as instr
 use Rattle.txs_machine_stack.specs.PlainFrame.{PlainFrame}
 use Rattle.txs_machine_loop.specs.Values.{last_of, below, under, stack_in}
 use Rattle.txs_machine_transaction.specs.Effect.{applying}
-use Rattle.txs_machine_transaction.specs.Transaction.{IsSwapping}
 use Rattle.txs_machine_transaction.specs.declared.state.Pending.{Pending}
 use Rattle.txs_machine_transaction.specs.declared.state.Savepoint.{Savepoint}
 use Rattle.txs_machine_transaction.specs.declared.state.Transaction.{Transaction}
 use Rattle.txs_machine_transaction.specs.declared.state.Transaction.TheVariants.{Outside, Restarting, Running, Applying, Evaluating, Swapping, Judging, Weighing}
 use Rattle.txs_machine_actor.specs.PlainActor.{PlainActor, savepoint_of, activity_of, home_of}
-use Rattle.txs_machine_actor.specs.Turns.{Check, check_of, reset_check, swap_check, write_check, task_check, end_check, at_tasks, begun_with, heeded, done_by}
+use Rattle.txs_machine_actor.specs.Turns.{Check, check_of, reset_check, swap_check, task_check, end_check, at_tasks, begun_with, heeded, done_by}
 use Rattle.txs_machine_actor.specs.declared.role.Role.{Role}
 use Rattle.txs_machine_actor.proofs.Effects.{it, here, before, two_tops, IsUnjudged, IsUnweighed}
 

@@ -1,18 +1,16 @@
 -- Transactions that are tried again, or were tried for the last time.
-use Rattle.std.proofs.Common.{◌≡◌, ◌≤◌, ◌-◌, ℕ, zero, suc, Option, None, refl, sym, ap, subst, ◌∙◌, arith}
-use Rattle.txs_frame.specs.Phase.{PlainPhase}
+use Rattle.std.proofs.Common.{◌≡◌, ℕ, suc, Option, sym, ap, ◌∙◌}
 use Rattle.txs_value_base.specs.Places.{fault_at}
 use Rattle.txs_value_base.specs.declared.fault.Fault.{Fault}
 use Rattle.txs_value_base.specs.declared.fault.FaultKind.TheVariants.{RetryLimit}
 use Rattle.txs_value_base.specs.declared.fault.Span.{Span}
-use Rattle.txs_value_data.specs.declared.value.CellId.{CellId}
 use Rattle.txs_machine_transaction.specs.Transaction.{IsSwapping}
 use Rattle.txs_machine_transaction.specs.declared.state.Pending.{Pending}
 use Rattle.txs_machine_transaction.specs.declared.state.Savepoint.{Savepoint}
 use Rattle.txs_machine_transaction.specs.declared.state.Transaction.{Transaction}
 use Rattle.txs_machine_transaction.specs.declared.state.Transaction.TheVariants.{Outside, Restarting, Running, Applying, Evaluating, Swapping, Judging, Weighing}
 use Rattle.txs_machine_actor.specs.PlainActor.{PlainActor, fails_as, begins_again, ends_again, run_again, end_again}
-use Rattle.txs_machine_actor.specs.Turns.{IsLastTry, HasTries, IsNextTry, IsNoTry}
+use Rattle.txs_machine_actor.specs.Turns.{IsLastTry, IsNextTry, IsNoTry}
 
 -- the last try faults
 pub last_fails : (a b : PlainActor) (x : Transaction) (span : Span) → IsLastTry x span → b ≡ fails_as a (fault_at RetryLimit span) a.role → IsNoTry a x b

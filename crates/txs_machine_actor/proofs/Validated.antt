@@ -1,7 +1,6 @@
 -- Instructions that may write values at which validators have to look, and transactions' ends: what turns at them come to.
 use Rattle.std.proofs.Common.{◌≡◌, ℕ, zero, suc, ◌+◌, ◌<◌, ◌^◌, Bool, true, false, List, [], ◌∷◌, length, Option, Some, None, Result, Ok, Err, refl, sym, ap, ◌∙◌, subst, inl, inr}
 use Rattle.txs_world_protocol.specs.Ask.{Exchange, Writes}
-use Rattle.txs_world_protocol.specs.declared.event.Outcome.TheVariants as outcome
 use Rattle.txs_frame.specs.Frame.{PlainTxFrame, commuted}
 use Rattle.txs_frame.specs.Phase.{tasks_of, validates_next}
 use Rattle.txs_frame.specs.declared.frame.Commute.{Commute}
@@ -19,7 +18,7 @@ use Rattle.txs_value_cell.specs.declared.form.PutForm.TheVariants.{Reset}
 use Rattle.txs_value_cell.specs.declared.form.UpdateForm.TheVariants as update
 use Rattle.txs_value_data.specs.declared.value.CellId.{CellId}
 use Rattle.txs_value_data.specs.declared.value.Value.{Value}
-use Rattle.txs_machine_calls.specs.Travels.{body_at}
+use Rattle.txs_machine_stack.specs.Travels.{body_at}
 use Rattle.txs_code_meaning.specs.Machine.{ThreadCode, Frame, Configuration, Turned, act, turn, raise}
 use Rattle.txs_code_meaning.specs.Machine as machine
 use Rattle.txs_code_meaning.specs.PlainCode.{PlainCode, CodeBody, plain_instr, parameters_of}
@@ -36,11 +35,11 @@ use Rattle.txs_machine_transaction.specs.Transaction.{IsSwapping}
 use Rattle.txs_code_meaning.specs.Validating.{has_validator}
 use Rattle.txs_machine_transaction.specs.declared.state.Transaction.{Transaction}
 use Rattle.txs_machine_transaction.specs.declared.state.Transaction.TheVariants.{Outside, Restarting, Running, Applying, Evaluating, Swapping, Judging, Weighing}
-use Rattle.txs_machine_actor.specs.PlainActor.{PlainActor, home_of, acting_of, frames_in, activity_of, code_of, owner_of, functions_of, setting_of, IsFirst, CanApply, AllCanDo, GoesOn, Runs}
+use Rattle.txs_machine_actor.specs.PlainActor.{PlainActor, home_of, acting_of, frames_in, activity_of, code_of, owner_of, functions_of, setting_of, CanApply, AllCanDo, GoesOn, Runs}
 use Rattle.txs_machine_actor.specs.Turns.{Turns, Check, check_of, reset_check, swap_check, task_check, end_check, write_check, CanCheck, Transacts, ByVerdict, WhereValid, CanEnd, EndsAs, CanTask, TasksAs, Validated, CanEndBy, EndsBy, next_function, begun_with, at_tasks, done_by, heeded, at_next_task}
 use Rattle.txs_machine_actor.specs.declared.outcome.Turn.{Turn}
 use Rattle.txs_machine_actor.specs.declared.role.Role.{Role}
-use Rattle.txs_machine_actor.proofs.Applying.{typed_look, tasks_do, pure_impure}
+use Rattle.txs_machine_actor.proofs.Applying.{typed_look, tasks_do}
 use Rattle.txs_machine_actor.proofs.Effects.{it, IsUnjudged, IsUnweighed, IsSettled}
 use Rattle.txs_machine_actor.proofs.Judging.{Looks, EndLooks, reset_free, swap_free, reset_looks, swap_looks, begins_tasks, heeds, end_looks}
 use Rattle.txs_machine_actor.proofs.Landing.{put_stands, close_stands}

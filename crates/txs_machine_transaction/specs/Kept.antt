@@ -1,7 +1,6 @@
 -- What an actor keeps of its transaction and of its unanswered ask, in part in places that are overwritten, put together again.
 use Rattle.std.specs.Prelude.{◌≡◌, ℕ, suc, ◌+◌, Option, Some, None}
 use Rattle.txs_value_data.specs.Limits.{reruns}
-use Rattle.txs_value_data.specs.declared.value.CellId.{CellId}
 use Rattle.txs_machine_transaction.specs.declared.kept.Ending.{Ending}
 use Rattle.txs_machine_transaction.specs.declared.kept.Ending.TheVariants as ending
 use Rattle.txs_machine_transaction.specs.declared.kept.Standing.{Standing}
@@ -11,7 +10,7 @@ use Rattle.txs_machine_transaction.specs.declared.state.Savepoint.{Savepoint}
 use Rattle.txs_machine_transaction.specs.declared.state.Pending.{Pending}
 use Rattle.txs_machine_transaction.specs.declared.state.Pending.TheVariants as pending
 use Rattle.txs_machine_transaction.specs.declared.state.Transaction.{Transaction}
-use Rattle.txs_machine_transaction.specs.declared.state.Transaction.TheVariants.{Outside, Restarting, Running, Applying, Evaluating, Swapping}
+use Rattle.txs_machine_transaction.specs.declared.state.Transaction.TheVariants.{Outside, Restarting, Running, Swapping}
 
 -- the transaction: one that runs, from where it began, or another, which is kept whole
 abbrev pub transaction_of : Option Standing → Savepoint → Transaction → Transaction

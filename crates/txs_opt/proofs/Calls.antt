@@ -51,20 +51,9 @@ module _ (d : ℕ) (fun : PlainFunction) (args : Trees) (m : Mark) (budget : ℕ
   abbrev few : Bool
   few = nat_le (reach d (let_of_call d fun.body args m)) most_locals
 
-  pub not_small : most_inlined < nodes fun.body → may_inline d fun args m budget ≡ false
-  not_small h = ap (λ x. x && (not (recurs fun.body) && (arity && (fits && few)))) (le_false (nodes fun.body) most_inlined h)
-
-  pub not_straight : recurs fun.body ≡ true → may_inline d fun args m budget ≡ false
-  not_straight h = ap (λ x. small && (not x && (arity && (fits && few)))) h ∙ and_false small
-
   pub not_arity : (fun.parameters ≡ count args → ⊥) → may_inline d fun args m budget ≡ false
   not_arity h =
       ap (λ x. small && (not (recurs fun.body) && (x && (fits && few)))) (eq_false fun.parameters (count args) h) ∙ ap (λ x. small && x) (and_false (not (recurs fun.body))) ∙ and_false small
-
-  pub not_fits : budget < nodes fun.body → may_inline d fun args m budget ≡ false
-  not_fits h =
-      ap (λ x. small && (not (recurs fun.body) && (arity && (x && few)))) (le_false (nodes fun.body) budget h) ∙ ap (λ x. small && (not (recurs fun.body) && x)) (and_false arity)
-      ∙ ap (λ x. small && x) (and_false (not (recurs fun.body))) ∙ and_false small
 
   pub not_few : few ≡ false → may_inline d fun args m budget ≡ false
   not_few h =

@@ -100,9 +100,6 @@ functions_step fs done seen later b after i f made whole one lt at so_far put sa
     ap (λ l. functions_inlined (functions_of l) after behind_it) put ∙ ap (λ l. functions_inlined l after behind_it) (functions_behind done made) ∙ ap (λ (y : PlainFunction). functions_inlined (functions_of done ++ y ∷ []) after behind_it) is
     ∙ ap (λ a. functions_inlined (functions_of done ++ g ∷ []) a behind_it) (rest ∙ ap (λ (l : List Function). (x l).budget) one) ∙ sym (ap (functions_inlined (functions_of done) b) (functions_from fs i f lt at)) ∙ so_far
 
-pub functions_end : (fs done : List Function) (b i : ℕ) (whole : InlinedFunctions) → drop i fs ≡ [] → functions_inlined (functions_of done) b (functions_of (drop i fs)) ≡ whole → record { functions = functions_of done; budget = b } ≡ whole
-functions_end fs done b i whole is so_far = sym (ap (λ l. functions_inlined (functions_of done) b (functions_of l)) is) ∙ so_far
-
 -- one more thread
 pub threads_step : (gs : List PlainFunction) (ts anew later : List Thread) (b after i : ℕ) (t made : Thread) (whole : List PlainThread) → i < length ts → t ≡ get_or ts i t → threads_of anew ++ threads_inlined gs b (threads_of (drop i ts)) ≡ whole → later ≡ anew ++ made ∷ []
     → thread_of made ≡ record (thread_of t) { body = (inlined gs 0 b (tree_of t.body)).tree } → after ≡ (inlined gs 0 b (tree_of t.body)).budget → threads_of later ++ threads_inlined gs after (threads_of (drop (i + 1) ts)) ≡ whole

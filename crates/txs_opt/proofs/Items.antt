@@ -1,5 +1,5 @@
 -- Nodes folded, one after the other.
-use Rattle.std.proofs.Common.{◌≡◌, ℕ, zero, suc, ◌+◌, ◌<◌, nat_eq, Bool, true, false, not, List, [], ◌∷◌, ◌++◌, length, get_or, take, drop, Option, Some, None, refl, sym, ap, ◌∙◌, arith}
+use Rattle.std.proofs.Common.{◌≡◌, ℕ, zero, suc, ◌+◌, ◌<◌, nat_eq, Bool, true, false, List, [], ◌∷◌, ◌++◌, length, get_or, take, drop, Option, Some, None, refl, sym, ap, ◌∙◌, arith}
 use Rattle.std.proofs.lemmas.List.{take_more}
 use Rattle.txs_value_data.specs.declared.value.Value.{Value}
 use Rattle.txs_tree_meaning.proofs.Soundness.{trees_from}
@@ -86,14 +86,6 @@ items_more ns i n kept later made item last lt at so_far ends same put =
 
 pub items_end : (ns : List Node) (i : ℕ) (kept made : Trees) → drop i ns ≡ [] → joined kept (seen_items (folded_all (trees_of (drop i ns)))) ≡ made → kept ≡ made
 items_end ns i kept made is so_far = sym (joined_none kept) ∙ ap (λ l. joined kept (seen_items (folded_all (trees_of l)))) (sym is) ∙ so_far
-
-pub some_goes : (last : Bool) (e : Tree) (v : Value) → value_of e ≡ Some v → kept_item last e ≡ stays (not last) e
-some_goes true e v is = refl
-some_goes false e v is = ap (λ o. before o e none) is
-
-pub none_stays : (last : Bool) (e : Tree) → value_of e ≡ None → kept_item last e ≡ stays false e
-none_stays true e is = refl
-none_stays false e is = ap (λ o. before o e none) is
 
 pub item_goes : (es kept : Trees) (e : Tree) (b : Bool) → kept ≡ stays b e → b ≡ true → es ≡ joined es kept
 item_goes es kept e b is so = sym (ap (joined es) (is ∙ ap (λ x. stays x e) so) ∙ joined_none es)

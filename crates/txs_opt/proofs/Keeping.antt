@@ -242,14 +242,6 @@ module _ (ks ls : List Known) where
       deep = omega (arith, at, a.deep, b.deep);
     }
 
-pub kept_trans : (ks ls ms : List Known) (e e1 e2 : Tree) → Kept ks ls e e1 → Kept ls ms e1 e2 → Kept ks ms e e2
-kept_trans ks ls ms e e1 e2 a b = record {
-  inside = λ h. b.inside (a.inside h);
-  outside = λ h. b.outside (a.outside h);
-  pure = λ h. b.pure (a.pure h);
-  deep = omega (arith, a.deep, b.deep);
-}
-
 pub all_kept_trans : (ks ls ms : List Known) (e e1 e2 : Trees) → AllKept ks ls e e1 → AllKept ls ms e1 e2 → AllKept ks ms e e2
 all_kept_trans ks ls ms e e1 e2 a b = record {
   inside = λ h. b.inside (a.inside h);

@@ -2,7 +2,6 @@ pub mod Actions
 pub mod Below
 pub mod Calls
 pub mod Constants
-pub mod CoreKeeps
 pub mod Events
 pub mod FoldedEverywhere
 pub mod FoldedMarked

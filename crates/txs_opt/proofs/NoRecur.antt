@@ -29,7 +29,7 @@ use Rattle.txs_value_data.specs.declared.value.Value.TheVariants.{Cell}
 use Rattle.txs_tree_meaning.specs.Meaning.{Completion, Completes, Recurs, Faults, Retries, Waits, OutOfTurns, Invalid, bind, result_of, allowed, Applies}
 use Rattle.txs_tree_meaning.specs.Pure.{no_effects}
 use Rattle.txs_tree_meaning.specs.Thread.{ThreadState, with_tx, holding, sends_or_holds, uneaten, eats, meant, reads, resets, faulted, faultless, swaps, sends, over, Transacting, run_of, ends_tx, is_retry, is_held, missing, again, eats_tx, Surroundings, accepts, thread_look, thread_put, thread_update, on_events}
-use Rattle.txs_tree_meaning.specs.Transaction.{TxState, own, noted, lacks, looked, taken_lacking, done_as, on_cell, current, tx_look_lacking, tx_put, tx_update_lacking, in_transaction_lacking, tx_meaning, tx_meaning_lacking, final_writes}
+use Rattle.txs_tree_meaning.specs.Transaction.{TxState, own, noted, looked, taken_lacking, done_as, on_cell, tx_look_lacking, tx_put, tx_update_lacking, in_transaction_lacking, tx_meaning, tx_meaning_lacking, final_writes}
 use Rattle.txs_tree_meaning.specs.Tree.{Mark}
 use Rattle.txs_opt.proofs.Recurring.{IsEnd, FormsEnd, CalleesEnd, bind_end}
 

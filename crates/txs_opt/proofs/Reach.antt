@@ -18,24 +18,6 @@ pub let_above : (es : Trees) (d : ℕ) → d + count es ≤ reach_let d es
 let_above none d = omega arith
 let_above (more e es) d = omega (arith, let_above es (d + 1))
 
-pub tree_above : (e : Tree) (d : ℕ) → d ≤ reach d e
-tree_above (Const v m) d = omega arith
-tree_above (Local i m) d = omega arith
-tree_above (If c a b m) d = omega (arith, tree_above c d)
-tree_above (Do es m) d = all_above es d
-tree_above (Let es body m) d = omega (arith, let_above es d)
-tree_above (Loop es body m) d = omega (arith, let_above es d)
-tree_above (Recur es m) d = all_above es d
-tree_above (Core op es m) d = all_above es d
-tree_above (Call f es m) d = all_above es d
-tree_above (VectorOf es m) d = all_above es d
-tree_above (Println es m) d = all_above es d
-tree_above (Dosync body m) d = tree_above body d
-tree_above (Look form cell m) d = tree_above cell d
-tree_above (Put form cell value m) d = omega (arith, tree_above cell d)
-tree_above (Update form cell callee es m) d = omega (arith, tree_above cell d)
-tree_above (Send cell callee es m) d = omega (arith, tree_above cell d)
-
 -- ---- shifted
 
 module _ (c k : ℕ) where

@@ -18,10 +18,6 @@ pub meaning_number : (w : List ℕ) (z : ℤ) → is_number w ≡ true → z ≡
 unfolding meaning
 meaning_number w z is e fits = rw (is, ← e, fits) refl
 
-pub meaning_nil : (w : List ℕ) → is_number w ≡ false → bytes_eq w (codes "nil") ≡ true → meaning w ≡ Ok nil
-unfolding meaning
-meaning_nil w no_number is = rw (no_number, is) refl
-
 pub meaning_true : (w : List ℕ) → is_number w ≡ false → bytes_eq w (codes "nil") ≡ false → bytes_eq w (codes "true") ≡ true → meaning w ≡ Ok (truth true)
 unfolding meaning
 meaning_true w no_number no_nil is = rw (no_number, no_nil, is) refl

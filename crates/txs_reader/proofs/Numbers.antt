@@ -1,5 +1,5 @@
 -- What `parse` gives at a number.
-use Rattle.std.proofs.Common.{◌≡◌, ℕ, zero, suc, ◌<◌, Bool, true, false, cond, ◌&&◌, eqb, ltb, List, [], ◌∷◌, length, get_or, drop, Result, Ok, Err, ℤ, pos, negsuc, refl, sym, ap, ◌∙◌, subst, arith}
+use Rattle.std.proofs.Common.{◌≡◌, ℕ, zero, suc, ◌<◌, Bool, true, false, cond, ◌&&◌, eqb, ltb, List, [], ◌∷◌, length, get_or, drop, Result, Err, ℤ, pos, negsuc, refl, ap, ◌∙◌, arith}
 use Rattle.std.specs.Prelude.{FitsSigned, IsUtf8}
 use Rattle.std.specs.Int.{w64}
 use Rattle.std.specs.Char.{is_ascii_digit}
@@ -10,16 +10,12 @@ use Rattle.std.proofs.lemmas.Bool.Decides.{nat_tests}
 use Rattle.std.proofs.lemmas.Bool.{false≢true}
 use Rattle.std.proofs.lemmas.Str.{IsUtf8-from_ascii}
 use Rattle.std.proofs.lemmas.Str.Parse.{numerals_by_value, tells_all_ascii_digits}
-use Rattle.std.proofs.lemmas.Result.{OkIff-at_ok, OkIff-at_err}
+use Rattle.std.proofs.lemmas.Result.{OkIff-at_err}
 use Rattle.txs_reader.specs.Bytes.{is_numeral, is_number, is_i64}
 
 pub fits_from_i64 : (z : ℤ) → is_i64 z ≡ true → FitsSigned w64 z
 fits_from_i64 (pos n) h = record { sfits = grind (arith, nat_tests) }
 fits_from_i64 (negsuc n) h = record { sfits = grind (arith, nat_tests) }
-
-pub i64_from_fits : (z : ℤ) → FitsSigned w64 z → is_i64 z ≡ true
-i64_from_fits (pos n) h = grind (arith, nat_tests, h.sfits)
-i64_from_fits (negsuc n) h = grind (arith, nat_tests, h.sfits)
 
 and_left : (a b : Bool) → (a && b) ≡ true → a ≡ true
 and_left true b h = refl
@@ -75,11 +71,6 @@ number_utf8 w h = IsUtf8-from_ascii w (number_small w (numeral_digits _ h))
 pub number_numeral : (w : List ℕ) → is_number w ≡ true → IsNumeral 10 (without_leading_sign w)
 unfolding is_number
 number_numeral w h = numeral_from_test _ h
-
-pub parsed_ok : {E : Type 0} (w : List ℕ) (r : Result ℤ E) (z : ℤ) → ParsesSigned w64 10 w r → r ≡ Ok z → (z ≡ signed_digits_value 10 w) × (is_i64 z ≡ true)
-parsed_ok w r z h e =
-    let p = OkIff-at_ok r _ _ z h e in
-    (p.1, i64_from_fits z (subst (λ (v : ℤ). FitsSigned w64 v) (sym p.1) p.0.1))
 
 not_true : (b : Bool) → (b ≡ true → ⊥) → b ≡ false
 not_true true h = absurd (h refl)

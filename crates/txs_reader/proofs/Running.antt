@@ -143,9 +143,6 @@ sugared b ts span e = absurd (false≢true e)
 few_parts : (m n : ℕ) → m + suc n ≤ 65535 → ltb m 65535 ≡ true
 few_parts m n le = grind (arith, nat_tests)
 
-abbrev pub room_if : Bool → Option State → Option State
-room_if b s = cond b s None
-
 mutual
   run-spelled : (t : PlainForm) (os : List Open) (fs : List PlainForm) → length os + height t ≤ 100 → IsNarrow t → has_room os fs ≡ true → run (spelled t) (state os fs) ≡ Some (complete os fs t)
   run-spelled (leaf x span) os fs le narrow room = ap (λ (v : Bool). cond v (Some (complete os fs (leaf x span))) None) room

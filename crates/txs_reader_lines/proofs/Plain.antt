@@ -63,9 +63,6 @@ plain-signs (b ∷ bs) h =
     ∙ ap (λ p. record { char = p.char; bytes = take p.size (b ∷ bs) } ∷ signs (drop p.size (b ∷ bs))) (plain-decoded b bs (plain-first b bs h))
     ∙ ap (λ ss. of_byte b ∷ ss) (plain-signs bs (plain-rest b bs h))
 
-plain-width : (b : ℕ) → is_plain b ≡ true → width (of_byte b) ≡ 1
-plain-width b h = plain-columns b h
-
 plain-room : (bs : List ℕ) → AllPlain bs → total room (map of_byte bs) ≡ length bs
 plain-room [] h = refl
 plain-room (b ∷ bs) h =

@@ -1,20 +1,14 @@
 -- Signs, one by one.
-use Rattle.std.proofs.Common.{⊎_elim, true, false, cond, ltb, None, append-nil, ◌≡◌, ◌≤◌, ◌<◌, ℕ, zero, suc, ◌+◌, ◌-◌, List, [], ◌∷◌, ◌++◌, length, take, drop, max, Option, refl, sym, ap, ◌∙◌, subst, arith, length-append, length-drop, append_assoc}
+use Rattle.std.proofs.Common.{⊎_elim, false, cond, ltb, None, append-nil, ◌≡◌, ◌≤◌, ◌<◌, ℕ, zero, suc, ◌+◌, ◌-◌, List, [], ◌∷◌, ◌++◌, length, take, drop, max, Option, refl, sym, ap, ◌∙◌, subst, arith, length-append, length-drop, append_assoc}
 use Rattle.std.proofs.lemmas.List.{drop-take, length-take-le, take-take, drop-drop, take_all}
 use Rattle.std.proofs.Math.Seq.{drop-length}
-use Rattle.std.specs.List.{flat_map}
 use Rattle.bstr.specs.Utf8.{Decoded, decoded, pieces, IsLastPiece}
 use Rattle.bstr.proofs.lemmas.PieceLemmas.{piece-bounds, pieces-nil, pieces-step, pieces-sizes, sizes}
 use Rattle.bstr.proofs.lemmas.SoundLemmas.{IsLastPiece-decoded}
 use Rattle.std.proofs.lemmas.Bool.{cases_lt, le-leb, lt-leb, lt-ltb}
 use Rattle.std.proofs.lemmas.Bool.Decides.{nat_tests}
-use Rattle.txs_reader_lines.specs.Sign.{Sign, cut, signs, room, width, width_of, shown, First, Last}
+use Rattle.txs_reader_lines.specs.Sign.{Sign, cut, signs, room, width, width_of, First, Last}
 use Rattle.txs_reader_lines.specs.Window.{total, first_within, last_within, begun, is_cut, LeftPart}
-use Rattle.txs_reader_lines.specs.Pointed.{mark, seen, seen_part}
-
--- a sign of so many bytes at the front
-abbrev pub at_front : List ℕ → Option ℕ → ℕ → Sign
-at_front bytes c n = record { char = c; bytes = take n bytes }
 
 pub signs-nil : signs [] ≡ []
 unfolding signs
@@ -64,25 +58,11 @@ Last-piece bytes p is =
 
 -- ---- what one sign adds
 
-ltb_suc : (a b : ℕ) → ltb (suc a) (suc b) ≡ ltb a b
-ltb_suc a b = grind (arith, nat_tests)
-
 pub first_within-fits : (n : ℕ) (s : Sign) (ss : List Sign) → room s ≤ n → first_within n (s ∷ ss) ≡ s ∷ first_within (n - room s) ss
 first_within-fits n s ss fits = ap (λ b. cond b (s ∷ first_within (n - room s) ss) []) (le-leb (room s) n fits)
 
 first_within-over : (n : ℕ) (s : Sign) (ss : List Sign) → n < room s → first_within n (s ∷ ss) ≡ []
 first_within-over n s ss over = ap (λ b. cond b (s ∷ first_within (n - room s) ss) []) (lt-leb (room s) n over)
-
-seen-fits : (n : ℕ) (s : Sign) (ss : List Sign) → room s ≤ n → seen n (s ∷ ss) ≡ shown s ++ seen (n - room s) ss
-seen-fits n s ss fits =
-    let part = first_within (n - room s) ss in
-    ap (λ p. seen_part p (s ∷ ss)) (first_within-fits n s ss fits)
-    ∙ ap (λ b. flat_map shown (s ∷ part) ++ mark b 46) (ltb_suc (length part) (length ss))
-    ∙ append_assoc (shown s) (flat_map shown part) (mark (is_cut part ss) 46)
-
-seen-over : (n : ℕ) (s : Sign) (ss : List Sign) → n < room s → seen n (s ∷ ss) ≡ mark true 46
-seen-over n s ss over =
-    ap (λ p. seen_part p (s ∷ ss)) (first_within-over n s ss over) ∙ ap (λ b. mark b 46) (lt-ltb 0 (suc (length ss)) (omega arith))
 
 pub begun-none : (ss : List Sign) → total width (begun 0 ss) ≡ 0
 begun-none [] = refl

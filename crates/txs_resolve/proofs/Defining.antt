@@ -4,10 +4,9 @@ use Rattle.std.proofs.lemmas.Bool.Decides.{not_from_Decides}
 use Rattle.std.proofs.lemmas.List.{map-append}
 use Rattle.std.proofs.lemmas.Slice.Eq.{bytes_eq-Decides}
 use Rattle.txs_value_data.specs.Limits.{most_depth}
-use Rattle.txs_value_base.specs.Operations.{op_name}
+use Rattle.txs_value_base.specs.Operations.{op_name, operations}
 use Rattle.txs_value_base.specs.declared.fault.Span.{Span}
 use Rattle.txs_value_base.specs.declared.op.Callee.{Callee}
-use Rattle.txs_value_cell.specs.declared.cell.CellDefinition.{CellDefinition}
 use Rattle.txs_value_data.specs.declared.value.Value.{Value}
 use Rattle.txs_reader.specs.declared.form.Bracket.TheVariants.{Round, Square}
 use Rattle.txs_reader.specs.Tree.{PlainForm as Form, PlainForms as Forms, leaf, group, first}
@@ -18,7 +17,8 @@ use Rattle.txs_resolve_expand.specs.declared.error.ResolveErrorKind.TheVariants.
 use Rattle.txs_resolve_scope.specs.declared.names.FormName.{FormName}
 use Rattle.txs_resolve_scope.specs.declared.names.FormName.TheVariants as kind
 use Rattle.txs_resolve_scope.specs.declared.scope.Definition.{Definition}
-use Rattle.txs_resolve_scope.specs.Scope.{Entry, definition_of, is_none, may_bind, operations, with_name}
+use Rattle.txs_value_base.specs.Places.{with_name}
+use Rattle.txs_resolve_scope.specs.Scope.{Entry, definition_of, is_none, may_bind}
 use Rattle.txs_resolve_expand.specs.Answers.{◌>>=◌, refuse}
 use Rattle.txs_resolve.specs.Defined.{Definitions, no_definitions, unvalidated, opening_cell, cell_as, span_as, def_of, def_as, defn_as, listed_as, defines, and_then, define_all, IsNew, AllDiffer}
 use Rattle.txs_resolve_expand.specs.Expansions.{body, form_at}

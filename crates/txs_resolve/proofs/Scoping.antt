@@ -1,13 +1,10 @@
 -- What the resolution of names makes of forms is scoped, and has no more levels than there is room.
 use Rattle.std.proofs.Common.{◌||◌, ◌≡◌, ◌<◌, ◌≤◌, ◌+◌, ℕ, zero, suc, Bool, true, false, nat_lt, bytes_eq, if◌then◌else◌, List, [], ◌∷◌, length, Option, Some, None, Ok, Err, refl, sym, ap, subst, arith}
 use Rattle.std.proofs.lemmas.Bool.Decides.{nat_tests}
-use Rattle.std.specs.List.{list_any}
-use Rattle.txs_value_base.specs.Operations.{op_name}
 use Rattle.txs_value_base.specs.Places.{nth}
 use Rattle.txs_value_base.specs.declared.fault.Span.{Span}
 use Rattle.txs_value_cell.specs.declared.form.CellForm.{CellForm}
 use Rattle.txs_value_cell.specs.declared.form.CellForm.TheVariants as on_cell
-use Rattle.txs_value_base.specs.declared.op.Op.{Op}
 use Rattle.txs_value_base.specs.declared.op.Callee.{Callee}
 use Rattle.txs_value_base.specs.declared.op.Callee.TheVariants.{Core as CoreOp, Function as TheFunction}
 use Rattle.txs_value_data.specs.declared.value.Value.{Value}
@@ -35,7 +32,8 @@ use Rattle.txs_resolve_scope.specs.declared.scope.Definition.TheVariants.{Consta
 use Rattle.txs_resolve_expand.specs.Expansions.{alone, body, expand_once, form_at}
 use Rattle.txs_resolve_expand.specs.Expressions.{Answer, Bound, Special, row, one_part, putting, choice, binding, changing, Core as ACore, whole, parted, Resolver, spot_at, spot_mark, some_room, in_room, narrow, symbol_node, leaf_value, leaf_node, callee_at, callee_of, flag, sequence_node, are_wanted, choice_node, single_node, is_wanted, change_node, binding_node, are_pairs, cell_form, of_family, special, applied, list_core, core_of, bound_name, named_all, named_bindings, put_together, made, resolved, named}
 use Rattle.txs_resolve_expand.specs.Answers.{◌>>=◌, refuse}
-use Rattle.txs_resolve_scope.specs.Scope.{Scope, Entry, with_local, number_in, local_number, definition_of, is_current, with_name, form_name, form_names, operations, is_dot, may_bind, Meaning, a_form, dotted, a_local, the_current, defined_as, operation, unknown, or_form, or_local, or_defined, or_unknown, meaning}
+use Rattle.txs_resolve_scope.specs.Scope.{Scope, Entry, with_local, number_in, definition_of, may_bind, Meaning, a_form, dotted, a_local, the_current, defined_as, operation, unknown, meaning}
+use Rattle.txs_resolve_scope.proofs.Meanings.{meaning_so}
 use Rattle.txs_resolve.specs.Scripts.{IsKnown, AreKnown}
 
 -- ---- answers
@@ -129,44 +127,10 @@ definition_known ks name (e ∷ es) h = here (bytes_eq e.name name) (definition_
   here true o k = h.0
   here false o k = k
 
-form_meant : (ks : List Known) (d : ℕ) (o : Option FormName) (m : Meaning) → Meant ks d m → Meant ks d (or_form o m)
-form_meant ks d None m h = h
-form_meant ks d (Some f) m h = tt
-
-dot_meant : (ks : List Known) (d : ℕ) (b : Bool) (m : Meaning) → Meant ks d m → Meant ks d (if b then dotted else m)
-dot_meant ks d true m h = tt
-dot_meant ks d false m h = h
-
-local_meant : (ks : List Known) (d : ℕ) (o : Option ℕ) (m : Meaning) → IsBelow d o → Meant ks d m → Meant ks d (or_local o m)
-local_meant ks d None m b h = h
-local_meant ks d (Some i) m b h = b
-
-current_meant : (ks : List Known) (d : ℕ) (b : Bool) (m : Meaning) → Meant ks d m → Meant ks d (if b then the_current else m)
-current_meant ks d true m h = tt
-current_meant ks d false m h = h
-
-defined_meant : (ks : List Known) (d : ℕ) (o : Option Definition) (m : Meaning) → KnownIf ks o → Meant ks d m → Meant ks d (or_defined o m)
-defined_meant ks d None m k h = h
-defined_meant ks d (Some what) m k h = k
-
-unknown_meant : (ks : List Known) (d : ℕ) (o : Option Op) → Meant ks d (or_unknown o)
-unknown_meant ks d None = tt
-unknown_meant ks d (Some op) = tt
-
 meaning_meant : (ks : List Known) (name : List ℕ) (scope : Scope) → AreKnown ks scope.defined → Meant ks (length scope.locals) (meaning name scope)
-unfolding meaning
 meaning_meant ks name scope h =
-    let d = length scope.locals in
-    let last = or_unknown (with_name op_name name operations) in
-    let defined = or_defined (definition_of name scope.defined) last in
-    let current = if is_current name scope.current then the_current else defined in
-    let local = or_local (local_number name scope) current in
-    form_meant ks d (with_name form_name name form_names) (if list_any is_dot name then dotted else local)
-    (dot_meant ks d (list_any is_dot name) local
-    (local_meant ks d (local_number name scope) current (number_below name scope.locals)
-    (current_meant ks d (is_current name scope.current) defined
-    (defined_meant ks d (definition_of name scope.defined) last (definition_known ks name scope.defined h)
-    (unknown_meant ks d (with_name op_name name operations))))))
+    meaning_so (Meant ks (length scope.locals)) (λ f. tt) tt (λ op. tt) tt name scope (λ i e. subst (IsBelow (length scope.locals)) e (number_below name scope.locals)) (λ e. tt)
+    (λ d e. subst (KnownIf ks) e (definition_known ks name scope.defined h))
 
 -- ---- nodes
 

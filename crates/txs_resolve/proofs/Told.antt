@@ -1,7 +1,7 @@
 -- No refusal of names is a want of memory.
 use Rattle.std.proofs.Common.{◌≡◌, ◌≢◌, ℕ, zero, suc, ◌-◌, ◌==◌, Bool, true, false, ◌&&◌, ◌||◌, nat_lt, if◌then◌else◌, List, [], ◌∷◌, length, Option, Some, None, Ok, Err, sym, subst}
 use Rattle.txs_value_data.specs.Limits.{most_depth, most_items, most_levels, most_definitions, most_threads, most_parameters, most_locals}
-use Rattle.txs_value_base.specs.Operations.{op_name}
+use Rattle.txs_value_base.specs.Operations.{op_name, operations}
 use Rattle.txs_value_base.specs.declared.fault.Span.{Span}
 use Rattle.txs_value_cell.specs.declared.form.CellForm.{CellForm}
 use Rattle.txs_value_cell.specs.declared.form.CellForm.TheVariants as on_cell
@@ -12,19 +12,20 @@ use Rattle.txs_value_data.specs.View.{plains_of}
 use Rattle.txs_reader.specs.declared.form.Bracket.TheVariants.{Round, Square}
 use Rattle.txs_reader.specs.Tree.{PlainForm as Form, PlainForms as Forms, Leaf, leaf, group, first, place, number, symbol, nil, truth, text, keyword, parts}
 use Rattle.txs_reader.specs.Tree.{none as no_forms}
-use Rattle.txs_tree_meaning.specs.Tree.{Tree, Trees, Const, Local, Put, more}
+use Rattle.txs_tree_meaning.specs.Tree.{Const, Local, Put, more}
 use Rattle.txs_resolve_expand.specs.declared.error.ResolveError.{ResolveError}
 use Rattle.txs_resolve_expand.specs.declared.error.ResolveErrorKind.{ResolveErrorKind}
 use Rattle.txs_resolve_expand.specs.declared.error.ResolveErrorKind.TheVariants.{UnknownName, Redefined, BadForm, NotCallable, LocalCalled, SelfCall, TooMany, Memory}
 use Rattle.txs_resolve_scope.specs.declared.names.FormName.{FormName}
 use Rattle.txs_resolve_scope.specs.declared.names.FormName.TheVariants as kind
 use Rattle.txs_resolve_scope.specs.declared.scope.Definition.TheVariants.{Constant, Cell as ACell, Function as AFunction}
-use Rattle.txs_resolve_scope.specs.Scope.{Scope, Entry, definition_of, is_none, may_bind, meaning, operations, with_local, with_name, Meaning, a_form, dotted, a_local, the_current, defined_as, operation, unknown}
+use Rattle.txs_value_base.specs.Places.{with_name}
+use Rattle.txs_resolve_scope.specs.Scope.{Scope, Entry, definition_of, is_none, may_bind, meaning, with_local, Meaning, a_form, dotted, a_local, the_current, defined_as, operation, unknown}
 use Rattle.txs_resolve_expand.specs.declared.shapes.Spot.{Spot}
 use Rattle.txs_resolve_expand.specs.Answers.{◌>>=◌, refuse}
 use Rattle.txs_resolve_expand.specs.Expansions.{alone, body, expand_once, form_at}
 use Rattle.txs_value_base.specs.declared.op.Callee.{Callee}
-use Rattle.txs_resolve_expand.specs.Expressions.{Answer, Bound, Special, row, one_part, putting, choice, binding, changing, Core as ACore, whole, parted, Resolver, spot_at, spot_mark, some_room, in_room, narrow, symbol_node, leaf_value, leaf_node, callee_at, callee_of, flag, sequence_node, are_wanted, choice_node, single_node, is_wanted, change_node, binding_node, are_pairs, cell_form, of_family, special, applied, list_core, core_of, bound_name, named_all, named_bindings, put_together, made, resolved, named}
+use Rattle.txs_resolve_expand.specs.Expressions.{Answer, Special, row, one_part, putting, choice, binding, changing, Core as ACore, whole, parted, Resolver, spot_at, spot_mark, some_room, in_room, narrow, symbol_node, leaf_value, leaf_node, callee_at, callee_of, flag, sequence_node, are_wanted, choice_node, single_node, is_wanted, change_node, binding_node, are_pairs, cell_form, of_family, special, applied, list_core, core_of, bound_name, named_all, named_bindings, put_together, made, resolved, named}
 use Rattle.txs_resolve_body.specs.Literals.{literal, literals}
 use Rattle.txs_resolve_body.specs.declared.stop.Stop.{Stop}
 use Rattle.txs_resolve_body.specs.declared.stop.Stop.TheVariants.{Refused}

@@ -1,10 +1,9 @@
 -- What the parts of a top-level form are.
-use Rattle.std.proofs.Common.{◌≡◌, ℕ, false, List, [], ◌∷◌, length, slice_index_or, Option, Some, None, Ok, Err, IsOk, refl, sym, ap, ◌∙◌, subst, arith}
+use Rattle.std.proofs.Common.{◌≡◌, ℕ, List, [], ◌∷◌, length, slice_index_or, Option, Some, None, Ok, Err, IsOk, refl, sym, ap, ◌∙◌, subst, arith}
 use Rattle.txs_value_base.specs.declared.fault.Span.{Span}
 use Rattle.txs_reader.specs.declared.form.Form.{Form}
 use Rattle.txs_reader.specs.Tree.{tree, leaf, symbol, first}
-use Rattle.txs_resolve_scope.specs.declared.names.FormName.TheVariants.{Ns}
-use Rattle.txs_resolve_expand.specs.Expressions.{Answer, is_symbol}
+use Rattle.txs_resolve_expand.specs.Expressions.{Answer}
 use Rattle.txs_resolve_expand.specs.Answers.{◌>>=◌}
 use Rattle.txs_resolve_body.specs.Walk.{Becomes}
 use Rattle.txs_tree_meaning.specs.Tree.{Tree}

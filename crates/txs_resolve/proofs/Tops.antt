@@ -150,10 +150,6 @@ module _ (s : Script) (w : Written) (span : Span) where
     pub function_bound : (a : Answer (List (List ℕ))) → parameters [] w.parameters ≡ a → function (state_of s) span (Some w) ≡ (a >>= with_body (state_of s) w span name)
     function_bound a e = function_named few (Ok name) as_new ∙ ap (λ (x : Answer (List (List ℕ))). x >>= with_body (state_of s) w span name) e
 
-    pub function_bodied : (locals : List (List ℕ)) (a : Answer Tree) → parameters [] w.parameters ≡ Ok locals → inner_body (state_of s) w span name locals ≡ a
-        → function (state_of s) span (Some w) ≡ (a >>= λ body. Ok (with_function (state_of s) name (length locals) body span))
-    function_bodied locals a bound e = function_bound (Ok locals) bound ∙ ap (λ (x : Answer Tree). x >>= λ body. Ok (with_function (state_of s) name (length locals) body span)) e
-
 -- the body of a function is scoped
 pub body_placed : (s : Script) (w : Written) (span : Span) (name : List ℕ) (locals : List (List ℕ)) (t : Tree) → IsScript s → length locals ≤ 20
     → inner_body (state_of s) w span name locals ≡ Ok t → Placed (known_in s) (length locals) 1000 t

@@ -1,7 +1,7 @@
 -- Which program the forms of a script are, or the first refusal met.
 use Rattle.std.specs.Prelude.{◌≡◌, ℕ, suc, Bool, true, false, ◌&&◌, bytes_eq, codes, nat_lt, List, [], ◌∷◌, ◌++◌, length, Option, Some, None, Ok, Err, if◌then◌else◌}
 use Rattle.txs_value_data.specs.Limits.{most_depth, most_levels, most_definitions, most_threads, most_parameters}
-use Rattle.txs_value_base.specs.Operations.{op_name}
+use Rattle.txs_value_base.specs.Operations.{op_name, operations}
 use Rattle.txs_value_base.specs.declared.fault.Span.{Span}
 use Rattle.txs_value_base.specs.declared.op.Callee.{Callee}
 use Rattle.txs_value_cell.specs.declared.cell.CellDefinition.{CellDefinition}
@@ -27,7 +27,8 @@ use Rattle.txs_resolve_expand.specs.Expressions.{Answer, callee_of, is_symbol, n
 use Rattle.txs_resolve_body.specs.Literals.{is_literal, literal}
 use Rattle.txs_resolve_expand.specs.Answers.{◌>>=◌, refuse}
 use Rattle.txs_resolve_expand.specs.Namespace.{behind_namespace}
-use Rattle.txs_resolve_scope.specs.Scope.{Scope, Entry, definition_of, with_name, operations, may_bind, is_none}
+use Rattle.txs_value_base.specs.Places.{with_name}
+use Rattle.txs_resolve_scope.specs.Scope.{Scope, Entry, definition_of, may_bind, is_none}
 
 -- what a script has defined so far: names; cells, and where the validator of each stands, or its definition where it has none; functions;
 -- threads; and how often `def` stood

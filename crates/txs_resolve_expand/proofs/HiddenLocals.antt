@@ -1,9 +1,10 @@
 -- What the symbol of a hidden local stands for.
-use Rattle.std.proofs.Common.{◌≡◌, ℕ, [], Option, Some, Ok, length, if◌then◌else◌, refl, ap}
-use Rattle.txs_value_base.specs.Operations.{op_name}
+use Rattle.std.proofs.Common.{◌≡◌, ℕ, [], Option, Some, Ok, if◌then◌else◌, ap}
+use Rattle.txs_value_base.specs.Operations.{op_name, operations}
 use Rattle.txs_reader.specs.Tree.{symbol}
 use Rattle.txs_tree_meaning.specs.Tree.{Local}
-use Rattle.txs_resolve_scope.specs.Scope.{Scope, local_number, meaning, a_local, definition_of, is_current, operations, or_defined, or_local, or_unknown, the_current, with_local, with_name}
+use Rattle.txs_value_base.specs.Places.{with_name}
+use Rattle.txs_resolve_scope.specs.Scope.{Scope, local_number, meaning, a_local, definition_of, is_current, or_defined, or_local, or_unknown, the_current}
 use Rattle.txs_resolve_expand.specs.declared.shapes.Spot.{Spot}
 use Rattle.txs_resolve_expand.specs.Expressions.{in_room, leaf_node, spot_mark, symbol_node}
 
@@ -14,7 +15,3 @@ hidden_meaning scope n is =
 
 pub hidden_node : (scope : Scope) (s : Spot) (n : ℕ) → local_number [] scope ≡ Some n → leaf_node scope (symbol []) s ≡ in_room s (Ok (Local n (spot_mark s)))
 hidden_node scope s n is = ap (λ m. symbol_node m s) (hidden_meaning scope n is)
-
--- a hidden local that was bound just now is the nearest
-pub hidden_number : (scope : Scope) → local_number [] (with_local [] scope) ≡ Some (length scope.locals)
-hidden_number scope = refl

@@ -56,9 +56,6 @@ pairs_yes fs i d e lt p = pairs_pair fs i d e lt ∙ ap (λ b. b && are_pairs (p
 pub pairs_end : (fs : List Form) (i : ℕ) → length fs ≤ i → are_pairs (plain (drop i fs)) ≡ true
 pairs_end fs i le = ap (λ l. are_pairs (plain l)) (drop_all fs i le)
 
-pub pairs_odd : (fs : List Form) (i : ℕ) (d : Form) → i + 1 ≡ length fs → are_pairs (plain (drop i fs)) ≡ false
-pairs_odd fs i d one = ap are_pairs (plain_at fs i d (omega (arith, one)) ∙ ap (λ l. first (tree (get_or fs i d)) (plain l)) (drop_all fs (i + 1) (omega (arith, one))))
-
 one_form : (fs : List Form) → length fs ≡ 1 → are_pairs (plain fs) ≡ false
 one_form [] one = absurd (omega (arith, one))
 one_form (f ∷ []) one = refl

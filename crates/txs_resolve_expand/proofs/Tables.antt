@@ -12,7 +12,8 @@ use Rattle.txs_reader.specs.Tree.{PlainForm as FormTree, PlainForms as Forms, le
 use Rattle.txs_reader.specs.Tree.{none as no_forms}
 use Rattle.txs_resolve_scope.specs.declared.names.FormName.{FormName}
 use Rattle.txs_resolve_scope.specs.declared.names.FormName.TheVariants as kind
-use Rattle.txs_resolve_scope.specs.Scope.{Scope, with_name, form_name, form_names}
+use Rattle.txs_value_base.specs.Places.{with_name}
+use Rattle.txs_resolve_scope.specs.Scope.{Scope, form_name, form_names}
 use Rattle.txs_resolve_expand.specs.declared.error.ResolveErrorKind.TheVariants.{BadForm}
 use Rattle.txs_resolve_expand.specs.declared.shapes.Sequence.TheVariants as sequence
 use Rattle.txs_resolve_expand.specs.declared.shapes.Spot.{Spot}

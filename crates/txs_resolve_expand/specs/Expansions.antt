@@ -6,7 +6,8 @@ use Rattle.txs_reader.specs.Tree.{PlainForm as Form, PlainForms as Forms, leaf, 
 use Rattle.txs_reader.specs.Tree.{none as no_forms}
 use Rattle.txs_resolve_scope.specs.declared.names.FormName.{FormName}
 use Rattle.txs_resolve_scope.specs.declared.names.FormName.TheVariants as kind
-use Rattle.txs_resolve_scope.specs.Scope.{with_name, form_name, form_names}
+use Rattle.txs_value_base.specs.Places.{with_name}
+use Rattle.txs_resolve_scope.specs.Scope.{form_name, form_names}
 
 -- the form that a list is, by the name at its head
 abbrev pub form_at : Form → Option FormName

@@ -4,45 +4,17 @@ use Rattle.std.specs.List.{list_any}
 use Rattle.std.specs.Prelude.{MatchOption}
 use Rattle.std.proofs.lemmas.Bool.{false_from_ne_true}
 use Rattle.std.proofs.lemmas.Slice.Eq.{bytes_eq-Decides}
-use Rattle.txs_value_base.specs.Operations.{op_name}
+use Rattle.txs_value_base.specs.Operations.{op_name, operations}
 use Rattle.txs_value_base.specs.declared.op.Op.{Op}
-use Rattle.txs_value_base.specs.declared.op.Op.TheVariants.{Add, Subtract, Multiply, Inc, Dec, Quot, Rem, Mod, Equal, NotEqual, Less, Greater, LessOrEqual, GreaterOrEqual, Max, Min, Not, IsNil, IsZero, IsPositive, IsNegative, Count, Nth, Conj, Assoc, Peek, Pop}
+use Rattle.txs_value_base.proofs.OperationsLemmas.{op_named}
 use Rattle.txs_resolve_scope.specs.declared.names.FormName.{FormName}
 use Rattle.txs_resolve_scope.specs.declared.scope.Definition.{Definition}
-use Rattle.txs_resolve_scope.specs.Scope.{Scope, Meaning, dotted, the_current, or_form, or_local, or_defined, or_unknown, definition_of, form_name, form_names, is_current, is_dot, local_number, meaning, with_name, operations}
-
-found : (op : Op) → with_name op_name (op_name op) operations ≡ Some op
-found Add = refl
-found Subtract = refl
-found Multiply = refl
-found Inc = refl
-found Dec = refl
-found Quot = refl
-found Rem = refl
-found Mod = refl
-found Equal = refl
-found NotEqual = refl
-found Less = refl
-found Greater = refl
-found LessOrEqual = refl
-found GreaterOrEqual = refl
-found Max = refl
-found Min = refl
-found Not = refl
-found IsNil = refl
-found IsZero = refl
-found IsPositive = refl
-found IsNegative = refl
-found Count = refl
-found Nth = refl
-found Conj = refl
-found Assoc = refl
-found Peek = refl
-found Pop = refl
+use Rattle.txs_value_base.specs.Places.{with_name}
+use Rattle.txs_resolve_scope.specs.Scope.{Scope, Meaning, dotted, the_current, or_form, or_local, or_defined, or_unknown, definition_of, form_name, form_names, is_current, is_dot, local_number, meaning}
 
 -- the operation of this name
 operation_found : (op : Op) (name : List ℕ) → op_name op ≡ name → with_name op_name name operations ≡ Some op
-operation_found op name e = subst (λ n. with_name op_name n operations ≡ Some op) e (found op)
+operation_found op name e = subst (λ n. with_name op_name n operations ≡ Some op) e (op_named op)
 
 -- nothing has this name
 none_found : {A : Type 0} (name_of : A → List ℕ) (name : List ℕ) (xs : List A) → ((x : A) → name_of x ≢ name) → with_name name_of name xs ≡ None

@@ -1,3 +1,4 @@
 pub mod Heads
+pub mod Meanings
 pub mod Nearest
 pub mod Scopes

@@ -1,9 +1,9 @@
 -- What a name stands for, by the names in scope.
 use Rattle.std.specs.Prelude.{ℕ, Bool, true, false, not, ◌&&◌, ◌==◌, bytes_eq, codes, List, [], ◌∷◌, length, Option, Some, None, if◌then◌else◌}
 use Rattle.std.specs.List.{list_any}
-use Rattle.txs_value_base.specs.Operations.{op_name}
+use Rattle.txs_value_base.specs.Operations.{op_name, operations}
+use Rattle.txs_value_base.specs.Places.{with_name}
 use Rattle.txs_value_base.specs.declared.op.Op.{Op}
-use Rattle.txs_value_base.specs.declared.op.Op.TheVariants.{Add, Subtract, Multiply, Inc, Dec, Quot, Rem, Mod, Equal, NotEqual, Less, Greater, LessOrEqual, GreaterOrEqual, Max, Min, Not, IsNil, IsZero, IsPositive, IsNegative, Count, Nth, Conj, Assoc, Peek, Pop}
 use Rattle.txs_resolve_scope.specs.declared.names.FormName.{FormName}
 use Rattle.txs_resolve_scope.specs.declared.names.FormName.TheVariants as kind
 use Rattle.txs_resolve_scope.specs.declared.scope.Definition.{Definition}
@@ -84,17 +84,6 @@ form_names =
     ∷ kind.When ∷ kind.WhenNot ∷ kind.IfNot ∷ kind.And ∷ kind.Or ∷ kind.Cond ∷ kind.Println ∷ kind.Dosync
     ∷ kind.Deref ∷ kind.RefSet ∷ kind.Alter ∷ kind.Commute ∷ kind.Ensure ∷ kind.Swap ∷ kind.Reset ∷ kind.Send
     ∷ kind.Ref ∷ kind.Atom ∷ kind.Agent ∷ []
-
--- the core operations
-abbrev pub operations : List Op
-operations =
-    Add ∷ Subtract ∷ Multiply ∷ Inc ∷ Dec ∷ Quot ∷ Rem ∷ Mod ∷ Equal ∷ NotEqual ∷ Less ∷ Greater ∷ LessOrEqual ∷ GreaterOrEqual
-    ∷ Max ∷ Min ∷ Not ∷ IsNil ∷ IsZero ∷ IsPositive ∷ IsNegative ∷ Count ∷ Nth ∷ Conj ∷ Assoc ∷ Peek ∷ Pop ∷ []
-
--- the first of these with this name
-abbrev pub with_name : {A : Type 0} → (A → List ℕ) → List ℕ → List A → Option A
-with_name name_of name [] = None
-with_name name_of name (x ∷ xs) = if bytes_eq (name_of x) name then Some x else with_name name_of name xs
 
 -- a dot is the byte 46
 abbrev pub is_dot : ℕ → Bool

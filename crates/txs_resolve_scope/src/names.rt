@@ -2,8 +2,9 @@
 
 ghost use Rattle.std.specs.Prelude.{◌≡◌};
 ghost use Rattle.std.specs.List.{list_any};
-ghost use Rattle.txs_value_base.specs.Operations.{op_name};
-ghost use Rattle.txs_resolve_scope.specs.Scope.{form_name, form_names, operations, with_name, is_dot, may_bind};
+ghost use Rattle.txs_value_base.specs.Operations.{op_name, operations};
+ghost use Rattle.txs_value_base.specs.Places.{with_name};
+ghost use Rattle.txs_resolve_scope.specs.Scope.{form_name, form_names, is_dot, may_bind};
 
 use txs_value_base::Op;
 

@@ -1,13 +1,14 @@
 -- What findings say, and tests of lists.
-use Rattle.std.proofs.Common.{◌≡◌, ◌≤◌, ℕ, zero, suc, ◌==◌, ◌&&◌, Bool, true, false, List, [], ◌∷◌, ◌++◌, length, Option, Some, None, refl, sym, ap, ◌∙◌, subst, arith}
+use Rattle.std.proofs.Common.{◌≡◌, ◌≤◌, ◌<◌, ◌+◌, ℕ, zero, suc, ◌==◌, ◌&&◌, Bool, true, false, List, [], ◌∷◌, ◌++◌, length, Option, Some, None, refl, sym, ap, ◌∙◌, subst, arith}
 use Rattle.std.specs.Prelude.{not}
 use Rattle.std.proofs.lemmas.Bool.{eqb-true, eq-eqb, false≢true}
 use Rattle.txs_value_base.specs.Places.{nth}
 use Rattle.txs_tree_meaning.proofs.Callable.{both}
 use Rattle.txs_world_book.specs.Book.{is_there}
-use Rattle.txs_theorem_audit.specs.Audited.{Verdict, Agrees, Differs, Undecided, Finding, Fine, Off, Short, and_then, check, answer}
+use Rattle.txs_world_protocol.specs.declared.event.Event.{Event}
+use Rattle.txs_theorem_audit.specs.Audited.{PlainActorReport, Verdict, Agrees, Differs, Undecided, Finding, Fine, Off, Short, and_then, check, answer}
 use Rattle.txs_theorem_audit.specs.Explained.{Begins}
-use Rattle.txs_theorem_audit.specs.Verdict.{begins, same_numbers}
+use Rattle.txs_theorem_audit.specs.Verdict.{begins, same_numbers, trace_found, traces_found}
 
 -- ---- findings
 
@@ -118,3 +119,27 @@ pub nth_beyond : {A : Type 0} (xs : List A) (n : ℕ) → length xs ≤ n → nt
 nth_beyond [] n le = refl
 nth_beyond (x ∷ xs) zero le = absurd (omega (arith, le))
 nth_beyond (x ∷ xs) (suc n) le = nth_beyond xs n (omega (arith, le))
+
+-- ---- where a trace is off
+
+abbrev IsActor : ℕ → Finding → Type 0
+IsActor n Fine = Unit {0}
+IsActor n (Off a i) = a < n
+IsActor n (Short a i) = Unit {0}
+
+checked : (b : Bool) (a i n : ℕ) → a < n → IsActor n (check b a i)
+checked true a i n lt = tt
+checked false a i n lt = lt
+
+first_actor : (f g : Finding) (n : ℕ) → IsActor n f → IsActor n g → IsActor n (and_then f g)
+first_actor Fine g n x y = y
+first_actor (Off a i) g n x y = x
+first_actor (Short a i) g n x y = x
+
+-- an actor whose trace is off has an entry
+traces_within : (books : ℕ → List Event) (count a : ℕ) (rans : List PlainActorReport) (n : ℕ) → a + length rans ≤ n → IsActor n (traces_found books count a rans)
+traces_within books count a [] n le = tt
+traces_within books count a (x ∷ xs) n le = first_actor (trace_found books count a x.trace) (traces_found books count (suc a) xs) n (checked _ a _ n (omega (arith, le))) (traces_within books count (suc a) xs n (omega (arith, le)))
+
+pub off_within : (books : ℕ → List Event) (count : ℕ) (rans : List PlainActorReport) (a i : ℕ) → Off a i ≡ traces_found books count 0 rans → a < length rans
+off_within books count rans a i h = subst (IsActor (length rans)) (sym h) (traces_within books count 0 rans (length rans) (omega arith))

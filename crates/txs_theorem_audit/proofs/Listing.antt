@@ -1,6 +1,6 @@
 -- Books, atoms and agents by number and by cell, and the events that a trace names.
 use Rattle.std.proofs.Common.{◌≡◌, ◌<◌, ◌≤◌, ℕ, zero, suc, ◌+◌, ◌==◌, ◌&&◌, ◌||◌, Bool, true, false, List, [], ◌∷◌, ◌++◌, length, take, Some, refl, sym, ap, ◌∙◌, subst, arith, if◌then◌else◌}
-use Rattle.std.proofs.lemmas.Bool.{eq-eqb, false≢true}
+use Rattle.std.proofs.lemmas.Bool.{false≢true}
 use Rattle.std.proofs.lemmas.List.{append-nil}
 use Rattle.txs_value_base.specs.Places.{nth}
 use Rattle.txs_value_cell.specs.Agents.{agents_from, with_agent}
@@ -15,7 +15,6 @@ use Rattle.txs_world_protocol.specs.declared.event.Event.{Event}
 use Rattle.txs_world_book.specs.Book.{Each, agents_below, has_agent, has_cell, is_of_kind}
 use Rattle.txs_world_book.specs.Served.{cells_of}
 use Rattle.txs_theorem_runs.specs.Shared.{is_atom, has_atom}
-use Rattle.txs_theorem_runs.specs.Told.{places_by}
 use Rattle.txs_theorem_order.specs.Order.{book_or_none}
 use Rattle.txs_theorem_audit.specs.Audited.{PlainReport, books_of}
 use Rattle.txs_theorem_audit.specs.Verdict.{atoms_from}
@@ -54,12 +53,6 @@ no_book r (suc n) le = ap book_or_none (nth_beyond r.atom_books n (omega (arith,
 snoc : (done : List Event) (e : Event) (es : List Event) → (done ++ e ∷ []) ++ es ≡ done ++ e ∷ es
 snoc [] e es = refl
 snoc (d ∷ done) e es = ap (λ l. d ∷ l) (snoc done e es)
-
--- what holds of each event, with those before it
-pub all_each : (P : List Event → Event → Type 0) (done es : List Event) → ((k : ℕ) (e : Event) → nth es k ≡ Some e → P (done ++ take k es) e) → Each P done es
-all_each P done [] h = tt
-all_each P done (e ∷ es) h =
-    (subst (λ l. P l e) (append-nil done) (h 0 e refl), all_each P (done ++ e ∷ []) es (λ k d there. subst (λ l. P l d) (sym (snoc done e (take k es))) (h (suc k) d there)))
 
 pub each_one : (P : List Event → Event → Type 0) (done es : List Event) → Each P done es → (k : ℕ) (e : Event) → nth es k ≡ Some e → P (done ++ take k es) e
 each_one P done [] h k e there = not_there there
@@ -153,31 +146,10 @@ listed_home cells i c h =
 
 -- ---- agents
 
--- an agent among the cells is listed where as many are before it
-agent_found : (n : ℕ) (ds : List CellDefinition) (j : ℕ) → is_of_kind Agent (nth (cells_of ds) j) ≡ true → agents_below (cells_of ds) j < length (agents_from n ds)
-agent_found n [] j h = absurd (false≢true h)
-agent_found n (d ∷ ds) zero h = go d.kind h
-  where
-    go : (k : CellKind) → same_kind Agent k ≡ true → 0 < length (with_agent k n (agents_from (suc n) ds))
-    go Ref h = absurd (false≢true h)
-    go Atom h = absurd (false≢true h)
-    go Agent h = omega arith
-agent_found n (d ∷ ds) (suc j) h = go d.kind (agent_found (suc n) ds j h)
-  where
-    go : (k : CellKind) → agents_below (cells_of ds) j < length (agents_from (suc n) ds) → (if same_kind k Agent then suc (agents_below (cells_of ds) j) else agents_below (cells_of ds) j) < length (with_agent k n (agents_from (suc n) ds))
-    go Ref lt = lt
-    go Atom lt = lt
-    go Agent lt = omega (arith, lt)
-
 is_agent_kind : (k : CellKind) → same_kind k Agent ≡ true → k ≡ Agent
 is_agent_kind Ref h = absurd (false≢true h)
 is_agent_kind Atom h = absurd (false≢true h)
 is_agent_kind Agent h = refl
-
-pub agent_within : (cells : List CellDefinition) (g : CellId) → has_agent (cells_of cells) g ≡ true → agents_below (cells_of cells) g.number < length (agents_from 0 cells)
-agent_within cells g h =
-    let b = both (same_kind g.kind Agent) (is_of_kind g.kind (nth (cells_of cells) g.number)) h in
-    agent_found 0 cells g.number (subst (λ k. is_of_kind k (nth (cells_of cells) g.number) ≡ true) (is_agent_kind g.kind b.0) b.1)
 
 -- an agent among the cells is the one that is listed where as many are before it
 agent_there : (n : ℕ) (ds : List CellDefinition) (j : ℕ) → is_of_kind Agent (nth (cells_of ds) j) ≡ true → nth (agents_from n ds) (agents_below (cells_of ds) j) ≡ Some (record { kind = Agent; number = n + j })
@@ -215,19 +187,3 @@ among k (n ∷ ns) = n == k || among k ns
 or_true : (b : Bool) → (b || true) ≡ true
 or_true true = refl
 or_true false = refl
-
--- an actor's event is among those of the actor
-pub among_own : (a from : ℕ) (es : List Event) (j : ℕ) (e : Event) → nth es j ≡ Some e → e.actor ≡ a → among (from + j) (places_by a from es) ≡ true
-among_own a from [] j e there own = not_there there
-among_own a from (d ∷ es) zero e there own =
-    let same : d ≡ e = cc in
-    let n : from ≡ from + 0 = omega arith in
-    ap (λ b. among (from + 0) (if b then from ∷ places_by a (suc from) es else places_by a (suc from) es)) (eq-eqb d.actor a (ap (λ (x : Event). x.actor) same ∙ own))
-    ∙ ap (λ b. b || among (from + 0) (places_by a (suc from) es)) (eq-eqb from (from + 0) n)
-among_own a from (d ∷ es) (suc j) e there own =
-    let n : suc from + j ≡ from + suc j = omega arith in
-    test (d.actor == a) (subst (λ k. among k (places_by a (suc from) es) ≡ true) n (among_own a (suc from) es j e there own))
-  where
-    test : (b : Bool) → among (from + suc j) (places_by a (suc from) es) ≡ true → among (from + suc j) (if b then from ∷ places_by a (suc from) es else places_by a (suc from) es) ≡ true
-    test true h = ap (λ c. from == from + suc j || c) h ∙ or_true (from == from + suc j)
-    test false h = h

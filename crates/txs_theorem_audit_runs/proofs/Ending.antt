@@ -15,7 +15,7 @@ use Rattle.txs_code_meaning.specs.PlainCode.{PlainCode}
 use Rattle.txs_tree_meaning.specs.Tree.{PlainProgram}
 use Rattle.txs_machine_actor.specs.PlainActor.{PlainActor}
 use Rattle.txs_machine.specs.RunOver.{IsLimited}
-use Rattle.txs_theorem_audit.specs.Audited.{PlainActorReport, PlainReport, PlainTerms, ran_as, report_as, books_of}
+use Rattle.txs_theorem_audit.specs.Audited.{PlainActorReport, PlainReport, PlainTerms, ran_as, report_as}
 use Rattle.txs_theorem_audit.specs.Explained.{TrueStop, EndsTruly}
 use Rattle.txs_theorem_audit_runs.specs.Runs.{IsRunOf}
 use Rattle.txs_theorem_audit_runs.proofs.Numbered.{mapped, either, same_books}

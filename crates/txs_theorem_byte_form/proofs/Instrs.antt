@@ -3,7 +3,7 @@ use Rattle.std.proofs.Common.{◌≡◌, ℕ, suc, ◌+◌, ◌<◌, ◌≤◌, 
 use Rattle.std.specs.Prelude.{nat_lt, nat_le}
 use Rattle.std.specs.List.{AllByRecursion}
 use Rattle.txs_value_data.specs.Limits.{most_items, most_locals}
-use Rattle.txs_value_base.specs.Operations.{op_number}
+use Rattle.txs_value_base.proofs.OperationsLemmas.{op_number-below, op_there}
 use Rattle.txs_value_base.specs.Places.{nth}
 use Rattle.txs_value_base.specs.declared.fault.Span.{Span}
 use Rattle.txs_value_cell.specs.declared.form.LookForm.TheVariants.{Deref, Ensure}
@@ -12,7 +12,6 @@ use Rattle.txs_value_cell.specs.declared.form.UpdateForm.TheVariants as update
 use Rattle.txs_value_base.specs.declared.op.Callee.{Callee}
 use Rattle.txs_value_base.specs.declared.op.Callee.TheVariants as callee
 use Rattle.txs_value_base.specs.declared.op.Op.{Op}
-use Rattle.txs_value_base.specs.declared.op.Op.TheVariants as ops
 use Rattle.txs_value_data.specs.declared.value.Value.{Value}
 use Rattle.txs_code_meaning.specs.declared.instr.Instr.{Instr}
 use Rattle.txs_code_meaning.specs.declared.instr.Instr.TheVariants as instr
@@ -22,48 +21,15 @@ use Rattle.txs_code_meaning.specs.Spans.{IsOrdered, AreOrdered}
 use Rattle.txs_code_meaning.specs.WellTyped.{CalleeTakes, IsLawful}
 use Rattle.txs_code_decode.specs.declared.error.CodeErrorKind.TheVariants.{BadOperand}
 use Rattle.txs_code_decode.specs.CodeForm.{paired}
-use Rattle.txs_code_decode.specs.InstrForm.{operations, op_format, callee_format, opcode_format, instr_format, span_format, placed_format}
+use Rattle.txs_code_decode.specs.InstrForm.{op_format, callee_format, opcode_format, instr_format, span_format, placed_format}
 use Rattle.txs_theorem_byte_form.proofs.Counts.{IsFew, AreFew}
 use Rattle.txs_theorem_byte_form.proofs.Values.{must_true, is_below, is_within}
 
 -- ---- operations and callees
 
--- an operation stands at the place that is its number
-abbrev IsNumbered : Op → Type 0
-IsNumbered op = (op_number op < 27) × (nth operations (op_number op) ≡ Some op)
-
-numbered : (op : Op) → IsNumbered op
-numbered ops.Add = (omega arith, refl)
-numbered ops.Subtract = (omega arith, refl)
-numbered ops.Multiply = (omega arith, refl)
-numbered ops.Inc = (omega arith, refl)
-numbered ops.Dec = (omega arith, refl)
-numbered ops.Quot = (omega arith, refl)
-numbered ops.Rem = (omega arith, refl)
-numbered ops.Mod = (omega arith, refl)
-numbered ops.Equal = (omega arith, refl)
-numbered ops.NotEqual = (omega arith, refl)
-numbered ops.Less = (omega arith, refl)
-numbered ops.Greater = (omega arith, refl)
-numbered ops.LessOrEqual = (omega arith, refl)
-numbered ops.GreaterOrEqual = (omega arith, refl)
-numbered ops.Max = (omega arith, refl)
-numbered ops.Min = (omega arith, refl)
-numbered ops.Not = (omega arith, refl)
-numbered ops.IsNil = (omega arith, refl)
-numbered ops.IsZero = (omega arith, refl)
-numbered ops.IsPositive = (omega arith, refl)
-numbered ops.IsNegative = (omega arith, refl)
-numbered ops.Count = (omega arith, refl)
-numbered ops.Nth = (omega arith, refl)
-numbered ops.Conj = (omega arith, refl)
-numbered ops.Assoc = (omega arith, refl)
-numbered ops.Peek = (omega arith, refl)
-numbered ops.Pop = (omega arith, refl)
-
 op_fits : (op : Op) → op_format.fits op
 unfolding op_format
-op_fits op = let n = numbered op in (omega (arith, n.0), n.1)
+op_fits op = (omega (arith, op_number-below op), op_there op)
 
 -- a callee is an operation, or one of so many functions
 abbrev pub IsCallee : ℕ → Callee → Type 0
@@ -72,7 +38,7 @@ IsCallee fs (callee.Function f) = f < fs
 
 pub callee_fits : (fs : ℕ) (c : Callee) → fs ≤ 1000 → IsCallee fs c → (callee_format fs).fits c
 unfolding callee_format
-callee_fits fs (callee.Core op) few h = let n = numbered op in ((omega arith, refl), ((omega (arith, n.0), n.1), refl))
+callee_fits fs (callee.Core op) few h = ((omega arith, refl), ((omega (arith, op_number-below op), op_there op), refl))
 callee_fits fs (callee.Function f) few h = ((omega arith, refl), ((omega (arith, h, few), must_true BadOperand (nat_lt f fs) (is_below f fs h)), refl))
 
 -- ---- instructions

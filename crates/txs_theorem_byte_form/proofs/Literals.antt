@@ -1,16 +1,16 @@
 -- Values that operations and vectors make of literals are values that a literal may be.
-use Rattle.std.proofs.Common.{◌≡◌, ℕ, zero, suc, ◌+◌, ◌-◌, ◌<◌, ◌≤◌, ◌%◌, true, List, [], ◌∷◌, ◌++◌, length, take, drop, ℤ, pos, negsuc, ◌+ℤ◌, sym, ap, subst, length-append, length-take, length-drop, mod-lt, arith}
+use Rattle.std.proofs.Common.{◌≡◌, ℕ, zero, suc, ◌+◌, ◌-◌, ◌<◌, ◌≤◌, ◌%◌, true, List, [], ◌∷◌, ◌++◌, length, take, drop, ℤ, pos, negsuc, ◌+ℤ◌, sym, subst, length-append, length-take, length-drop, mod-lt, arith}
 use Rattle.std.specs.Prelude.{int_rem, unsigned_abs}
 use Rattle.std.specs.Int.{int_rem_euclid}
 use Rattle.std.specs.List.{AllByRecursion}
 use Rattle.std.proofs.lemmas.Bool.Decides.{nat_tests}
 use Rattle.std.proofs.lemmas.Int.{ints, rem_below}
 use Rattle.txs_value_data.specs.Limits.{most_depth, most_items, IsVector}
-use Rattle.txs_value_data.specs.PlainValue.{PlainValue, PlainValues, nil, truth, int, key, text, vector, cell, end, more, depth, row_depth, plain_row, plain_list}
+use Rattle.txs_value_data.specs.PlainValue.{PlainValue, PlainValues, nil, truth, int, key, text, vector, cell, end, more, depth, row_depth, plain_row}
 use Rattle.txs_value_data.proofs.ItemsLemmas.{plain_list-plain_row}
 use Rattle.txs_value_apply.specs.Core.{fits, below}
 use Rattle.txs_reader.specs.Bytes.{is_i64}
-use Rattle.txs_opt.proofs.CoreKeeps.{Rules, core_keeps, vector_keeps}
+use Rattle.txs_value_apply.proofs.CoreKeeps.{Rules, core_keeps, vector_keeps}
 use Rattle.txs_opt.proofs.FoldedEverywhere.{KeptByOperations}
 use Rattle.txs_theorem_byte_form.specs.ReadProgram.{IsLiteralIn, AreLiteralsIn, is_read}
 use Rattle.txs_theorem_byte_form.proofs.Values.{is_below}

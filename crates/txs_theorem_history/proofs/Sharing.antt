@@ -1,5 +1,5 @@
 -- What is shared after a history that goes on.
-use Rattle.std.proofs.Common.{◌≡◌, ◌==◌, ℕ, zero, suc, Bool, true, false, List, [], ◌∷◌, ◌++◌, length, take, if◌then◌else◌, refl, ap, sym, ◌∙◌, subst, arith, append_assoc}
+use Rattle.std.proofs.Common.{◌≡◌, ◌==◌, ℕ, zero, suc, Bool, true, false, List, [], ◌∷◌, ◌++◌, if◌then◌else◌, refl, ap, sym, ◌∙◌, subst, arith, append_assoc}
 use Rattle.std.proofs.lemmas.List.{append-nil}
 use Rattle.std.proofs.lemmas.Bool.Decides.{nat_tests}
 use mathlib.Core.List.{IsPrefix}
@@ -16,7 +16,7 @@ use Rattle.txs_history.proofs.Beginnings.{events_append}
 use Rattle.txs_theorem_runs.specs.Shared.{Shared, book_for, serve_on, shared_after}
 use Rattle.txs_theorem_runs.specs.Told.{AllHold, trace_of}
 use Rattle.txs_theorem_runs.specs.Told as told
-use Rattle.txs_theorem_runs.proofs.Growing.{AreOwn, Grown, taken_more, taken_whole, all_stay, trace_stays}
+use Rattle.txs_theorem_runs.proofs.Growing.{AreOwn, Grown, all_stay, trace_stays}
 use Rattle.txs_theorem_runs.proofs.Serving.{serves}
 use Rattle.txs_theorem_history.specs.declared.asked.Asked.{Asked}
 use Rattle.txs_theorem_history.specs.History.{History, book_by, taken_by, shared_by}
@@ -174,12 +174,6 @@ module _ (cells : List CellDefinition) where
         sym (append_assoc b was.0 ((grown_next l k e).more n)) ∙ (ap (λ es. es ++ (grown_next l k e).more n) was.1 ∙ sym ((grown_next l k e).grown n)),
       ))
       h g p ([], append-nil b)
-
-  pub books_taken : (h g : History) → IsPrefix h g → (n : ℕ) → take (length ((shared_by cells h).books n)) ((shared_by cells g).books n) ≡ (shared_by cells h).books n
-  books_taken h g p n =
-      let b = (shared_by cells h).books n in
-      let more = books_grow h g p n in
-      ap (λ es. take (length b) es) (sym more.1) ∙ (taken_more (length b) b more.0 (omega arith) ∙ taken_whole b)
 
   -- entries that hold go on to hold, and add the events that they added
   abbrev Stays : ℕ → ℕ → List told.Entry → (ℕ → List Event) → (ℕ → List Event) → Type 0

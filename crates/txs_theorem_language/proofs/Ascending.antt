@@ -11,7 +11,7 @@ use Rattle.txs_resolve.specs.Names.{State, nothing, program, step, steps, Resolv
 use Rattle.txs_check.specs.Order.{Ascend, BeginFrom}
 use Rattle.txs_check.specs.Refused.{Body, function_body, thread_body, in_order}
 use Rattle.txs_theorem_language.specs.TextOrder.{NestIn}
-use Rattle.txs_theorem_language.proofs.Bodies.{Each, Same, OneFunction, OneThread, Grown, Upto, function_last, thread_last, step_grown, grown_upto, behind_nest, functions_wider, threads_wider}
+use Rattle.txs_theorem_language.proofs.Bodies.{Each, Grown, Upto, function_last, thread_last, step_grown, grown_upto, behind_nest, functions_wider, threads_wider}
 use Rattle.txs_theorem_language.proofs.Reading.{forms_nest}
 use Rattle.txs_theorem_language.proofs.Windows.{nests_on}
 

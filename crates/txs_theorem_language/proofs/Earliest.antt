@@ -1,5 +1,5 @@
 -- No fault of a tree begins before its refusal, where its forms begin in the order in which they are checked.
-use Rattle.std.proofs.Common.{◌≡◌, ℕ, zero, suc, ◌+◌, ◌<◌, ◌≤◌, ◌⊎◌, inl, inr, Bool, true, false, not, ◌&&◌, nat_eq, List, [], ◌∷◌, ◌++◌, map, take, drop, Option, Some, None, Ok, Err, refl, sym, ap, subst, ◌∙◌, arith, if◌then◌else◌}
+use Rattle.std.proofs.Common.{◌≡◌, ℕ, zero, suc, ◌+◌, ◌≤◌, ◌⊎◌, inl, inr, Bool, true, false, not, nat_eq, List, [], ◌∷◌, ◌++◌, map, take, drop, Option, Some, None, Ok, Err, refl, sym, ap, subst, arith}
 use Rattle.txs_value_apply.specs.Core.{takes}
 use Rattle.txs_value_cell.specs.Forms.{rule}
 use Rattle.txs_value_base.specs.Places.{nth}
@@ -20,12 +20,12 @@ use Rattle.txs_tree_meaning.specs.Tree.{Tree, Mark, Const, Local, If, Do, Let, L
 use Rattle.txs_check.specs.Faulty.{IsAmong, is_first, is_later, IsLast, is_only, is_behind, IsBefore, is_now, is_then, Stands, as_whole, in_test, in_first, in_second, in_block, in_last, in_bound, in_let, in_start, in_loop, in_recur, in_operation, in_call, in_vector, in_line, in_transaction, in_looked, in_filled, in_value, in_updated, in_further, in_agent, in_sent, IsForm, it_looks, it_puts, it_updates, it_sends, HasApplied, in_update, in_action, callee_takes, HasFault, recurs_nowhere, recurs_before_end, recurs_across, recurs_with_others, operates_on_others, calls_with_others, applies_to_others, applies_impurely, calls_outside, sends_inside, stands_outside, calls_inside, stands_inside, prints_inside, FaultIn, IsBody, body_first, body_later, IsValidator, ValidatorFault, validates_others, validates_impurely, FaultOfValidator}
 use Rattle.txs_check.specs.declared.error.CheckError.{CheckError}
 use Rattle.txs_check.specs.declared.error.CheckErrorKind.{CheckErrorKind}
-use Rattle.txs_check.specs.declared.error.CheckErrorKind.TheVariants.{RecurNotTail, RecurCount, RecurAcrossDosync, Arity, NotPure, InsideOnly, OutsideOnly, CodeTooLarge}
+use Rattle.txs_check.specs.declared.error.CheckErrorKind.TheVariants.{RecurNotTail, RecurCount, Arity, NotPure, InsideOnly, OutsideOnly}
 use Rattle.txs_check.specs.declared.place.Target.{Target}
 use Rattle.txs_check.specs.declared.place.Target.TheVariants.{Nowhere, Across, Nearest}
 use Rattle.txs_check.specs.declared.place.Zone.{Zone}
 use Rattle.txs_check.specs.declared.place.Zone.TheVariants.{InFunction, InFuture, InDosync}
-use Rattle.txs_check.specs.Refused.{Checked, fine, ◌>>◌, only, inner, across, recurs, operates, accepts, zoned, calls, called, sent, sent_zoned, placed, formed, applied, here, place_of, turned_in, in_turn, checked, checked_all, checked_do, Body, in_order, Validator, validators_in, validates, Checkable, of_body, of_validator, earlier, together, checked_one, checked_each, room, few, refusal, CheckStops}
+use Rattle.txs_check.specs.Refused.{Checked, fine, ◌>>◌, only, inner, across, recurs, accepts, zoned, called, sent, sent_zoned, placed, formed, here, place_of, turned_in, in_turn, checked, checked_all, checked_do, Body, in_order, Validator, validators_in, validates, Checkable, of_body, of_validator, earlier, together, checked_one, checked_each, room, few, CheckStops}
 use Rattle.txs_theorem_language.proofs.Spreads.{InTurn, Spreads, SpreadRow, spreads_order, row_order}
 
 -- ---- one form

@@ -71,10 +71,6 @@ callee_is room scope wanted f (leaf (symbol name) there) c = by (meaning name sc
     by (operation op) is = λ args at isnt. of_operation name there op args at is isnt
     by unknown is = calls_unknown name there f c is
 
-callee_refused : (room : ℕ) (scope : Scope) (f head : Form) (a : Answer Callee) → CalleeIs room scope f head a → IfErr (λ e. HasFault room scope e.kind e.at f) a
-callee_refused room scope f head (Ok c) h = tt
-callee_refused room scope f head (Err e) h = h
-
 -- ---- what a form is, once it is expanded
 
 -- the faults that putting together a special form may find itself are those of this form

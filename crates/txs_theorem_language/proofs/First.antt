@@ -1,5 +1,5 @@
 -- The refusal of a script's program is the first in its text.
-use Rattle.std.proofs.Common.{◌≡◌, ℕ, ◌≤◌, List, length}
+use Rattle.std.proofs.Common.{ℕ, ◌≤◌, List, length}
 use Rattle.txs_reader.specs.Script.{Reads}
 use Rattle.txs_reader.specs.Tree.{PlainForm as Form}
 use Rattle.txs_tree_meaning.specs.Known.{known}

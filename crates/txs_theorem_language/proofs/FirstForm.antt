@@ -1,7 +1,6 @@
 -- The resolution of names stops at the first form that is refused.
 use Rattle.std.proofs.Common.{◌≡◌, List, [], ◌∷◌, ◌++◌, Ok, Err, refl, sym, ap, subst, ◌∙◌}
 use Rattle.txs_reader.specs.Tree.{PlainForm as Form}
-use Rattle.txs_tree_meaning.specs.Tree.{PlainProgram}
 use Rattle.txs_resolve_expand.specs.declared.error.ResolveError.{ResolveError}
 use Rattle.txs_resolve_expand.specs.Answers.{◌>>=◌}
 use Rattle.txs_resolve_expand.specs.Expressions.{Answer}

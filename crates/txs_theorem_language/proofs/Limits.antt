@@ -1,25 +1,20 @@
 -- What the limit of levels refuses, and what it lets through.
-use Rattle.std.proofs.Common.{◌≡◌, ℕ, zero, suc, ◌+◌, ◌<◌, ◌≤◌, max, Bool, true, false, ◌||◌, bytes_eq, nat_lt, List, [], ◌∷◌, Option, Some, None, Ok, Err, refl, sym, ap, subst, ◌∙◌, arith, if◌then◌else◌}
-use Rattle.std.proofs.Math.Nat.{le-max_left, le-max_right, max-le}
+use Rattle.std.proofs.Common.{◌≡◌, ℕ, zero, suc, ◌+◌, ◌<◌, ◌≤◌, max, Bool, true, false, ◌||◌, bytes_eq, nat_lt, List, [], ◌∷◌, Option, Some, None, Ok, Err, refl, sym, subst, arith, if◌then◌else◌}
+use Rattle.std.proofs.Math.Nat.{le-max_left, le-max_right}
 use Rattle.std.proofs.lemmas.Bool.Decides.{nat_tests}
-use Rattle.std.specs.List.{list_any}
-use Rattle.txs_value_base.specs.Operations.{op_name}
 use Rattle.txs_value_base.specs.declared.fault.Span.{Span}
-use Rattle.txs_value_cell.specs.declared.form.CellForm.{CellForm}
-use Rattle.txs_value_cell.specs.declared.form.CellForm.TheVariants as on_cell
-use Rattle.txs_value_base.specs.declared.op.Op.{Op}
 use Rattle.txs_value_base.specs.declared.op.Callee.{Callee}
 use Rattle.txs_value_base.specs.declared.op.Callee.TheVariants.{Core as CoreOp, Function as TheFunction}
 use Rattle.txs_reader.specs.declared.form.Bracket.TheVariants.{Round, Square}
 use Rattle.txs_reader.specs.Tree.{Leaf, PlainForm as Form, PlainForms as Forms, leaf, group, first, place, number, symbol, nil, truth, text, keyword, parts}
 use Rattle.txs_reader.specs.Tree.{none as no_forms}
-use Rattle.txs_tree_meaning.specs.Tree.{Tree, Trees, Mark, Const, Local, If, Do, Let, Loop, Recur, Core, Call, VectorOf, Println, Dosync, Look, Put, Update, Send, none, more}
+use Rattle.txs_tree_meaning.specs.Tree.{Tree, Trees, Mark, Const, Local, If, Do, Let, Loop, Recur, Core, Call, VectorOf, Println, Dosync, Look, Put, Update, Send, more}
 use Rattle.txs_resolve_scope.specs.declared.names.FormName.{FormName}
-use Rattle.txs_resolve_scope.specs.declared.names.FormName.TheVariants as kind
 use Rattle.txs_resolve_scope.specs.declared.scope.Definition.{Definition}
 use Rattle.txs_resolve_scope.specs.declared.scope.Definition.TheVariants.{Constant, Cell as ACell, Function as AFunction}
-use Rattle.txs_resolve_scope.specs.Scope.{Entry, Scope, Meaning, a_form, dotted, a_local, the_current, defined_as, operation, unknown, definition_of, form_name, form_names, is_current, is_dot, local_number, meaning, operations, or_defined, or_form, or_local, or_unknown, with_local, with_name}
-use Rattle.txs_resolve_expand.specs.declared.error.ResolveErrorKind.TheVariants.{BadForm, TooMany}
+use Rattle.txs_resolve_scope.specs.Scope.{Entry, Scope, Meaning, a_form, dotted, a_local, the_current, defined_as, operation, unknown, definition_of, meaning, with_local}
+use Rattle.txs_resolve_scope.proofs.Meanings.{meaning_so}
+use Rattle.txs_resolve_expand.specs.declared.error.ResolveErrorKind.TheVariants.{TooMany}
 use Rattle.txs_resolve_expand.specs.declared.shapes.Change.{Change}
 use Rattle.txs_resolve_expand.specs.declared.shapes.Change.TheVariants as change_by
 use Rattle.txs_resolve_expand.specs.declared.shapes.Sequence.{Sequence}
@@ -30,7 +25,7 @@ use Rattle.txs_resolve_expand.specs.declared.shapes.Spot.{Spot}
 use Rattle.txs_resolve_expand.specs.Answers.{◌>>=◌, refuse}
 use Rattle.txs_resolve_body.specs.Depths.{at_place, callee_depth, depths, depths_in}
 use Rattle.txs_resolve_expand.specs.Expansions.{alone, body, expand_once, form_at}
-use Rattle.txs_resolve_expand.specs.Expressions.{Answer, Bound, Special, row, one_part, putting, choice, binding, changing, Core as ACore, whole, parted, Resolver, spot_at, spot_mark, some_room, in_room, narrow, symbol_node, leaf_node, callee_at, callee_of, flag, sequence_node, are_wanted, choice_node, single_node, is_wanted, change_node, binding_node, are_pairs, bound_in, cell_form, of_family, special, applied, list_core, core_of, bound_name, named_all, named_bindings, put_together, made, resolved, named}
+use Rattle.txs_resolve_expand.specs.Expressions.{Answer, Bound, Special, row, one_part, putting, choice, binding, changing, Core as ACore, whole, parted, Resolver, spot_at, spot_mark, some_room, narrow, symbol_node, leaf_node, callee_at, callee_of, flag, sequence_node, are_wanted, choice_node, single_node, is_wanted, change_node, binding_node, special, applied, list_core, core_of, bound_name, named_all, named_bindings, put_together, made, resolved, named}
 use Rattle.txs_theorem_language.specs.Levels.{IfGives, Limited, as_wider, too_many}
 use Rattle.txs_theorem_language.proofs.Levels.{special_same}
 
@@ -68,10 +63,6 @@ gives_narrow P n s x h = by (nat_lt 65535 n)
     by true = tt
     by false = h
 
-pub gives_room : {A : Type 0} (P : A → Type 0) (n : ℕ) (at : Span) (x : Answer A) → IfGives P x → IfGives P (some_room n (refuse TooMany at) x)
-gives_room P zero at x h = tt
-gives_room P (suc n) at x h = h
-
 -- ---- how deep nodes are
 
 deeper_left : (n a b : ℕ) → n < a → n < max a b
@@ -97,9 +88,6 @@ known_most n a b h e = omega (arith, h, e)
 
 up : (n a : ℕ) → n < a → suc n < suc a
 up n a h = omega (arith, h)
-
-pub up_most : (n a : ℕ) → a ≤ n → suc a ≤ suc n
-up_most n a h = omega (arith, h)
 
 module _ (ls : List ℕ) where
   some_depth : (t : Tree) → 0 < depths ls t
@@ -226,34 +214,7 @@ found_stands ls name (e ∷ es) h = by (bytes_eq e.name name) (found_stands ls n
     by false k = k
 
 pub meaning_stands : (ls : List ℕ) (name : List ℕ) (scope : Scope) → LevelsStand ls scope.defined → MeaningStands ls (meaning name scope)
-unfolding meaning
-meaning_stands ls name scope h =
-    form (with_name form_name name form_names) (if list_any is_dot name then dotted else or_local (local_number name scope) (if is_current name scope.current then the_current else or_defined (definition_of name scope.defined) (or_unknown (with_name op_name name operations))))
-    (dot (list_any is_dot name))
-  where
-    last : (o : Option Op) → MeaningStands ls (or_unknown o)
-    last None = tt
-    last (Some op) = tt
-
-    definition : (d : Option Definition) → FoundStands ls d → MeaningStands ls (or_defined d (or_unknown (with_name op_name name operations)))
-    definition None k = last (with_name op_name name operations)
-    definition (Some d) k = k
-
-    now : (y : Bool) → MeaningStands ls (if y then the_current else or_defined (definition_of name scope.defined) (or_unknown (with_name op_name name operations)))
-    now true = tt
-    now false = definition (definition_of name scope.defined) (found_stands ls name scope.defined h)
-
-    local : (i : Option ℕ) → MeaningStands ls (or_local i (if is_current name scope.current then the_current else or_defined (definition_of name scope.defined) (or_unknown (with_name op_name name operations))))
-    local (Some i) = tt
-    local None = now (is_current name scope.current)
-
-    dot : (y : Bool) → MeaningStands ls (if y then dotted else or_local (local_number name scope) (if is_current name scope.current then the_current else or_defined (definition_of name scope.defined) (or_unknown (with_name op_name name operations))))
-    dot true = tt
-    dot false = local (local_number name scope)
-
-    form : (o : Option FormName) (m : Meaning) → MeaningStands ls m → MeaningStands ls (or_form o m)
-    form None m k = k
-    form (Some f) m k = tt
+meaning_stands ls name scope h = meaning_so (MeaningStands ls) (λ f. tt) tt (λ op. tt) tt name scope (λ i e. tt) (λ e. tt) (λ d e. subst (FoundStands ls) e (found_stands ls name scope.defined h))
 
 module _ (ls : List ℕ) where
   -- ---- the parts of one form, with so many levels, and with one more

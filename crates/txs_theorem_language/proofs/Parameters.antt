@@ -1,18 +1,17 @@
 -- A function whose parameter is renamed is the same function, or is refused for the same reason.
-use Rattle.std.proofs.Common.{◌≡◌, ◌≢◌, ℕ, zero, suc, Bool, true, false, not, ◌&&◌, ◌||◌, nat_lt, List, [], ◌∷◌, length, Option, Some, None, Ok, Err, refl, sym, ap, subst, ◌∙◌, if◌then◌else◌}
+use Rattle.std.proofs.Common.{◌≡◌, ℕ, Bool, true, false, not, ◌&&◌, ◌||◌, nat_lt, List, [], ◌∷◌, length, Option, Some, None, Ok, Err, refl, sym, ap, subst, ◌∙◌, if◌then◌else◌}
 use Rattle.txs_value_data.specs.Limits.{most_definitions, most_levels}
 use Rattle.txs_value_base.specs.declared.fault.Span.{Span}
-use Rattle.txs_reader.specs.declared.form.Bracket.TheVariants.{Round, Square}
-use Rattle.txs_reader.specs.Tree.{PlainForm as Form, PlainForms as Forms, leaf, group, first, number, symbol, nil, truth, text, keyword}
+use Rattle.txs_reader.specs.Tree.{PlainForm as Form, PlainForms as Forms, leaf, first, symbol}
 use Rattle.txs_reader.specs.Tree.{none as no_forms}
 use Rattle.txs_tree_meaning.specs.Tree.{Tree}
-use Rattle.txs_resolve_scope.specs.Scope.{Entry, Scope, may_bind, meaning, with_local}
+use Rattle.txs_resolve_scope.specs.Scope.{Entry, Scope, may_bind}
 use Rattle.txs_resolve_expand.specs.declared.error.ResolveErrorKind.TheVariants.{BadForm, TooMany}
 use Rattle.txs_resolve_expand.specs.Answers.{◌>>=◌, refuse}
 use Rattle.txs_resolve_expand.specs.Expansions.{body}
 use Rattle.txs_resolve_expand.specs.Expressions.{Answer, is_symbol, named}
 use Rattle.txs_resolve.specs.Names.{State, step, parameter, parameters, are_symbols, Written, function, new_name, with_function}
-use Rattle.txs_theorem_language.specs.Renaming.{is_named, renamed, all_renamed, AllLack, Lacks, MayRename, joined, has_parameter, About, function_form}
+use Rattle.txs_theorem_language.specs.Renaming.{is_named, all_renamed, AllLack, Lacks, MayRename, joined, has_parameter, About, function_form}
 use Rattle.txs_theorem_language.proofs.Renamed.{body_stays}
 use Rattle.txs_theorem_language.proofs.Renaming.{bind_same, turned, Matches, matches_behind, matches_here, named_fit, body_lacks}
 

@@ -1,16 +1,16 @@
 -- The forms of a text stand in it one behind the other, and so do the parts of each.
-use Rattle.std.proofs.Common.{◌≡◌, ℕ, suc, ◌+◌, ◌-◌, ◌<◌, ◌≤◌, Bool, true, false, ◌&&◌, Some, None, List, [], ◌∷◌, ◌++◌, length, inl, inr, refl, sym, ap, subst, ◌∙◌, append_assoc, arith, if◌then◌else◌}
-use Rattle.std.proofs.lemmas.Bool.{cases_Bool, false≢true}
+use Rattle.std.proofs.Common.{◌≡◌, ℕ, ◌+◌, ◌-◌, ◌<◌, ◌≤◌, Bool, true, false, ◌&&◌, Some, None, List, [], ◌∷◌, ◌++◌, length, refl, sym, ap, subst, ◌∙◌, append_assoc, arith, if◌then◌else◌}
+use Rattle.std.proofs.lemmas.Bool.{false≢true}
 use Rattle.std.proofs.lemmas.Bool.Decides.{nat_tests}
 use Rattle.std.proofs.lemmas.List.{append-nil}
 use Rattle.std.specs.List.{flat_map}
 use Rattle.std.specs.Prelude.{bytes_eq, ◌==◌, drop}
 use Rattle.txs_value_base.specs.declared.fault.Span.{Span}
 use Rattle.txs_reader.specs.declared.form.Bracket.{Bracket}
-use Rattle.txs_reader.specs.declared.form.Bracket.TheVariants.{Round, Square}
-use Rattle.txs_reader.specs.Tree.{Leaf, symbol, PlainForm as Form, PlainForms as Forms, leaf, group, first, place, trees_of, deref}
+use Rattle.txs_reader.specs.declared.form.Bracket.TheVariants.{Round}
+use Rattle.txs_reader.specs.Tree.{symbol, PlainForm as Form, PlainForms as Forms, leaf, group, first, place, trees_of, deref}
 use Rattle.txs_reader.specs.Tree.{none as no_forms}
-use Rattle.txs_reader.specs.Script.{Piece, White, Comment, Opening, Closing, Quoted, Word, written, IsPiece, Splits, opens, closes, stands_for, Token, between, token, tokens, spelled, spelled_within, is_sugar, Holds, Reads}
+use Rattle.txs_reader.specs.Script.{Piece, White, Comment, Opening, Closing, Quoted, Word, written, IsPiece, Splits, opens, closes, Token, between, token, tokens, spelled, spelled_within, is_sugar, Reads}
 use Rattle.txs_theorem_language.specs.TextOrder.{Nests, NestIn}
 
 -- tokens with bytes of their own stand one behind the other, from this offset up to that one
@@ -141,9 +141,6 @@ mutual
 spelled_all : (fs : List Form) → flat_map spelled fs ≡ spelled_within (trees_of fs)
 spelled_all [] = refl
 spelled_all (f ∷ fs) = ap (λ l. spelled f ++ l) (spelled_all fs)
-
-laid_to : (from to : ℕ) → Laid from to [] → from ≤ to
-laid_to from to h = h
 
 pub forms_nest : (bytes : List ℕ) (forms : List Form) → Reads bytes forms → NestIn 0 (length bytes) (trees_of forms)
 forms_nest bytes forms h =

@@ -1,31 +1,30 @@
 -- A form with a renamed local has the same tree, or the same refusal.
-use Rattle.std.proofs.Common.{◌≡◌, ◌≢◌, ℕ, zero, suc, Bool, true, false, not, ◌&&◌, ◌||◌, bytes_eq, nat_lt, List, [], ◌∷◌, length, Option, Some, None, Ok, Err, refl, sym, ap, subst, ◌∙◌, if◌then◌else◌}
+use Rattle.std.proofs.Common.{◌≡◌, ◌≢◌, ℕ, zero, suc, Bool, true, false, not, ◌&&◌, ◌||◌, bytes_eq, nat_lt, List, length, Option, Some, None, Ok, Err, refl, sym, ap, subst, ◌∙◌, if◌then◌else◌}
 use Rattle.std.proofs.lemmas.Slice.Eq.{bytes_eq-Decides}
 use Rattle.std.specs.List.{list_any}
 use Rattle.txs_value_base.specs.declared.fault.Span.{Span}
-use Rattle.txs_value_base.specs.declared.op.Op.{Op}
 use Rattle.txs_value_base.specs.declared.op.Callee.{Callee}
 use Rattle.txs_value_base.specs.declared.op.Callee.TheVariants.{Core as CoreOp, Function as TheFunction}
 use Rattle.txs_value_cell.specs.declared.form.CellForm.{CellForm}
 use Rattle.txs_value_cell.specs.declared.form.CellForm.TheVariants as on_cell
 use Rattle.txs_reader.specs.declared.form.Bracket.TheVariants.{Round, Square}
-use Rattle.txs_reader.specs.Tree.{Leaf, PlainForm as Form, PlainForms as Forms, leaf, group, first, place, number, symbol, nil, truth, text, keyword, parts}
+use Rattle.txs_reader.specs.Tree.{Leaf, PlainForm as Form, PlainForms as Forms, leaf, group, first, place, symbol, parts}
 use Rattle.txs_reader.specs.Tree.{none as no_forms}
-use Rattle.txs_tree_meaning.specs.Tree.{Tree, Trees, Put, more}
+use Rattle.txs_tree_meaning.specs.Tree.{Tree, Put, more}
 use Rattle.txs_resolve_scope.specs.declared.names.FormName.{FormName}
 use Rattle.txs_resolve_scope.specs.declared.names.FormName.TheVariants as kind
-use Rattle.txs_resolve_scope.specs.Scope.{Scope, Meaning, a_local, dotted, form_name, form_names, is_dot, local_number, may_bind, meaning, or_form, with_local, with_name}
-use Rattle.txs_resolve_expand.specs.declared.error.ResolveError.{ResolveError}
-use Rattle.txs_resolve_expand.specs.declared.error.ResolveErrorKind.TheVariants.{BadForm, TooMany, NotCallable}
+use Rattle.txs_value_base.specs.Places.{with_name}
+use Rattle.txs_resolve_scope.specs.Scope.{Scope, a_local, dotted, form_name, form_names, is_dot, local_number, may_bind, meaning, or_form, with_local}
+use Rattle.txs_resolve_expand.specs.declared.error.ResolveErrorKind.TheVariants.{BadForm, TooMany}
 use Rattle.txs_resolve_expand.specs.declared.shapes.Sequence.TheVariants as sequence
 use Rattle.txs_resolve_expand.specs.declared.shapes.Single.TheVariants as single
 use Rattle.txs_resolve_expand.specs.declared.shapes.Spot.{Spot}
 use Rattle.txs_resolve_expand.specs.Answers.{◌>>=◌, refuse}
-use Rattle.txs_resolve_expand.specs.Expansions.{alone, body, expand_once, form_at, list}
-use Rattle.txs_resolve_expand.specs.Expressions.{Answer, Bound, Special, row, one_part, putting, choice, binding, changing, Core as ACore, whole, parted, Resolver, spot_at, spot_mark, some_room, in_room, narrow, symbol_node, leaf_node, callee_at, callee_of, flag, sequence_node, are_wanted, choice_node, single_node, is_wanted, change_node, binding_node, are_pairs, is_symbol, bound_in, cell_form, of_family, special, is_chain, all_but_last, last_of, operands, applied, list_core, core_of, bound_name, named_all, named_bindings, put_together, made, resolved, named}
-use Rattle.txs_theorem_language.specs.Renaming.{name_renamed, leaf_renamed, is_named, binds, hides, is_binding, binds_names, renamed, all_renamed, scope_renamed, vector_renamed, pairs_renamed, LeafLacks, Lacks, AllLack, MayRename, joined, binding_form}
-use Rattle.txs_theorem_language.proofs.Names.{IsTrue, and_first, and_second, equal, differs, with_number, by_number, bound_name_is, others_stay}
-use Rattle.txs_theorem_language.proofs.Renamed.{no_form, no_keyword, form_at_same, place_same, parts_same, flag_same, are_pairs_same, args_renamed, list_stays, body_stays, expanded, alone_renamed, all_but_last_renamed, last_renamed, lacks_alone, lacks_expanded}
+use Rattle.txs_resolve_expand.specs.Expansions.{alone, body, expand_once, form_at}
+use Rattle.txs_resolve_expand.specs.Expressions.{Answer, Bound, Special, row, one_part, putting, choice, binding, changing, Core as ACore, whole, parted, Resolver, spot_at, spot_mark, some_room, in_room, narrow, symbol_node, leaf_node, callee_at, callee_of, flag, sequence_node, are_wanted, choice_node, single_node, is_wanted, change_node, binding_node, are_pairs, is_symbol, bound_in, cell_form, of_family, special, is_chain, all_but_last, last_of, applied, list_core, core_of, bound_name, named_all, named_bindings, put_together, made, resolved, named}
+use Rattle.txs_theorem_language.specs.Renaming.{name_renamed, leaf_renamed, is_named, binds, is_binding, renamed, all_renamed, scope_renamed, pairs_renamed, LeafLacks, Lacks, AllLack, MayRename, joined, binding_form}
+use Rattle.txs_theorem_language.proofs.Names.{IsTrue, and_second, equal, differs, with_number, by_number, bound_name_is, others_stay}
+use Rattle.txs_theorem_language.proofs.Renamed.{no_keyword, form_at_same, place_same, parts_same, flag_same, are_pairs_same, args_renamed, body_stays, expanded, alone_renamed, all_but_last_renamed, last_renamed, lacks_alone, lacks_expanded}
 
 -- ---- answers
 

@@ -1,6 +1,6 @@
 -- Where the parts of a special form stand, once a form is expanded.
-use Rattle.std.proofs.Common.{◌≡◌, ℕ, zero, suc, ◌+◌, ◌<◌, ◌≤◌, ◌⊎◌, inl, inr, Bool, true, false, ◌&&◌, nat_lt, List, [], ◌∷◌, Option, Some, None, Ok, Err, refl, sym, ap, subst, ◌∙◌, arith, if◌then◌else◌}
-use Rattle.std.proofs.lemmas.Bool.{cases_Bool, false≢true}
+use Rattle.std.proofs.Common.{◌≡◌, ℕ, zero, suc, ◌<◌, ◌≤◌, ◌⊎◌, inl, inr, Bool, true, false, ◌&&◌, nat_lt, Option, Some, None, Ok, Err, refl, sym, ap, subst, ◌∙◌, arith, if◌then◌else◌}
+use Rattle.std.proofs.lemmas.Bool.{false≢true}
 use Rattle.txs_value_base.specs.declared.fault.Span.{Span}
 use Rattle.txs_value_cell.specs.declared.form.CellForm.{CellForm}
 use Rattle.txs_value_cell.specs.declared.form.CellForm.TheVariants as on_cell
@@ -8,23 +8,21 @@ use Rattle.txs_value_base.specs.declared.op.Op.{Op}
 use Rattle.txs_value_base.specs.declared.op.Callee.{Callee}
 use Rattle.txs_value_base.specs.declared.op.Callee.TheVariants.{Core as CoreOp, Function as TheFunction}
 use Rattle.txs_reader.specs.declared.form.Bracket.TheVariants.{Round, Square}
-use Rattle.txs_reader.specs.Tree.{Leaf, PlainForm as Form, PlainForms as Forms, leaf, group, first, place, number, symbol, nil, truth, text, keyword, parts}
+use Rattle.txs_reader.specs.Tree.{PlainForm as Form, PlainForms as Forms, leaf, group, first, place, number, symbol, nil, truth, text, keyword, parts}
 use Rattle.txs_reader.specs.Tree.{none as no_forms}
 use Rattle.txs_resolve_scope.specs.declared.names.FormName.{FormName}
 use Rattle.txs_resolve_scope.specs.declared.names.FormName.TheVariants as kind
 use Rattle.txs_resolve_scope.specs.declared.scope.Definition.TheVariants.{Constant, Cell as ACell, Function as AFunction}
 use Rattle.txs_resolve_scope.specs.Scope.{Scope, Meaning, a_form, dotted, a_local, the_current, defined_as, operation, unknown, meaning}
-use Rattle.txs_resolve_expand.specs.declared.error.ResolveError.{ResolveError}
-use Rattle.txs_resolve_expand.specs.declared.error.ResolveErrorKind.{ResolveErrorKind}
 use Rattle.txs_resolve_expand.specs.declared.error.ResolveErrorKind.TheVariants.{BadForm, TooMany}
 use Rattle.txs_resolve_expand.specs.declared.shapes.Sequence.{Sequence}
 use Rattle.txs_resolve_expand.specs.declared.shapes.Sequence.TheVariants as sequence
 use Rattle.txs_resolve_expand.specs.declared.shapes.Spot.{Spot}
 use Rattle.txs_resolve_expand.specs.Answers.{◌>>=◌, refuse}
-use Rattle.txs_resolve_expand.specs.Expansions.{alone, body, expand_once, expansion, expansion_by, form_at, hidden, is_even, list, or_same, three}
-use Rattle.txs_resolve_expand.specs.Expressions.{Answer, Special, row, one_part, putting, choice, binding, changing, Core as ACore, whole, parted, some_room, in_room, callee_at, callee_of, are_pairs, bound_in, cell_form, of_family, special, folds, is_chain, all_but_last, last_of, operands, applied, list_core, core_of}
+use Rattle.txs_resolve_expand.specs.Expansions.{alone, body, expand_once, expansion, expansion_by, form_at, hidden, is_even, list, or_same}
+use Rattle.txs_resolve_expand.specs.Expressions.{Answer, Special, row, one_part, putting, choice, binding, changing, Core as ACore, whole, parted, some_room, callee_at, callee_of, are_pairs, cell_form, of_family, special, folds, is_chain, all_but_last, last_of, applied, list_core, core_of}
 use Rattle.txs_theorem_language.specs.TextOrder.{Nests, NestIn}
-use Rattle.txs_theorem_language.proofs.Windows.{nests_on, nest_ends, nest_wider, alone_written, Frame, Made, made_nil, made_hidden, made_body, made_and, made_or, made_cond, chosen_and, chosen_or, body_and, body_or, Front, Lies, is_written, is_made, is_front, LieRow, written_row, lies_from}
+use Rattle.txs_theorem_language.proofs.Windows.{nests_on, nest_ends, nest_wider, alone_written, Frame, Made, made_nil, made_hidden, made_body, made_and, made_or, made_cond, chosen_and, chosen_or, body_and, body_or, Front, Lies, is_written, is_made, is_front, LieRow, written_row}
 
 -- names and values in turn, in a stretch
 abbrev pub LiePairs : Span → ℕ → ℕ → Forms → Type 0

@@ -1,21 +1,14 @@
 -- The forms of a resolved tree that a check may refuse begin one behind the other, in the order in which they are checked.
-use Rattle.std.proofs.Common.{◌≡◌, ℕ, zero, suc, ◌+◌, ◌<◌, ◌≤◌, ◌⊎◌, inl, inr, Bool, true, false, ◌&&◌, ◌||◌, nat_lt, List, [], ◌∷◌, length, Option, Some, None, Ok, Err, refl, sym, ap, subst, ◌∙◌, arith, if◌then◌else◌}
-use Rattle.std.proofs.lemmas.Bool.{cases_Bool, false≢true}
+use Rattle.std.proofs.Common.{◌≡◌, ℕ, zero, suc, ◌<◌, ◌≤◌, ◌⊎◌, inl, inr, Bool, true, false, ◌&&◌, ◌||◌, nat_lt, List, length, Ok, Err, refl, sym, ap, subst, ◌∙◌, arith, if◌then◌else◌}
 use Rattle.std.proofs.lemmas.Bool.Decides.{nat_tests}
 use Rattle.txs_value_base.specs.declared.fault.Span.{Span}
-use Rattle.txs_value_base.specs.declared.op.Op.{Op}
 use Rattle.txs_value_base.specs.declared.op.Callee.{Callee}
-use Rattle.txs_value_base.specs.declared.op.Callee.TheVariants.{Core as CoreOp, Function as TheFunction}
-use Rattle.txs_reader.specs.declared.form.Bracket.TheVariants.{Round, Square}
+use Rattle.txs_reader.specs.declared.form.Bracket.TheVariants.{Round}
 use Rattle.txs_reader.specs.Tree.{Leaf, PlainForm as Form, PlainForms as Forms, leaf, group, first, place, number, symbol, nil, truth, text, keyword, parts}
 use Rattle.txs_reader.specs.Tree.{none as no_forms}
-use Rattle.txs_tree_meaning.specs.Tree.{Tree, Trees, Mark, Const, Local, If, Do, Let, Loop, Recur, Core, Call, VectorOf, Println, Dosync, Look, Put, Update, Send, none, more}
-use Rattle.txs_resolve_scope.specs.declared.names.FormName.{FormName}
-use Rattle.txs_resolve_scope.specs.declared.names.FormName.TheVariants as kind
+use Rattle.txs_tree_meaning.specs.Tree.{Tree, Trees, Const, Local, If, Do, Let, Loop, Recur, Core, Call, VectorOf, Println, Dosync, Look, Put, Update, Send, none, more}
 use Rattle.txs_resolve_scope.specs.declared.scope.Definition.TheVariants.{Constant, Cell as ACell, Function as AFunction}
 use Rattle.txs_resolve_scope.specs.Scope.{Scope, Meaning, a_form, dotted, a_local, the_current, defined_as, operation, unknown, meaning, may_bind, with_local}
-use Rattle.txs_resolve_expand.specs.declared.error.ResolveError.{ResolveError}
-use Rattle.txs_resolve_expand.specs.declared.error.ResolveErrorKind.{ResolveErrorKind}
 use Rattle.txs_resolve_expand.specs.declared.error.ResolveErrorKind.TheVariants.{BadForm, TooMany}
 use Rattle.txs_resolve_expand.specs.declared.shapes.Change.TheVariants as change_by
 use Rattle.txs_resolve_expand.specs.declared.shapes.Change.{Change}
@@ -28,8 +21,8 @@ use Rattle.txs_resolve_expand.specs.Answers.{◌>>=◌, refuse}
 use Rattle.txs_resolve_expand.specs.Expansions.{alone, expand_once}
 use Rattle.txs_resolve_expand.specs.Expressions.{Answer, Bound, Special, row, one_part, putting, choice, binding, changing, Core as ACore, whole, parted, Resolver, spot_at, spot_mark, some_room, in_room, narrow, symbol_node, leaf_value, leaf_node, callee_of, flag, sequence_node, are_wanted, choice_node, single_node, is_wanted, change_node, binding_node, core_of, bound_name, named_all, named_bindings, put_together, made, resolved, named}
 use Rattle.txs_check.specs.Refused.{place_of, turned, turned_in}
-use Rattle.txs_theorem_language.proofs.Windows.{nests_on, nest_ends, Frame, Made, made_nil, made_hidden, made_body, made_and, made_or, made_cond, chosen_and, chosen_or, body_and, body_or, Lies, LieRow, is_written, is_made, is_front, lies_alone, lies_order}
-use Rattle.txs_theorem_language.proofs.Shapes.{LiePairs, IsStraight, Turned, Halved, LieBranches, RowLies, Fits, Fit, EndsBefore, callee_of_before, written_fits, made_fits, front_fits}
+use Rattle.txs_theorem_language.proofs.Windows.{nests_on, nest_ends, Made, made_nil, made_hidden, made_body, made_and, made_or, made_cond, chosen_and, chosen_or, body_and, body_or, Lies, LieRow, is_written, is_made, is_front, lies_alone, lies_order}
+use Rattle.txs_theorem_language.proofs.Shapes.{LiePairs, IsStraight, LieBranches, RowLies, Fits, Fit, EndsBefore, callee_of_before, written_fits, made_fits, front_fits}
 
 -- ---- trees
 

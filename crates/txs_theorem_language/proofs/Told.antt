@@ -1,12 +1,9 @@
 -- What ends before a refusal was resolved.
-use Rattle.std.proofs.Common.{◌≡◌, ℕ, zero, suc, ◌+◌, ◌<◌, ◌≤◌, ◌⊎◌, inl, inr, Bool, true, false, ◌&&◌, ◌||◌, nat_lt, List, Option, Some, None, Ok, Err, refl, sym, ap, subst, ◌∙◌, arith, if◌then◌else◌}
+use Rattle.std.proofs.Common.{◌≡◌, ℕ, suc, ◌<◌, ◌≤◌, ◌⊎◌, inl, inr, Bool, true, false, ◌||◌, nat_lt, Ok, Err, refl, sym, ap, subst, arith, if◌then◌else◌}
 use Rattle.txs_value_base.specs.declared.fault.Span.{Span}
-use Rattle.txs_value_cell.specs.declared.form.PutForm.{PutForm}
-use Rattle.txs_value_base.specs.declared.op.Callee.{Callee}
-use Rattle.txs_reader.specs.declared.form.Bracket.TheVariants.{Round, Square}
+use Rattle.txs_reader.specs.declared.form.Bracket.TheVariants.{Round}
 use Rattle.txs_reader.specs.Tree.{PlainForm as Form, PlainForms as Forms, leaf, group, first, place, nil, parts}
-use Rattle.txs_reader.specs.Tree.{none as no_forms}
-use Rattle.txs_tree_meaning.specs.Tree.{Tree, Trees, Put, more}
+use Rattle.txs_tree_meaning.specs.Tree.{Tree, Put, more}
 use Rattle.txs_resolve_scope.specs.Scope.{Scope, with_local}
 use Rattle.txs_resolve_expand.specs.declared.error.ResolveError.{ResolveError}
 use Rattle.txs_resolve_expand.specs.declared.error.ResolveErrorKind.TheVariants.{TooMany}
@@ -15,12 +12,12 @@ use Rattle.txs_resolve_expand.specs.declared.shapes.Sequence.TheVariants as sequ
 use Rattle.txs_resolve_expand.specs.declared.shapes.Spot.{Spot}
 use Rattle.txs_resolve_expand.specs.Answers.{◌>>=◌, refuse}
 use Rattle.txs_resolve_expand.specs.Expansions.{alone, body, expand_once}
-use Rattle.txs_resolve_expand.specs.Expressions.{Answer, Bound, Special, row, one_part, putting, choice, binding, changing, Core as ACore, whole, parted, Resolver, spot_at, spot_mark, bound_name, callee_of, flag, sequence_node, are_wanted, choice_node, single_node, is_wanted, change_node, binding_node, core_of, named_all, named_bindings, narrow, put_together, made, resolved, named}
+use Rattle.txs_resolve_expand.specs.Expressions.{Answer, Bound, Special, Core as ACore, whole, parted, Resolver, spot_at, spot_mark, bound_name, callee_of, flag, sequence_node, are_wanted, choice_node, single_node, is_wanted, change_node, binding_node, core_of, named_all, named_bindings, narrow, put_together, made, named}
 use Rattle.txs_theorem_language.specs.TextOrder.{Nests, NestIn}
 use Rattle.txs_theorem_language.specs.Standing.{IsOne, one_now, one_later, IsValue, value_now, value_later, IsBehind, behind_none, behind_one, IsPart, in_row, in_one, in_filled, in_value, in_test, in_first, in_second, in_bound, in_body, in_cell, in_argument, StandsIn, is_whole, in_part, HasTree}
-use Rattle.txs_theorem_language.proofs.Windows.{nests_on, nest_ends, Frame, Made, made_nil, made_body, Front, Lies, LieRow, is_written, is_made, is_front, lies_alone, lies_from, lies_order}
-use Rattle.txs_theorem_language.proofs.Shapes.{LiePairs, Turned, Halved, LieBranches, RowLies, Fits, Fit, EndsBefore, callee_of_before, written_fits, made_fits, front_fits}
-use Rattle.txs_theorem_language.proofs.Spreads.{Good, GoodRow, GoodBound, Sees, all_good, bindings_good, row_ends, pairs_end, named_sees, made_at}
+use Rattle.txs_theorem_language.proofs.Windows.{nests_on, nest_ends, made_nil, made_body, Front, Lies, LieRow, is_written, is_made, is_front, lies_alone, lies_from, lies_order}
+use Rattle.txs_theorem_language.proofs.Shapes.{LiePairs, LieBranches, RowLies, Fits, Fit, EndsBefore, callee_of_before, written_fits, made_fits, front_fits}
+use Rattle.txs_theorem_language.proofs.Spreads.{Good, GoodBound, Sees, bindings_good, pairs_end, named_sees, made_at}
 
 -- where a refusal begins no earlier than here, this holds
 abbrev Told : {A : Type 0} → Answer A → ℕ → Type 0 → Type 0
@@ -42,10 +39,6 @@ told_later n m G (Err e) f before le h = λ ge. absurd (omega (arith, before, le
 good_before : (lo hi : ℕ) (a : Answer Tree) → Good lo hi a → EndsBefore hi a
 good_before lo hi (Ok t) h = tt
 good_before lo hi (Err e) h = h
-
-row_before : (lo hi : ℕ) (a : Answer Trees) → GoodRow lo hi a → EndsBefore hi a
-row_before lo hi (Ok t) h = tt
-row_before lo hi (Err e) h = h
 
 bound_before : (lo hi : ℕ) (a : Answer Bound) → GoodBound lo hi a → EndsBefore hi a
 bound_before lo hi (Ok t) h = tt
@@ -132,12 +125,6 @@ record InOrder (at : Span) (lo hi : ℕ) (a b : Form) : Type 0 where
   mid : ℕ
   one : Lies at lo mid a
   other : Lies at mid hi b
-
-in_order_of : (turn : Bool) (at : Span) (lo hi : ℕ) (a b : Form) → hi ≤ at.to → at.from < lo → LieBranches turn at lo hi a b → InOrder at lo hi a b
-in_order_of false at lo hi a b ends begins h = record { mid = h.0; one = h.1; other = h.2 }
-in_order_of true at lo hi a b ends begins (inl h) = record { mid = h.mid; one = h.one; other = h.other }
-in_order_of true at lo hi a b ends begins (inr h) =
-    record { mid = hi; one = h.one; other = subst (Lies at hi hi) (sym h.is) (is_made (leaf nil at) (record { begins = omega (arith, begins, lies_order at lo hi a h.one); order = omega arith; ends = ends }) made_nil) }
 
 module _ (by : Resolver) (sees : Sees by) (s : Spot) (n : ℕ) (G : Type 0) (late : s.span.from < n) where
   put_told : (scope inner : Scope) (form : Special) (p : Form) → IsPart p inner scope form → (lo hi : ℕ) → s.span.from ≤ lo → hi ≤ s.span.to → Fits s.span lo hi form

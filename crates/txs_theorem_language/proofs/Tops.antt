@@ -1,37 +1,34 @@
 -- The refusal of a script's names is that of its first form with a fault.
-use Rattle.std.proofs.Common.{◌≡◌, ℕ, zero, suc, ◌+◌, ◌-◌, ◌<◌, ◌≤◌, ◌==◌, Bool, true, false, ◌&&◌, ◌||◌, nat_lt, List, [], ◌∷◌, length, Option, Some, None, Ok, Err, refl, sym, ap, subst, ◌∙◌, arith, if◌then◌else◌}
+use Rattle.std.proofs.Common.{◌≡◌, ℕ, suc, ◌+◌, ◌-◌, ◌<◌, ◌≤◌, ◌==◌, Bool, true, false, ◌||◌, nat_lt, List, [], ◌∷◌, length, Option, Some, None, Ok, Err, refl, sym, ap, subst, ◌∙◌, arith, if◌then◌else◌}
 use Rattle.std.proofs.lemmas.Bool.{false≢true}
 use Rattle.std.proofs.lemmas.Bool.Decides.{nat_tests}
-use Rattle.txs_value_data.specs.Limits.{most_depth, most_items, most_levels, most_parameters}
+use Rattle.txs_value_data.specs.Limits.{most_depth, most_levels, most_parameters}
 use Rattle.txs_value_base.specs.declared.fault.Span.{Span}
 use Rattle.txs_value_data.specs.declared.value.Value.{Value}
 use Rattle.txs_value_data.specs.declared.value.Value.TheVariants.{Vector}
 use Rattle.txs_value_data.specs.declared.value.CellKind.{CellKind}
-use Rattle.txs_value_base.specs.Operations.{op_name}
-use Rattle.txs_value_base.specs.declared.op.Op.{Op}
 use Rattle.txs_value_base.specs.declared.op.Callee.{Callee}
 use Rattle.txs_value_base.specs.declared.op.Callee.TheVariants.{Function as TheFunction}
 use Rattle.txs_value_data.specs.View.{plains_of}
 use Rattle.txs_reader.specs.declared.form.Bracket.TheVariants.{Round, Square}
-use Rattle.txs_reader.specs.Tree.{PlainForm as Form, PlainForms as Forms, leaf, group, first, place, number, symbol, nil, truth, text, keyword, parts}
+use Rattle.txs_reader.specs.Tree.{PlainForm as Form, PlainForms as Forms, leaf, group, first, number, symbol, nil, truth, text, keyword, parts}
 use Rattle.txs_reader.specs.Tree.{none as no_forms}
 use Rattle.txs_tree_meaning.specs.Tree.{Tree}
 use Rattle.txs_resolve_scope.specs.declared.names.FormName.{FormName}
 use Rattle.txs_resolve_scope.specs.declared.names.FormName.TheVariants as kind
-use Rattle.txs_resolve_scope.specs.declared.scope.Definition.{Definition}
 use Rattle.txs_resolve_scope.specs.declared.scope.Definition.TheVariants.{Constant, Cell as ACell, Function as AFunction}
-use Rattle.std.specs.List.{list_any}
-use Rattle.txs_resolve_scope.specs.Scope.{Entry, Meaning, a_form, dotted, a_local, the_current, defined_as, operation, unknown, definition_of, form_name, form_names, is_dot, may_bind, meaning, operations, or_defined, or_form, or_unknown, with_name}
+use Rattle.txs_resolve_scope.specs.Scope.{Entry, Meaning, a_form, dotted, a_local, the_current, defined_as, operation, unknown, may_bind, meaning}
+use Rattle.txs_resolve_scope.proofs.Meanings.{meaning_so}
 use Rattle.txs_resolve.specs.declared.definition.CellSort.{CellSort}
 use Rattle.txs_resolve_expand.specs.declared.error.ResolveError.{ResolveError}
 use Rattle.txs_resolve_expand.specs.declared.error.ResolveErrorKind.TheVariants.{BadForm, Redefined, TooMany}
 use Rattle.txs_resolve_expand.specs.Answers.{◌>>=◌, refuse}
 use Rattle.txs_resolve_expand.specs.Expansions.{body, form_at}
-use Rattle.txs_resolve_expand.specs.Expressions.{Answer, callee_at, callee_of, is_symbol, named, spot_at}
+use Rattle.txs_resolve_expand.specs.Expressions.{Answer, callee_at, callee_of, named, spot_at}
 use Rattle.txs_resolve_body.specs.Literals.{is_literal, are_literals, literal, literals}
-use Rattle.txs_resolve.specs.Names.{State, nothing, new_name, Defining, NamedForm, Options, mode_or_fail, only_literal, options_behind, opened, top_scope, validator_named, validator_place, cell_of, kind_at, defining_of, named_form, with_definition, entered, defined_as_one, defined_at, are_symbols, parameter, parameters, Written, written, written_behind, untold, with_function, function, with_thread, future, top_level, step, ResolveStops}
+use Rattle.txs_resolve.specs.Names.{State, new_name, Defining, NamedForm, Options, mode_or_fail, only_literal, options_behind, opened, top_scope, validator_named, validator_place, cell_of, kind_at, defining_of, named_form, with_definition, entered, defined_as_one, defined_at, are_symbols, parameters, Written, written, written_behind, untold, with_function, function, with_thread, future, top_level, step, ResolveStops}
 use Rattle.txs_theorem_language.specs.Standing.{IsOne, one_now, one_later}
-use Rattle.txs_theorem_language.specs.Faults.{FaultInForm, is_free, is_definition, is_top_level, Defines, by_def, by_defn, IsTooMuch, is_too_deep, is_too_long, has_too_much, IsNth, nth_now, nth_later, HasParameter, has_parameter, HasTopFault, is_no_definition, defines_other, defines_no_literal, defines_no_function, defines_reserved, parameter_reserved, defines_again, defines_too_many, functions_too_many, threads_too_many, parameters_too_many, defines_too_much, defines_with_validator, ValidatorFault, validator_unknown, validator_dotted, validator_no_symbol, validator_no_function, validator_too_deep, is_no_function, FaultAtTop, of_itself, of_body, of_thread, FaultInScript}
+use Rattle.txs_theorem_language.specs.Faults.{is_free, is_definition, Defines, by_def, by_defn, IsTooMuch, is_too_deep, is_too_long, has_too_much, IsNth, nth_now, nth_later, has_parameter, HasTopFault, is_no_definition, defines_other, defines_no_literal, defines_no_function, defines_reserved, parameter_reserved, defines_again, defines_too_many, functions_too_many, threads_too_many, parameters_too_many, defines_too_much, defines_with_validator, ValidatorFault, validator_unknown, validator_dotted, validator_no_symbol, validator_no_function, validator_too_deep, is_no_function, FaultAtTop, of_itself, of_body, of_thread, FaultInScript}
 use Rattle.txs_theorem_language.proofs.Faults.{IfErr, if_then, and_left, and_right, fault_in_form}
 use Rattle.txs_theorem_language.proofs.FirstForm.{stops_at}
 
@@ -106,29 +103,11 @@ IsOuter (a_local i) = ⊥
 IsOuter the_current = ⊥
 IsOuter _ = Unit {0}
 
-form_outer : (o : Option FormName) (m : Meaning) → IsOuter m → IsOuter (or_form o m)
-form_outer None m h = h
-form_outer (Some f) m h = tt
-
-dot_outer : (y : Bool) (m : Meaning) → IsOuter m → IsOuter (if y then dotted else m)
-dot_outer true m h = tt
-dot_outer false m h = h
-
-defined_outer : (o : Option Definition) (m : Meaning) → IsOuter m → IsOuter (or_defined o m)
-defined_outer None m h = h
-defined_outer (Some d) m h = tt
-
-unknown_outer : (o : Option Op) → IsOuter (or_unknown o)
-unknown_outer None = tt
-unknown_outer (Some op) = tt
+no_local : (i : ℕ) → None ≡ Some i → ⊥
+no_local i e = cc
 
 top_outer : (name : List ℕ) (es : List Entry) → IsOuter (meaning name (top_scope es))
-unfolding meaning
-top_outer name es =
-    let last = or_unknown (with_name op_name name operations) in
-    let defined = or_defined (definition_of name es) last in
-    form_outer (with_name form_name name form_names) (if list_any is_dot name then dotted else defined)
-    (dot_outer (list_any is_dot name) defined (defined_outer (definition_of name es) last (unknown_outer (with_name op_name name operations))))
+top_outer name es = meaning_so IsOuter (λ f. tt) tt (λ op. tt) tt name (top_scope es) (λ i e. absurd (no_local i e)) (λ e. absurd (false≢true e)) (λ d e. tt)
 
 module _ (s : State) (at : Span) where
   abbrev Refused : Form → ResolveError → Type 0

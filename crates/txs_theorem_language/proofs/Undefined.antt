@@ -21,7 +21,7 @@ use Rattle.txs_resolve_expand.specs.declared.error.ResolveErrorKind.{ResolveErro
 use Rattle.txs_resolve_expand.specs.declared.error.ResolveErrorKind.TheVariants.{BadForm, Redefined, TooMany}
 use Rattle.txs_resolve_expand.specs.Answers.{◌>>=◌, refuse}
 use Rattle.txs_resolve_expand.specs.Expansions.{body, form_at}
-use Rattle.txs_resolve_expand.specs.Expressions.{Answer, callee_at, callee_of, is_symbol, named, spot_at}
+use Rattle.txs_resolve_expand.specs.Expressions.{Answer, callee_at, is_symbol, named, spot_at}
 use Rattle.txs_resolve_body.specs.Literals.{literal, literals}
 use Rattle.txs_resolve.specs.Names.{State, nothing, new_name, Defining, NamedForm, defining_of, named_form, top_scope, validator_named, validator_place, with_definition, entered, defined_as_one, defined_at, parameter, parameters, Written, written, with_function, function, with_thread, future, top_level, step, steps}
 use Rattle.txs_theorem_language.specs.FirstForm.{StopsAt}

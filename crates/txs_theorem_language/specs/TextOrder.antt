@@ -1,6 +1,5 @@
 -- How forms are in a text, and the forms of a program in it.
 use Rattle.std.specs.Prelude.{ℕ, ◌<◌, ◌≤◌}
-use Rattle.txs_value_base.specs.declared.fault.Span.{Span}
 use Rattle.txs_reader.specs.Tree.{PlainForm as Form, PlainForms as Forms, leaf, group, first, place}
 use Rattle.txs_reader.specs.Tree.{none as no_forms}
 
@@ -14,7 +13,3 @@ abbrev mutual
   pub NestIn : ℕ → ℕ → Forms → Type 0
   NestIn from to no_forms = from ≤ to
   NestIn from to (first form forms) = (from ≤ (place form).from) × Nests form × NestIn (place form).to to forms
-
--- one is inside the other, or where it is
-abbrev pub IsInside : Span → Span → Type 0
-IsInside inner outer = (outer.from ≤ inner.from) × (inner.to ≤ outer.to)

@@ -10,7 +10,7 @@ use Rattle.txs_value_data.specs.declared.value.CellId.{CellId}
 use Rattle.txs_value_data.specs.declared.value.Value.{Value}
 use Rattle.txs_world_protocol.specs.Ask.{Exchange}
 use Rattle.txs_tree_meaning.specs.Known.{known}
-use Rattle.txs_tree_meaning.specs.Meaning.{Completion, Completes, Recurs, Faults, Retries, Waits, OutOfTurns, Invalid, Applies, apply, call_at, result_of}
+use Rattle.txs_tree_meaning.specs.Meaning.{call_at, result_of}
 use Rattle.txs_tree_meaning.specs.Sound.{Sound}
 use Rattle.txs_tree_meaning.specs.Transaction.{validated}
 use Rattle.txs_tree_meaning.specs.Tree.{PlainFunction, PlainProgram}

@@ -1,6 +1,6 @@
 -- Whether there is such an order, found by taking events: each is taken when it is the next of its book, and all that came before it is taken. Where some are left
 -- over there is none, and an event is named that comes before itself.
-use Rattle.std.specs.Prelude.{◌≡◌, ◌<◌, ◌+◌, ℕ, zero, suc, Bool, true, false, not, ◌&&◌, ◌||◌, ◌==◌, nat_lt, nat_le, List, [], ◌∷◌, ◌++◌, length, replicate, set, Option, Some, None, if◌then◌else◌}
+use Rattle.std.specs.Prelude.{◌≡◌, ◌<◌, ◌+◌, ℕ, zero, suc, Bool, true, false, not, ◌&&◌, ◌||◌, ◌==◌, nat_lt, nat_le, List, [], ◌∷◌, length, replicate, set, Option, Some, None, if◌then◌else◌}
 use Rattle.std.proofs.Common.{get_or}
 use Rattle.txs_value_base.specs.Places.{nth}
 use Rattle.txs_world_protocol.specs.declared.event.Event.{Event}

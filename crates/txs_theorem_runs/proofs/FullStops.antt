@@ -40,12 +40,14 @@ module _ (cells : List CellDefinition) (functions : List PlainFunction) (books :
   waits_full b out (OutOfTurns t) full h = absurd h
   waits_full b out Invalid full h = absurd h
 
+  -- so does what has come to an ask of one, or is handed in by it
   asked_full : (q : Ask) (out : List ℕ) (m : Completion ThreadState Value) → most_events ≤ length (books (book_for cells q)) → MeansAsked cells g (Some q) out m → StandsFull books out m
   asked_full (ask.Finish i (Ok v) sends) out m full h = subst (StandsFull books out) (sym h.1.1) (full, h.1.2, h.1.3)
   asked_full (ask.Finish i (Err f) sends) out m full h = subst (StandsFull books out) (sym h.1.1) (full, h.1.2, h.1.3)
   asked_full q out m full h = waits_full (book_asked cells q) out m full h
 
-  ends_full : (q : Ask) → most_events ≤ length (books (book_for cells q)) → (since : List Place) (out : List ℕ) (ds : List ActionDid) → StandsAt cells functions books g q since out ds → EndsFull cells functions books g since out ds
+  -- where the book for the ask is full the last action stands so
+  pub ends_full : (q : Ask) → most_events ≤ length (books (book_for cells q)) → (since : List Place) (out : List ℕ) (ds : List ActionDid) → StandsAt cells functions books g q since out ds → EndsFull cells functions books g since out ds
   ends_full q full since out [] h = absurd h
   ends_full q full since out (d ∷ []) h = (h.0, h.1, h.2, h.3, asked_full q out (meaning_after cells functions books (books 0) g h.3 h.1 since) full h.4)
   ends_full q full since out (d ∷ e ∷ ds) h = absurd h

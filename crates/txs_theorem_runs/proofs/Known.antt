@@ -1,10 +1,10 @@
 -- Code of which something is known wherever it comes to, so that its asks come in their stages.
-use Rattle.std.proofs.Common.{◌≡◌, ℕ, zero, suc, Bool, false, List, [], refl, sym, ap, subst}
+use Rattle.std.proofs.Common.{◌≡◌, ℕ, zero, suc, Bool, List, [], refl, sym, ap, subst}
 use Rattle.txs_world_protocol.specs.Ask.{Exchange}
 use Rattle.txs_code_meaning.specs.Machine.{ThreadCode, fetch, Configuration, Turned, Ended, Failed, Asking, Unfinished, Stuck, and_then, turn, run}
 use Rattle.txs_code_meaning.specs.Opening.{given, opening}
 use Rattle.txs_theorem_runs.specs.Staged.{TurnIsStaged}
-use Rattle.txs_theorem_runs.specs.Standing.{MayStandHere, MayRun, TakesTurns, StandingActor, StandingCode, StandingIsStaged}
+use Rattle.txs_theorem_runs.specs.Standing.{MayStandHere, MayRun, TakesTurns, StandingActor, StandingIsStaged}
 use Rattle.txs_theorem_runs.proofs.Staging.{act_staged}
 
 -- something holds of each configuration that the code comes to, whatever it is told; from it follows that the instruction at hand may stand there
@@ -58,6 +58,3 @@ pub standing_actor : (agent : Bool) (code : ThreadCode) → KnownCode agent code
 standing_actor agent code k m xs c e =
     let h = run_known code agent k m (opening code xs) c (k.given xs (opening code []) k.opens) e in
     (k.may c h, k.runs c h, k.turns c h)
-
-pub standing_code : (code : ThreadCode) → KnownCode false code → StandingCode code
-standing_code code k = standing_actor false code k

@@ -1,5 +1,5 @@
 -- An actor has printed what its source means on all that the actor did but the last.
-use Rattle.std.proofs.Common.{◌≡◌, ◌≤◌, ◌<◌, ℕ, zero, suc, Bool, true, false, ◌==◌, nat_lt, List, [], ◌∷◌, ◌++◌, length, map, take, Option, Some, None, refl, sym, ap, ◌∙◌, subst, append_assoc, if◌then◌else◌, ◌⊎◌, inl, inr, arith}
+use Rattle.std.proofs.Common.{◌≡◌, ◌<◌, ℕ, zero, suc, Bool, true, false, ◌==◌, nat_lt, List, [], ◌∷◌, ◌++◌, length, map, Option, Some, None, refl, sym, ap, ◌∙◌, subst, append_assoc, if◌then◌else◌, ◌⊎◌, inl, inr, arith}
 use Rattle.std.proofs.lemmas.Bool.Decides.{nat_tests}
 use Rattle.std.proofs.lemmas.List.{append-nil}
 use Rattle.txs_world_protocol.specs.Ask.{Exchange}
@@ -247,12 +247,6 @@ nth_there : (es : List Event) (k : ℕ) → k < length es → (e : Event) × (nt
 nth_there [] k le = absurd (omega (arith, le))
 nth_there (e ∷ es) zero le = (e, refl)
 nth_there (e ∷ es) (suc k) le = nth_there es k (omega (arith, le))
-
-length_of_taken : (k : ℕ) (es : List Event) → k ≤ length es → length (take k es) ≡ k
-length_of_taken zero [] le = refl
-length_of_taken zero (e ∷ es) le = refl
-length_of_taken (suc k) [] le = absurd (omega (arith, le))
-length_of_taken (suc k) (e ∷ es) le = ap suc (length_of_taken k es (omega (arith, le)))
 
 module _ (cells : List CellDefinition) (threads : ℕ) (books : ℕ → List Event) (a : ℕ) where
   abbrev place_of : Entry → Place

@@ -253,10 +253,6 @@ module _ (agent : Bool) (c : Configuration) (ok : Fits agent c.state.acting) whe
   same_stage (Applying left from work values) t p q i = same_end (redoes_some work) values t p q
   same_stage (Swapping swap from) t p q i = refl
 
-  -- the stage of a configuration that does what this one does
-  abbrev goes_same : (d : Configuration) → stage_of agent d ≡ stage_in false c.doing s0 → StandsIn agent (stage_in false c.doing s0) d
-  goes_same d e = stands agent (stage_in false c.doing s0) d e
-
   -- where a value was viewed, or one was made
   viewing_end : (b : Bool) (x : CellId × Value) (xs : Writes) (t : ActorState) → stage_at_end b (x ∷ xs) t ≡ Viewing t.at t.view
   viewing_end true x xs t = refl

@@ -23,7 +23,7 @@ use Rattle.txs_value_data.specs.declared.value.Value.{Value}
 use Rattle.txs_code_meaning.specs.ActorState.{ActorState}
 use Rattle.txs_code_meaning.specs.Machine.{ThreadCode, Configuration, Turned, Ended, Failed, Asking, Unfinished, Stuck, turn}
 use Rattle.txs_code_meaning.specs.Opening.{given}
-use Rattle.txs_world_book.specs.Book.{has_agent, is_of_kind, first_failed, mail_after}
+use Rattle.txs_world_book.specs.Book.{has_agent, first_failed, mail_after}
 use Rattle.txs_world_book.specs.Book as world
 use Rattle.txs_world_book.specs.Served.{served, event_of, cells_of}
 use Rattle.txs_world_book.specs.declared.cell.StoreCell.{StoreCell}
@@ -31,7 +31,7 @@ use Rattle.txs_world.specs.Laws.{ServeKeeps}
 use Rattle.txs_world.specs.Store.{none_taken, is_taken, finishes, span_of, hands_out, is_over, taken_after}
 use Rattle.txs_theorem_runs.specs.Invariant.{ActorInvariant, RunInvariant}
 use Rattle.txs_theorem_runs.specs.Finished.{is_finish}
-use Rattle.txs_theorem_runs.specs.Run.{Stop, Actor, Moved, moved, entry, stop, comes_to, replied, asked, asks_for, turned, turns_from, stops_from, Play, TakesTurn, IsStopped, State, moves, actor_of, play, plays_from, opens}
+use Rattle.txs_theorem_runs.specs.Run.{Stop, Actor, Moved, entry, replied, asked, asks_for, turned, turns_from, stops_from, Play, TakesTurn, IsStopped, State, moves, actor_of, play, plays_from, opens}
 use Rattle.txs_theorem_runs.specs.Run as run_of
 use Rattle.txs_theorem_runs.specs.Shared.{Shared, book_for, serve_on, may_ask}
 use Rattle.txs_theorem_runs.specs.Staged.{StagedActor, IsStaged, StagedFrom}

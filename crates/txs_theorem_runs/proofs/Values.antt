@@ -644,24 +644,6 @@ module _ (cells : List CellDefinition) where
     cell_known P (Ok c) span s k h = (k, h)
     cell_known P (Err f) span s k h = h
 
-    result_known : (x : Result Value FaultKind) (span : Span) (s : ActorState) → AnswerKnown cells x → MidKnown s → StepKnown (IsKnown cells) (step_of x span s)
-    result_known (Ok v) span s k h = (k, h)
-    result_known (Err f) span s k h = h
-
-    says_point : (r : Reply) → ReplyKnown r → ReadingKnown Anything (read_point r)
-    says_point (reply.At p) h = tt
-    says_point (reply.Is v) h = tt
-    says_point (reply.Views p vs) h = tt
-    says_point reply.Done h = tt
-    says_point (reply.Retry c) h = tt
-    says_point (reply.Changed c) h = tt
-    says_point (reply.AgentIsFailed g) h = tt
-    says_point (reply.Action n x v) h = tt
-    says_point reply.Idle h = tt
-    says_point (reply.Opened p v) h = tt
-    says_point reply.Full h = tt
-    says_point reply.Memory h = tt
-
     says_done : (r : Reply) → ReplyKnown r → ReadingKnown Anything (just_done r)
     says_done (reply.At p) h = tt
     says_done (reply.Is v) h = tt
@@ -703,37 +685,6 @@ module _ (cells : List CellDefinition) where
     says_newest (reply.Opened p v) h = tt
     says_newest reply.Full h = tt
     says_newest reply.Memory h = tt
-
-    abbrev ViewsKnown : ℕ × List Value → Type 0
-    ViewsKnown x = AllKnown cells x.1
-
-    says_views : (r : Reply) → ReplyKnown r → ReadingKnown ViewsKnown (views r)
-    says_views (reply.At p) h = tt
-    says_views (reply.Is v) h = tt
-    says_views (reply.Views p vs) h = h
-    says_views reply.Done h = tt
-    says_views (reply.Retry c) h = tt
-    says_views (reply.Changed c) h = tt
-    says_views (reply.AgentIsFailed g) h = tt
-    says_views (reply.Action n x v) h = tt
-    says_views reply.Idle h = tt
-    says_views (reply.Opened p v) h = tt
-    says_views reply.Full h = tt
-    says_views reply.Memory h = tt
-
-    says_committed : (r : Reply) → ReplyKnown r → ReadingKnown Anything (commit_verdict r)
-    says_committed (reply.At p) h = tt
-    says_committed (reply.Is v) h = tt
-    says_committed (reply.Views p vs) h = tt
-    says_committed reply.Done h = tt
-    says_committed (reply.Retry c) h = tt
-    says_committed (reply.Changed c) h = tt
-    says_committed (reply.AgentIsFailed g) h = tt
-    says_committed (reply.Action n x v) h = tt
-    says_committed reply.Idle h = tt
-    says_committed (reply.Opened p v) h = tt
-    says_committed reply.Full h = tt
-    says_committed reply.Memory h = tt
 
     abbrev OpenedKnown : ℕ × Value → Type 0
     OpenedKnown x = IsKnown cells x.1
@@ -984,21 +935,12 @@ module _ (cells : List CellDefinition) where
         (cell_known AgentThere (cell_of (rule form.Send) inside cell) span s (kind_known Agent (rule form.Send) inside cell refl kc) h)
         (λ g s1 r h1. send_action_known inside (record { agent = g; callee = f; args = vs; span = span }) s1 (r, k) h1)
 
-    print_known : (inside : Bool) (vs : List Value) (s : ActorState) → MidKnown s → StepKnown (IsKnown cells) (print inside vs s)
-    unfolding print
-    print_known true vs s h = tt
-    print_known false vs s h = (tt, h)
-
     -- ---- lists of values
 
     nth_known : (vs : List Value) (i : ℕ) → AllKnown cells vs → OptionKnown (nth vs i)
     nth_known [] i h = tt
     nth_known (v ∷ vs) zero h = h.0
     nth_known (v ∷ vs) (suc i) h = nth_known vs i h.1
-
-    found_known : (o : Option Value) (s : ActorState) → OptionKnown o → MidKnown s → StepKnown (IsKnown cells) (found o s)
-    found_known None s g h = tt
-    found_known (Some v) s g h = (g, h)
 
     all_append : (vs ws : List Value) → AllKnown cells vs → AllKnown cells ws → AllKnown cells (vs ++ ws)
     all_append [] ws h g = g

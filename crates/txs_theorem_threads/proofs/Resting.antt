@@ -12,7 +12,6 @@ use Rattle.txs_value_cell.specs.Forms.{rule, cell_of}
 use Rattle.txs_value_cell.specs.declared.cell.CellDefinition.{CellDefinition}
 use Rattle.txs_value_data.specs.Limits.{reruns}
 use Rattle.txs_value_cell.specs.declared.action.Action.{Action}
-use Rattle.txs_value_base.specs.declared.fault.Fault.{Fault}
 use Rattle.txs_value_base.specs.declared.fault.FaultKind.{FaultKind}
 use Rattle.txs_value_base.specs.declared.fault.Span.{Span}
 use Rattle.txs_value_cell.specs.declared.form.CellForm.{CellForm}
@@ -27,7 +26,7 @@ use Rattle.txs_value_base.specs.declared.op.Callee.{Callee}
 use Rattle.txs_value_base.specs.declared.op.Callee.TheVariants.{Core as CoreOp, Function}
 use Rattle.txs_value_data.specs.declared.value.CellId.{CellId}
 use Rattle.txs_value_data.specs.declared.value.Value.{Value}
-use Rattle.txs_code_meaning.specs.ActorState.{ActorState, Reception, Replied, Unreplied, receives, asks, StepResult, Continue, Break, Redo, Await, Malformed, on_step, step_of, Reading, Says, SaysRetry, SaysNothing, read_as, heard, read_point, just_done, value_there, newest_value, views, Verdict, Landed, Outdated, Undone, Denied, commit_verdict, opened, swap_verdict, send_verdict, sent, begun, begin, fail, buffered_or, look, paired, viewed, view, commit, peek, SwapInHand, open_atom, close_swap, break_swap, reset_atom, send_now, finish, cell_at, read_cell, read, set_own, assign_cell, assign, RefUpdate, Alters, Commutes, update_form, open_update, close_own, close_update, open_swap, send_action, send_to, print, InHand, held_in, now_holding, landed, taken_back, send_or_hold}
+use Rattle.txs_code_meaning.specs.ActorState.{ActorState, Reception, Replied, Unreplied, receives, asks, StepResult, Continue, Break, Redo, Await, Malformed, on_step, step_of, Reading, Says, SaysRetry, SaysNothing, read_as, heard, read_point, just_done, value_there, newest_value, views, Verdict, Landed, Outdated, Undone, Denied, commit_verdict, opened, swap_verdict, send_verdict, sent, begun, begin, fail, buffered_or, look, paired, viewed, view, commit, peek, SwapInHand, open_atom, close_swap, break_swap, reset_atom, send_now, cell_at, read_cell, read, set_own, assign_cell, assign, RefUpdate, Alters, Commutes, update_form, open_update, close_own, close_update, open_swap, send_action, send_to, print, InHand, held_in, now_holding, landed, send_or_hold}
 use Rattle.txs_frame.specs.Frame.{phase_work}
 use Rattle.txs_world_protocol.specs.Ask.{with_write}
 use Rattle.txs_value_data.specs.declared.value.Value.TheVariants.{Nil}
@@ -196,10 +195,6 @@ module _ (P : Option InHand → Type 0) where
     send_now_rests : (a : Action) (s : ActorState) → StepRests s (send_now a s)
     unfolding send_now
     send_now_rests a s = step_rests (heard send_verdict (asks (ask.Send a) s)) (sent a) s (ask_rests send_verdict (ask.Send a) s) (λ d t. sent_rests a d t)
-
-    finish_rests : (g : CellId) (new : Result Value Fault) (sends : List Action) (s : ActorState) → StepRests s (finish g new sends s)
-    unfolding finish
-    finish_rests g new sends s = ask_rests taken_back (ask.Finish g new sends) s
 
     print_rests : (b : Bool) (vs : List Value) (s : ActorState) → StepRests s (print b vs s)
     unfolding print

@@ -1,5 +1,5 @@
 -- What is said of what a run leaves.
-use Rattle.std.specs.Prelude.{IfOk, IfErr, Result, Ok, Err}
+use Rattle.std.specs.Prelude.{IfOk, Result, Ok, Err}
 
 -- what follows from what an answer promises
 pub still : {A E : Type 0} {P Q : A → Type 0} (r : Result A E) → IfOk r P → ((x : A) → P x → Q x) → IfOk r Q
@@ -10,8 +10,3 @@ still (Err e) h f = tt
 pub always : {A E : Type 0} {P : Type 0} (r : Result A E) → P → IfOk r (λ x. P)
 always (Ok x) p = p
 always (Err e) p = tt
-
--- what follows from what a refusal promises
-pub still_refused : {A E : Type 0} {P Q : E → Type 0} (r : Result A E) → IfErr r P → ((e : E) → P e → Q e) → IfErr r Q
-still_refused (Ok x) h f = tt
-still_refused (Err e) h f = f e h

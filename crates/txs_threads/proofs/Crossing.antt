@@ -2,13 +2,8 @@
 use denote.RattleType.{RattleType}
 use denote.Ref.{NamedLft}
 use denote.Builtin
-use denote.Param.{param}
 use denote.Param.Send.{IsSend, IsSync, sendable, plain_send, plain_sync, recorded_send, recorded_sync, struct_send, struct_sync, enum_send, view_send, view_sync, shr_send, shr_slice_send}
 use denote.Struct.Declared as S
-use denote.Struct.Field.{shr_ref_field}
-use denote.Struct.Tuple.{TupleAt, type_at, field_at}
-use mir.Syntax.{Sym}
-use mathlib.Core.List.{List, [], ◌∷◌}
 use denote.Enum.Declared as E
 use Rattle.std.proofs.Crossing.{crosses}
 use Rattle.std.proofs.option.Option.TheSendSync as option
@@ -72,8 +67,6 @@ use Rattle.txs_world.specs.contracts.slot.Version as version_is
 use Rattle.txs_world.specs.contracts.slot.Slot as slot_is
 use Rattle.txs_world.specs.contracts.store.Store as store_is
 use Rattle.txs_world.specs.contracts.store.Store.TheInside as store_in
-use Rattle.txs_world_shared.specs.contracts.state.SharedState as shared_state_is
-use Rattle.txs_world_shared.specs.contracts.state.SharedState.TheInside as shared_state_in
 use Rattle.txs_world_protocol.proofs.event.Place.TheSendSync as place_sent
 use Rattle.txs_machine.specs.contracts.player.Player as player_is
 use Rattle.txs_history.proofs.log.Log.TheSendSync as log_sent
@@ -107,20 +100,11 @@ action_field_send = search (value_send, crosses, sendable) depth 60 fits 20000
 pub ask_field_send : IsSend (ask_is.the_field).row
 ask_field_send = enum_send (E.shape ask_is.the_type) (tt, ((cell_id_sent.the_field_send, (plain_send _ _ _ _ _, tt)), (((search (listed.the_send, cell_id_sent.the_send, crosses, sendable) depth 60 fits 20000), tt), ((plain_send _ _ _ _ _, ((search (value_send, vec.the_send, listed.the_send, cell_id_sent.the_send, crosses, sendable) depth 60 fits 20000), ((search (listed.the_send, cell_id_sent.the_send, crosses, sendable) depth 60 fits 20000), (plain_send _ _ _ _ _, ((search (value_send, vec.the_send, listed.the_send, cell_id_sent.the_send, crosses, sendable) depth 60 fits 20000), ((search (action_send, listed.the_send, crosses, sendable) depth 60 fits 20000), tt)))))), ((plain_send _ _ _ _ _, (plain_send _ _ _ _ _, tt)), ((cell_id_sent.the_field_send, tt), ((action_field_send, tt), ((cell_id_sent.the_field_send, tt), ((cell_id_sent.the_field_send, ((search (value_send, fault_sent.the_send, crosses, sendable) depth 60 fits 20000), ((search (action_send, listed.the_send, crosses, sendable) depth 60 fits 20000), tt))), ((cell_id_sent.the_field_send, tt), ((cell_id_sent.the_field_send, ((search (plain_send, option.the_field_send, crosses, sendable) depth 60 fits 20000), (value_field_send, tt))), ((cell_id_sent.the_field_send, (plain_send _ _ _ _ _, tt)), tt))))))))))))
 
-pub ask_send : IsSend ask_is.the_row
-ask_send = recorded_send (ask_is.the_field).row _ _ (ask_is.the_type).to_one ask_field_send
-
 pub reply_field_send : IsSend (reply_is.the_field).row
 reply_field_send = enum_send (E.shape reply_is.the_type) ((plain_send _ _ _ _ _, tt), ((value_field_send, tt), ((plain_send _ _ _ _ _, ((search (value_send, listed.the_send, crosses, sendable) depth 60 fits 20000), tt)), (tt, ((cell_id_sent.the_field_send, tt), ((cell_id_sent.the_field_send, tt), ((cell_id_sent.the_field_send, tt), ((plain_send _ _ _ _ _, (action_field_send, (value_field_send, tt))), (tt, ((plain_send _ _ _ _ _, (value_field_send, tt)), (tt, (tt, tt))))))))))))
 
-pub reply_send : IsSend reply_is.the_row
-reply_send = recorded_send (reply_is.the_field).row _ _ (reply_is.the_type).to_one reply_field_send
-
 pub event_kind_field_send : IsSend (event_kind_is.the_field).row
 event_kind_field_send = enum_send (E.shape event_kind_is.the_type) ((cell_id_sent.the_field_send, tt), ((plain_send _ _ _ _ _, (plain_send _ _ _ _ _, ((search (value_send, vec.the_send, listed.the_send, cell_id_sent.the_send, crosses, sendable) depth 60 fits 20000), ((search (action_send, listed.the_send, crosses, sendable) depth 60 fits 20000), tt)))), ((plain_send _ _ _ _ _, (cell_id_sent.the_field_send, (cause_sent.the_field_send, tt))), ((plain_send _ _ _ _ _, (plain_send _ _ _ _ _, tt)), ((plain_send _ _ _ _ _, (plain_send _ _ _ _ _, (cell_id_sent.the_field_send, tt))), ((action_field_send, tt), ((cell_id_sent.the_field_send, tt), ((cell_id_sent.the_field_send, (plain_send _ _ _ _ _, ((search (value_send, fault_sent.the_send, crosses, sendable) depth 60 fits 20000), ((search (action_send, listed.the_send, crosses, sendable) depth 60 fits 20000), tt)))), ((value_field_send, tt), ((plain_send _ _ _ _ _, tt), tt))))))))))
-
-pub event_kind_send : IsSend event_kind_is.the_row
-event_kind_send = recorded_send (event_kind_is.the_field).row _ _ (event_kind_is.the_type).to_one event_kind_field_send
 
 pub event_field_send : IsSend (event_is.the_field).row
 event_field_send = struct_send (S.shape event_is.the_type) (plain_send _ _ _ _ _, ((search (event_kind_field_send, crosses, sendable) depth 60 fits 20000), tt))
@@ -152,14 +136,8 @@ stack_send = view_send stack_in.the_row _ _ _ _ (recorded_send (stack_in.the_fie
 pub origin_field_send : IsSend (savepoint_is.the_field).row
 origin_field_send = struct_send (S.shape savepoint_is.the_type) ((search (span_sent.the_field_send, crosses, sendable) depth 60 fits 20000), ((search (stack_send, crosses, sendable) depth 60 fits 20000), tt))
 
-pub origin_send : IsSend savepoint_is.the_row
-origin_send = recorded_send (savepoint_is.the_field).row _ _ (savepoint_is.the_type).to_one origin_field_send
-
 pub transaction_field_send : IsSend (transaction_is.the_field).row
 transaction_field_send = enum_send (E.shape transaction_is.the_type) (tt, (((search (plain_send, crosses, sendable) depth 60 fits 20000), tt), (((search (plain_send, crosses, sendable) depth 60 fits 20000), ((search (plain_send, crosses, sendable) depth 60 fits 20000), ((search (origin_field_send, crosses, sendable) depth 60 fits 20000), tt))), (((search (plain_send, crosses, sendable) depth 60 fits 20000), ((search (origin_field_send, crosses, sendable) depth 60 fits 20000), ((search (phase_send, crosses, sendable) depth 60 fits 20000), tt))), (((search (plain_send, crosses, sendable) depth 60 fits 20000), ((search (origin_field_send, crosses, sendable) depth 60 fits 20000), ((search (phase_send, crosses, sendable) depth 60 fits 20000), ((search (stack_send, crosses, sendable) depth 60 fits 20000), tt)))), ((cell_id_sent.the_field_send, ((search (plain_send, crosses, sendable) depth 60 fits 20000), ((search (origin_field_send, crosses, sendable) depth 60 fits 20000), tt))), (((search (stack_send, crosses, sendable) depth 60 fits 20000), tt), ((cell_id_sent.the_field_send, ((search (plain_send, crosses, sendable) depth 60 fits 20000), ((search (origin_field_send, crosses, sendable) depth 60 fits 20000), ((search (stack_send, crosses, sendable) depth 60 fits 20000), tt)))), tt))))))))
-
-pub transaction_send : IsSend transaction_is.the_row
-transaction_send = recorded_send (transaction_is.the_field).row _ _ (transaction_is.the_type).to_one transaction_field_send
 
 pub pending_field_send : IsSend (pending_is.the_field).row
 pending_field_send = enum_send (E.shape pending_is.the_type) (((search (plain_send, crosses, sendable) depth 60 fits 20000), ((search (origin_field_send, crosses, sendable) depth 60 fits 20000), tt)), ((cell_id_sent.the_field_send, tt), ((cell_id_sent.the_field_send, ((search (listed.the_send, cell_id_sent.the_send, crosses, sendable) depth 60 fits 20000), tt)), ((cell_id_sent.the_field_send, ((search (plain_send, crosses, sendable) depth 60 fits 20000), ((search (commute_send, option.the_field_send, crosses, sendable) depth 60 fits 20000), tt))), (((search (phase_send, crosses, sendable) depth 60 fits 20000), tt), ((cell_id_sent.the_field_send, (value_field_send, tt)), ((action_field_send, ((search (plain_send, crosses, sendable) depth 60 fits 20000), tt)), ((cell_id_sent.the_field_send, ((search (plain_send, crosses, sendable) depth 60 fits 20000), ((search (origin_field_send, crosses, sendable) depth 60 fits 20000), tt))), ((cell_id_sent.the_field_send, ((search (plain_send, crosses, sendable) depth 60 fits 20000), (value_field_send, tt))), (tt, (((search (action_send, listed.the_send, crosses, sendable) depth 60 fits 20000), tt), (((search (fault_sent.the_field_send, crosses, sendable) depth 60 fits 20000), tt), ((cell_id_sent.the_field_send, ((search (plain_send, crosses, sendable) depth 60 fits 20000), ((search (fault_sent.the_field_send, crosses, sendable) depth 60 fits 20000), tt))), ((cell_id_sent.the_field_send, tt), ((cell_id_sent.the_field_send, ((search (value_send, action_send, listed.the_send, fault_sent.the_send, crosses, sendable) depth 60 fits 20000), tt)), tt)))))))))))))))
@@ -179,18 +157,8 @@ in_hand_send = view_send in_hand_in.the_row _ _ _ _ (recorded_send (in_hand_in.t
 pub role_field_send : IsSend (role_is.the_field).row
 role_field_send = enum_send (E.shape role_is.the_type) (tt, ((cell_id_sent.the_field_send, ((search (in_hand_send, option.the_field_send, crosses, sendable) depth 60 fits 20000), tt)), (((search (in_hand_send, crosses, sendable) depth 60 fits 20000), ((search (plain_send, crosses, sendable) depth 60 fits 20000), ((search (stack_send, crosses, sendable) depth 60 fits 20000), tt))), tt)))
 
-pub role_send : IsSend role_is.the_row
-role_send = recorded_send (role_is.the_field).row _ _ (role_is.the_type).to_one role_field_send
-
 pub actor_send : IsSend actor_is.the_row
 actor_send = view_send actor_in.the_row _ _ _ _ (recorded_send (actor_in.the_field).row _ _ (actor_in.the_type).to_one (struct_send (S.shape actor_in.the_type) ((search (global.the_field_send, crosses, sendable) depth 60 fits 20000), ((search (plain_send, crosses, sendable) depth 60 fits 20000), ((search (role_field_send, crosses, sendable) depth 60 fits 20000), ((search (stack_send, crosses, sendable) depth 60 fits 20000), ((search (plain_send, vec.the_send, crosses, sendable) depth 60 fits 20000), ((search (plain_send, crosses, sendable) depth 60 fits 20000), ((search (plain_send, crosses, sendable) depth 60 fits 20000), ((search (tx_frame_send, crosses, sendable) depth 60 fits 20000), ((search (commute_send, option.the_field_send, crosses, sendable) depth 60 fits 20000), ((search (plain_send, option.the_field_send, crosses, sendable) depth 60 fits 20000), ((search (kept_transaction_send, crosses, sendable) depth 60 fits 20000), ((search (kept_pending_send, crosses, sendable) depth 60 fits 20000), ((search (outcome.the_send, option.the_field_send, crosses, sendable) depth 60 fits 20000), ((search (plain_send, crosses, sendable) depth 60 fits 20000), ((search (plain_send, crosses, sendable) depth 60 fits 20000), tt)))))))))))))))))
-
-pub cell_definition_field_send : IsSend (cell_definition_is.the_field).row
-cell_definition_field_send = struct_send (S.shape cell_definition_is.the_type)
-    (search (value_field_send, name_sent.the_send, error_mode_sent.the_field_send, callee_sent.the_send, option.the_field_send, crosses, sendable) depth 60 fits 20000)
-
-pub cell_definition_send : IsSend cell_definition_is.the_row
-cell_definition_send = recorded_send (cell_definition_is.the_field).row _ _ (cell_definition_is.the_type).to_one cell_definition_field_send
 
 pub store_cell_field_send : IsSend (store_cell_is.the_field).row
 store_cell_field_send = struct_send (S.shape store_cell_is.the_type)
@@ -222,9 +190,6 @@ slot_send = recorded_send (slot_is.the_field).row _ _ (slot_is.the_type).to_one 
 
 pub store_send : IsSend store_is.the_row
 store_send = view_send store_in.the_row _ _ _ _ (recorded_send (store_in.the_field).row _ _ (store_in.the_type).to_one (struct_send (S.shape store_in.the_type) ((search (global.the_field_send, crosses, sendable) depth 60 fits 20000), ((search (cells_send, crosses, sendable) depth 60 fits 20000), ((search (plain_send, crosses, sendable) depth 60 fits 20000), ((search (slot_send, vec.the_send, crosses, sendable) depth 60 fits 20000), ((search (mailbox_send, plain_send, option.the_field_send, vec.the_send, fault_sent.the_send, crosses, sendable) depth 60 fits 20000), ((search (event_send, plain_send, vec.the_send, crosses, sendable) depth 60 fits 20000), ((search (value_send, vec.the_send, cell_id_sent.the_send, crosses, sendable) depth 60 fits 20000), ((search (action_send, crosses, sendable) depth 60 fits 20000), tt))))))))))
-
-pub shared_state_send : IsSend shared_state_is.the_row
-shared_state_send = view_send shared_state_in.the_row _ _ _ _ (recorded_send (shared_state_in.the_field).row _ _ (shared_state_in.the_type).to_one (struct_send (S.shape shared_state_in.the_type) ((search (cell_definition_send, vec.the_send, crosses, sendable) depth 60 fits 20000), ((search (store_send, crosses, sendable) depth 60 fits 20000), ((search (atom_book_send, vec.the_send, crosses, sendable) depth 60 fits 20000), ((search (plain_send, vec.the_send, crosses, sendable) depth 60 fits 20000), tt))))))
 
 -- ---- what is lent to other threads
 

@@ -4,7 +4,6 @@
 
 mod actors;
 mod atoms;
-pub mod gate;
 mod left;
 mod merge;
 pub mod record;
@@ -12,9 +11,8 @@ mod run;
 mod runnable;
 mod scheduler;
 
-pub use gate::{AskKind, Gate, Moment, OpenGate};
 pub use record::Recorder;
 pub use run::run_threads;
-pub use txs_history_actor::Made;
+pub use txs_gate::{AskKind, Gate, Made, Moment, OpenGate};
 pub use txs_history_run::Gathered;
 pub use txs_machine::RunError;

@@ -2,7 +2,7 @@
 //! So each is answered as it was.
 
 use std::alloc::{AllocError, Global};
-use txs_history_actor::Made;
+use txs_gate::Made;
 use txs_machine::{Play, Repeated};
 
 /// How often a play is made in a row at most, where it is written once.

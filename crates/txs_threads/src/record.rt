@@ -1,10 +1,9 @@
 //! What a run by workers asked, noted of each actor, and put into one order by which a schedule makes the run again.
 
-use crate::gate::{Gate, Moment};
 use crate::merge::merge;
 use std::alloc::{AllocError, Global};
 use std::sync::{Mutex, Wait};
-use txs_history_actor::Made;
+use txs_gate::{Gate, Made, Moment};
 use txs_machine::Repeated;
 
 /// What was noted: of each actor, by its number, the asks that were served; and whether there was no memory for one.

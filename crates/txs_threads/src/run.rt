@@ -14,7 +14,6 @@ ghost use Rattle.txs_threads.specs.Run.{AreOpened, IsLeft};
 
 use crate::actors::{agents_in, open_all};
 use crate::atoms::{Atoms, open_logged};
-use crate::gate::{AskKind, Gate, Moment};
 use crate::left::settle_left;
 use crate::runnable::{AsksAtom, AsksStore, Journal, Ran, Wanted};
 use crate::scheduler::{Scheduler, Step};
@@ -26,6 +25,7 @@ use std::sync::{Mutex, MutexGuard, Wait};
 use std::thread;
 use std::thread::Threads;
 use txs_code_meaning::Verified;
+use txs_gate::{AskKind, Gate, Moment};
 use txs_history::Opened;
 use txs_history_actor::{AfterReply, sent_functions};
 use txs_history_run::Gathered;

@@ -1,7 +1,7 @@
 //! What workers know of an actor, and of what lies under the store's lock.
 
-use crate::gate::{AskKind, kind_of};
-use txs_history_actor::{AfterReply, LoggedActor, Made, Next};
+use txs_gate::{AskKind, Made, kind_of};
+use txs_history_actor::{AfterReply, LoggedActor, Next};
 use txs_history_store::{LoggedAtom, LoggedStore, Run};
 use txs_value_data::CellId;
 use txs_world_protocol::{Ask, Event};

@@ -1,7 +1,6 @@
 -- Functions, threads and cells copied, one after the other; and what a sound program's bodies name.
 use Rattle.std.proofs.Common.{◌≡◌, ℕ, zero, suc, ◌+◌, ◌<◌, ◌≤◌, List, [], ◌∷◌, ◌++◌, length, get_or, take, refl, sym, ap, ◌∙◌, subst, arith}
 use Rattle.std.proofs.lemmas.List.{take_more}
-use Rattle.txs_value_cell.specs.declared.cell.CellDefinition.{CellDefinition}
 use Rattle.txs_value_data.specs.Limits.{most_locals}
 use Rattle.txs_tree_meaning.specs.Known.{Known, known_of}
 use Rattle.txs_tree_meaning.specs.Scoped.{ScopedFunctions, ScopedThreads}
@@ -33,11 +32,6 @@ pub threads_more : (ts anew later : List Thread) (i : ℕ) (t made : Thread) →
 threads_more ts anew later i t made lt at so_far put same =
     ap threads_of put ∙ threads_behind anew made ∙ ap (λ l. l ++ thread_of made ∷ []) so_far ∙ ap (λ (x : PlainThread). threads_of (take i ts) ++ x ∷ []) same
     ∙ sym (threads_behind (take i ts) t) ∙ ap threads_of (ap (λ (x : Thread). take i ts ++ x ∷ []) at ∙ sym (take_more ts i t lt))
-
--- one more cell copied
-pub cells_more : (cells before after : List CellDefinition) (i : ℕ) (x copy : CellDefinition) → after ≡ before ++ copy ∷ [] → before ≡ take i cells → copy ≡ x → x ≡ get_or cells i x → i < length cells → after ≡ take (i + 1) cells
-cells_more cells before after i x copy pushed kept same is lt =
-    pushed ∙ ap (λ (xs : List CellDefinition). xs ++ copy ∷ []) kept ∙ ap (λ (y : CellDefinition). take i cells ++ y ∷ []) (same ∙ is) ∙ sym (take_more cells i x lt)
 
 -- a function's body keeps the limit on locals
 pub function_reach : (fs : List Function) (ks : List Known) (i : ℕ) (f : Function) → ScopedFunctions ks (functions_of fs) → i < length fs → f ≡ get_or fs i f → reach f.parameters (tree_of f.body) ≤ most_locals

@@ -19,14 +19,6 @@ row_top (row_of.Call f) es m = refl
 row_top row_of.Vector es m = refl
 row_top row_of.Println es m = refl
 
-pub row_reach : (d : ℕ) (r : Row) (es : Trees) (m : Mark) → reach d (row_tree r es m) ≡ reach_all d es
-row_reach d row_of.Do es m = refl
-row_reach d row_of.Recur es m = refl
-row_reach d (row_of.Core op) es m = refl
-row_reach d (row_of.Call f) es m = refl
-row_reach d row_of.Vector es m = refl
-row_reach d row_of.Println es m = refl
-
 pub top_at : (ns : List Node) (i : ℕ) (n : Node) → i < length ns → n ≡ get_or ns i n → top (tree_of n) ≤ top_all (trees_of ns)
 top_at [] i n lt at = absurd (omega (arith, lt))
 top_at (m ∷ ns) zero n lt at = omega (arith, ap (λ (x : Node). top (tree_of x)) at)

@@ -8,38 +8,7 @@ use crate::shifting::{Shift, shift_node};
 use std::alloc::{AllocError, Global};
 use txs_tree_meaning::{Function, Node, Program, Raw, Thread};
 use txs_value_base::Span;
-use txs_value_cell::CellDefinition;
-use txs_value_data::copy_value;
-
-/// The same definition of a cell.
-fn copy_cell(cell: &CellDefinition) -> Result<CellDefinition, AllocError>
-    ensures { IfOk result (λ c. c ≡ cell.now) }
-{
-    Ok(CellDefinition {
-        kind: cell.kind,
-        name: cell.name.share()?,
-        opening: copy_value(&cell.opening)?,
-        error_mode: cell.error_mode,
-        validator: cell.validator,
-    })
-}
-
-/// The same definitions of cells.
-///
-/// # Errors
-/// There was no memory.
-pub fn copy_cells(
-    alloc: Global,
-    cells: &[CellDefinition],
-) -> Result<Vec<CellDefinition>, AllocError>
-    ensures { IfOk result (λ c. c.items ≡ cells.now) }
-{
-    let mut copies = Vec::with_capacity(alloc, cells.len())?;
-    for cell in cells {
-        copies.push(copy_cell(cell)?)?;
-    }
-    Ok(copies)
-}
+use txs_value_cell::{CellDefinition, copy_cells};
 
 /// The same node.
 fn copy_node(alloc: Global, node: &Node) -> Result<Node, AllocError>

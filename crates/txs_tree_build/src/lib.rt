@@ -11,6 +11,6 @@ pub use build::{
     Spot, const_node, dosync_node, if_node, let_node, local_node, look_node, loop_node, put_node,
     row_node, send_node, spot_of, update_node,
 };
-pub use copying::{copy_cells, copy_program};
+pub use copying::copy_program;
 pub use parts::{Row, Shape, view};
 pub use shifting::{Shift, shift_node};

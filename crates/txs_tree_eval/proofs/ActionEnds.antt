@@ -1,11 +1,10 @@
 -- What an action means, by what its callee gives.
-use Rattle.std.proofs.Common.{◌≡◌, ℕ, suc, ◌<◌, ◌-◌, false, List, [], ◌∷◌, ◌++◌, length, map, take, Option, Some, None, Result, Ok, Err, IfOk, refl, sym, ap, ◌∙◌, subst, subst₂, ⊎_elim, arith}
+use Rattle.std.proofs.Common.{◌≡◌, ℕ, ◌-◌, false, List, [], ◌∷◌, ◌++◌, length, map, take, Option, Some, None, Result, Ok, Err, IfOk, refl, sym, ap, ◌∙◌, subst, subst₂, ⊎_elim, arith}
 use Rattle.txs_value_base.specs.declared.fault.Fault as fault
 use Rattle.txs_value_base.specs.declared.fault.Span.{Span}
 use Rattle.txs_value_base.specs.declared.op.Callee.{Callee}
 use Rattle.txs_value_base.specs.declared.op.Callee.TheVariants.{Core as CoreOp, Function as FunctionOf}
 use Rattle.txs_value_cell.specs.declared.action.Action.{Action}
-use Rattle.txs_value_cell.specs.declared.cell.CellDefinition.{CellDefinition}
 use Rattle.txs_value_data.specs.declared.value.Value.{Value}
 use Rattle.txs_world_protocol.specs.SeenEvent.{SeenEvent}
 use Rattle.txs_tree_eval.specs.ActionTold.{ActionAccount, ActionAccounts, ActionConcluded, ActionTellsOf, ActionTellsWrong, TellsAction}
@@ -20,9 +19,9 @@ use Rattle.txs_tree_eval_transaction.specs.Worked.{Gives}
 use Rattle.txs_tree_eval_transaction.specs.declared.stop.ThreadStop.{ThreadStop}
 use Rattle.txs_tree_eval_transaction.specs.declared.stop.ThreadStop.TheVariants.{Fault, Event, Wrong, Turns, Memory}
 use Rattle.txs_tree_meaning.specs.Known.{Known, known}
-use Rattle.txs_tree_meaning.specs.Meaning.{Completion, Completes, Recurs, Faults, Retries, Waits, OutOfTurns, Invalid, apply, call_at}
+use Rattle.txs_tree_meaning.specs.Meaning.{Completion, Waits, Invalid, apply, call_at}
 use Rattle.txs_tree_meaning.specs.Right.{on_right, right_events}
-use Rattle.txs_tree_meaning.specs.Sound.{Sound, SentCallee, SoundFunctions, SoundCells}
+use Rattle.txs_tree_meaning.specs.Sound.{Sound, SentCallee}
 use Rattle.txs_tree_meaning.specs.Thread.{ThreadState, Surroundings, on_events, action_in, around_action, from_events}
 use Rattle.txs_tree_meaning.specs.View.{Parts, functions_of, program_of}
 use Rattle.txs_tree_meaning.specs.declared.node.Function.{Function}

@@ -15,7 +15,7 @@ use Rattle.txs_value_base.specs.declared.fault.FaultKind.TheVariants.{AgentFaile
 use Rattle.txs_value_base.specs.declared.fault.Span.{Span}
 use Rattle.txs_value_base.specs.declared.op.Callee.{Callee}
 use Rattle.txs_value_base.specs.declared.op.Callee.TheVariants.{Core as CoreOp, Function}
-use Rattle.txs_value_cell.specs.Cells.{World, Validators, validators_of, validator_at}
+use Rattle.txs_value_cell.specs.Cells.{World, validators_of, validator_at}
 use Rattle.txs_value_cell.specs.declared.cell.CellDefinition.{CellDefinition}
 use Rattle.txs_value_cell.specs.declared.form.CellForm.TheVariants as form_of
 use Rattle.txs_value_cell.specs.declared.form.PutForm.{PutForm}
@@ -29,14 +29,14 @@ use Rattle.txs_tree_meaning.specs.Meaning.{Completion, Completes, Recurs, Faults
 use Rattle.txs_tree_meaning.specs.Pure.{no_effects}
 use Rattle.txs_tree_meaning.specs.Sound.{in_thread, in_dosync, SoundCall, SoundCallee, SoundCells, SoundTree, SoundAll, SoundLet, SoundDo, SoundFunctions}
 use Rattle.txs_tree_meaning.specs.Thread.{ThreadState, Transacting, Surroundings, with_tx, holding, run_of, uneaten, eats, meant, resets, swaps, over, faulted, faultless, ends_tx, is_retry, again, eats_tx, accepts, thread_put, thread_update, outside_form, on_events}
-use Rattle.txs_tree_meaning.specs.Transaction.{TxState, on_cell, in_transaction, tx_start, tx_meaning, tx_meaning_lacking, validated, final_writes}
+use Rattle.txs_tree_meaning.specs.Transaction.{TxState, on_cell, in_transaction, tx_start, tx_meaning, tx_meaning_lacking, final_writes}
 use Rattle.txs_tree_meaning.specs.Tree.{Mark, Tree, Const, Local, If, Do, Let, Loop, Recur, Core, Call, VectorOf, Println, Dosync, Look, Put, Update, Send, Trees, none, more, count, PlainFunction}
 use Rattle.txs_tree_meaning.specs.View.{functions_of}
 use Rattle.txs_tree_meaning.specs.declared.node.Function as function
-use Rattle.txs_tree_meaning.proofs.Callable.{function_at, nth-length, nth-take, nth-before, same_some, missing, tree-widened, tree-outside, length-known, length-functions_of}
+use Rattle.txs_tree_meaning.proofs.Callable.{function_at, nth-length, nth-take, nth-before, same_some, missing, tree-widened, tree-outside, length-known}
 use Rattle.txs_tree_meaning.proofs.PureLaw.{Agrees}
 use Rattle.txs_theorem_threads.proofs.Accepted.{validators_pure, validator_such, validated_carried, made_carried, final_carried}
-use Rattle.txs_theorem_threads.proofs.Callees.{IsPure, sound_pure}
+use Rattle.txs_theorem_threads.proofs.Callees.{IsPure}
 use Rattle.txs_theorem_threads.proofs.Depth.{counted, pures, others, both_kinds, pure_before, other_before, known_there, shallow}
 use Rattle.txs_theorem_threads.proofs.Functions.{there, nth_below}
 use Rattle.txs_theorem_threads.proofs.Quiet.{carried, IsQuiet, quietly, callee_carried, AllCommutes}

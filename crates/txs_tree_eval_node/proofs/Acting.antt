@@ -1,5 +1,5 @@
 -- What the evaluator's parts give is what the meaning says: forms on cells, and the ends of transactions.
-use Rattle.std.proofs.Common.{◌≡◌, ℕ, zero, suc, ◌+◌, ◌<◌, ◌==◌, Bool, true, false, if◌then◌else◌, List, [], ◌∷◌, ◌++◌, length, get_or, drop, Some, None, Result, Ok, Err, MatchResult, refl, sym, ap, ◌∙◌, subst, arith, Option}
+use Rattle.std.proofs.Common.{◌≡◌, ℕ, zero, suc, ◌+◌, ◌<◌, ◌==◌, Bool, true, false, if◌then◌else◌, List, [], ◌∷◌, ◌++◌, length, get_or, drop, Some, None, Result, Err, refl, sym, ap, ◌∙◌, subst, arith, Option}
 use Rattle.std.proofs.lemmas.List.{drop_more}
 use Rattle.txs_world_protocol.specs.Ask.{Writes, buffered, with_write}
 use Rattle.txs_frame.specs.Frame.{PlainTxFrame, commuted, set_writes, commutes_of, by_ref, phase_work}
@@ -21,7 +21,6 @@ use Rattle.txs_tree_eval_node.specs.declared.state.State.{State}
 use Rattle.txs_tree_eval_transaction.specs.declared.stop.ThreadStop.{ThreadStop}
 use Rattle.txs_tree_eval_transaction.specs.declared.stop.ThreadStop.TheVariants.{Memory}
 use Rattle.txs_value_base.specs.Places.{fault_at}
-use Rattle.txs_value_base.specs.declared.fault.Fault as fault
 use Rattle.txs_value_base.specs.declared.fault.FaultKind.TheVariants.{InvalidState}
 use Rattle.txs_value_base.specs.declared.fault.Span.{Span}
 use Rattle.txs_value_base.specs.declared.op.Callee.{Callee}
@@ -199,10 +198,6 @@ judged_as (Cell c) span v = refl
 module _ (x : Setting) (c : CellId) (span : Span) (v : Value) where
   abbrev asked : Option Callee → Completion (Unit {0}) Value
   asked o = validated (quiet x span) o span v tt
-
-  -- there is none
-  pub accept_free : (o : Option Callee) → o ≡ validator_at (validators_of x.cells) c.number → o ≡ None → accept_means x c span v ≡ Completes v tt
-  accept_free o is none = ap asked (sym is ∙ none)
 
   module _ (o : Option Callee) (is : o ≡ validator_at (validators_of x.cells) c.number) (f : Callee) (some : o ≡ Some f) where
     accept_by : accept_means x c span v ≡ bind (applied x f (v ∷ []) span) (λ answer u. judged answer span v u)

@@ -35,7 +35,6 @@ use Rattle.txs_tree_eval_transaction.specs.declared.view.TxView.{TxView}
 use Rattle.txs_value_cell.specs.Cells.{World, validators_of}
 use Rattle.txs_value_data.specs.Limits.{reruns}
 use Rattle.txs_value_base.specs.Places.{fault_at}
-use Rattle.txs_value_base.specs.declared.fault.Fault as fault
 use Rattle.txs_value_base.specs.declared.fault.FaultKind.TheVariants.{AgentFailed}
 use Rattle.txs_value_base.specs.declared.fault.Span.{Span}
 use Rattle.txs_value_data.specs.declared.value.Value.{Value}

@@ -2,7 +2,7 @@
 use Rattle.std.proofs.Common.{◌≡◌, ℕ, zero, suc, ◌+◌, ◌-◌, ◌<◌, ◌≤◌, Bool, true, false, if◌then◌else◌, List, [], ◌∷◌, ◌++◌, length, get_or, take, drop, Some, Result, Ok, Err, refl, sym, ap, ◌∙◌, subst, subst₂, append_assoc, length-append, arith}
 use Rattle.std.proofs.Math.Seq.{drop-append_seam, take-append_seam}
 use Rattle.std.proofs.lemmas.Bool.{eq-eqb, false≢true}
-use Rattle.std.proofs.lemmas.List.{append-nil, length-take, take-append-le, take-append-drop}
+use Rattle.std.proofs.lemmas.List.{length-take, take-append-le, take-append-drop}
 use Rattle.txs_value_apply.specs.Core.{is_false}
 use Rattle.txs_value_base.specs.Places.{nth}
 use Rattle.txs_value_apply.specs.Truth.{choose}
@@ -70,9 +70,6 @@ module _ {S : Type 0} (fx : Effects S) (call : Bool → ℕ → List Value → S
   -- the locals with the new ones behind them
   abbrev pub locals_after : Trees → List Value → S → Completion S (List Value)
   locals_after es env s = bind (eval_let fx call n inside es env s) (λ vs s1. Completes (env ++ vs) s1)
-
-  pub locals_after-none : (env : List Value) (s : S) → locals_after none env s ≡ Completes env s
-  locals_after-none env s = ap (λ vs. Completes vs s) (append-nil env)
 
   pub locals_after-more : (e : Tree) (rest : Trees) (env : List Value) (s : S) → locals_after (more e rest) env s ≡ bind (eval fx call n inside e env s) (λ v s1. locals_after rest (env ++ v ∷ []) s1)
   locals_after-more e rest env s =
@@ -306,9 +303,6 @@ module _ (setting : Setting) where
 
   -- a body after its new locals
   module _ (es : Trees) (body : Tree) (env : List Value) (out : State) where
-    one_turn : List Value → S → Completion S Value
-    one_turn = λ ws s. eval fx call setting.turns on body (env ++ ws) s
-
     let_is : let_means setting es body env out ≡ bind (locals_mean setting es env out) (λ ls s1. eval fx call setting.turns on body ls s1)
     let_is = sym (bind-bind (eval_let fx call setting.turns on es env (st out)) (λ vs s1. Completes (env ++ vs) s1) (λ ls s1. eval fx call setting.turns on body ls s1))
 

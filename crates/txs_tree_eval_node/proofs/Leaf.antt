@@ -1,5 +1,5 @@
 -- Events, item by item.
-use Rattle.std.proofs.Common.{◌≡◌, ℕ, zero, suc, ◌+◌, ◌<◌, List, [], ◌∷◌, ◌++◌, length, get_or, drop, Option, Some, None, refl, sym, ap, ◌∙◌, subst, arith, Vec, Global}
+use Rattle.std.proofs.Common.{◌≡◌, ℕ, zero, suc, ◌+◌, ◌<◌, List, [], ◌∷◌, ◌++◌, length, get_or, drop, Some, None, refl, sym, ap, ◌∙◌, subst, arith, Vec, Global}
 use Rattle.txs_frame.specs.Frame.{with_sends}
 use Rattle.txs_tree_eval_node.specs.Events.{seen_event, seen_events}
 use Rattle.txs_tree_eval_node.specs.declared.seen.Seen.{Seen}

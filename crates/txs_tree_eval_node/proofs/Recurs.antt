@@ -78,31 +78,6 @@ module _ {S : Type 0} where
     bind_as (OutOfTurns s) go h = tt
     bind_as Invalid go h = tt
 
-    again_as : (c : Completion S Value) (go : List Value → S → Completion S Value) → ((vs : List Value) (s : S) → RecursAs tail (go vs s)) → RecursAs tail (again c go)
-    again_as (Completes a s) go h = tt
-    again_as (Recurs vs s) go h = h vs s
-    again_as (Faults f s) go h = tt
-    again_as (Retries s) go h = tt
-    again_as (Waits s) go h = tt
-    again_as (OutOfTurns s) go h = tt
-    again_as Invalid go h = tt
-
-    either_as : (b : Bool) (c : Completion S Value) → RecursAs tail c → RecursAs tail (if b then c else Invalid)
-    either_as true c h = h
-    either_as false c h = tt
-
-    turns_as : (k d : ℕ) (body : List Value → S → Completion S Value) (vs : List Value) (s : S) → RecursAs tail (turns k d body vs s)
-    turns_as zero d body vs s = tt
-    turns_as (suc k) d body vs s = either_as (nat_eq (length vs) d) (again (body vs s) (turns k d body)) (again_as (body vs s) (turns k d body) (λ ws s1. turns_as k d body ws s1))
-
-    give_as : (o : Option Value) (s : S) → RecursAs tail (give o s)
-    give_as None s = tt
-    give_as (Some v) s = tt
-
-    result_as : {A : Type 0} (r : Result A FaultKind) (span : Span) (s : S) → RecursAs tail (result_of r span s)
-    result_as (Ok v) span s = tt
-    result_as (Err k) span s = tt
-
     on_cell_as : (form : CellForm) (inside : Bool) (span : Span) (v : Value) (go : CellId → S → Completion S Value) (s : S) → ((c : CellId) (t : S) → RecursAs tail (go c t)) → RecursAs tail (on_cell form inside span v go s)
     on_cell_as form inside span v go s h = bind_as (result_of (cell_of (rule form) inside v) span s) go h
 

@@ -613,11 +613,6 @@ Closes ARefused span r res t u = AnswersAt res u (Faults (fault_at AgentFailed s
 Closes ACommitted span r res t u = AnswersAt res u (Completes r.result (holding r.state.done.sends (with_tx r t)))
 Closes (AStopped y) span r res t u = (res ≡ Err y) × (u ≡ t)
 
--- a run, where the body gave a value
-abbrev pub run_as : (Value → Transacted) → Result Value ThreadStop → Result Transacted ThreadStop
-run_as f (Ok v) = Ok (f v)
-run_as f (Err y) = Err y
-
 -- a body that gives no value on a world
 abbrev pub BodyStops : ThreadStop → Completion TxState Value → Type 0
 BodyStops (Fault f) c = (t : TxState) × (c ≡ Faults f t)
@@ -631,5 +626,3 @@ abbrev pub Runs : Result Transacted ThreadStop → Mark → Tree → List Value 
 Runs (Ok r) m body env c =
     (c ≡ Completes r.result (tx_state r.work)) × (tx_run r ≡ record { body = body; locals = env; wanted = m.wanted; result = r.result; state = tx_state r.work })
 Runs (Err y) m body env c = BodyStops y c
-
--- ---- a pure callee

@@ -1,5 +1,5 @@
 -- Worked examples of the meanings, each by computing.
-use Rattle.std.proofs.Common.{ℕ, suc, Bool, true, false, List, [], ◌∷◌, Option, Some, None, ◌≡◌, refl}
+use Rattle.std.proofs.Common.{ℕ, suc, true, false, List, [], ◌∷◌, Option, Some, None, ◌≡◌, refl}
 use Rattle.std.specs.Fmt.{digits}
 use Rattle.std.specs.Prelude.{pos, negsuc}
 use Rattle.txs_world_protocol.specs.SeenEvent.{SeenEvent}

@@ -56,9 +56,6 @@ module _ {S : Type 0} (s : S) where
     pub pure_turns : (t : S) → c ≡ OutOfTurns t → p ≡ OutOfTurns tt
     pure_turns t is = plain-agrees p c h ∙ ap plain is
 
-    pub pure_waits : (t : S) → c ≡ Waits t → ⊥
-    pure_waits t is = subst (λ x. Agrees x c) (plain-agrees p c h ∙ ap plain is) h
-
   pub bind_agrees : {A B : Type 0} (p : Completion (Unit {0}) A) (c : Completion S A) (go : A → Unit {0} → Completion (Unit {0}) B) (on : A → S → Completion S B)
       → Agrees p c → ((a : A) → Agrees (go a tt) (on a s)) → Agrees (bind p go) (bind c on)
   bind_agrees (Completes a tt) c go on h each = subst (λ x. Agrees (go a tt) (bind x on)) (sym h) (each a)

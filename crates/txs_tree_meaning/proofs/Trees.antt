@@ -6,7 +6,7 @@ use Rattle.txs_value_cell.specs.declared.form.UpdateForm.{UpdateForm}
 use Rattle.txs_value_base.specs.declared.op.Callee.{Callee}
 use Rattle.txs_value_base.specs.declared.op.Op.{Op}
 use Rattle.txs_value_data.specs.declared.value.Value.{Value}
-use Rattle.txs_tree_meaning.specs.Tree.{Mark, Tree, Trees, more}
+use Rattle.txs_tree_meaning.specs.Tree.{Mark, more}
 use Rattle.txs_tree_meaning.specs.Tree as tree
 use Rattle.txs_tree_meaning.specs.View.{kind_tree, row_trees, tree_of, trees_of, mark_of}
 use Rattle.txs_tree_meaning.specs.declared.node.Node.{Node}

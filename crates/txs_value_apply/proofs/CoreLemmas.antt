@@ -1,10 +1,49 @@
--- The table's sum, step by step.
-use Rattle.std.proofs.Common.{◌≡◌, ℕ, ◌+◌, ◌<◌, ◌≤◌, ◌-◌, ◌∙◌, ap, List, [], ◌∷◌, length, get_or, drop, take, ℤ, Result, Ok, Err, sym, arith}
+-- An operation takes a value; and the table's sum, step by step.
+use Rattle.std.proofs.Common.{◌≡◌, ℕ, zero, suc, true, false, refl, ◌+◌, ◌<◌, ◌≤◌, ◌-◌, ◌∙◌, ap, List, [], ◌∷◌, length, get_or, drop, take, ℤ, Result, Ok, Err, sym, arith}
 use Rattle.std.proofs.lemmas.List.{drop_more, take_all}
-use Rattle.txs_value_apply.specs.Core.{number_of, from_left, arg}
+use Rattle.std.proofs.lemmas.Bool.{false≢true}
+use Rattle.txs_value_apply.specs.Core.{number_of, from_left, arg, takes}
+use Rattle.txs_value_base.specs.declared.op.Op.{Op}
+use Rattle.txs_value_base.specs.declared.op.Op.TheVariants as op
 use Rattle.txs_value_data.specs.declared.value.Value.{Value}
 use Rattle.txs_value_data.specs.declared.value.Value.TheVariants.{Nil, Truth, Int, Key, Text, Vector, Cell}
 use Rattle.txs_value_base.specs.declared.fault.FaultKind.{FaultKind}
+
+-- no operation takes nothing
+takes_none : (op : Op) → takes op 0 ≡ false
+unfolding takes
+takes_none op.Add = refl
+takes_none op.Subtract = refl
+takes_none op.Multiply = refl
+takes_none op.Inc = refl
+takes_none op.Dec = refl
+takes_none op.Quot = refl
+takes_none op.Rem = refl
+takes_none op.Mod = refl
+takes_none op.Equal = refl
+takes_none op.NotEqual = refl
+takes_none op.Less = refl
+takes_none op.Greater = refl
+takes_none op.LessOrEqual = refl
+takes_none op.GreaterOrEqual = refl
+takes_none op.Max = refl
+takes_none op.Min = refl
+takes_none op.Not = refl
+takes_none op.IsNil = refl
+takes_none op.IsZero = refl
+takes_none op.IsPositive = refl
+takes_none op.IsNegative = refl
+takes_none op.Count = refl
+takes_none op.Nth = refl
+takes_none op.Conj = refl
+takes_none op.Assoc = refl
+takes_none op.Peek = refl
+takes_none op.Pop = refl
+
+-- so each takes a value
+pub takes_some : (op : Op) (n : ℕ) → takes op n ≡ true → 0 < n
+takes_some op zero t = absurd (false≢true (sym (takes_none op) ∙ t))
+takes_some op (suc n) t = omega arith
 
 -- a value whose number is known
 number_int : (v : Value) (t : ℤ) → Ok t ≡ number_of v → v ≡ Int t

@@ -1,5 +1,5 @@
--- The names and the numbers of the core operations.
-use Rattle.std.specs.Prelude.{ℕ, List, codes}
+-- The core operations, their names and their numbers.
+use Rattle.std.specs.Prelude.{ℕ, List, [], ◌∷◌, codes}
 use Rattle.txs_value_base.specs.declared.op.Op.{Op}
 use Rattle.txs_value_base.specs.declared.op.Op.TheVariants.{Add, Subtract, Multiply, Inc, Dec, Quot, Rem, Mod, Equal, NotEqual, Less, Greater, LessOrEqual, GreaterOrEqual, Max, Min, Not, IsNil, IsZero, IsPositive, IsNegative, Count, Nth, Conj, Assoc, Peek, Pop}
 
@@ -62,3 +62,9 @@ op_number Conj = 23
 op_number Assoc = 24
 op_number Peek = 25
 op_number Pop = 26
+
+-- all of them, each at the place that is its number
+abbrev pub operations : List Op
+operations =
+    Add ∷ Subtract ∷ Multiply ∷ Inc ∷ Dec ∷ Quot ∷ Rem ∷ Mod ∷ Equal ∷ NotEqual ∷ Less ∷ Greater ∷ LessOrEqual ∷ GreaterOrEqual
+    ∷ Max ∷ Min ∷ Not ∷ IsNil ∷ IsZero ∷ IsPositive ∷ IsNegative ∷ Count ∷ Nth ∷ Conj ∷ Assoc ∷ Peek ∷ Pop ∷ []

@@ -1,7 +1,7 @@
 -- Which values the forms on cells take.
-use Rattle.std.specs.Prelude.{ℕ, Result, Ok, Err, zero, suc, List, [], ◌∷◌, map, Option, Some, None}
+use Rattle.std.specs.Prelude.{ℕ, Result, Ok, Err, zero, suc, List, [], ◌∷◌, map, Option, None}
 use Rattle.txs_value_base.specs.declared.fault.FaultKind.{FaultKind}
-use Rattle.txs_value_base.specs.declared.fault.FaultKind.TheVariants.{NotACell, NotARef}
+use Rattle.txs_value_base.specs.declared.fault.FaultKind.TheVariants.{NotARef}
 use Rattle.txs_value_data.specs.declared.value.CellId.{CellId}
 use Rattle.txs_value_data.specs.declared.value.CellKind.{CellKind}
 use Rattle.txs_value_data.specs.declared.value.CellKind.TheVariants.{Ref, Atom, Agent}

@@ -7,7 +7,7 @@ ghost use Rattle.txs_value_data.specs.declared.value.CellKind.TheVariants.{Agent
 
 use std::alloc::{AllocError, Global};
 use txs_value_base::Callee;
-use txs_value_data::{CellId, CellKind, Name, Value};
+use txs_value_data::{CellId, CellKind, Name, Value, copy_value};
 
 /// What an agent does after an action that faulted, as `:error-mode` says.
 #[derive(Clone, Copy, PartialEq, Eq)]
@@ -41,6 +41,36 @@ impl Drop for CellDefinition {
         drop(name);
         drop(opening);
     }
+}
+
+/// The same definition of a cell.
+fn copy_cell(cell: &CellDefinition) -> Result<CellDefinition, AllocError>
+    ensures { IfOk result (λ copy. copy ≡ cell.now) }
+{
+    Ok(CellDefinition {
+        kind: cell.kind,
+        name: cell.name.share()?,
+        opening: copy_value(&cell.opening)?,
+        error_mode: cell.error_mode,
+        validator: cell.validator,
+    })
+}
+
+/// The same definitions of cells.
+///
+/// # Errors
+/// There was no memory.
+pub fn copy_cells(
+    alloc: Global,
+    cells: &[CellDefinition],
+) -> Result<Vec<CellDefinition>, AllocError>
+    ensures { IfOk result (λ copies. copies.items ≡ cells.now) }
+{
+    let mut copies = Vec::with_capacity(alloc, cells.len())?;
+    for cell in cells {
+        copies.push_reserved(copy_cell(cell)?);
+    }
+    Ok(copies)
 }
 
 /// 1 for an agent, 0 for another cell.

@@ -8,5 +8,5 @@ pub mod cell;
 pub mod form;
 
 pub use action::{Action, copy_action};
-pub use cell::{CellDefinition, ErrorMode, agents_in, count_agents, list_agents};
+pub use cell::{CellDefinition, ErrorMode, agents_in, copy_cells, count_agents, list_agents};
 pub use form::{CellForm, FormAsk, FormRule, LookForm, PutForm, Standing, UpdateForm};

@@ -1,6 +1,6 @@
 -- A list of values and its data: the same at each place.
 use Rattle.std.proofs.Common.{◌≡◌, ℕ, zero, suc, ◌+◌, ◌<◌, ◌≤◌, ◌++◌, max, List, [], ◌∷◌, length, get_or, set, take, drop, refl, sym, ap, ◌∙◌, add-one, arith}
-use Rattle.std.proofs.lemmas.List.{take_more_same, get_or_read, length-map, length-append, length-take, length-drop, map_more, map-append, take-map, drop-map}
+use Rattle.std.proofs.lemmas.List.{get_or_read, length-map, length-append, length-take, length-drop, map_more, map-append, take-map, drop-map}
 use Rattle.std.proofs.Math.ListN.{get_or-map}
 use Rattle.txs_value_data.specs.PlainValue.{PlainValue, plain_row, plain_list, depth, row_depth, plain_size, row_size}
 use Rattle.txs_value_data.specs.Limits.{IsVector}
@@ -31,18 +31,6 @@ plain_at vs i v d lt e =
     let there : i < length (plains_of vs) = rw (length-map vs plain_of) lt in
     get_or_read (plains_of vs) i (plain_of v) there (ap plain_of e ∙ sym (get_or-map plain_of vs i v)) d
 
-module _ (us vs : List Value) (i : ℕ) (u v : Value) (in_us : i < length us) (in_vs : i < length vs) (is_u : u ≡ get_or us i u) (is_v : v ≡ get_or vs i v) where
-  pub same_so_far : u ≡ v → take i (plains_of us) ≡ take i (plains_of vs) → take (i + 1) (plains_of us) ≡ take (i + 1) (plains_of vs)
-  same_so_far e before =
-      let d = plain_of u in
-      take_more_same (plains_of us) (plains_of vs) i d (rw (length-map us plain_of) in_us) (rw (length-map vs plain_of) in_vs) before
-      (sym (plain_at us i u d in_us is_u) ∙ ap plain_of e ∙ plain_at vs i v d in_vs is_v)
-
-  pub same_here : plains_of us ≡ plains_of vs → u ≡ v
-  same_here e =
-      let d = plain_of u in
-      plain_of-one u v (plain_at us i u d in_us is_u ∙ ap (λ xs. get_or xs i d) e ∙ sym (plain_at vs i v d in_vs is_v))
-
 -- an item has less inside than its list
 size_of_item : (vs : List Value) (i : ℕ) (v : Value) → i < length vs → v ≡ get_or vs i v → plain_size (plain_of v) < row_size (plains_of vs)
 size_of_item [] i v lt is = absurd (omega arith)
@@ -69,24 +57,11 @@ pub depth_so_far : (vs : List Value) (i : ℕ) (v : Value) (n : ℕ) → i < len
 depth_so_far vs i v n lt is one before =
     rw (map_more plain_of vs i v lt, sym is) (omega (arith, row_depth-push (plains_of (take i vs)) (plain_of v)))
 
--- a vector that isn't full, and an item that isn't too deep
-pub IsVector-push : (vs us : List Value) (v w : Value) (ds : List PlainValue) → us ≡ vs ++ w ∷ [] → w ≡ v → plains_of vs ≡ ds → IsVector ds → length ds < 65535 → depth (plain_of v) ≤ 31 → IsVector (plains_of us)
-IsVector-push vs us v w ds is same seen before short shallow =
-    rw (is, same, map-append plain_of vs (v ∷ []), seen)
-    (simp length-append (omega arith), omega (arith, row_depth-push ds (plain_of v)))
-
 row_depth-take : (ds : List PlainValue) (n : ℕ) → row_depth (plain_row (take n ds)) ≤ row_depth (plain_row ds)
 row_depth-take [] zero = omega arith
 row_depth-take [] (suc n) = omega arith
 row_depth-take (d ∷ ds) zero = omega arith
 row_depth-take (d ∷ ds) (suc n) = omega (arith, row_depth-take ds n)
-
-pub IsVector-take : (us vs : List Value) (ds : List PlainValue) (n : ℕ) → us ≡ take n vs → plains_of vs ≡ ds → IsVector ds → IsVector (plains_of us)
-IsVector-take us vs ds n is seen before =
-    rw (is, sym (take-map plain_of n vs), seen) (simp length-take (omega arith), omega (arith, row_depth-take ds n))
-
-pub plains_of-take : (us vs : List Value) (ds : List PlainValue) (n : ℕ) → us ≡ take n vs → plains_of vs ≡ ds → plains_of us ≡ take n ds
-plains_of-take us vs ds n is seen = rw (is, sym (take-map plain_of n vs), seen)
 
 set_suc : {X : Type 0} (xs : List X) (i : ℕ) (y : X) → i < length xs → set xs i y ≡ take i xs ++ y ∷ drop (suc i) xs
 set_suc [] i y lt = absurd (omega arith)
@@ -111,12 +86,6 @@ row_depth-drop (d ∷ ds) (suc n) = omega (arith, row_depth-drop ds n)
 row_depth-append : (ds es : List PlainValue) → row_depth (plain_row (ds ++ es)) ≡ max (row_depth (plain_row ds)) (row_depth (plain_row es))
 row_depth-append [] es = omega arith
 row_depth-append (d ∷ ds) es = omega (arith, row_depth-append ds es)
-
-pub IsVector-put : (us vs : List Value) (ds : List PlainValue) (v w : Value) (n : ℕ) → us ≡ take n vs ++ w ∷ drop (n + 1) vs → w ≡ v → plains_of vs ≡ ds → IsVector ds → n ≤ length ds → n < 65535
-    → depth (plain_of v) ≤ 31 → IsVector (plains_of us)
-IsVector-put us vs ds v w n is same seen before le short shallow =
-    rw (plains_of-put us vs ds v w n is same seen)
-    (omega (arith, length-append (take n ds) (plain_of v ∷ drop (n + 1) ds), length-take n ds, length-drop (n + 1) ds), omega (arith, row_depth-append (take n ds) (plain_of v ∷ drop (n + 1) ds), row_depth-take ds n, row_depth-drop ds (n + 1)))
 
 -- a write, as plain values
 pub plains_of-set : (vs : List Value) (n : ℕ) (v : Value) → n < length vs → plains_of (set vs n v) ≡ take n (plains_of vs) ++ plain_of v ∷ drop (n + 1) (plains_of vs)

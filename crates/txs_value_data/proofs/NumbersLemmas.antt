@@ -1,23 +1,12 @@
 -- Lists of numbers alone, as they are built, read and cut; and vectors that are compared row by row.
-use Rattle.std.proofs.Common.{◌≡◌, ℕ, zero, suc, ◌+◌, ◌*◌, max, ◌<◌, ◌≤◌, ◌++◌, ℤ, List, [], ◌∷◌, length, get_or, map, take, drop, refl, sym, ap, ◌∙◌, add-one, arith}
-use Rattle.std.proofs.lemmas.List.{length-take, length-drop, take_all, take_more_same, take_more, get_or_read, get_or-take}
+use Rattle.std.proofs.Common.{◌≡◌, ℕ, zero, suc, ◌+◌, ◌*◌, max, ◌<◌, ◌≤◌, ◌++◌, List, [], ◌∷◌, length, get_or, map, take, drop, refl, sym, ap, ◌∙◌, arith}
+use Rattle.std.proofs.lemmas.List.{length-take, length-drop, take_more, get_or_read}
 use Rattle.txs_value_data.specs.Numbers.{IsNumber, AreNumbers}
 use Rattle.txs_value_data.specs.PlainValue.{PlainValue, row_size}
 use Rattle.txs_value_data.specs.View.{plain_of, plains_of, value_of}
 use Rattle.txs_value_data.specs.declared.value.Value.{Value}
-use Rattle.txs_value_data.specs.declared.value.Value.TheVariants.{Nil, Truth, Int, Key, Text, Vector, Cell}
 use Rattle.txs_value_data.proofs.ItemsLemmas.{value_of-plain_of, length-plains_of}
 use Rattle.txs_value_data.proofs.WindowLemmas.{window_next, window_size}
-
--- a value that is no number's variant is no number
-pub is_int : (v : Value) → IsNumber (plain_of v) → ((z : ℤ) → v ≡ Int z → ⊥) → ⊥
-is_int (Int z) h no_int = no_int z refl
-is_int Nil h no_int = h
-is_int (Truth b) h no_int = h
-is_int (Key bs) h no_int = h
-is_int (Text bs) h no_int = h
-is_int (Vector ds) h no_int = h
-is_int (Cell c) h no_int = h
 
 AreNumbers-append : (ds es : List PlainValue) → AreNumbers ds → AreNumbers es → AreNumbers (ds ++ es)
 AreNumbers-append [] es h k = k
@@ -72,31 +61,6 @@ plains_of-one us vs e = sym (plains_back us) ∙ ap (λ ds. map value_of ds) e �
 module _ (us vs : List Value) (i : ℕ) (u v : Value) (in_us : i < length us) (in_vs : i < length vs) (is_u : u ≡ get_or us i u) (is_v : v ≡ get_or vs i v) where
   other : v ≡ get_or vs i u
   other = get_or_read vs i v in_vs is_v u
-
-  pub values_here : us ≡ vs → u ≡ v
-  values_here e = is_u ∙ ap (λ xs. get_or xs i u) e ∙ sym other
-
-  pub values_next : u ≡ v → take i us ≡ take i vs → take (i + 1) us ≡ take (i + 1) vs
-  values_next e before = take_more_same us vs i u in_us in_vs before (sym is_u ∙ e ∙ other)
-
-  pub values_last : take (i + 1) us ≡ take (i + 1) vs → u ≡ v
-  values_last e =
-      is_u ∙ sym (get_or-take (i + 1) us i u (omega arith)) ∙ ap (λ xs. get_or xs i u) e ∙ get_or-take (i + 1) vs i u (omega arith) ∙ sym other
-
-  pub values_before : take (i + 1) us ≡ take (i + 1) vs → take i us ≡ take i vs
-  values_before e = sym (take_twice us i) ∙ ap (λ xs. take i xs) e ∙ take_twice vs i
-    where
-      take_twice : {A : Type 0} (xs : List A) (n : ℕ) → take n (take (n + 1) xs) ≡ take n xs
-      take_twice {A = A} xs n = rw add-one (twice xs n)
-        where
-          twice : (ys : List A) (m : ℕ) → take m (take (suc m) ys) ≡ take m ys
-          twice [] zero = refl
-          twice [] (suc m) = refl
-          twice (y ∷ ys) zero = refl
-          twice (y ∷ ys) (suc m) = ap (λ zs. y ∷ zs) (twice ys m)
-
-pub values_end : {A : Type 0} (xs ys : List A) (n : ℕ) → length xs ≤ n → length ys ≤ n → take n xs ≡ take n ys → xs ≡ ys
-values_end xs ys n le le' e = sym (take_all n xs le) ∙ e ∙ take_all n ys le'
 
 -- rows of 32 places of two vectors of one length
 module _ (ds es : List PlainValue) (len : length ds ≡ length es) (n : ℕ) (us vs : List Value) (is_u : plains_of us ≡ take 32 (drop (n * 32) ds)) (is_v : plains_of vs ≡ take 32 (drop (n * 32) es)) where

@@ -1,10 +1,8 @@
 -- What stands at a place of a list of plain values: it is less than the list and no deeper, and one more of a list.
-use Rattle.std.proofs.Common.{◌≡◌, ℕ, zero, suc, ◌+◌, ◌-◌, ◌<◌, ◌≤◌, ◌++◌, List, [], ◌∷◌, length, take, sym, ap, ◌∙◌, Some, Ok, ℤ, pos, negsuc, add-one, arith}
+use Rattle.std.proofs.Common.{◌≡◌, ℕ, zero, suc, ◌+◌, ◌-◌, ◌<◌, ◌≤◌, ◌++◌, List, [], ◌∷◌, take, sym, ap, Some, add-one, arith}
 use Rattle.std.specs.List.{slice_get}
-use Rattle.txs_value_data.specs.PlainValue.{PlainValue, nil, plain_row, depth, row_depth, plain_size, row_size}
-use Rattle.txs_value_data.specs.View.{plain_of, value_of}
-use Rattle.txs_value_data.proofs.ItemsLemmas.{plain_of-one, value_of-plain_of, row_depth-push}
-use Rattle.txs_value_data.specs.declared.value.Value.{Value}
+use Rattle.txs_value_data.specs.PlainValue.{PlainValue, plain_row, depth, row_depth, plain_size, row_size}
+use Rattle.txs_value_data.proofs.ItemsLemmas.{row_depth-push}
 
 some_one : {A : Type 0} → (x y : A) → Some x ≡ Some y → x ≡ y
 some_one x y e = cc
@@ -29,10 +27,3 @@ item_depth (c ∷ ds) (suc i) d e = omega (arith, item_depth ds i d e)
 
 pub depth_next : (ds : List PlainValue) (i : ℕ) (d : PlainValue) (n : ℕ) → slice_get ds i ≡ Some d → depth d ≤ n → row_depth (plain_row (take i ds)) ≤ n → row_depth (plain_row (take (i + 1) ds)) ≤ n
 depth_next ds i d n e one before = rw (take_next ds i d e) (omega (arith, row_depth-push (take i ds) d))
-
-module _ (ds es : List PlainValue) (i : ℕ) (u v : Value) (is_u : slice_get ds i ≡ Some (plain_of u)) (is_v : slice_get es i ≡ Some (plain_of v)) where
-  pub same_there : ds ≡ es → u ≡ v
-  same_there e = plain_of-one u v (some_one (plain_of u) (plain_of v) (sym is_u ∙ ap (λ xs. slice_get xs i) e ∙ is_v))
-
-  pub same_next : u ≡ v → take i ds ≡ take i es → take (i + 1) ds ≡ take (i + 1) es
-  same_next e before = take_next ds i (plain_of u) is_u ∙ (λ j. before j ++ plain_of (e j) ∷ []) ∙ sym (take_next es i (plain_of v) is_v)

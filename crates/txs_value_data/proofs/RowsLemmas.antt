@@ -70,11 +70,6 @@ module _ {A : Type 0} where
   joined-push [] c = append-nil c
   joined-push (b ∷ cs) c = ap (λ xs. b ++ xs) (joined-push cs c) ∙ sym (append_assoc b (joined cs) c)
 
-  set_same : (cs : List (List A)) (q : ℕ) (c : List A) → q < length cs → c ≡ get_or cs q c → set cs q c ≡ cs
-  set_same [] q c lt is = absurd (omega arith)
-  set_same (b ∷ cs) zero c lt is = ap (λ x. x ∷ cs) is
-  set_same (b ∷ cs) (suc q) c lt is = ap (λ xs. b ∷ xs) (set_same cs q c (omega arith) is)
-
   -- rows of a width
   module _ (w : ℕ) where
     pub length-joined : (cs : List (List A)) → AreFull w cs → length (joined cs) ≡ length cs * w
@@ -120,16 +115,10 @@ module _ {A : Type 0} where
     pub AreRows-push : (us : List (List A)) (c : List A) → us ≡ cs ++ c ∷ [] → length c ≡ w → length cs < m → AreRows w m us
     AreRows-push us c is full room = rw is (AreFull-push w cs c before.0 full, omega (arith, length-append cs (c ∷ [])))
 
-    pub rows-push : (us : List (List A)) (c : List A) → us ≡ cs ++ c ∷ [] → joined us ≡ ds ++ c
-    rows-push us c is = rw (is, sym seen) (joined-push cs c)
-
     pub AreRows-pop : (us : List (List A)) (c : List A) → cs ≡ us ++ c ∷ [] → AreRows w m us
     AreRows-pop us c is =
         let h : AreFull w (us ++ c ∷ []) = rw (sym is) before.0 in
         ((AreFull-last w us c h).0, omega (arith, before.1, ap length is, length-append us (c ∷ [])))
-
-    pub rows-pop : (us : List (List A)) (c : List A) → cs ≡ us ++ c ∷ [] → ds ≡ joined us ++ c
-    rows-pop us c is = rw (sym seen, is) (joined-push us c)
 
     pub full-pop : (us : List (List A)) (c : List A) → cs ≡ us ++ c ∷ [] → length c ≡ w
     full-pop us c is =
@@ -159,18 +148,6 @@ module _ {A : Type 0} where
           let put_at : e ≡ put c (k % w) y = rw add-one at put_in in
           rw (is, put_at, sym seen, add-one) (put-joined w cs (k / w) (k % w) k c y before.0 row_there rest_small at (sym (div-add-mod' k w)))
 
-      row_same : (c e : List A) → c ≡ get_or cs (k / w) c → e ≡ c → set cs (k / w) e ≡ cs
-      row_same c e at same = rw same (set_same cs (k / w) c row_there at)
-
-      pub rows-kept : (us : List (List A)) (c e : List A) → us ≡ set cs (k / w) e → c ≡ get_or cs (k / w) c → e ≡ c → joined us ≡ ds
-      rows-kept us c e is at same = ap joined (is ∙ row_same c e at same) ∙ seen
-
-      -- a row that stays as it is
-      pub AreRows-kept : (us : List (List A)) (c e : List A) → us ≡ set cs (k / w) e → c ≡ get_or cs (k / w) c → e ≡ c → AreRows w m us
-      AreRows-kept us c e is at same =
-          let full : length e ≡ w = rw same (AreFull-at w cs (k / w) c before.0 row_there at) in
-          rw is (AreFull-set w cs (k / w) e before.0 full, omega (arith, before.1, length-set cs (k / w) e))
-
 -- branches, and leaves behind them
 module _ {A : Type 0} (bs cs : List (List A)) (ds : List A) (full_b : AreRows 1024 64 bs) (full_c : AreRows 32 32 cs) (seen : joined bs ++ joined cs ≡ ds) where
   length-branches : length (joined bs) ≡ length bs * 1024
@@ -184,9 +161,6 @@ module _ {A : Type 0} (bs cs : List (List A)) (ds : List A) (full_b : AreRows 10
       in_branches : k < length (joined bs)
       in_branches = omega (arith, length-branches)
 
-      pub branch_there : k / 1024 < length bs
-      branch_there = row_there 1024 64 (omega arith) bs (joined bs) full_b refl k in_branches
-
       pub branch_place : (c : List A) → c ≡ get_or bs (k / 1024) c → k % 1024 < length c
       branch_place c is = place_there 1024 64 (omega arith) bs (joined bs) full_b refl k in_branches c is
 
@@ -195,9 +169,6 @@ module _ {A : Type 0} (bs cs : List (List A)) (ds : List A) (full_b : AreRows 10
 
       pub branches-set : (us : List (List A)) (c e : List A) (y : A) → us ≡ set bs (k / 1024) e → c ≡ get_or bs (k / 1024) c → e ≡ take (k % 1024) c ++ y ∷ drop (k % 1024 + 1) c → AreRows 1024 64 us
       branches-set us c e y is is_c put_in = AreRows-set 1024 64 (omega arith) bs (joined bs) full_b refl k in_branches us c e y is is_c put_in
-
-      pub branches-kept : (us : List (List A)) (c e : List A) → us ≡ set bs (k / 1024) e → c ≡ get_or bs (k / 1024) c → e ≡ c → AreRows 1024 64 us
-      branches-kept us c e is is_c same = AreRows-kept 1024 64 (omega arith) bs (joined bs) full_b refl k in_branches us c e is is_c same
 
       pub both-set : (us : List (List A)) (c e : List A) (y : A) → us ≡ set bs (k / 1024) e → c ≡ get_or bs (k / 1024) c → e ≡ take (k % 1024) c ++ y ∷ drop (k % 1024 + 1) c
           → joined us ++ joined cs ≡ take k ds ++ y ∷ drop (k + 1) ds
@@ -253,9 +224,6 @@ module _ {A : Type 0} (bs cs : List (List A)) (ds : List A) (full_b : AreRows 10
 
   -- where there is no leaf the last branch's are taken
   module _ (none : cs ≡ []) where
-    pub branch_left : 0 < length ds → 0 < length bs
-    branch_left some = omega (arith, length-both, ap length none)
-
     pub branches_popped : (us : List (List A)) (b : List A) → bs ≡ us ++ b ∷ [] → AreRows 1024 64 us
     branches_popped us b is = AreRows-pop 1024 64 (omega arith) bs (joined bs) full_b refl us b is
 

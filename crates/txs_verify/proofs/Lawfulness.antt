@@ -1,5 +1,5 @@
 -- The tests of an instruction alone say what is wanted of it; and what is right alone is lawful.
-use Rattle.std.proofs.Common.{arith, inl, inr, ◌≡◌, ◌⊎◌, ◌∙◌, ℕ, zero, suc, ◌+◌, ◌<◌, ◌≤◌, List, [], ◌∷◌, length, get_or, Bool, true, false, not, ◌&&◌, ◌||◌, nat_eq, nat_lt, if◌then◌else◌, is_some, Option, Some, None, refl, sym, ap, subst}
+use Rattle.std.proofs.Common.{arith, inl, inr, ◌≡◌, ◌⊎◌, ◌∙◌, ℕ, zero, suc, ◌+◌, ◌<◌, ◌≤◌, List, [], ◌∷◌, length, Bool, true, false, not, ◌&&◌, ◌||◌, nat_eq, nat_lt, if◌then◌else◌, is_some, Option, Some, None, refl, sym, ap, subst}
 use Rattle.std.proofs.lemmas.Bool.{eqb-true, eqb-false, eq-eqb, ltb-true, ltb-false}
 use Rattle.txs_world_protocol.specs.Ask.{same_callee}
 use Rattle.txs_value_base.specs.Operations.{op_number}
@@ -8,10 +8,8 @@ use Rattle.txs_value_cell.specs.declared.form.UpdateForm.{UpdateForm}
 use Rattle.txs_value_cell.specs.declared.form.UpdateForm.TheVariants as update
 use Rattle.txs_value_base.specs.declared.op.Callee.{Callee}
 use Rattle.txs_value_base.specs.declared.op.Callee.TheVariants as callee
-use Rattle.txs_value_base.specs.declared.op.Op.{Op}
-use Rattle.txs_value_base.specs.declared.op.Op.TheVariants as op
 use Rattle.txs_value_data.specs.declared.value.Value.{Value}
-use Rattle.txs_value_base.proofs.OperationsLemmas.{operations, operations-at_number}
+use Rattle.txs_value_base.proofs.OperationsLemmas.{op_number-differs}
 use Rattle.txs_code_meaning.specs.PlainCode.{CodeBody}
 use Rattle.txs_code_meaning.specs.WellTyped.{form_of, IsNamed, CalleeTakes, NamedTakes, Applies, IsBehindOpen, IsFollowed, IsOpened, IsLawful}
 use Rattle.txs_code_meaning.specs.declared.instr.OpenForm.{OpenForm}
@@ -145,11 +143,8 @@ named_below_test n open_form.Alter h = refl
 named_below_test n (open_form.Commute c) h = below_test n c h
 named_below_test n (open_form.Swap c) h = below_test n c h
 
-same_op : (a b : Op) → op_number a ≡ op_number b → a ≡ b
-same_op a b e = operations-at_number a op.Add ∙ ap (λ n. get_or operations n op.Add) e ∙ sym (operations-at_number b op.Add)
-
 callee_same : (a b : Callee) → same_callee a b ≡ true → a ≡ b
-callee_same (callee.Core a) (callee.Core b) h = ap callee.Core (same_op a b (eqb-true (op_number a) (op_number b) h))
+callee_same (callee.Core a) (callee.Core b) h = ap callee.Core (op_number-differs a b (eqb-true (op_number a) (op_number b) h))
 callee_same (callee.Core a) (callee.Function g) h = true_is (sym h)
 callee_same (callee.Function f) (callee.Core b) h = true_is (sym h)
 callee_same (callee.Function f) (callee.Function g) h = ap callee.Function (eqb-true f g h)

@@ -221,13 +221,6 @@ all_are_kinds fs n consts (x ∷ bs) (k ∷ kinds) [] typed f kind there = absur
 all_are_kinds fs n consts (x ∷ bs) (k ∷ kinds) (room ∷ rooms) typed zero kind there = subst IsKind (some_is k kind there) typed.0
 all_are_kinds fs n consts (x ∷ bs) (k ∷ kinds) (room ∷ rooms) typed (suc f) kind there = all_are_kinds fs (suc n) consts bs kinds rooms typed.2 f kind there
 
--- how many kinds there are
-functions_there : (fs : Functions) (n : ℕ) (consts : List Value) (bs : List CodeBody) (kinds : List FunctionKind) (rooms : List ℕ) → WellTypedFunctions fs n consts bs kinds rooms → length kinds ≡ length bs
-functions_there fs n consts [] kinds rooms typed = ap length typed.0
-functions_there fs n consts (x ∷ bs) [] rooms typed = absurd typed
-functions_there fs n consts (x ∷ bs) (k ∷ kinds) [] typed = absurd typed
-functions_there fs n consts (x ∷ bs) (k ∷ kinds) (room ∷ rooms) typed = ap suc (functions_there fs (suc n) consts bs kinds rooms typed.2)
-
 nth_before : (ks : List Kind) (n f : ℕ) (k : Kind) → nth (kinds_before n ks) f ≡ Some k → (f < n) × (nth ks f ≡ Some k)
 nth_before ks zero f k e = absurd (none_is k e)
 nth_before [] (suc n) f k e = absurd (none_is k e)

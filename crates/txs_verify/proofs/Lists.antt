@@ -6,7 +6,7 @@ use Rattle.txs_verify.specs.declared.walk.Mark.{Mark}
 use Rattle.txs_verify.specs.Marks.{Marks, mark_at}
 use Rattle.txs_code_meaning.specs.declared.instr.Instr.{Instr}
 use Rattle.txs_verify.specs.declared.standing.Kind.{Kind}
-use Rattle.txs_verify.specs.Paths.{or_none, opens, before, before_that}
+use Rattle.txs_verify.specs.Paths.{or_none, before, before_that}
 use Rattle.txs_verify.specs.Standing.{or_pure, pure_kind}
 
 pub parameters_at : (bs : List CodeBody) (f : ℕ) (d : CodeBody) → f < length bs → or_none (nth (parameters_of bs) f) ≡ (get_or bs f d).parameters
@@ -39,11 +39,6 @@ nth_past (x ∷ xs) (suc p) h = nth_past xs p (omega (arith, h))
 
 pred_is : (p : ℕ) → p ≡ suc p - 1
 pred_is p = omega arith
-
--- what opened one place before
-pub opens_before : (is : List Instr) (at : ℕ) (d : Instr) → 0 < at → at < length is → opens (before is at) ≡ opens (Some (get_or is (at - 1) d))
-opens_before is zero d h below = absurd (omega (arith, h))
-opens_before is (suc p) d h below = ap opens (nth_is is p d (omega (arith, below))) ∙ ap (λ n. opens (Some (get_or is n d))) (pred_is p)
 
 -- the kind of a function
 pub kind_there : (ks : List Kind) (f : ℕ) (d : Kind) → f < length ks → or_pure (nth ks f) ≡ get_or ks f d

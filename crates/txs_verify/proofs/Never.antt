@@ -8,7 +8,7 @@ use Rattle.txs_code_meaning.specs.declared.instr.OpenForm.{OpenForm}
 use Rattle.txs_code_meaning.specs.declared.instr.Instr.{Instr}
 use Rattle.txs_code_meaning.specs.declared.instr.Instr.TheVariants.{Const, Local, Store, Pop, Jump, JumpFalse, Core, Call, Return, Vector, Print, Look, Put, TxBegin, TxEnd, Open, Close, Send, Halt}
 use Rattle.txs_verify.specs.Paths.{wants, EndsWell, IsAllowed, MayEnd, Steps, ComesIn, opens, before, before_that, stage_behind, stage_for}
-use Rattle.txs_verify.specs.Refused.{Comes, IsMet, IsLow, HasTwoDepths, HasTwoNestings, EndsNothing, GoesPast, of_none, behind, EndsBadly, IsMisplaced}
+use Rattle.txs_verify.specs.Refused.{Comes, IsMet, IsLow, HasTwoDepths, HasTwoNestings, EndsNothing, GoesPast, of_none, behind}
 use Rattle.txs_verify.proofs.Agree.{enough_of, has_depth}
 use Rattle.txs_verify.proofs.Staged.{JumpsPlainly, has_stage}
 use Rattle.txs_verify.proofs.Whole.{jumps}
@@ -240,16 +240,6 @@ module _ (fs : Functions) (owner : Owner) (callable : ℕ) (ks : List Value) (b 
   never_ends_nothing p bad =
       let r = here p bad.0 bad.1 bad.2 bad.3 in
       bad.4 (subst (λ i. MayEnd i bad.1) r.1 r.0.within)
-
-  pub never_ends_badly : (p : ℕ) → EndsBadly fs.parameters b.instrs owner p → ⊥
-  never_ends_badly p bad =
-      let r = here p bad.0 bad.1 bad.2 bad.3 in
-      bad.4 (subst (λ i. EndsWell owner bad.0 bad.1 i) r.1 r.0.ends)
-
-  pub never_misplaced : (p : ℕ) → IsMisplaced fs b.instrs owner p → ⊥
-  never_misplaced p bad =
-      let r = here p bad.0 bad.1 bad.2 bad.3 in
-      bad.4 (subst (λ i. IsAllowed fs owner (stage_for b.instrs p bad.1) i) r.1 r.0.allowed)
 
   starts : Comes fs.parameters b.instrs 0 0 0
   unfolding ComesIn

@@ -5,18 +5,12 @@ use Rattle.txs_code_meaning.specs.declared.instr.Instr.{Instr}
 use Rattle.txs_verify.specs.Marks.{Marks, mark_at, mark_behind}
 use Rattle.txs_verify.specs.Paths.{wants, depth_behind, txs_behind}
 use Rattle.txs_verify.specs.Walk.{Walk, Gives, reached, reached_each, ◌>>=◌, refusal, next_places, ends_nothing, passed}
-use Rattle.txs_verify.specs.declared.error.Refusal.{Refusal}
 use Rattle.txs_verify.specs.declared.error.Stop.{Stop}
 use Rattle.txs_verify.specs.declared.error.VerifyErrorKind.TheVariants.{StackLow, TxNesting}
 use Rattle.txs_verify.specs.declared.walk.Mark.{Mark}
 
 pub unmarked_is : (ms : Marks) (ws : List ℕ) (to : ℕ) (m : Mark) (left : List ℕ) → mark_at ms to ≡ None → left ≡ ws ++ to ∷ [] → reached (mark_at ms to) (ms, ws) to m ≡ Ok (set ms to (Some m), left)
 unmarked_is ms ws to m left none e = ap (λ x. reached x (ms, ws) to m) none ∙ ap (λ x. Ok (set ms to (Some m), x)) (sym e)
-
--- no place behind it
-pub alone_is : (r : Result Walk Refusal) (m : Mark) → (r >>= reached_each [] m) ≡ r
-alone_is (Ok s) m = refl
-alone_is (Err e) m = refl
 
 le_tested : (a c : ℕ) → c ≤ a → nat_lt a c ≡ false
 le_tested a c h = le-ltb a c h

@@ -163,9 +163,6 @@ seen_inside k t e = ap (λ b. b && k.inside) (eq-eqb t 0 e)
 seen_outside : (k : Kind) (t : ℕ) → t ≡ 0 → has for_outside (seen_from t k) ≡ k.outside
 seen_outside k t e = ap (λ b. b && k.outside) (eq-eqb t 0 e)
 
-impure_of : (k : Kind) → not k.impure ≡ false → k.impure ≡ true
-impure_of k e = not_false k.impure e
-
 kept_impure : (kind k : Kind) (t : ℕ) → Covers kind t k → not k.impure ≡ false → not kind.impure ≡ false
 kept_impure kind k t covers e = ap not (covers not_pure (not_false k.impure e))
 

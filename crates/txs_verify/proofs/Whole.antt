@@ -1,10 +1,8 @@
 -- Closed marks of lawful code whose instructions may all stand there make a body well typed.
-use Rattle.std.proofs.Common.{arith, ◌≡◌, ◌+◌, ◌<◌, ◌≤◌, ℕ, zero, suc, true, List, [], ◌∷◌, Option, Some, None, refl, sym, ap, subst, ◌∙◌, length}
-use Rattle.txs_value_apply.specs.Core.{takes}
+use Rattle.std.proofs.Common.{arith, ◌≡◌, ◌+◌, ◌<◌, ◌≤◌, ℕ, zero, suc, List, [], ◌∷◌, Option, Some, None, refl, sym, ap, subst, ◌∙◌, length}
+use Rattle.txs_value_apply.proofs.CoreLemmas.{takes_some}
 use Rattle.txs_value_base.specs.Places.{nth}
 use Rattle.txs_value_cell.specs.declared.form.UpdateForm.{UpdateForm}
-use Rattle.txs_value_base.specs.declared.op.Op.{Op}
-use Rattle.txs_value_base.specs.declared.op.Op.TheVariants as op
 use Rattle.txs_value_data.specs.declared.value.Value.{Value}
 use Rattle.txs_code_meaning.specs.PlainCode.{CodeBody}
 use Rattle.txs_code_meaning.specs.WellTyped.{Functions, Owner, Stage, opened, form_of, depth_at, Fits, IsTable, Stages, stage_at, FitsStage, IsStaging, IsLawful, IsFollowed, IsOpened, Applies, WellTypedBody}
@@ -19,38 +17,6 @@ use Rattle.txs_verify.proofs.Staged.{JumpsPlainly}
 
 some_is : {A : Type 0} (x y : A) → Some x ≡ Some y → x ≡ y
 some_is x y e = cc
-
--- an operation takes a value
-takes_some : (o : Op) (n : ℕ) → takes o n ≡ true → 0 < n
-unfolding takes
-takes_some op.Add zero h = absurd cc
-takes_some op.Subtract zero h = absurd cc
-takes_some op.Multiply zero h = absurd cc
-takes_some op.Inc zero h = absurd cc
-takes_some op.Dec zero h = absurd cc
-takes_some op.Quot zero h = absurd cc
-takes_some op.Rem zero h = absurd cc
-takes_some op.Mod zero h = absurd cc
-takes_some op.Equal zero h = absurd cc
-takes_some op.NotEqual zero h = absurd cc
-takes_some op.Less zero h = absurd cc
-takes_some op.Greater zero h = absurd cc
-takes_some op.LessOrEqual zero h = absurd cc
-takes_some op.GreaterOrEqual zero h = absurd cc
-takes_some op.Max zero h = absurd cc
-takes_some op.Min zero h = absurd cc
-takes_some op.Not zero h = absurd cc
-takes_some op.IsNil zero h = absurd cc
-takes_some op.IsZero zero h = absurd cc
-takes_some op.IsPositive zero h = absurd cc
-takes_some op.IsNegative zero h = absurd cc
-takes_some op.Count zero h = absurd cc
-takes_some op.Nth zero h = absurd cc
-takes_some op.Conj zero h = absurd cc
-takes_some op.Assoc zero h = absurd cc
-takes_some op.Peek zero h = absurd cc
-takes_some op.Pop zero h = absurd cc
-takes_some o (suc n) h = omega (arith)
 
 -- what stands at a place below the length
 nth_below : (ns : List ℕ) (i : ℕ) → i < length ns → (n : ℕ) × (nth ns i ≡ Some n)

@@ -1,11 +1,10 @@
 -- Why a body whose instructions are each lawful is refused: what a path of it comes to.
 use Rattle.std.specs.Prelude.{◌≡◌, ◌⊎◌, ℕ, ◌<◌, List, [], Some, None}
 use Rattle.txs_value_base.specs.Places.{nth}
-use Rattle.txs_code_meaning.specs.WellTyped.{Functions, Owner}
 use Rattle.txs_code_meaning.specs.declared.instr.Instr.{Instr}
 use Rattle.txs_verify.specs.declared.error.VerifyErrorKind.{VerifyErrorKind}
 use Rattle.txs_verify.specs.declared.error.VerifyErrorKind.TheVariants.{JumpOut, StackLow, StackDiffers, LocalOut, ArityWrong, CallOrder, TxNesting, FallsOff, Memory}
-use Rattle.txs_verify.specs.Paths.{wants, MayEnd, EndsWell, IsAllowed, Steps, ComesIn, stage_for}
+use Rattle.txs_verify.specs.Paths.{wants, MayEnd, Steps, ComesIn}
 
 -- a path comes to a place with so many values and open transactions
 abbrev pub Comes : List ℕ → List Instr → ℕ → ℕ → ℕ → Type 0
@@ -36,14 +35,6 @@ EndsNothing ps is p = (d : ℕ) × (t : ℕ) × (i : Instr) × IsMet ps is p d t
 pub data GoesPast (ps : List ℕ) (is : List Instr) (p : ℕ) : Type 0 where
   of_none : (empty : is ≡ []) (first : p ≡ 0) → GoesPast ps is p
   behind : (d t q e u : ℕ) (comes : Comes ps is p d t) (leads : Steps ps is p d t q e u) (past : nth is q ≡ None) → GoesPast ps is p
-
--- a return or halt that isn't one of a body of this kind, or not with one value alone, or in a transaction
-abbrev pub EndsBadly : List ℕ → List Instr → Owner → ℕ → Type 0
-EndsBadly ps is owner p = (d : ℕ) × (t : ℕ) × (i : Instr) × IsMet ps is p d t i × (EndsWell owner d t i → ⊥)
-
--- an instruction that may not be where it is
-abbrev pub IsMisplaced : Functions → List Instr → Owner → ℕ → Type 0
-IsMisplaced fs is owner p = (d : ℕ) × (t : ℕ) × (i : Instr) × IsMet fs.parameters is p d t i × (IsAllowed fs owner (stage_for is p t) i → ⊥)
 
 -- why no path may go on as the paths of a body do
 abbrev pub BreaksOff : List ℕ → List Instr → VerifyErrorKind → ℕ → Type 0

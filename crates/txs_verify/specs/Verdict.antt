@@ -36,11 +36,6 @@ pub record IsInForm (code : PlainCode) : Type 0 where
 
 -- ---- bodies
 
--- functions, or threads
-abbrev pub bodies_of : Bool → PlainCode → List CodeBody
-bodies_of true code = code.threads
-bodies_of false code = code.functions
-
 -- the name of a body: a thread's, or a function's
 abbrev pub name_of : Bool → ℕ → BodyName
 name_of true n = Thread n

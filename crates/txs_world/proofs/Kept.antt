@@ -16,7 +16,7 @@ use Rattle.txs_value_base.specs.declared.fault.Fault.{Fault}
 use Rattle.txs_value_data.specs.declared.value.CellId.{CellId}
 use Rattle.txs_value_data.specs.declared.value.CellKind.TheVariants.{Ref, Agent}
 use Rattle.txs_value_data.specs.declared.value.Value.{Value}
-use Rattle.txs_world_book.specs.Book.{is_of_kind, goes_on, opening, are_refs, are_sends, cells_in, state_of, writes_of, after, is_there, counts, no_mail, Mail, waits, acted, mailed, sent_to, mail_after, mail_changed, has_cell, has_ref, has_agent, makes, LegalKind, Guarded}
+use Rattle.txs_world_book.specs.Book.{is_of_kind, goes_on, opening, are_refs, are_sends, cells_in, state_of, writes_of, is_there, counts, no_mail, Mail, waits, acted, mailed, sent_to, mail_after, mail_changed, has_cell, has_ref, has_agent, makes, LegalKind, Guarded}
 use Rattle.txs_value_data.specs.Limits.{most_events}
 use Rattle.txs_world.specs.Inboxes.{PlainInbox, no_inbox, open_inboxes, inbox_of, mailed_all, all_sent_below, finished, fault_of, taken_up}
 use Rattle.txs_world.specs.Kept.{version, slot_of, no_slot, IsSlot, open_slots, put_version, put_one, put_all, all_below, IsInbox, ChangesNothing, IsKept}

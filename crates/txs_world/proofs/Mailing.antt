@@ -1,6 +1,6 @@
 -- Agents' mail and inboxes.
 use Rattle.std.proofs.Common.{◌≡◌, ◌≢◌, ◌≤◌, ◌<◌, ◌+◌, ℕ, zero, suc, Bool, true, false, ◌==◌, List, [], ◌∷◌, ◌++◌, length, take, drop, get_or, set, Option, Some, None, Result, Ok, Err, refl, sym, ap, ◌∙◌, subst, arith, append_assoc, if◌then◌else◌}
-use Rattle.std.specs.Prelude.{nat_lt, is_some, OnErr, OnOk}
+use Rattle.std.specs.Prelude.{nat_lt, is_some}
 use Rattle.std.proofs.lemmas.Bool.{false≢true, ltb-true}
 use Rattle.std.proofs.lemmas.Bool.Decides.{nat_tests}
 use Rattle.std.proofs.lemmas.List.{get_or-set_same, get_or-set_other, length-set, take_more}
@@ -121,12 +121,6 @@ rooms_many (b ∷ bs) = ap suc (rooms_many bs)
 pub plain_many : (bs : List Inbox) → length (plain_inboxes bs) ≡ length bs
 plain_many [] = refl
 plain_many (b ∷ bs) = ap suc (plain_many bs)
-
--- the inboxes with another one in a place
-pub plain_set : (bs : List Inbox) (i : ℕ) (b : Inbox) → plain_inboxes (set bs i b) ≡ set (plain_inboxes bs) i (plain_inbox b)
-plain_set [] i b = refl
-plain_set (x ∷ bs) zero b = refl
-plain_set (x ∷ bs) (suc i) b = ap (λ l. plain_inbox x ∷ l) (plain_set bs i b)
 
 pub rooms_set : (bs : List Inbox) (i : ℕ) (b : Inbox) → rooms (set bs i b) ≡ set (rooms bs) i b.mailbox.room
 rooms_set [] i b = refl

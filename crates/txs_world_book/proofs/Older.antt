@@ -5,7 +5,6 @@ use Rattle.std.proofs.lemmas.Bool.Decides.{nat_tests}
 use Rattle.txs_world_protocol.specs.Ask.{buffered}
 use Rattle.txs_value_cell.specs.Cells.{World}
 use Rattle.txs_world_protocol.specs.declared.event.Event.{Event}
-use Rattle.txs_world_protocol.specs.declared.event.Cause.{Cause}
 use Rattle.txs_world_protocol.specs.declared.event.Cause.TheVariants.{Outdated, Held, Commuted}
 use Rattle.txs_world_protocol.specs.declared.event.EventKind.{EventKind}
 use Rattle.txs_world_protocol.specs.declared.event.EventKind.TheVariants.{Read, Commit, Retry, Fail, Refused, Send, SendRefused, Act, Swap, Broke}
@@ -65,10 +64,6 @@ outdated_written k p es h = go (written k p es) refl
     go : (b : Bool) → written k p es ≡ b → b ≡ true
     go true e = refl
     go false e = absurd (false≢true (sym (ap (nat_lt most_older) (times_unwritten k p es e)) ∙ h))
-
--- one that wasn't written over is kept
-pub unwritten_kept : (k p : ℕ) (es : List Event) → written k p es ≡ false → is_outdated k p es ≡ false
-unwritten_kept k p es h = ap (nat_lt most_older) (times_unwritten k p es h)
 
 -- a place that may be named is one of the events' or their end
 pub named : (all : Bool) (done : List Event) (a p : ℕ) → may_name all done a p ≡ true → p ≤ length done

@@ -99,7 +99,7 @@ impl Journal {
 }
 
 /// Whether an event isn't a commute phase to be made again.
-fn is_no_redo(kind: &EventKind) -> bool
+pub fn is_no_redo(kind: &EventKind) -> bool
     ensures { result ≡ counts false kind.now }
 {
     match kind {
@@ -131,7 +131,10 @@ pub fn stand_of(stands: &[u32], actor: u16) -> u32
 }
 
 /// Makes room for where the actor is. Where every actor is stays as before.
-fn make_room(stands: &mut Vec<u32>, actor: u16) -> Result<(), AllocError>
+///
+/// # Errors
+/// There was no memory.
+pub fn make_room(stands: &mut Vec<u32>, actor: u16) -> Result<(), AllocError>
     ensures same { StandAsBefore stands.old.items stands.new.items }
     ensures room { OnOk result (actor < length stands.new.items) }
 {
@@ -143,7 +146,7 @@ fn make_room(stands: &mut Vec<u32>, actor: u16) -> Result<(), AllocError>
 }
 
 /// The actor's last event is the last of so many, where it counts.
-fn mark(stands: &mut Vec<u32>, actor: u16, events: u32, counts: bool)
+pub fn mark(stands: &mut Vec<u32>, actor: u16, events: u32, counts: bool)
     requires { actor < length stands.old.items }
     ensures { Marked counts actor events stands.old.items stands.new.items }
 {

@@ -6,7 +6,7 @@ use Rattle.txs_value_base.specs.Faults.{fault_number}
 use Rattle.txs_value_base.specs.Operations.{op_number}
 use Rattle.txs_value_data.specs.View.{plain_of}
 use Rattle.txs_value_data.proofs.ItemsLemmas.{plain_of-one}
-use Rattle.txs_value_base.proofs.OperationsLemmas.{operations, operations-at_number}
+use Rattle.txs_value_base.proofs.OperationsLemmas.{op_number-differs}
 use Rattle.txs_value_data.proofs.SameLemmas.{same_plain-sound, same_plain-itself, and_both, numbers, number-itself, cells, same_cell-itself}
 use Rattle.txs_value_cell.specs.declared.action.Action.{Action}
 use Rattle.txs_value_base.specs.declared.fault.Fault.{Fault}
@@ -15,8 +15,6 @@ use Rattle.txs_value_base.specs.declared.fault.FaultKind.TheVariants.{Overflow, 
 use Rattle.txs_value_base.specs.declared.fault.Span.{Span}
 use Rattle.txs_value_base.specs.declared.op.Callee.{Callee}
 use Rattle.txs_value_base.specs.declared.op.Callee.TheVariants.{Core, Function}
-use Rattle.txs_value_base.specs.declared.op.Op.{Op}
-use Rattle.txs_value_base.specs.declared.op.Op.TheVariants.{Add}
 use Rattle.txs_value_data.specs.declared.value.CellId.{CellId}
 use Rattle.txs_value_data.specs.declared.value.Value.{Value}
 use Rattle.txs_world_protocol.specs.declared.ask.Ask.{Ask}
@@ -90,11 +88,8 @@ same_span-sound a b h =
 same_span-itself : (a : Span) → same_span a a ≡ true
 same_span-itself a = and_true _ _ (number-itself a.from) (number-itself a.to)
 
-same_op : (a b : Op) → op_number a ≡ op_number b → a ≡ b
-same_op a b e = operations-at_number a Add ∙ ap (λ n. get_or operations n Add) e ∙ sym (operations-at_number b Add)
-
 same_callee-sound : (a b : Callee) → same_callee a b ≡ true → a ≡ b
-same_callee-sound (Core a) (Core b) h = ap Core (same_op a b (numbers (op_number a) (op_number b) h))
+same_callee-sound (Core a) (Core b) h = ap Core (op_number-differs a b (numbers (op_number a) (op_number b) h))
 same_callee-sound (Core a) (Function g) h = absurd (false≢true h)
 same_callee-sound (Function f) (Core b) h = absurd (false≢true h)
 same_callee-sound (Function f) (Function g) h = ap Function (numbers f g h)

@@ -4,11 +4,9 @@ use Rattle.std.proofs.lemmas.Bool.Decides.{same_from_decides}
 use Rattle.std.proofs.lemmas.List.{take_more_same, take_all, get_or_read}
 use Rattle.txs_value_base.specs.declared.fault.Fault.{Fault}
 use Rattle.txs_value_cell.specs.declared.action.Action.{Action}
-use Rattle.txs_value_data.specs.declared.value.CellId.{CellId}
 use Rattle.txs_value_data.specs.declared.value.Value.{Value}
-use Rattle.txs_value_data.proofs.SameLemmas.{same_cell-itself}
-use Rattle.txs_world_protocol.specs.Ask.{Writes, same_action, same_actions, same_cell, same_fault, same_new, same_value, same_values, same_writes}
-use Rattle.txs_world_protocol.proofs.AskLemmas.{same_action-itself, same_action-sound, same_actions-itself, same_actions-sound, same_cell-sound, same_fault-itself, same_fault-sound, same_new-itself, same_new-sound, same_value-itself, same_value-sound, same_values-itself, same_values-sound, same_writes-itself, same_writes-sound}
+use Rattle.txs_world_protocol.specs.Ask.{Writes, same_actions, same_new, same_value, same_values, same_writes}
+use Rattle.txs_world_protocol.proofs.AskLemmas.{same_actions-itself, same_actions-sound, same_new-itself, same_new-sound, same_value-itself, same_value-sound, same_values-itself, same_values-sound, same_writes-itself, same_writes-sound}
 
 pub next_same : {X : Type 0} → (a b : List X) (i : ℕ) (x y : X) → length a ≡ length b → i < length a → take i a ≡ take i b → x ≡ get_or a i x → y ≡ get_or b i y → x ≡ y → take (i + 1) a ≡ take (i + 1) b
 next_same a b i x y n l h p q e = take_more_same a b i x l (subst (λ m. i < m) n l) h (sym p ∙ e ∙ q ∙ ap (λ d. get_or b i d) (sym e))
@@ -26,17 +24,8 @@ all_same a b i n l h = sym (take_all i a l) ∙ h ∙ take_all i b (subst (λ m.
 pub value_test : (a b : Value) (r : Bool) → (IsTrue r ↔ (a ≡ b)) → r ≡ same_value a b
 value_test a b r h = same_from_decides r (same_value a b) h (same_value-sound a b, λ e. rw e (same_value-itself b))
 
-pub cell_test : (a b : CellId) (r : Bool) → (IsTrue r ↔ (a ≡ b)) → r ≡ same_cell a b
-cell_test a b r h = same_from_decides r (same_cell a b) h (same_cell-sound a b, λ e. rw e (same_cell-itself b))
-
-pub fault_test : (a b : Fault) (r : Bool) → (IsTrue r ↔ (a ≡ b)) → r ≡ same_fault a b
-fault_test a b r h = same_from_decides r (same_fault a b) h (same_fault-sound a b, λ e. rw e (same_fault-itself b))
-
 pub values_test : (a b : List Value) (r : Bool) → (IsTrue r ↔ (a ≡ b)) → r ≡ same_values a b
 values_test a b r h = same_from_decides r (same_values a b) h (same_values-sound a b, λ e. rw e (same_values-itself b))
-
-pub action_test : (a b : Action) (r : Bool) → (IsTrue r ↔ (a ≡ b)) → r ≡ same_action a b
-action_test a b r h = same_from_decides r (same_action a b) h (same_action-sound a b, λ e. rw e (same_action-itself b))
 
 pub actions_test : (a b : List Action) (r : Bool) → (IsTrue r ↔ (a ≡ b)) → r ≡ same_actions a b
 actions_test a b r h = same_from_decides r (same_actions a b) h (same_actions-sound a b, λ e. rw e (same_actions-itself b))

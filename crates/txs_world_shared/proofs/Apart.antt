@@ -1,66 +1,32 @@
 -- What one atom may be asked, and when parts are those of a state.
-use Rattle.std.proofs.Common.{◌≡◌, ◌<◌, ◌≤◌, ◌+◌, ◌==◌, ℕ, zero, suc, Bool, true, false, ◌&&◌, nat_lt, List, [], ◌∷◌, ◌++◌, length, map, drop, get_or, Option, Some, None, refl, sym, ap, subst, ◌∙◌, arith, drop-cons, add-one, if◌then◌else◌}
+use Rattle.std.proofs.Common.{◌≡◌, ◌<◌, ◌≤◌, ◌+◌, ◌==◌, ℕ, zero, suc, Bool, true, false, ◌&&◌, nat_lt, List, [], ◌∷◌, ◌++◌, length, map, drop, get_or, refl, sym, ap, subst, ◌∙◌, arith, drop-cons, add-one, if◌then◌else◌}
 use Rattle.std.proofs.lemmas.Bool.{false≢true}
 use Rattle.std.proofs.lemmas.Bool.Decides.{nat_tests}
 use Rattle.txs_world_protocol.specs.SeenEvent.{home, atoms_below}
-use Rattle.txs_world_protocol.specs.declared.ask.Ask.{Ask}
-use Rattle.txs_world_protocol.specs.declared.ask.Ask.TheVariants as ask
 use Rattle.txs_world_protocol.specs.declared.event.Event.{Event}
 use Rattle.txs_value_data.proofs.SameLemmas.{and_both}
 use Rattle.txs_value_cell.specs.Forms.{same_kind}
 use Rattle.txs_value_cell.specs.declared.cell.CellDefinition.{CellDefinition}
 use Rattle.txs_value_data.specs.declared.value.CellId.{CellId}
 use Rattle.txs_value_data.specs.declared.value.CellKind.TheVariants.{Atom}
-use Rattle.txs_world_book.specs.Atom.{PlainAtom, LegalAtom, is_lawful_atom}
-use Rattle.txs_world_book.specs.Atom as world
-use Rattle.txs_world_book.specs.Book.{actors, Each, may_name}
-use Rattle.txs_world_book.specs.Served.{cells_of}
+use Rattle.txs_world_book.specs.Atom.{PlainAtom, LegalAtom}
+use Rattle.txs_world_book.specs.Book.{actors, Each}
 use Rattle.txs_world.specs.Laws.{StoreStands}
 use Rattle.txs_world.specs.Store.{PlainStore, store_with}
 use Rattle.txs_theorem_runs.specs.Explains.{AreActors}
 use Rattle.txs_theorem_runs.specs.Invariant.{SharedStands}
-use Rattle.txs_theorem_runs.specs.Shared.{is_atom, has_atom, atom_of, may_close}
-use Rattle.txs_world_shared.specs.Apart.{MadeByActors, AllByActors, AreLegal, ArePartsOf, is_cell, may_ask_atom}
-use Rattle.txs_world_shared.specs.Kept.{state_of, opens_atom, new_atom, atoms_of, places_of, without_book, no_atom, atom_named, names_place, IsKept}
-use Rattle.txs_world_shared.specs.SharedState.{PlainShared, shared_of}
-use Rattle.txs_world_shared.proofs.Placing.{AtomIs, atom_is, book_at, unbooked_many}
+use Rattle.txs_theorem_runs.specs.Shared.{is_atom, has_atom}
+use Rattle.txs_world_shared.specs.Apart.{MadeByActors, AllByActors, AreLegal, ArePartsOf}
+use Rattle.txs_world_shared.specs.Kept.{state_of, opens_atom, new_atom, atoms_of, places_of, without_book, no_atom, IsKept}
+use Rattle.txs_world_shared.specs.SharedState.{shared_of}
+use Rattle.txs_world_shared.proofs.Placing.{atom_is, unbooked_many}
 
 -- ---- what one atom may be asked
-
-no_cell : {A : Type 0} (t b : Bool) → (t && (false && b)) ≡ true → A
-no_cell t b h = absurd (false≢true (and_both t (false && b) h).1)
 
 same_number : (c d : CellId) (t b : Bool) → (t && ((same_kind c.kind d.kind && c.number == d.number) && b)) ≡ true → ((c.number == d.number) ≡ true) × (b ≡ true)
 same_number c d t b h =
     let r = and_both (same_kind c.kind d.kind && c.number == d.number) b (and_both t ((same_kind c.kind d.kind && c.number == d.number) && b) h).1 in
     ((and_both (same_kind c.kind d.kind) (c.number == d.number) r.0).1, r.1)
-
-closes_alike : (book : List Event) (a : ℕ) (p : Option ℕ) → may_close book a p ≡ world.may_close book a p
-closes_alike book a None = refl
-closes_alike book a (Some p) = refl
-
--- what an actor may ask of an atom, its book answers
-pub alone_lawful : (threads a : ℕ) (q : Ask) (x : PlainAtom) → may_ask_atom threads a q x ≡ true → is_lawful_atom x.cell a q x.book ≡ true
-alone_lawful threads a ask.Begin x h = no_cell (nat_lt a threads) true h
-alone_lawful threads a (ask.Look c p) x h = no_cell (nat_lt a threads) true h
-alone_lawful threads a (ask.View cs) x h = no_cell (nat_lt a threads) true h
-alone_lawful threads a (ask.Commit p sets ensured q commuted sends) x h = no_cell (nat_lt a threads) true h
-alone_lawful threads a (ask.Fail p q) x h = no_cell (nat_lt a threads) true h
-alone_lawful threads a (ask.Peek c) x h = go (is_atom c) h
-  where
-    go : (b : Bool) → (nat_lt a threads && (is_cell (if b then Some c else None) x.cell && true)) ≡ true → (c.number == x.cell.number) ≡ true
-    go true r = (same_number c x.cell (nat_lt a threads) true r).0
-    go false r = no_cell (nat_lt a threads) true r
-alone_lawful threads a (ask.Send y) x h = no_cell (nat_lt a threads) true h
-alone_lawful threads a (ask.Take g) x h = no_cell (nat_lt a threads) true h
-alone_lawful threads a (ask.Finish g new sends) x h = no_cell (nat_lt a threads) true h
-alone_lawful threads a (ask.OpenAt c) x h = (same_number c x.cell (nat_lt a threads) true h).0
-alone_lawful threads a (ask.CloseAt c p v) x h =
-    let r = same_number c x.cell (nat_lt a threads) (may_close x.book a p) h in
-    ap (λ b. b && world.may_close x.book a p) r.0 ∙ sym (closes_alike x.book a p) ∙ r.1
-alone_lawful threads a (ask.Broke c p) x h =
-    let r = same_number c x.cell (nat_lt a threads) (may_name true x.book a p) h in
-    ap (λ b. b && may_name true x.book a p) r.0 ∙ r.1
 
 -- ---- parts of a state
 

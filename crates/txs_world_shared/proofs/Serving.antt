@@ -18,7 +18,7 @@ use Rattle.txs_world_book.specs.Atom.{PlainAtom, AtomAnswers, AtomTakesMemory, a
 use Rattle.txs_world_book.specs.Book.{actors}
 use Rattle.txs_world.specs.Laws.{ServeKeeps}
 use Rattle.txs_world.specs.Store as world_store
-use Rattle.txs_world.specs.Store.{PlainStore, store_with, store_after, serve, taken_after, TakesMemory}
+use Rattle.txs_world.specs.Store.{PlainStore, store_after, serve, taken_after, TakesMemory}
 use Rattle.txs_world_book.specs.Served.{cells_of, Served}
 use Rattle.txs_theorem_runs.specs.Invariant.{SharedStands}
 use Rattle.txs_theorem_runs.specs.Shared.{has_atom, atom_of, book_for, shared_after}
@@ -46,7 +46,7 @@ atom_takes_memory reply.Full h = absurd h
 atom_takes_memory reply.Memory h = absurd h
 
 -- an atom's book tells of want of memory where the reply to the ask takes some
-atom_takes : (q : Ask) (r : Reply) → AtomTakesMemory r → TakesMemoryFor q r
+pub atom_takes : (q : Ask) (r : Reply) → AtomTakesMemory r → TakesMemoryFor q r
 atom_takes ask.Begin r h = atom_takes_memory r h
 atom_takes (ask.Look c at) r h = atom_takes_memory r h
 atom_takes (ask.View cs) r h = atom_takes_memory r h
@@ -65,7 +65,7 @@ is_none None = Unit {0}
 is_none (Some x) = ⊥
 
 -- so does the store, of what is for no atom
-store_takes : (q : Ask) (r : Reply) → atom_named q ≡ None → TakesMemory r → TakesMemoryFor q r
+pub store_takes : (q : Ask) (r : Reply) → atom_named q ≡ None → TakesMemory r → TakesMemoryFor q r
 store_takes ask.Begin r e h = h
 store_takes (ask.Look c at) r e h = h
 store_takes (ask.View cs) r e h = h
@@ -291,12 +291,6 @@ module _ (keeps : ServeKeeps) (cells : List CellDefinition) (store : PlainStore)
 
     served : answer_to (state_of cells store atoms) a q ≡ serve store.cells a q store.book
     served = asks.served ∙ ap (serve (cells_of cells) a q) book_there ∙ ap (λ cs. serve cs a q store.book) (sym kept.cells_are)
-
-    -- the store may be asked this
-    pub store_lawful : world_store.is_lawful store a q ≡ true
-    store_lawful =
-        subst (λ cs. world_store.is_lawful (store_with cs store.threads store.book store.taken) a q ≡ true) (sym kept.cells_are)
-        (subst (λ b. world_store.is_lawful (store_with (cells_of cells) store.threads b store.taken) a q ≡ true) book_there (sym asks.may ∙ may))
 
     module _ (r : Reply) (later : PlainStore) (h : world_store.Answers store (serve store.cells a q store.book) (store_after store q (serve store.cells a q store.book)) r later) where
       abbrev w : Served

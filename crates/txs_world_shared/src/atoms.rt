@@ -1,6 +1,6 @@
 //! The atoms of cells, and what one of them answers.
 
-ghost use Rattle.std.specs.Prelude.{◌≡◌, ◌≤◌, ◌<◌, ◌++◌, ◌∷◌, [], suc, length, true, false, None, IfOk, IfSome, OnOk, if◌then◌else◌};
+ghost use Rattle.std.specs.Prelude.{◌≡◌, ◌<◌, ◌++◌, ◌∷◌, [], length, true, false, None, IfOk, IfSome, OnOk, if◌then◌else◌};
 ghost use Rattle.std.proofs.Common.{get_or};
 ghost use Rattle.txs_world_protocol.specs.declared.ask.Ask.TheVariants as ask;
 ghost use Rattle.txs_value_cell.specs.Forms.{same_kind};
@@ -14,33 +14,6 @@ use txs_value_cell::CellDefinition;
 use txs_value_data::{CellId, CellKind, copy_value};
 use txs_world_book::AtomBook;
 use txs_world_protocol::{Ask, Reply};
-
-/// The same cells again.
-pub(crate) fn copy_cells(
-    alloc: Global,
-    cells: &[CellDefinition],
-) -> Result<Vec<CellDefinition>, AllocError>
-    ensures { IfOk result (λ copies. copies.items ≡ cells.now) }
-{
-    let mut copies = Vec::with_capacity(alloc, cells.len())?;
-    for cell in cells {
-        copies.push_reserved(copy_cell(cell)?);
-    }
-    Ok(copies)
-}
-
-/// The same cell again.
-fn copy_cell(cell: &CellDefinition) -> Result<CellDefinition, AllocError>
-    ensures { IfOk result (λ copy. copy ≡ cell.now) }
-{
-    Ok(CellDefinition {
-        kind: cell.kind,
-        name: cell.name.share()?,
-        opening: copy_value(&cell.opening)?,
-        error_mode: cell.error_mode,
-        validator: cell.validator,
-    })
-}
 
 /// The atoms of these cells in their order, each with an empty book.
 pub(crate) fn open_atoms(

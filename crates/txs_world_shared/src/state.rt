@@ -11,13 +11,13 @@ ghost use Rattle.txs_world_shared.specs.SharedState.{PlainShared, shared_of, num
 ghost use Rattle.txs_world_book.specs.Book.{actors, has_cell, has_agent, mail_after};
 ghost use Rattle.txs_world_book.specs.Served.{cells_of};
 
-use crate::atoms::{atom_named, copy_cells, open_atoms, open_places};
+use crate::atoms::{atom_named, open_atoms, open_places};
 use crate::joining::{all_by_actors, open_like};
 use crate::parts::move_books;
 use std::alloc::{AllocError, Global};
 use std::marker::Model;
 use txs_value_base::Fault;
-use txs_value_cell::CellDefinition;
+use txs_value_cell::{CellDefinition, copy_cells};
 use txs_value_data::{CellId, CellKind, Listed, Value, same};
 use txs_world::Store;
 use txs_world_book::AtomBook;

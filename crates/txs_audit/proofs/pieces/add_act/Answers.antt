@@ -1,4 +1,4 @@
-use Rattle.std.proofs.Common.{◌+◌, arith, length, refl}
+use Rattle.std.proofs.Common.{◌+◌, arith, refl}
 use Rattle.std.specs.Prelude.{map}
 use Rattle.std.proofs.lemmas.List.{length-map}
 use Rattle.txs_theorem_audit.specs.Audited.{books_of, place_of}

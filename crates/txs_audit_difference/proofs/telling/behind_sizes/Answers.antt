@@ -3,7 +3,7 @@ use Rattle.txs_tree_meaning.specs.View.{program_of}
 use Rattle.txs_theorem_audit.specs.Audited.{report_as}
 use Rattle.txs_audit_answer.specs.Answered.{terms_as}
 use Rattle.txs_audit_trace.specs.Named.{off_in}
-use Rattle.txs_audit_difference.proofs.Named.{few_off}
+use Rattle.txs_audit_evidence.proofs.Numbering.{few_off}
 use Rattle.txs_audit_difference.proofs.Tells.{traces_fine, traces_off}
 use Rattle.txs_audit_difference.proofs.telling.behind_sizes.Goals as goal
 

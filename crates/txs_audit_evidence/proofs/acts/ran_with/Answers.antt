@@ -41,8 +41,8 @@ returns-then-not-is_sent c =
       serial = λ fine. off_fine c.args.stretch.actor c.args.stretch.index (sym c.off-then-not-is_sent.ensures ∙ fine);
     }
 
-pub acted-requires-clause-sent : goal.acted-requires-clause-sent
-acted-requires-clause-sent c = sym c.is_sent.ensures ∙ c.if-not-is_sent.false
+pub judged-requires-clause-sent : goal.judged-requires-clause-sent
+judged-requires-clause-sent c = sym c.is_sent.ensures ∙ c.if-not-is_sent.false
 
 pub returns-clause-finding : goal.returns-clause-finding
 returns-clause-finding c =
@@ -56,7 +56,7 @@ returns-clause-finding c =
     let next = next_action (cells_of b.program.cells) done act.agent in
     let its = c.action_of.ensures in
     let state = c.state_of.ensures in
-    so c.acted.result c.acted.ensures.finding
+    so c.judged.result c.judged.ensures.finding
     (λ f is. is ∙ sent_found p r n c.args.stretch.actor c.args.stretch.first c.args.stretch.index done act.agent since act.new.now act.sends.now next c.in-Some.action.now (sym (ap option_copied c.in-Some.is) ∙ its) c.in-Some-state_of.state.now (sym (ap option_copied c.in-Some-state_of.is) ∙ state) (sym c.is_sent.ensures ∙ c.if-not-is_sent.false))
 
 pub returns-clause-serial : goal.returns-clause-serial
@@ -71,5 +71,5 @@ returns-clause-serial c =
     let next = next_action (cells_of b.program.cells) done act.agent in
     let its = c.action_of.ensures in
     let state = c.state_of.ensures in
-    so c.acted.result c.acted.ensures.serial
+    so c.judged.result c.judged.ensures.serial
     (λ f is fine. is fine ∙ sent_covered p r n done act.agent since next c.in-Some.action.now (sym (ap option_copied c.in-Some.is) ∙ its) c.in-Some-state_of.state.now (sym (ap option_copied c.in-Some-state_of.is) ∙ state))

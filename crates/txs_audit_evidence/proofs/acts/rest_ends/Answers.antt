@@ -38,7 +38,7 @@ returns-then-full c =
     let s = c.args.stretch in
     let sound = subst (λ (q : Parts). Sound (program_of q)) c.program.ensures c.is_sound.ensures in
     let ends = subst (λ (q : Parts). EndsBy (program_of q) n x m (as_end c.in_ok-end.end)) c.program-2.ensures c.in_ok-end.ensures in
-    full_is p n x v es sound c.requires.sent m c.requires.tells s.actor s.first s.index c.args.out.now (as_end c.in_ok-end.end) ends (as_found c.full_ends.result) s.events (c.requires.many ∙ sym (many_seen c.args.seen.now))
+    full_is p n x v es sound c.requires.sent m c.requires.tells s.actor s.first s.index (as_end c.in_ok-end.end) ends (as_found c.full_ends.result) s.events (c.requires.many ∙ sym (many_seen c.args.seen.now)) c.args.out.now
     c.rest_full_is_answered.ensures (books_of b.report) c.is_full-store.result c.is_full-needed.result c.is_full-store.ensures c.is_full-needed.ensures c.full_ends.ensures
     ∙ sym (ap (λ t. if t then full_ends (books_of b.report) s.actor s.first s.index (means_on p n x v) es c.args.out.now (means_on p n x v es) else still_ends s.actor s.first s.index (means_on p n x v) es c.args.out.now (means_on p n x v es)) c.if-full.true)
 
@@ -56,5 +56,5 @@ returns c =
     let sound = subst (λ (q : Parts). Sound (program_of q)) c.program.ensures c.is_sound.ensures in
     let ends = subst (λ (q : Parts). EndsBy (program_of q) n x m (as_end c.in_ok-end.end)) c.program-2.ensures c.in_ok-end.ensures in
     let part = c.in_ok-part.ensures ∙ ap (part_printed (means_on p n x v) es out) c.as_slice-whole.ensures in
-    still_is p n x v es sound c.requires.sent m c.requires.tells s.actor s.first s.index out (as_end c.in_ok-end.end) ends (as_found c.still_ends.result) s.events (c.requires.many ∙ sym (many_seen c.args.seen.now)) c.still_is_answered.ensures c.in_ok-part.part part c.still_ends.ensures
+    still_is p n x v es sound c.requires.sent m c.requires.tells s.actor s.first s.index (as_end c.in_ok-end.end) ends (as_found c.still_ends.result) s.events (c.requires.many ∙ sym (many_seen c.args.seen.now)) out c.still_is_answered.ensures c.in_ok-part.part part c.still_ends.ensures
     ∙ sym (ap (λ t. if t then full_ends (books_of b.report) s.actor s.first s.index (means_on p n x v) es out (means_on p n x v es) else still_ends s.actor s.first s.index (means_on p n x v) es out (means_on p n x v es)) c.if-full.false)

@@ -52,8 +52,8 @@ returns-then-not-is_sent c =
       serial = λ fine. off_fine c.args.stretch.actor c.args.stretch.first (sym c.off-then-not-is_sent.ensures ∙ fine);
     }
 
-pub waited-requires-clause-sent : goal.waited-requires-clause-sent
-waited-requires-clause-sent c = sym c.is_sent.ensures ∙ c.if-not-is_sent.false
+pub judged-requires-clause-sent : goal.judged-requires-clause-sent
+judged-requires-clause-sent c = sym c.is_sent.ensures ∙ c.if-not-is_sent.false
 
 pub returns-clause-finding : goal.returns-clause-finding
 returns-clause-finding c =
@@ -69,7 +69,7 @@ returns-clause-finding c =
     let same : length c.report.result.now.book.items ≡ length r.book = ap (λ x. length x.book) c.report.ensures in
     let all : c.len-events.result ≡ length r.book = omega (arith, size, same, c.len-events.ensures) in
     let state = last_state b g c.requires.there c.len-events.result all (option_copied c.value_at.result) c.value_at.ensures in
-    so c.waited.result c.waited.ensures.finding
+    so c.judged.result c.judged.ensures.finding
     (λ f is. is ∙ sent_still p r n c.args.full c.args.stretch.actor c.args.stretch.first c.args.stretch.index g since c.args.out.now next c.in-Some.action.now (sym (ap option_copied c.in-Some.is) ∙ its) c.in-Some-value_at.state.now (sym (ap option_copied c.in-Some-value_at.is) ∙ state) (sym c.is_sent.ensures ∙ c.if-not-is_sent.false))
 
 pub returns-clause-serial : goal.returns-clause-serial
@@ -86,5 +86,5 @@ returns-clause-serial c =
     let same : length c.report.result.now.book.items ≡ length r.book = ap (λ x. length x.book) c.report.ensures in
     let all : c.len-events.result ≡ length r.book = omega (arith, size, same, c.len-events.ensures) in
     let state = last_state b g c.requires.there c.len-events.result all (option_copied c.value_at.result) c.value_at.ensures in
-    so c.waited.result c.waited.ensures.serial
+    so c.judged.result c.judged.ensures.serial
     (λ f is fine. is fine ∙ sent_covered p r n r.book g since next c.in-Some.action.now (sym (ap option_copied c.in-Some.is) ∙ its) c.in-Some-value_at.state.now (sym (ap option_copied c.in-Some-value_at.is) ∙ state))

@@ -1,4 +1,3 @@
-use Rattle.std.proofs.Common.{◌≡◌, ◌++◌, ◌∷◌, [], length}
 use Rattle.txs_code_decode.specs.CodeForm.{body_format, instructions}
 use Rattle.txs_code_decode.specs.Format.{sharing_at}
 use Rattle.txs_code_decode.proofs.Many.{shares_on, share_ends, share_done}

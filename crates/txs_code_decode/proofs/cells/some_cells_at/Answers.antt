@@ -1,4 +1,3 @@
-use Rattle.std.proofs.Common.{◌≡◌, ◌++◌, ◌∷◌, []}
 use Rattle.std.specs.Prelude.{true}
 use Rattle.txs_code_decode.specs.CellForm.{cell_format}
 use Rattle.txs_code_decode.specs.Format.{many_at}

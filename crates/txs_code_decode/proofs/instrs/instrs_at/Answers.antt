@@ -1,4 +1,4 @@
-use Rattle.std.proofs.Common.{◌≡◌, ◌++◌, ◌∷◌, [], length, arith, length-append}
+use Rattle.std.proofs.Common.{◌∷◌, [], arith, length-append}
 use Rattle.txs_code_decode.specs.CodeForm.{paired}
 use Rattle.txs_code_decode.specs.Format.{many_at}
 use Rattle.txs_code_decode.specs.InstrForm.{placed_format}

@@ -1,4 +1,4 @@
-use Rattle.std.proofs.Common.{◌≡◌, ◌-◌, ◌<◌, List, [], ◌∷◌, ◌++◌, sym, ap, subst, ◌∙◌, Ok, rules, arith}
+use Rattle.std.proofs.Common.{◌≡◌, ◌-◌, List, [], ◌∷◌, ◌++◌, sym, ap, subst, ◌∙◌, Ok, rules, arith}
 use Rattle.std.proofs.lemmas.List.{map_push}
 use Rattle.txs_value_data.specs.PlainValue.{PlainValue, vector, plain_row}
 use Rattle.txs_value_data.specs.View.{plain_of, plains_of}

@@ -1,4 +1,4 @@
-use Rattle.std.proofs.Common.{◌≡◌, ◌+◌, ◌∙◌, ◌++◌, ◌∷◌, [], List, ap, append_assoc, arith, sym, length, length-append, take}
+use Rattle.std.proofs.Common.{◌+◌, ◌∙◌, ◌++◌, ◌∷◌, [], List, ap, append_assoc, arith, sym, length, length-append, take}
 use Rattle.std.proofs.lemmas.List.{append-nil, take_all}
 use Rattle.txs_value_data.specs.declared.value.Value.{Value}
 use Rattle.txs_frame.proofs.Turns.{one_more}

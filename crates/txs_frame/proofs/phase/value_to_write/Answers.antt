@@ -1,4 +1,4 @@
-use Rattle.std.proofs.Common.{◌∙◌, Some, None, ap, sym, rules}
+use Rattle.std.proofs.Common.{Some, None, ap, sym, rules}
 use Rattle.txs_frame.proofs.Phasing.{write_made, write_set}
 use Rattle.txs_frame.proofs.phase.value_to_write.Goals as goal
 

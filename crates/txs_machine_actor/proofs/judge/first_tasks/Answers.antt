@@ -4,7 +4,6 @@ use Rattle.txs_frame.specs.Frame.{commuted}
 use Rattle.txs_frame.specs.Phase.{PlainPhase, blank, tasks_of}
 use Rattle.txs_value_cell.specs.Cells.{validators_of}
 use Rattle.txs_value_data.specs.declared.value.CellId.{CellId}
-use Rattle.txs_frame.specs.declared.phase.Task.{Task}
 use Rattle.txs_machine_actor.proofs.Looking.{no_task, a_task}
 use Rattle.txs_machine_actor.proofs.judge.first_tasks.Goals as goal
 

@@ -1,5 +1,5 @@
 use Rattle.std.proofs.Common.{◌∙◌, sym}
-use Rattle.txs_machine_actor.proofs.Looking.{task_looks, none_looks, no_task}
+use Rattle.txs_machine_actor.proofs.Looking.{task_looks, none_looks}
 use Rattle.txs_machine_actor.proofs.judge.task_check.Goals as goal
 
 pub returns-in-Some : goal.returns-in-Some

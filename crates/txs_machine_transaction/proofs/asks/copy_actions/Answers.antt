@@ -1,4 +1,4 @@
-use Rattle.std.proofs.Common.{◌≡◌, ◌<◌, ◌+◌, ◌∙◌, ◌∷◌, ◌++◌, [], ℕ, List, length, take, get_or, ap, sym, arith}
+use Rattle.std.proofs.Common.{◌≡◌, ◌<◌, ◌+◌, ◌∙◌, ◌∷◌, ◌++◌, [], ℕ, List, length, take, get_or, ap, sym}
 use Rattle.std.proofs.lemmas.List.{take_more}
 use Rattle.txs_value_cell.specs.declared.action.Action.{Action}
 use Rattle.txs_machine_transaction.proofs.asks.copy_actions.Goals as goal

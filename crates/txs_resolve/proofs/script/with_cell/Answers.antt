@@ -1,4 +1,4 @@
-use Rattle.std.proofs.Common.{◌≡◌, ◌++◌, [], ◌∷◌, ℕ, suc, sym, ap, ◌∙◌, subst, arith}
+use Rattle.std.proofs.Common.{ℕ, suc, sym, ap, ◌∙◌, subst, arith}
 use Rattle.txs_tree_meaning.specs.Known.{known}
 use Rattle.txs_tree_meaning.specs.Scoped.{ScopedCells, ScopedValidator}
 use Rattle.txs_tree_meaning.specs.View.{functions_of, threads_of}

@@ -1,5 +1,6 @@
 use Rattle.std.proofs.Common.{◌≡◌, rules, arith, sym, ap, ◌∙◌, drop, bytes_eq}
-use Rattle.txs_resolve_scope.specs.Scope.{form_name, form_names, with_name}
+use Rattle.txs_value_base.specs.Places.{with_name}
+use Rattle.txs_resolve_scope.specs.Scope.{form_name, form_names}
 use Rattle.txs_resolve_scope.specs.declared.names.FormName.TheVariants.{Ns}
 use Rattle.txs_resolve_scope.proofs.Heads.{passed}
 use Rattle.txs_resolve_scope.proofs.names.form_of.Goals as goal

@@ -1,6 +1,5 @@
 use Rattle.std.proofs.Common.{List, length, sym, ap, ◌∙◌, rules, inl, refl}
 use Rattle.txs_value_data.specs.declared.value.CellId.{CellId}
-use Rattle.txs_world_protocol.specs.declared.report.ActorReport.{ActorReport}
 use Rattle.txs_threads.specs.Run.{AllEnded, AllDrained, IsLeft}
 use Rattle.txs_threads.proofs.Agents.{are_agents, are_drained}
 use Rattle.txs_threads.proofs.Ended.{all_ended}

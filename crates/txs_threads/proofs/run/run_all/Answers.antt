@@ -1,5 +1,4 @@
 use Rattle.std.proofs.Common.{◌≡◌, ◌∙◌, List, length, ap, sym, arith}
-use Rattle.txs_value_cell.specs.declared.cell.CellDefinition.{CellDefinition}
 use Rattle.txs_code_meaning.specs.PlainCode.{CodeBody, PlainCode}
 use Rattle.txs_theorem_runs.specs.Shared.{untouched}
 use Rattle.txs_world_book.specs.Atom.{PlainAtom}

@@ -1,4 +1,4 @@
-use Rattle.std.proofs.Common.{rules, suc, ◌≡◌, ◌+◌, ◌-◌, ◌*◌, ◌<◌, ◌≤◌, true, false, [], ◌∷◌, ◌++◌, length, take, drop, Ok, Err, None, Some, OnOk, MatchResult, is_some, option_copied, Vec, Global, zero-add, sym, ap, ◌∙◌, subst, subst₂, refl, arith}
+use Rattle.std.proofs.Common.{rules, suc, ◌≡◌, ◌+◌, ◌-◌, ◌*◌, ◌<◌, ◌≤◌, true, false, [], ◌∷◌, ◌++◌, length, take, drop, Ok, Err, None, Some, OnOk, is_some, option_copied, Vec, Global, zero-add, sym, ap, ◌∙◌, subst, subst₂, refl, arith}
 use Rattle.std.proofs.lemmas.List.{append-nil, drop_all, length_push, length-drop, take_all}
 use Rattle.txs_world_protocol.specs.Ask.{Writes, buffered}
 use Rattle.txs_world_protocol.specs.SeenEvent.{home}
@@ -23,7 +23,8 @@ use Rattle.txs_tree_meaning.specs.View.{tree_of, trees_of, mark_of, function_of,
 use Rattle.txs_tree_eval_transaction.specs.Views.{PlainView, PlainTxView, or_nil, plain_view, plain_world, plain_tx_view, plain_tx_world, is_whole, whole_view, world_of}
 use Rattle.txs_tree_eval_node.proofs.Acting.{redone_made, redone_unmade, acted_inside, acted_outside, sound_at, redone_stop, redone_more, phase_sound, finals_stop, finals_full, finals_refused, finals_done, commutes_deepest, accept_stop, accept_answer, accepted_stop, accepted_more, made_stop, made_then}
 use Rattle.txs_tree_eval_node.proofs.Called.{in_room, room, room-deeper, room_on, room_deepest, callee_deepest, validator_sound, depth_left, is_function, as_many, called_body, pure_here}
-use Rattle.txs_tree_eval_node.proofs.Counting.{item_smaller, nodes-some, nodes-last}
+use Rattle.txs_tree_meaning.proofs.Soundness.{nodes-some}
+use Rattle.txs_tree_eval_node.proofs.Counting.{item_smaller, nodes-last}
 use Rattle.txs_tree_eval_node.proofs.Ending.{unmatched, eats_none, eats_end, eats_more, eats_unrun, retried_end, retried_more, rerun_outdated, rerun_other, rerun_stop, rerun_run, closes_todo, closes_other, zone_running, body_seen, misses, body_stop, body_done, body_keeps, ended_unrun, ended_closed, ends_viewed, ends_unviewed, end_stops, running, nowhere_running, joined, begun}
 use Rattle.txs_tree_eval_node.proofs.Evaluation.{halts_answers, StopsAt, collects, collects-start, cell_stop, if_stop, strict_stop, strict_done, rebound, stops_steps, stops_gives, local_done, all_more, all_stop, do_stop, do_done, locals_more, locals_stop, let_stop, let_done, loop_stop, loop_done, turn_value, turn_stop, turn_recur, take_kept, called, if_goes, args_stop, acted, const_done}
 use Rattle.txs_tree_eval_node.proofs.Forms.{IsOther, MeetsEvent, untaken_inside, untaken_outside, none_outside, refused_outside, answered, gives_at, reset_eaten, updates_ref, update_takes, update_unbegun, update_stop, update_done, update_inside, called_alone, core_done, vector_done, call_done, print_done, swap_stop, swap_done, put_inside, send_inside, put_outside, update_outside, put_takes, look_inside, look_outside, send_outside}

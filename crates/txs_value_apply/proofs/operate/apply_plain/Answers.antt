@@ -1,51 +1,16 @@
 -- What an operation takes is there, and its answer is the table's.
-use Rattle.std.proofs.Common.{◌≡◌, ℕ, zero, suc, ◌<◌, ◌==◌, ◌∙◌, ap, arith, length, get_or, refl, sym, subst, true, false, IsTrue, List, Ok, pos}
+use Rattle.std.proofs.Common.{◌≡◌, ℕ, zero, suc, ◌<◌, ◌==◌, ◌∙◌, ap, arith, length, get_or, refl, sym, subst, true, IsTrue, List, Ok, pos}
 use Rattle.std.specs.Prelude.{not, int_lt, int_le}
 use Rattle.std.specs.Ordering.{int_eq}
 use Rattle.std.proofs.lemmas.Bool.{false≢true}
 use Rattle.std.proofs.lemmas.List.{get_or_read}
 use Rattle.txs_value_apply.specs.Core.{arg, core, takes, compared, count_of, equals, greatest, is_false, is_nil, least, minus, modulo, of_number, of_numbers, plus, quotient, remainder, tested}
+use Rattle.txs_value_apply.proofs.CoreLemmas.{takes_some}
 use Rattle.txs_value_base.specs.declared.op.Op.{Op}
-use Rattle.txs_value_base.specs.declared.op.Op.TheVariants.{Add, Subtract, Multiply, Inc, Dec, Quot, Rem, Mod, Equal, NotEqual, Less, Greater, LessOrEqual, GreaterOrEqual, Max, Min, Not, IsNil, IsZero, IsPositive, IsNegative, Count, Nth, Conj, Assoc, Peek, Pop}
+use Rattle.txs_value_base.specs.declared.op.Op.TheVariants.{Quot, Rem, Mod, Equal, NotEqual, Less, Greater, LessOrEqual, GreaterOrEqual, Max, Min}
 use Rattle.txs_value_data.specs.declared.value.Value.{Value}
 use Rattle.txs_value_data.specs.declared.value.Value.TheVariants.{Nil, Truth}
 use Rattle.txs_value_apply.proofs.operate.apply_plain.Goals as goal
-
--- no operation takes nothing
-none : (op : Op) → takes op 0 ≡ false
-unfolding takes
-none Add = refl
-none Subtract = refl
-none Multiply = refl
-none Inc = refl
-none Dec = refl
-none Quot = refl
-none Rem = refl
-none Mod = refl
-none Equal = refl
-none NotEqual = refl
-none Less = refl
-none Greater = refl
-none LessOrEqual = refl
-none GreaterOrEqual = refl
-none Max = refl
-none Min = refl
-none Not = refl
-none IsNil = refl
-none IsZero = refl
-none IsPositive = refl
-none IsNegative = refl
-none Count = refl
-none Nth = refl
-none Conj = refl
-none Assoc = refl
-none Peek = refl
-none Pop = refl
-
--- so there is a first argument
-some : (op : Op) (n : ℕ) → IsTrue (takes op n) → 0 < n
-some op zero t = absurd (false≢true (sym (none op) ∙ t))
-some op (suc n) t = omega arith
 
 -- where two are taken, there are two
 two : (op o : Op) (n : ℕ) → op ≡ o → takes o n ≡ (n == 2) → IsTrue (takes op n) → 1 < n
@@ -62,15 +27,15 @@ of_two : {R : Type 0} (f : Value → Value → R) (vs : List Value) (x y : Value
 of_two f vs x y r lt at_x at_y is = is ∙ ap (λ v. f v y) (get_or_read vs 0 x (omega arith) at_x Nil) ∙ ap (λ v. f (arg 0 vs) v) (get_or_read vs 1 y lt at_y Nil)
 
 pub bounds-args-0 : goal.bounds-args-0
-bounds-args-0 c = some c.args.op (length c.args.args.now) c.requires.takes
+bounds-args-0 c = takes_some c.args.op (length c.args.args.now) c.requires.takes
 
 pub returns-in-Inc : goal.returns-in-Inc
 unfolding core
-returns-in-Inc c = subst (λ p. c.inc.result ≡ core p c.args.args.now) (sym c.in-Inc.is) (of_one (of_number (λ x. plus x (pos 1))) c.args.args.now c.index-args-0.result c.inc.result (some c.args.op (length c.args.args.now) c.requires.takes) c.index-args-0.is c.inc.ensures)
+returns-in-Inc c = subst (λ p. c.inc.result ≡ core p c.args.args.now) (sym c.in-Inc.is) (of_one (of_number (λ x. plus x (pos 1))) c.args.args.now c.index-args-0.result c.inc.result (takes_some c.args.op (length c.args.args.now) c.requires.takes) c.index-args-0.is c.inc.ensures)
 
 pub returns-in-Dec : goal.returns-in-Dec
 unfolding core
-returns-in-Dec c = subst (λ p. c.dec.result ≡ core p c.args.args.now) (sym c.in-Dec.is) (of_one (of_number (λ x. minus x (pos 1))) c.args.args.now c.index-args-0.result c.dec.result (some c.args.op (length c.args.args.now) c.requires.takes) c.index-args-0.is c.dec.ensures)
+returns-in-Dec c = subst (λ p. c.dec.result ≡ core p c.args.args.now) (sym c.in-Dec.is) (of_one (of_number (λ x. minus x (pos 1))) c.args.args.now c.index-args-0.result c.dec.result (takes_some c.args.op (length c.args.args.now) c.requires.takes) c.index-args-0.is c.dec.ensures)
 
 pub bounds-args-1 : goal.bounds-args-1
 unfolding takes
@@ -162,27 +127,27 @@ returns-in-Min c = subst (λ p. c.min.result ≡ core p c.args.args.now) (sym c.
 
 pub returns-in-Not : goal.returns-in-Not
 unfolding core
-returns-in-Not c = subst (λ p. Ok (Truth c.is_false.result) ≡ core p c.args.args.now) (sym c.in-Not.is) (ap (λ b. Ok (Truth b)) (of_one (is_false) c.args.args.now c.index-args-0.result c.is_false.result (some c.args.op (length c.args.args.now) c.requires.takes) c.index-args-0.is c.is_false.ensures))
+returns-in-Not c = subst (λ p. Ok (Truth c.is_false.result) ≡ core p c.args.args.now) (sym c.in-Not.is) (ap (λ b. Ok (Truth b)) (of_one (is_false) c.args.args.now c.index-args-0.result c.is_false.result (takes_some c.args.op (length c.args.args.now) c.requires.takes) c.index-args-0.is c.is_false.ensures))
 
 pub returns-in-IsNil : goal.returns-in-IsNil
 unfolding core
-returns-in-IsNil c = subst (λ p. Ok (Truth c.is_nil.result) ≡ core p c.args.args.now) (sym c.in-IsNil.is) (ap (λ b. Ok (Truth b)) (of_one (is_nil) c.args.args.now c.index-args-0.result c.is_nil.result (some c.args.op (length c.args.args.now) c.requires.takes) c.index-args-0.is c.is_nil.ensures))
+returns-in-IsNil c = subst (λ p. Ok (Truth c.is_nil.result) ≡ core p c.args.args.now) (sym c.in-IsNil.is) (ap (λ b. Ok (Truth b)) (of_one (is_nil) c.args.args.now c.index-args-0.result c.is_nil.result (takes_some c.args.op (length c.args.args.now) c.requires.takes) c.index-args-0.is c.is_nil.ensures))
 
 pub returns-in-IsZero : goal.returns-in-IsZero
 unfolding core
-returns-in-IsZero c = subst (λ p. c.is_zero.result ≡ core p c.args.args.now) (sym c.in-IsZero.is) (of_one (tested (λ x. int_eq x (pos 0))) c.args.args.now c.index-args-0.result c.is_zero.result (some c.args.op (length c.args.args.now) c.requires.takes) c.index-args-0.is c.is_zero.ensures)
+returns-in-IsZero c = subst (λ p. c.is_zero.result ≡ core p c.args.args.now) (sym c.in-IsZero.is) (of_one (tested (λ x. int_eq x (pos 0))) c.args.args.now c.index-args-0.result c.is_zero.result (takes_some c.args.op (length c.args.args.now) c.requires.takes) c.index-args-0.is c.is_zero.ensures)
 
 pub returns-in-IsPositive : goal.returns-in-IsPositive
 unfolding core
-returns-in-IsPositive c = subst (λ p. c.is_positive.result ≡ core p c.args.args.now) (sym c.in-IsPositive.is) (of_one (tested (λ x. int_lt (pos 0) x)) c.args.args.now c.index-args-0.result c.is_positive.result (some c.args.op (length c.args.args.now) c.requires.takes) c.index-args-0.is c.is_positive.ensures)
+returns-in-IsPositive c = subst (λ p. c.is_positive.result ≡ core p c.args.args.now) (sym c.in-IsPositive.is) (of_one (tested (λ x. int_lt (pos 0) x)) c.args.args.now c.index-args-0.result c.is_positive.result (takes_some c.args.op (length c.args.args.now) c.requires.takes) c.index-args-0.is c.is_positive.ensures)
 
 pub returns-in-IsNegative : goal.returns-in-IsNegative
 unfolding core
-returns-in-IsNegative c = subst (λ p. c.is_negative.result ≡ core p c.args.args.now) (sym c.in-IsNegative.is) (of_one (tested (λ x. int_lt x (pos 0))) c.args.args.now c.index-args-0.result c.is_negative.result (some c.args.op (length c.args.args.now) c.requires.takes) c.index-args-0.is c.is_negative.ensures)
+returns-in-IsNegative c = subst (λ p. c.is_negative.result ≡ core p c.args.args.now) (sym c.in-IsNegative.is) (of_one (tested (λ x. int_lt x (pos 0))) c.args.args.now c.index-args-0.result c.is_negative.result (takes_some c.args.op (length c.args.args.now) c.requires.takes) c.index-args-0.is c.is_negative.ensures)
 
 pub returns-in-Count : goal.returns-in-Count
 unfolding core
-returns-in-Count c = subst (λ p. c.count.result ≡ core p c.args.args.now) (sym c.in-Count.is) (of_one (count_of) c.args.args.now c.index-args-0.result c.count.result (some c.args.op (length c.args.args.now) c.requires.takes) c.index-args-0.is c.count.ensures)
+returns-in-Count c = subst (λ p. c.count.result ≡ core p c.args.args.now) (sym c.in-Count.is) (of_one (count_of) c.args.args.now c.index-args-0.result c.count.result (takes_some c.args.op (length c.args.args.now) c.requires.takes) c.index-args-0.is c.count.ensures)
 
 pub returns-in-Add : goal.returns-in-Add
 unfolding core

@@ -1,4 +1,4 @@
-use Rattle.std.proofs.Common.{◌≡◌, ◌/◌, set, refl, rules, arith}
+use Rattle.std.proofs.Common.{◌/◌, set, refl, rules, arith}
 use Rattle.txs_value_data.specs.Rows.{joined}
 use Rattle.txs_value_data.specs.View.{plain_of}
 use Rattle.txs_value_data.proofs.RowsLemmas.{row_there, place_there, rows-set, AreRows-set}

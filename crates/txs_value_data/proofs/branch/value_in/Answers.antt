@@ -1,4 +1,4 @@
-use Rattle.std.proofs.Common.{refl, ◌∙◌, rules, arith}
+use Rattle.std.proofs.Common.{refl, ◌∙◌, arith}
 use Rattle.txs_value_data.specs.Rows.{joined}
 use Rattle.txs_value_data.proofs.RowsLemmas.{row_there, place_there, rows-get}
 use Rattle.txs_value_data.proofs.branch.value_in.Goals as goal

@@ -1,4 +1,4 @@
-use Rattle.std.proofs.Common.{◌≡◌, ◌<◌, Some, arith, inr, length, subst}
+use Rattle.std.proofs.Common.{◌≡◌, Some, arith, inr, length, subst}
 use Rattle.txs_code_meaning.specs.PlainCode.{parameters_of}
 use Rattle.txs_verify.specs.Marks.{mark_at}
 use Rattle.txs_verify.specs.Standing.{IsSeen, IsWrong}

@@ -1,4 +1,4 @@
-use Rattle.std.proofs.Common.{◌≡◌, ◌∙◌, ap, length, Result, Ok, Err, subst, sym, true}
+use Rattle.std.proofs.Common.{◌≡◌, ◌∙◌, length, Result, Ok, Err, subst, sym, true}
 use Rattle.std.specs.Prelude.{OnOk}
 use Rattle.txs_world_book.specs.Book.{state_of}
 use Rattle.txs_world_book.proofs.Outcomes.{on_ok}

@@ -1,4 +1,4 @@
-use Rattle.std.proofs.Common.{ap, sym, ◌∙◌, ◌+◌, List, [], ◌∷◌, ◌++◌, length, length-append, take}
+use Rattle.std.proofs.Common.{ap, sym, ◌∙◌, ◌+◌, List, [], ◌∷◌, ◌++◌, length, length-append}
 use Rattle.std.proofs.lemmas.List.{take_all}
 use Rattle.txs_value_data.specs.declared.value.CellId.{CellId}
 use Rattle.txs_frame.specs.Frame.{written}

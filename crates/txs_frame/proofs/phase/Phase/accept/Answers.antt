@@ -1,4 +1,4 @@
-use Rattle.std.proofs.Common.{◌∙◌, ◌+◌, List, ap, sym, subst}
+use Rattle.std.proofs.Common.{◌∙◌, List, ap, sym, subst}
 use Rattle.std.specs.Prelude.{drop}
 use Rattle.txs_frame.specs.Phase.{IsPhase, PlainPhase, behind_next}
 use Rattle.txs_frame.specs.declared.phase.Task.{Task}

@@ -1,6 +1,6 @@
-use Rattle.std.proofs.Common.{◌≡◌, ◌≤◌, ℕ, suc, ap, ◌∙◌, arith}
+use Rattle.std.proofs.Common.{◌≡◌, ◌≤◌, suc, ap, ◌∙◌, arith}
 use Rattle.txs_value_data.specs.declared.value.CellId.{CellId}
-use Rattle.txs_world_protocol.specs.SeenEvent.{home, atoms_below}
+use Rattle.txs_world_protocol.specs.SeenEvent.{atoms_below}
 use Rattle.txs_world_shared.proofs.Placing.{few_below}
 use Rattle.txs_history_store.proofs.Asking.{atom_there}
 use Rattle.txs_history_store.proofs.atom.LoggedAtom.lock.Goals as goal

@@ -1,4 +1,4 @@
-use Rattle.std.proofs.Common.{◌≡◌, ◌<◌, List, [], ◌∷◌, length, Option, Some, IfSome, ◌∙◌, ap, sym, subst}
+use Rattle.std.proofs.Common.{◌≡◌, ◌<◌, [], length, Option, IfSome, ◌∙◌, ap, sym, subst}
 use Rattle.txs_machine_actor.specs.PlainActor.{PlainActor}
 use Rattle.txs_machine_transaction.specs.declared.state.Transaction.{Transaction}
 use Rattle.txs_frame.specs.Frame.{commuted}

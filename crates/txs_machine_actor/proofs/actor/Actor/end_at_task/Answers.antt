@@ -1,7 +1,5 @@
 use Rattle.std.proofs.Common.{Option, sym, subst}
-use Rattle.txs_value_base.specs.declared.fault.Span.{Span}
-use Rattle.txs_value_base.specs.declared.op.Callee.{Callee}
-use Rattle.txs_machine_actor.specs.Turns.{CanTask, Check, IsNextLook, TasksAs}
+use Rattle.txs_machine_actor.specs.Turns.{CanTask, Check, TasksAs}
 use Rattle.txs_machine_actor.proofs.actor.Actor.end_at_task.Goals as goal
 
 pub end_as-requires-clause-can : goal.end_as-requires-clause-can

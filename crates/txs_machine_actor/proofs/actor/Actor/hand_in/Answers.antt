@@ -1,4 +1,4 @@
-use Rattle.std.proofs.Common.{◌≡◌, ◌∙◌, ◌<◌, ℕ, Option, true, false, length, ap, sym, subst, refl}
+use Rattle.std.proofs.Common.{◌≡◌, ◌∙◌, ◌<◌, ℕ, true, false, length, sym, subst, refl}
 use Rattle.txs_machine_loop.specs.Values.{last_of, but_last}
 use Rattle.txs_frame.specs.Phase.{PlainPhase}
 use Rattle.txs_value_data.specs.declared.value.CellId.{CellId}
@@ -10,7 +10,7 @@ use Rattle.txs_machine_transaction.specs.declared.state.Transaction.TheVariants.
 use Rattle.txs_machine_actor.specs.declared.role.Role.{Role}
 use Rattle.txs_machine_actor.specs.declared.role.Role.TheVariants.{Thread, Attending, Acting}
 use Rattle.txs_machine_actor.specs.PlainActor.{PlainActor}
-use Rattle.txs_machine_actor.specs.Turns.{IsServing, IsEvaluating, handed_back, hands_in, with_stack}
+use Rattle.txs_machine_actor.specs.Turns.{IsServing, IsEvaluating, handed_back, hands_in}
 use Rattle.txs_machine_actor.proofs.actor.Actor.hand_in.Goals as goal
 
 -- no function of a task or of an atom's validator runs

@@ -1,4 +1,4 @@
-use Rattle.std.proofs.Common.{None, Some, true, ◌∙◌, ap, sym}
+use Rattle.std.proofs.Common.{None, true, ◌∙◌, ap, sym}
 use Rattle.txs_machine_actor.specs.PlainActor.{PlainActor}
 use Rattle.txs_machine_transaction.specs.declared.state.Transaction.{Transaction}
 use Rattle.txs_machine_transaction.specs.declared.state.Transaction.TheVariants.{Applying}

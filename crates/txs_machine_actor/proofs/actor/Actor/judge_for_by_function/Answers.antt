@@ -1,4 +1,4 @@
-use Rattle.std.proofs.Common.{List, [], ◌∷◌, sym, subst}
+use Rattle.std.proofs.Common.{List, sym, subst}
 use Rattle.txs_value_data.specs.declared.value.Value.{Value}
 use Rattle.txs_machine_actor.specs.Turns.{BeginsJudging, IsEvaluation}
 use Rattle.txs_machine_actor.specs.declared.outcome.Turn.{Turn}

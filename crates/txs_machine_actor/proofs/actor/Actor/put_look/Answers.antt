@@ -1,4 +1,4 @@
-use Rattle.std.proofs.Common.{sym, subst, refl}
+use Rattle.std.proofs.Common.{sym, subst}
 use Rattle.txs_value_cell.specs.Cells.{validators_of}
 use Rattle.txs_value_cell.specs.declared.form.PutForm.{PutForm}
 use Rattle.txs_code_meaning.specs.declared.instr.Instr.TheVariants.{Put}

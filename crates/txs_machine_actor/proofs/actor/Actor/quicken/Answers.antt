@@ -1,4 +1,4 @@
-use Rattle.std.proofs.Common.{◌≡◌, ◌-◌, ◌≤◌, ◌<◌, ◌^◌, ℕ, None, sym, subst}
+use Rattle.std.proofs.Common.{◌≡◌, ◌-◌, ◌≤◌, ◌<◌, ◌^◌, None, sym, subst}
 use Rattle.txs_machine_actor.specs.PlainActor.{PlainActor, Runs, unanswered}
 use Rattle.txs_machine_actor.specs.Turns.{TurnsOf}
 use Rattle.txs_machine_actor.specs.declared.outcome.Turn.TheVariants as turned

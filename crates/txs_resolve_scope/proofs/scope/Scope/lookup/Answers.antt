@@ -1,7 +1,8 @@
 use Rattle.std.proofs.Common.{refl, sym, ap, ◌∙◌}
 use Rattle.std.specs.List.{list_any}
-use Rattle.txs_value_base.specs.Operations.{op_name}
-use Rattle.txs_resolve_scope.specs.Scope.{form_name, form_names, is_dot, operations, with_name}
+use Rattle.txs_value_base.specs.Operations.{op_name, operations}
+use Rattle.txs_value_base.specs.Places.{with_name}
+use Rattle.txs_resolve_scope.specs.Scope.{form_name, form_names, is_dot}
 use Rattle.txs_resolve_scope.proofs.Heads.{stands_so}
 use Rattle.txs_resolve_scope.proofs.scope.Scope.lookup.Goals as goal
 

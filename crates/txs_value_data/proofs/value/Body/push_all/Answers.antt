@@ -1,4 +1,4 @@
-use Rattle.std.proofs.Common.{◌<◌, ◌≤◌, ◌++◌, length, take, rules, arith, append_assoc, ap, sym, ◌∙◌}
+use Rattle.std.proofs.Common.{◌<◌, ◌++◌, length, take, rules, arith, append_assoc, ap, sym, ◌∙◌}
 use Rattle.std.proofs.lemmas.List.{length-append, length-take, map_more, append-nil, take_all}
 use Rattle.txs_value_data.specs.View.{plain_of, plains_of}
 use Rattle.txs_value_data.proofs.ItemsLemmas.{length-plains_of}

@@ -1,5 +1,4 @@
-use Rattle.std.proofs.Common.{◌≡◌, ◌*◌, ◌<◌, ◌-◌, length, ◌∙◌, rules}
-use Rattle.txs_value_data.specs.Rows.{joined}
+use Rattle.std.proofs.Common.{◌*◌, ◌-◌, ◌∙◌, rules}
 use Rattle.txs_value_data.proofs.RowsLemmas.{branch_place, both-get, leaf_place, leaves-get}
 use Rattle.txs_value_data.proofs.value.Rows.get.Goals as goal
 

@@ -1,4 +1,4 @@
-use Rattle.std.proofs.Common.{◌≡◌, ◌<◌, ◌++◌, ◌∷◌, [], length, ap, ◌∙◌, rules}
+use Rattle.std.proofs.Common.{◌≡◌, ◌<◌, [], length, ap, ◌∙◌, rules}
 use Rattle.txs_value_data.specs.Rows.{joined}
 use Rattle.txs_value_data.proofs.RowsLemmas.{leaves-pop, leaves_popped, leaf_popped, branches_popped, leaf_left, branches-pop, branch_leaves, branch_leaf}
 use Rattle.txs_value_data.proofs.value.Rows.pop.Goals as goal

@@ -1,5 +1,4 @@
-use Rattle.std.proofs.Common.{◌≡◌, ◌*◌, ◌/◌, ◌<◌, ◌-◌, length, set, refl, ◌∙◌, rules}
-use Rattle.txs_value_data.specs.Rows.{joined}
+use Rattle.std.proofs.Common.{◌*◌, ◌/◌, ◌-◌, set, refl, rules}
 use Rattle.txs_value_data.specs.View.{plain_of}
 use Rattle.txs_value_data.proofs.RowsLemmas.{branch_place, branches-set, both-set, leaf_place, leaves-set}
 use Rattle.txs_value_data.proofs.value.Rows.set.Goals as goal

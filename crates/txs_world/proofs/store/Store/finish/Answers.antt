@@ -1,4 +1,4 @@
-use Rattle.std.proofs.Common.{◌≡◌, ◌∙◌, Err, None, Some, ap, refl, subst, sym, true}
+use Rattle.std.proofs.Common.{◌≡◌, ◌∙◌, Err, None, ap, refl, subst, sym, true}
 use Rattle.txs_value_base.specs.Places.{fault_at}
 use Rattle.txs_value_base.specs.declared.fault.FaultKind.TheVariants.{AgentFailed}
 use Rattle.txs_world_book.specs.Book.{are_sends, first_failed, may_send}

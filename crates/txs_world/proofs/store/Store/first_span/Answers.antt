@@ -1,6 +1,4 @@
-use Rattle.std.proofs.Common.{◌≡◌, ◌∙◌, List, ap, arith, subst, sym, true, length}
-use Rattle.txs_mail.specs.Mailbox.{first}
-use Rattle.txs_value_cell.specs.declared.action.Action.{Action}
+use Rattle.std.proofs.Common.{◌≡◌, ◌∙◌, ap, arith, subst, sym, true}
 use Rattle.txs_world_book.specs.Book.{has_agent}
 use Rattle.txs_world.specs.Store.{PlainStore, span_of}
 use Rattle.txs_world.proofs.Kept.{agent_in}

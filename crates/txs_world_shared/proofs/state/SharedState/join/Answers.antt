@@ -1,5 +1,4 @@
 use Rattle.std.proofs.Common.{rules}
-use Rattle.txs_world_shared.proofs.Apart.{joined_kept}
 use Rattle.txs_world_shared.proofs.state.SharedState.join.Goals as goal
 
 pub returns : goal.returns

@@ -1,9 +1,7 @@
-use Rattle.std.proofs.Common.{◌≡◌, ◌≤◌, ◌<◌, ◌++◌, ◌∷◌, [], List, length, get_or, rules, sym, subst, true}
+use Rattle.std.proofs.Common.{◌≡◌, ◌<◌, List, length, rules, subst, true}
 use Rattle.txs_value_cell.specs.declared.cell.CellDefinition.{CellDefinition}
 use Rattle.txs_world_book.specs.Book.{has_cell}
 use Rattle.txs_world_book.specs.Served.{cells_of}
-use Rattle.txs_world_shared.specs.SharedState.{newest_of}
-use Rattle.txs_world_shared.proofs.Growing.{value_more, values_all}
 use Rattle.txs_world_shared.proofs.There.{there}
 use Rattle.txs_world_shared.proofs.state.SharedState.values.Goals as goal
 

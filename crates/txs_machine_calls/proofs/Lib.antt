@@ -1,2 +1,0 @@
-pub mod Looking
-mod Ways
