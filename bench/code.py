@@ -10,7 +10,7 @@ PARTS = {
     "compile": ["txs_compile::script::compile"],
     "encode": ["txs_code_encode::encoding::put_bodies", "txs_code_encode::written::put_value"],
     "decode": ["txs_code_decode::bodies::bodies_at", "txs_code_decode::values::values_at"],
-    "load": ["txs_code_load::load::load"],
+    "load": ["txs_verify::load::load"],
     "seal": ["txs_code_meaning::verified::Verified::seal"],
 }
 

@@ -7,10 +7,10 @@ use crate::show::draw_to;
 use std::alloc::{AllocError, Global};
 use std::io;
 use std::time::{Duration, Instant};
-use txs_audit_answer::{AuditError, Terms, Verdict};
+use txs_audit_book::{AuditError, Terms, Verdict};
+use txs_cli_args::{Exploring, Request};
+use txs_cli_explore::explore_run;
 use txs_cli_report::told::{DONE, SPENT};
-use txs_cli_request::{Exploring, Request};
-use txs_program::explore_run;
 use txs_tree_meaning::Program;
 use txs_world_protocol::Report;
 

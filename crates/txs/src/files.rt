@@ -3,10 +3,10 @@
 use std::fs::File;
 use std::io::{ErrorKind, Read, Write};
 use std::{fs, io};
+use txs_cli_args::{Input, Request};
 use txs_cli_report::streams::{ReadFault, read_bytes};
 use txs_cli_report::told::{DONE, SPENT, UNUSABLE};
 use txs_cli_report::write_told;
-use txs_cli_request::{Input, Request};
 
 /// A file that is read, where it could be opened; and why it couldn't, or couldn't be read.
 #[derive(Drop)]

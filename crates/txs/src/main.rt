@@ -21,11 +21,10 @@ use std::sync::Wait;
 use std::thread::Threads;
 use std::{env, fs, io};
 use txs_audit::audit;
-use txs_audit_answer::{AuditError, Terms, Verdict};
-use txs_cli_args::parse_words;
+use txs_audit_book::{AuditError, Terms, Verdict};
+use txs_cli::play_by_workers;
+use txs_cli_args::{Input, Request, Scheduling, parse_words};
 use txs_cli_report::told::{DONE, UNUSABLE};
-use txs_cli_request::{Input, Request, Scheduling};
-use txs_program::play_by_workers;
 use txs_tree_meaning::Program;
 use txs_world_protocol::Report;
 

@@ -4,9 +4,9 @@ use crate::files::{complain, covers_source, explained_as, no_memory, read_input,
 use std::io;
 use std::sync::Wait;
 use std::thread::Threads;
+use txs_cli::{Record, record_by_workers};
+use txs_cli_args::{Request, RunOptions};
 use txs_cli_report::told::{SPENT, UNUSABLE};
-use txs_cli_request::{Request, RunOptions};
-use txs_program::{Record, record_by_workers};
 
 /// Writes a list of plays, with a line's end behind it. Answers the status.
 fn write_list(rt: &HostRuntime, request: &Request, out: &str, list: String) -> u8 {

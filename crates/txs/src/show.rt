@@ -10,14 +10,14 @@ use std::io;
 use std::io::Write;
 use std::sync::Wait;
 use std::thread::Threads;
-use txs_audit_answer::{AuditError, Terms, Verdict};
+use txs_audit_book::{AuditError, Terms, Verdict};
 use txs_cli::script::Working;
+use txs_cli::{Record, record_by_workers};
+use txs_cli_args::{Request, RunOptions, Scheduling, Showing};
 use txs_cli_report::explain::Script;
 use txs_cli_report::told::{DONE, REFUSED, SPENT, Told, UNUSABLE};
 use txs_cli_report::{play_schedule, write_answer};
-use txs_cli_request::{Request, RunOptions, Scheduling, Showing};
 use txs_cli_show::{check_json, draw, problem_json, show_json, show_lines};
-use txs_program::{Record, record_by_workers};
 use txs_tree_meaning::Program;
 use txs_world_protocol::Report;
 

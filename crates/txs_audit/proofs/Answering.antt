@@ -8,7 +8,7 @@ use Rattle.txs_theorem_audit.specs.Audited.{PlainReport, PlainTerms, books_of, F
 use Rattle.txs_theorem_audit.specs.Pieces.{PiecesAreAll, pieces_finding, pieces_of, pieces_serial}
 use Rattle.txs_theorem_audit.specs.Verdict.{agents_found, agents_serial, are_serial, atoms_found, atoms_from, ends_found, fits_sizes, order_found, store_found, threads_found, traces_found, verdict}
 use Rattle.txs_theorem_audit.proofs.Findings.{and_fine}
-use Rattle.txs_audit_piece.specs.Judged.{is_fine}
+use Rattle.txs_audit_book.specs.Judged.{is_fine}
 use Rattle.txs_audit.specs.Started.{actors_found}
 
 three : (f g h : Finding) → and_then (and_then f g) h ≡ and_then f (and_then g h)

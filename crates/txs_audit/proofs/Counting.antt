@@ -8,7 +8,7 @@ use Rattle.txs_value_data.specs.declared.value.CellKind.{CellKind}
 use Rattle.txs_value_data.specs.declared.value.CellKind.TheVariants.{Agent, Atom, Ref}
 use Rattle.txs_tree_meaning.specs.Sound.{Sound}
 use Rattle.txs_tree_meaning.specs.View.{program_of}
-use Rattle.txs_value_base.specs.Places.{nth}
+use Rattle.txs_value_data.specs.Places.{nth}
 use Rattle.txs_theorem_runs.specs.Told as runs
 use Rattle.txs_theorem_serial.specs.Whole.{is_act}
 use Rattle.txs_world_protocol.specs.declared.event.Event.{Event}

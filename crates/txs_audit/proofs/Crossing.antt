@@ -7,10 +7,10 @@ use denote.Enum.Declared as E
 use Rattle.std.proofs.Crossing.{crosses}
 use Rattle.std.proofs.option.Option.TheSendSync as option
 use Rattle.std.proofs.vec.Vec.TheSendSync as vec
-use Rattle.txs_value_base.proofs.fault.Fault.TheSendSync as fault_sent
-use Rattle.txs_value_base.proofs.fault.Span.TheSendSync as span_sent
-use Rattle.txs_value_base.proofs.op.Callee.TheSendSync as callee_sent
-use Rattle.txs_value_base.proofs.op.Op.TheSendSync as op_sent
+use Rattle.txs_value_data.proofs.fault.Fault.TheSendSync as fault_sent
+use Rattle.txs_value_data.proofs.fault.Span.TheSendSync as span_sent
+use Rattle.txs_value_data.proofs.op.Callee.TheSendSync as callee_sent
+use Rattle.txs_value_data.proofs.op.Op.TheSendSync as op_sent
 use Rattle.txs_value_data.proofs.listed.Listed.TheSendSync as listed
 use Rattle.txs_value_data.proofs.value.Body.TheLaws.TheKnot as knot
 use Rattle.txs_value_data.proofs.value.CellId.TheSendSync as cell_id_sent

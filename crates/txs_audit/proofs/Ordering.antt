@@ -1,14 +1,14 @@
 -- The order of all events, as txs_audit_order finds it and as the definition of an audit does.
 use Rattle.std.proofs.Common.{◌≡◌, suc, ℕ, List, [], ◌∷◌, length, map, Some, None, refl, ap, sym, ◌∙◌}
-use Rattle.txs_value_base.specs.Places.{nth}
+use Rattle.txs_value_data.specs.Places.{nth}
 use Rattle.txs_value_cell.specs.Agents.{agents_from}
 use Rattle.txs_world_protocol.specs.declared.event.Event.{Event}
 use Rattle.txs_world_protocol.specs.declared.event.Place as event
 use Rattle.txs_world_protocol.specs.declared.report.ActorReport.{ActorReport}
 use Rattle.txs_world_protocol.specs.declared.report.Report.{Report}
 use Rattle.txs_tree_meaning.specs.Tree.{PlainProgram}
-use Rattle.txs_theorem_order.specs.Order.{all_links}
-use Rattle.txs_theorem_order.specs.Taken.{out_of_order}
+use Rattle.txs_theorem_serial.specs.Order.{all_links}
+use Rattle.txs_theorem_serial.specs.Taken.{out_of_order}
 use Rattle.txs_theorem_audit.specs.Audited.{PlainActorReport, PlainReport, Off, books_of, entry_of, place_of, ran_as, report_as}
 use Rattle.txs_theorem_audit.specs.Verdict.{index_if, named_off, order_found, place_off, report_links}
 use Rattle.txs_audit_order.specs.Ordered.{books_as, links_as, named_in, traces_in}

@@ -4,13 +4,13 @@ use Rattle.std.specs.Prelude.{length, Ok, Err, IfOk, OnOk}
 use Rattle.std.proofs.lemmas.List.{take-append-drop}
 use Rattle.core.specs.declared.thread.PromisedHandle.{PromisedHandle}
 use Rattle.txs_theorem_audit.specs.Audited.{Finding, Fine, Off, Short, and_then, answer}
-use Rattle.txs_audit_piece.specs.Judged.{as_found}
+use Rattle.txs_audit_book.specs.Judged.{as_found}
 use Rattle.txs_audit_evidence.specs.declared.transactions.Found.{Found}
 use Rattle.txs_audit.specs.Parted.{sought_by, sought_in}
 use Rattle.txs_audit.specs.Pieced.{IsFound, Sought, both, nothing}
 use Rattle.txs_audit.specs.declared.judging.Judge as Judge
 use Rattle.txs_audit.specs.declared.parts.Part.{Part}
-use Rattle.txs_audit_answer.specs.declared.verdict.AuditError.{AuditError}
+use Rattle.txs_audit_book.specs.declared.verdict.AuditError.{AuditError}
 
 abbrev IsFine : Finding → Type 0
 IsFine Fine = Unit {0}

@@ -3,8 +3,8 @@ use Rattle.std.proofs.Common.{◌≡◌, ◌≤◌, ◌<◌, ℕ, ◌+◌, ◌&&
 use Rattle.std.proofs.lemmas.Bool.{false≢true}
 use Rattle.std.proofs.lemmas.List.{drop_all, drop_more}
 use Rattle.txs_theorem_audit.specs.Audited.{Finding, Fine, Off, Short, and_then}
-use Rattle.txs_audit_piece.specs.Judged.{as_found, is_fine}
-use Rattle.txs_audit_piece.specs.declared.finding.Finding.TheVariants as found
+use Rattle.txs_audit_book.specs.Judged.{as_found, is_fine}
+use Rattle.txs_audit_book.specs.declared.finding.Finding.TheVariants as found
 use Rattle.txs_audit_evidence.specs.Evidence.{PlainBooks}
 use Rattle.txs_audit_evidence.specs.declared.transactions.Found.{Found}
 use Rattle.txs_audit.specs.Pieced.{IsFound, Sought, piece_as, pieces_as, sought_of, sought_of_one}

@@ -4,7 +4,7 @@ use Rattle.core.specs.declared.thread.PromisedHandle.{PromisedHandle}
 use Rattle.txs_audit_evidence.specs.declared.transactions.Found.{Found}
 use Rattle.txs_audit.specs.Pieced.{Sought, both, nothing}
 use Rattle.txs_audit.specs.declared.judging.Judge as Judge
-use Rattle.txs_audit_answer.specs.declared.verdict.AuditError.{AuditError}
+use Rattle.txs_audit_book.specs.declared.verdict.AuditError.{AuditError}
 use Rattle.txs_audit.specs.declared.parts.Part.{Part}
 
 module _ {J : Type 0} (g : Judge.Ghosts J) where

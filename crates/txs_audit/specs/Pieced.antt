@@ -6,7 +6,7 @@ use Rattle.txs_theorem_audit.specs.Pieces as plain
 use Rattle.txs_world_protocol.specs.declared.event.Event.{Event}
 use Rattle.txs_theorem_runs.specs.Told.{Place}
 use Rattle.txs_theorem_audit.specs.Pieces.{act_pieces, pieces_finding, pieces_serial}
-use Rattle.txs_audit_piece.specs.Judged.{as_found}
+use Rattle.txs_audit_book.specs.Judged.{as_found}
 use Rattle.txs_audit_evidence.specs.Evidence.{PlainBooks}
 use Rattle.txs_audit_evidence.specs.declared.transactions.Found.{Found}
 use Rattle.txs_audit.specs.declared.pieces.Piece.{Piece}

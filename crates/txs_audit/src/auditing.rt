@@ -6,9 +6,9 @@ ghost use Rattle.txs_theorem_audit.specs.Audited.{Fine, and_then, answer, books_
 ghost use Rattle.txs_theorem_audit.specs.Pieces.{pieces_finding, pieces_of, pieces_serial};
 ghost use Rattle.txs_theorem_audit.specs.Verdict.{fits_sizes, traces_found, verdict};
 ghost use Rattle.txs_audit.specs.Started.{NeedsWorkers, actors_found};
-ghost use Rattle.txs_audit_trace.specs.Named.{off_in};
-ghost use Rattle.txs_audit_answer.specs.Answered.{as_verdict, terms_as};
-ghost use Rattle.txs_audit_answer.specs.declared.verdict.AuditError.TheVariants.{NoThread};
+ghost use Rattle.txs_audit_order.specs.Named.{off_in};
+ghost use Rattle.txs_audit_book.specs.Answered.{as_verdict, terms_as};
+ghost use Rattle.txs_audit_book.specs.declared.verdict.AuditError.TheVariants.{NoThread};
 
 use crate::order::order_off;
 use crate::pieces::pieces_of;
@@ -17,10 +17,10 @@ use crate::workers::found_by;
 use std::alloc::{AllocError, Global};
 use std::sync::Wait;
 use std::thread::Threads;
-use txs_audit_answer::{AuditError, Terms, Verdict};
+use txs_audit_book::{AuditError, Terms, Verdict};
 use txs_audit_evidence::transactions::Found;
 use txs_audit_evidence::{Books, ends_off, open_books};
-use txs_audit_trace::{has_sizes, traces_off};
+use txs_audit_order::{has_sizes, traces_off};
 use txs_gate::{Gate, OpenGate};
 use txs_theorem_audit::pieces_are_all;
 use txs_tree_meaning::Program;

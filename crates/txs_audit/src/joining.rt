@@ -7,9 +7,8 @@ ghost use Rattle.txs_audit.specs.Pieced.{IsFound, Sought, both};
 use crate::judging::Judge;
 use crate::parts::Part;
 use std::thread::{PromisedHandle, Threads};
-use txs_audit_answer::AuditError;
+use txs_audit_book::{AuditError, Finding};
 use txs_audit_evidence::transactions::Found;
-use txs_audit_piece::Finding;
 
 /// What is found of some pieces and then of others.
 pub(crate) fn both(first: Found, second: Found) -> Found

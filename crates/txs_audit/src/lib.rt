@@ -17,4 +17,4 @@ mod verdict;
 mod workers;
 
 pub use auditing::{audit, audit_gated};
-pub use txs_audit_answer::{AuditError, Terms, Verdict};
+pub use txs_audit_book::{AuditError, Terms, Verdict};

@@ -4,7 +4,7 @@ ghost use Rattle.std.specs.Prelude.{◌≡◌, IfOk, Some};
 ghost use Rattle.txs_tree_meaning.specs.View.{program_of};
 ghost use Rattle.txs_theorem_audit.specs.Audited.{place_of};
 ghost use Rattle.txs_theorem_audit.specs.Verdict.{order_found, place_off};
-ghost use Rattle.txs_audit_trace.specs.Named.{off_in};
+ghost use Rattle.txs_audit_order.specs.Named.{off_in};
 
 use std::alloc::{AllocError, Global};
 use txs_audit_evidence::Books;

@@ -8,7 +8,7 @@ use crate::judging::Judge;
 use crate::pieces::Piece;
 use std::alloc::AllocError;
 use std::thread::Promise;
-use txs_audit_answer::AuditError;
+use txs_audit_book::AuditError;
 use txs_audit_evidence::transactions::Found;
 
 /// These pieces, judged so, where each loop makes at most `turns` turns. As a promise: what a worker answers is what is found of them.

@@ -3,16 +3,16 @@
 ghost use Rattle.std.specs.Prelude.{◌≡◌, ◌≤◌, ◌<◌, ◌+◌, ◌&&◌, ◌++◌, length, map, IfOk, OnOk, Some};
 ghost use Rattle.txs_theorem_audit.specs.Audited.{books_of, place_of, ran_as};
 ghost use Rattle.txs_theorem_serial.specs.Whole.{is_act};
-ghost use Rattle.txs_value_base.specs.Places.{nth};
+ghost use Rattle.txs_value_data.specs.Places.{nth};
 ghost use Rattle.txs_theorem_audit.specs.Pieces.{act_pieces, agent_pieces, pieces_of, thread_pieces};
 ghost use Rattle.txs_audit.specs.Pieced.{IsFound, acts_left, piece_as, pieces_as, sought_of, sought_of_one};
 
 use std::alloc::{AllocError, Global};
+use txs_audit_book::Finding;
 use txs_audit_evidence::Books;
 use txs_audit_evidence::acts::{act_found, agent_end};
 use txs_audit_evidence::threads::thread_found;
 use txs_audit_evidence::transactions::Found;
-use txs_audit_piece::Finding;
 use txs_world_protocol::{ActorReport, EventKind, Place};
 
 /// A piece.

@@ -2,12 +2,11 @@
 
 ghost use Rattle.std.specs.Prelude.{◌≡◌};
 ghost use Rattle.txs_theorem_audit.specs.Audited.{answer};
-ghost use Rattle.txs_audit_answer.specs.Answered.{as_verdict};
-ghost use Rattle.txs_audit_piece.specs.Judged.{as_found};
+ghost use Rattle.txs_audit_book.specs.Answered.{as_verdict};
+ghost use Rattle.txs_audit_book.specs.Judged.{as_found};
 
-use txs_audit_answer::Verdict;
+use txs_audit_book::{Finding, Verdict};
 use txs_audit_evidence::transactions::Found;
-use txs_audit_piece::Finding;
 
 /// The answer of an audit that has found this.
 pub(crate) fn verdict_of(found: Found) -> Verdict

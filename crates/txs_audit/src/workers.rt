@@ -14,7 +14,7 @@ use std::alloc::Global;
 use std::sync::Wait;
 use std::thread;
 use std::thread::{PromisedHandle, Scope, Threads};
-use txs_audit_answer::AuditError;
+use txs_audit_book::AuditError;
 use txs_audit_evidence::transactions::Found;
 use txs_gate::{Gate, Moment};
 

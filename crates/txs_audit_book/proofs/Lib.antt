@@ -1,9 +1,12 @@
 pub mod Boxes
+pub mod Bytes
 pub mod Earlier
 pub mod Found
 pub mod Histories
 pub mod Mailing
 pub mod Pasts
 pub mod Reading
+pub mod Sources
 pub mod Stepping
 pub mod Swapping
+pub mod Validators

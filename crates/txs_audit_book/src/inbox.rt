@@ -7,9 +7,8 @@ ghost use Rattle.txs_audit_book.specs.Gone.{plain_inbox, plain_inboxes, no_inbox
 ghost use Rattle.txs_audit_book.specs.Moves.{entered, entered_all, acted_in, all_sent_below};
 
 use std::alloc::{AllocError, Global};
-use txs_value_base::Fault;
 use txs_value_cell::{Action, copy_action};
-use txs_value_data::Value;
+use txs_value_data::{Fault, Value};
 use txs_world_book::StoreCell;
 
 /// All that was sent to an agent, in order, how many of these actions it has run, and where it has failed the fault, with the

@@ -15,9 +15,8 @@ use crate::stands::mark;
 use crate::values::{index_in, open_histories, put_values};
 use std::alloc::{AllocError, Global};
 use txs_tree_eval_transaction::History;
-use txs_value_base::Fault;
 use txs_value_cell::{Action, CellDefinition};
-use txs_value_data::{CellId, Listed, Value};
+use txs_value_data::{CellId, Fault, Listed, Value};
 use txs_world_book::journal::is_no_redo;
 use txs_world_book::{
     Cells, StoreCell, are_sends, are_written, has_agent, has_readable, has_ref, may_send, stand_of,

@@ -4,7 +4,7 @@ ghost use Rattle.std.specs.Prelude.{◌≡◌, ◌≤◌, ◌<◌, length, take,
 ghost use Rattle.txs_world_book.specs.Served.{cells_of};
 ghost use Rattle.txs_tree_eval_transaction.specs.Views.{held};
 ghost use Rattle.txs_audit_book.specs.Replayed.{WentThrough, WorldsAre, IsRun, newest_there, failure_there, value_there, mail_there};
-ghost use Rattle.txs_value_base.specs.Places.{nth};
+ghost use Rattle.txs_value_data.specs.Places.{nth};
 ghost use Rattle.txs_world_book.specs.Book.{is_there, mail_after, written};
 
 use crate::parts::{Parts, open_parts, put};
@@ -12,9 +12,8 @@ use crate::values::index_in;
 use std::alloc::{AllocError, Global};
 use std::marker::Model;
 use txs_tree_eval_transaction::History;
-use txs_value_base::Fault;
 use txs_value_cell::{Action, CellDefinition};
-use txs_value_data::Value;
+use txs_value_data::{Fault, Value};
 use txs_world_protocol::Event;
 
 /// A book has no more events.

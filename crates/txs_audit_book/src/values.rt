@@ -10,8 +10,7 @@ ghost use Rattle.txs_audit_book.specs.Moves.{with_value, written_all, all_below,
 
 use std::alloc::{AllocError, Global};
 use txs_tree_eval_transaction::History;
-use txs_value_base::Fault;
-use txs_value_data::{CellId, Value, copy_value};
+use txs_value_data::{CellId, Fault, Value, copy_value};
 use txs_world_book::StoreCell;
 use txs_world_protocol::EventKind;
 

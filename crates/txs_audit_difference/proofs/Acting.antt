@@ -1,6 +1,6 @@
 -- What differs in an action that is over with an act that an entry names, and at an agent's end.
 use Rattle.std.proofs.Common.{◌≡◌, ◌-◌, ℕ, List, length, take, Option, Some, None, refl, sym, ap, ◌∙◌}
-use Rattle.txs_value_base.specs.Places.{nth}
+use Rattle.txs_value_data.specs.Places.{nth}
 use Rattle.txs_world_protocol.specs.declared.event.Event.{Event}
 use Rattle.txs_world_protocol.specs.declared.event.EventKind.{EventKind}
 use Rattle.txs_world_protocol.specs.declared.event.EventKind.TheVariants.{Read, Commit, Retry, Fail, Refused, Send, SendRefused, Act, Swap, Broke}

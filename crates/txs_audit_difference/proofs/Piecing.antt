@@ -1,8 +1,8 @@
 -- What differs in a piece, by what is answered of it.
 use Rattle.std.proofs.Common.{◌≡◌, ◌==◌, ◌-◌, ℕ, zero, suc, Bool, true, false, List, [], ◌∷◌, length, take, Option, Some, None, Result, refl, sym, ap, ◌∙◌, arith, if◌then◌else◌}
 use Rattle.std.proofs.lemmas.Bool.{eqb-true}
-use Rattle.txs_value_base.specs.Places.{nth}
-use Rattle.txs_value_base.specs.declared.fault.Fault.{Fault}
+use Rattle.txs_value_data.specs.Places.{nth}
+use Rattle.txs_value_data.specs.declared.fault.Fault.{Fault}
 use Rattle.txs_value_cell.specs.declared.action.Action.{Action}
 use Rattle.txs_value_data.specs.declared.value.CellId.{CellId}
 use Rattle.txs_value_data.specs.declared.value.Value.{Value}
@@ -20,7 +20,7 @@ use Rattle.txs_theorem_runs.specs.Told.{Place, seen_of}
 use Rattle.txs_theorem_audit.specs.Audited.{PlainActorReport, PlainReport, books_of}
 use Rattle.txs_theorem_audit.specs.Pieces.{part_of}
 use Rattle.txs_theorem_audit.specs.Verdict.{begins, is_full_stop, is_sent_call, is_stopped, least_of, printed_by}
-use Rattle.txs_audit_piece.proofs.Sources.{all_but_last}
+use Rattle.txs_audit_book.proofs.Sources.{all_but_last}
 use Rattle.txs_audit_event.specs.Lines.{outcome_of, printed_what, stop_what}
 use Rattle.txs_audit_event.specs.Meant.{TellsMeant}
 use Rattle.txs_audit_event.specs.Transactions.{asked_what, awaited, or_what}

@@ -1,10 +1,10 @@
 -- Something is told exactly where an audit differs, and of that place.
 use Rattle.std.specs.Prelude.{nat_lt}
 use Rattle.std.proofs.Common.{◌≡◌, ℕ, suc, ◌-◌, Result, Bool, true, false, ◌&&◌, if◌then◌else◌, take, drop, List, [], ◌∷◌, ◌++◌, length, Option, Some, None, refl, sym, ap, ◌∙◌, subst}
-use Rattle.txs_value_base.specs.Places.{nth}
+use Rattle.txs_value_data.specs.Places.{nth}
 use Rattle.txs_value_cell.specs.Agents.{agents_from}
 use Rattle.txs_value_cell.specs.declared.action.Action.{Action}
-use Rattle.txs_value_base.specs.declared.fault.Fault.{Fault}
+use Rattle.txs_value_data.specs.declared.fault.Fault.{Fault}
 use Rattle.txs_value_data.specs.declared.value.CellId.{CellId}
 use Rattle.txs_value_data.specs.declared.value.Value.{Value}
 use Rattle.txs_world_protocol.specs.SeenEvent.{home}
@@ -20,7 +20,7 @@ use Rattle.txs_theorem_audit.specs.Audited.{PlainActorReport, PlainReport, Plain
 use Rattle.txs_theorem_audit.specs.Pieces.{Piece, PiecesAreAll, OfThread, OfAct, OfEnd, acts_print, part_of, piece_finding, pieces_finding, pieces_of, pieces_serial}
 use Rattle.txs_theorem_audit.specs.Verdict.{has_failed, has_values, index_if, is_legal_kind, is_legal_swap, is_value, length_if, agents_found, agents_serial, are_serial, atom_found, atoms_found, atoms_from, begins, book_found, ends_found, fits_sizes, is_full_stop, is_stopped, order_found, store_found, threads_found, traces_found, verdict}
 use Rattle.txs_theorem_audit.proofs.Findings.{check_fine}
-use Rattle.txs_audit_piece.specs.Judged.{is_fine}
+use Rattle.txs_audit_book.specs.Judged.{is_fine}
 use Rattle.txs_audit_difference.specs.Difference.{ToldWhereItDiffers, difference_of, atom_leaves, atom_what, illegal_at, left_what, stopped_what_in, actors_told, all_told, atom_told, atoms_told, book_told, books_told, difference_in, first, order_told, pieces_told, place_of, store_told, tells}
 use Rattle.txs_audit_event.specs.Lines.{printed_what}
 use Rattle.txs_audit_difference.specs.Pieces.{act_what, at_event, act_what_at, act_what_in, end_of_agent, end_what_in, kind_what, over_what, piece_what, still_what}

@@ -1,9 +1,9 @@
 -- Whatever is told to differ is true of the report.
 use Rattle.std.proofs.Common.{◌≡◌, inl, inr, ℕ, zero, suc, ◌+◌, ◌-◌, ◌&&◌, nat_lt, Bool, true, false, List, [], ◌∷◌, ◌++◌, length, length-append, take, drop, Option, Some, None, Result, Ok, Err, refl, sym, ap, ◌∙◌, subst, arith, if◌then◌else◌}
-use Rattle.txs_value_base.specs.Places.{nth, fault_at}
-use Rattle.txs_value_base.specs.declared.fault.Fault.{Fault}
-use Rattle.txs_value_base.specs.declared.fault.FaultKind.TheVariants.{AgentFailed}
-use Rattle.txs_value_base.specs.declared.fault.Span.{Span}
+use Rattle.txs_value_data.specs.Places.{nth, fault_at}
+use Rattle.txs_value_data.specs.declared.fault.Fault.{Fault}
+use Rattle.txs_value_data.specs.declared.fault.FaultKind.TheVariants.{AgentFailed}
+use Rattle.txs_value_data.specs.declared.fault.Span.{Span}
 use Rattle.txs_value_cell.specs.Agents.{agents_from}
 use Rattle.txs_value_cell.specs.Forms.{same_kind}
 use Rattle.txs_value_cell.specs.declared.action.Action.{Action}
@@ -31,7 +31,7 @@ use Rattle.txs_theorem_runs.specs.Told.{Place, seen_before, seen_of}
 use Rattle.txs_theorem_audit.specs.Audited.{PlainActorReport, PlainReport, PlainTerms, books_of, entry_of, Finding, Fine, Off, Short, and_then, check}
 use Rattle.txs_theorem_audit.specs.Pieces.{Piece, OfThread, OfAct, OfEnd, acts_print, part_of, piece_finding, pieces_of}
 use Rattle.txs_theorem_audit.specs.Verdict.{atoms_from, begins, book_found, ends_found, fits_sizes, has_failed, has_values, held_by, is_full_stop, is_sent_call, is_stopped, is_value, least_of, length_if, order_found, printed_by, same_failure, traces_found}
-use Rattle.txs_theorem_audit_eval.specs.Evaluated.{means_on}
+use Rattle.txs_theorem_audit.specs.Evaluated.{means_on}
 use Rattle.txs_audit_event.specs.Lines.{full_what, outcome_of, part_what, printed_what}
 use Rattle.txs_audit_event.specs.Meant.{thread_means}
 use Rattle.txs_audit_event.specs.Transactions.{Asked, awaited, booked_what, event_what, gave_what, or_else, valued_what}

@@ -1,7 +1,7 @@
 -- What the tests of pieces tell, one after the other.
 use Rattle.std.proofs.Common.{◌≡◌, ◌≤◌, ◌<◌, ◌+◌, ℕ, zero, suc, Bool, true, false, List, [], ◌∷◌, ◌++◌, length, drop, get_or, map, Some, refl, sym, ap, ◌∙◌, arith, if◌then◌else◌}
 use Rattle.std.proofs.lemmas.List.{drop_all, length-map}
-use Rattle.txs_value_base.specs.Places.{nth}
+use Rattle.txs_value_data.specs.Places.{nth}
 use Rattle.txs_theorem_serial.specs.Whole.{is_act}
 use Rattle.txs_theorem_runs.specs.Told.{Place}
 use Rattle.txs_tree_meaning.specs.Sound.{Sound}

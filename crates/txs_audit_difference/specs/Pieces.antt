@@ -1,8 +1,8 @@
 -- What differs in a piece: in a thread, in an action of an agent that is over, or at an agent's end.
 use Rattle.std.specs.Prelude.{ℕ, suc, Bool, ◌-◌, List, [], ◌∷◌, ◌++◌, length, take, drop, Option, Some, None, Result, if◌then◌else◌}
-use Rattle.txs_value_base.specs.Places.{nth}
-use Rattle.txs_value_base.specs.declared.fault.Fault.{Fault}
-use Rattle.txs_value_base.specs.declared.fault.Span.{Span}
+use Rattle.txs_value_data.specs.Places.{nth}
+use Rattle.txs_value_data.specs.declared.fault.Fault.{Fault}
+use Rattle.txs_value_data.specs.declared.fault.Span.{Span}
 use Rattle.txs_value_cell.specs.Agents.{agents_from}
 use Rattle.txs_value_cell.specs.declared.action.Action.{Action}
 use Rattle.txs_value_data.specs.declared.value.CellId.{CellId}
@@ -23,7 +23,7 @@ use Rattle.txs_theorem_runs.specs.Told.{Place, seen_of}
 use Rattle.txs_theorem_audit.specs.Audited.{PlainActorReport, PlainReport, books_of}
 use Rattle.txs_theorem_audit.specs.Pieces.{Piece, OfThread, OfAct, OfEnd, acts_print, part_of}
 use Rattle.txs_theorem_audit.specs.Verdict.{begins, is_full_stop, is_sent_call, is_stopped, least_of, printed_by}
-use Rattle.txs_theorem_audit_eval.specs.Evaluated.{means_on}
+use Rattle.txs_theorem_audit.specs.Evaluated.{means_on}
 use Rattle.txs_audit_event.specs.Meant.{thread_means}
 use Rattle.txs_audit_event.specs.Lines.{full_what, outcome_of, part_what, printed_what, stop_what}
 use Rattle.txs_audit_event.specs.Transactions.{awaited, event_what, gave_what}

@@ -1,7 +1,7 @@
 -- A sentence is true of a report: what it says to be found is there, and isn't what it says to be expected.
 use Rattle.std.specs.Prelude.{◌≡◌, ◌⊎◌, ℕ, suc, true, false, ◌++◌, length, Option, Some, None, Result}
-use Rattle.txs_value_base.specs.Places.{nth}
-use Rattle.txs_value_base.specs.declared.fault.Fault.{Fault}
+use Rattle.txs_value_data.specs.Places.{nth}
+use Rattle.txs_value_data.specs.declared.fault.Fault.{Fault}
 use Rattle.txs_value_data.specs.declared.value.Value.{Value}
 use Rattle.txs_world_protocol.specs.Ask.{same_new, same_value}
 use Rattle.txs_world_protocol.specs.declared.event.Event.{Event}

@@ -1,7 +1,7 @@
 //! What differs in the books of a report, or in what they leave.
 
 ghost use Rattle.std.specs.Prelude.{◌≡◌, ◌≤◌, ◌<◌, ◌+◌, ℕ, suc, length, true, Some, IfOk, option_copied};
-ghost use Rattle.txs_value_base.specs.Places.{nth};
+ghost use Rattle.txs_value_data.specs.Places.{nth};
 ghost use Rattle.txs_value_cell.specs.Agents.{agents_from};
 ghost use Rattle.txs_value_data.specs.Limits.{most_definitions, most_events};
 ghost use Rattle.txs_value_data.specs.declared.value.CellId.{CellId as ACell};
@@ -21,16 +21,15 @@ ghost use Rattle.txs_audit_event.specs.Transactions.{or_else};
 use crate::pieces::{Spot, at_event};
 use crate::told::Told;
 use std::alloc::{AllocError, Global};
+use txs_audit_book::ends::same_fault;
 use txs_audit_book::{Gone, Replay, go_through, go_through_atom};
 use txs_audit_event::What;
 use txs_audit_evidence::naming::{first_length, index_of};
 use txs_audit_evidence::numbers::{agents_of, atoms_of};
-use txs_audit_piece::ends::same_fault;
 use txs_tree_eval::History;
 use txs_tree_meaning::Program;
-use txs_value_base::Fault;
 use txs_value_cell::{CellDefinition, count_agents};
-use txs_value_data::{CellId, CellKind, Value, copy_value};
+use txs_value_data::{CellId, CellKind, Fault, Value, copy_value};
 use txs_world_protocol::{Report, same_value};
 
 // ---- what the store's book leaves

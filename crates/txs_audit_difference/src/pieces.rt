@@ -1,7 +1,7 @@
 //! What differs in a piece that is off: a thread, an action of an agent that is over, or an agent's end.
 
 ghost use Rattle.std.specs.Prelude.{◌≡◌, ◌≤◌, ◌<◌, ◌++◌, [], length, suc, take, drop, true, Some, IfOk};
-ghost use Rattle.txs_value_base.specs.Places.{nth};
+ghost use Rattle.txs_value_data.specs.Places.{nth};
 ghost use Rattle.txs_value_cell.specs.Agents.{agents_from};
 ghost use Rattle.txs_world.specs.Store.{next_action};
 ghost use Rattle.txs_world_book.specs.Served.{cells_of};
@@ -12,7 +12,7 @@ ghost use Rattle.txs_theorem_runs.specs.Told.{seen_of};
 ghost use Rattle.txs_theorem_audit.specs.Audited.{books_of, ran_as};
 ghost use Rattle.txs_theorem_audit.specs.Pieces.{acts_print};
 ghost use Rattle.txs_theorem_audit.specs.Verdict.{is_sent_call, least_of, printed_by};
-ghost use Rattle.txs_theorem_audit_eval.specs.Evaluated.{means_on};
+ghost use Rattle.txs_theorem_audit.specs.Evaluated.{means_on};
 ghost use Rattle.txs_audit_evidence.specs.Acted.{HasAct};
 ghost use Rattle.txs_audit_evidence.specs.Named.{plain_trace};
 ghost use Rattle.txs_audit_event.specs.Meant.{MayDo, doer_means, held_by, thread_means};
@@ -23,6 +23,7 @@ ghost use Rattle.txs_audit_event.specs.declared.what.What.{What as AWhat};
 
 use crate::told::Difference;
 use std::alloc::{AllocError, Global};
+use txs_audit_book::ends::{begins, is_full_stop, is_stopped};
 use txs_audit_event::{
     Doer, Question, What, came_within, event_what, full_what, least_of, mean_within, part_what,
     printed_of, printed_what, stop_what,
@@ -32,11 +33,9 @@ use txs_audit_evidence::acts::{
     Act, act_of, action_of, acts_print, cell_of, entry_of, is_sent, part_of, prints_within,
     state_of,
 };
-use txs_audit_piece::ends::{begins, is_full_stop, is_stopped};
 use txs_tree_eval::Seen;
-use txs_value_base::Span;
 use txs_value_cell::Action;
-use txs_value_data::{CellId, Listed, Value};
+use txs_value_data::{CellId, Listed, Span, Value};
 use txs_world_protocol::{ActorReport, Outcome, Place};
 
 /// Where a piece is off: the actor, and the index in its trace.

@@ -4,7 +4,7 @@ ghost use Rattle.std.specs.Prelude.{◌≡◌, true, Some, IfOk};
 ghost use Rattle.txs_tree_meaning.specs.View.{program_of};
 ghost use Rattle.txs_theorem_audit.specs.Audited.{entry_of, place_of, report_as};
 ghost use Rattle.txs_theorem_audit.specs.Verdict.{fits_sizes, order_found, place_off};
-ghost use Rattle.txs_audit_answer.specs.Answered.{terms_as};
+ghost use Rattle.txs_audit_book.specs.Answered.{terms_as};
 ghost use Rattle.txs_audit_difference.specs.Difference.{actors_told, books_told, difference_in, difference_of, first, order_told, stopped_what, stopped_what_in};
 ghost use Rattle.txs_audit_difference.specs.Left.{spot_off};
 
@@ -13,12 +13,11 @@ use crate::pieces::{Spot, at_event};
 use crate::told::{Difference, Told};
 use crate::walking::pieces_told;
 use std::alloc::{AllocError, Global};
-use txs_audit_answer::Terms;
+use txs_audit_book::Terms;
 use txs_audit_event::What;
 use txs_audit_evidence::naming::{entry_of, index_of};
 use txs_audit_evidence::{Books, ends_off, open_books};
-use txs_audit_order::out_of_order;
-use txs_audit_trace::{has_sizes, traces_off};
+use txs_audit_order::{has_sizes, out_of_order, traces_off};
 use txs_tree_meaning::Program;
 use txs_world_protocol::{Outcome, Place, Report};
 

@@ -1,7 +1,7 @@
 //! What differs and where, and what tests tell so far.
 
 use txs_audit_event::What;
-use txs_value_base::Span;
+use txs_value_data::Span;
 
 /// What differs, and where an audit names it: an event of an actor's trace, or what comes behind all of its events.
 #[derive(Drop)]

@@ -1,7 +1,7 @@
 //! The pieces of a report, one after the other, up to the first that isn't fine.
 
 ghost use Rattle.std.specs.Prelude.{◌≡◌, ◌<◌, ◌-◌, ◌^◌, map, IfOk};
-ghost use Rattle.txs_value_base.specs.Places.{nth};
+ghost use Rattle.txs_value_data.specs.Places.{nth};
 ghost use Rattle.txs_tree_meaning.specs.View.{program_of};
 ghost use Rattle.txs_theorem_serial.specs.Whole.{is_act};
 ghost use Rattle.txs_theorem_audit.specs.Audited.{books_of, place_of, ran_as};
@@ -12,10 +12,10 @@ ghost use Rattle.txs_audit_difference.specs.Walked.{IsNext, one_told};
 use crate::pieces::{Spot, act_what, agent_what, at_event, thread_what};
 use crate::told::Told;
 use std::alloc::{AllocError, Global};
+use txs_audit_book::Finding;
 use txs_audit_evidence::Books;
 use txs_audit_evidence::acts::{act_found, agent_end};
 use txs_audit_evidence::threads::thread_found;
-use txs_audit_piece::Finding;
 use txs_world_protocol::{ActorReport, EventKind, Place};
 
 // ---- one piece

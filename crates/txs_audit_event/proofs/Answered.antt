@@ -2,7 +2,7 @@
 use Rattle.std.proofs.Common.{◌≡◌, ◌<◌, ◌==◌, ◌⊎◌, inr, ℕ, suc, ◌-◌, Bool, true, false, List, [], ◌∷◌, ◌++◌, length, take, Some, refl, sym, ap, ◌∙◌, subst, arith}
 use Rattle.std.specs.Prelude.{not}
 use Rattle.std.proofs.lemmas.Bool.{eqb-true}
-use Rattle.txs_value_base.specs.Places.{nth}
+use Rattle.txs_value_data.specs.Places.{nth}
 use Rattle.txs_value_cell.specs.declared.action.Action.{Action}
 use Rattle.txs_value_data.specs.declared.value.Value.{Value}
 use Rattle.txs_world_protocol.specs.SeenEvent.{SeenEvent}
@@ -20,8 +20,8 @@ use Rattle.txs_tree_meaning.specs.Tree.{PlainProgram, PlainThread}
 use Rattle.txs_tree_meaning.specs.View.{Parts, program_of}
 use Rattle.txs_theorem_threads.specs.FollowsAll.{source_of}
 use Rattle.txs_theorem_audit.specs.Verdict.{least_of, printed_by}
-use Rattle.txs_theorem_audit_eval.specs.Evaluated.{prints_by}
-use Rattle.txs_audit_piece.proofs.Sources.{all_but_last}
+use Rattle.txs_theorem_audit.specs.Evaluated.{prints_by}
+use Rattle.txs_audit_book.proofs.Sources.{all_but_last}
 use Rattle.txs_audit_evidence.proofs.Sized.{threads_many}
 use Rattle.txs_audit_evidence.proofs.ThreadFound.{thread_there}
 use Rattle.txs_audit_event.specs.Meant.{Known, MayDo, TellsMeant, doer_means, of_action, of_thread, thread_means}

@@ -1,7 +1,7 @@
 -- What differs of what an action came to, by how it ends.
 use Rattle.std.proofs.Common.{◌≡◌, ◌≤◌, ◌⊎◌, ℕ, suc, true, false, List, [], ◌∷◌, length, take, Option, Some, None, Result, Ok, Err, refl, sym, ap, ◌∙◌, subst, ⊎_elim}
-use Rattle.txs_value_base.specs.declared.fault.Fault.{Fault}
-use Rattle.txs_value_base.specs.declared.fault.Span.{Span}
+use Rattle.txs_value_data.specs.declared.fault.Fault.{Fault}
+use Rattle.txs_value_data.specs.declared.fault.Span.{Span}
 use Rattle.txs_value_cell.specs.Cells.{validator_at, validators_of}
 use Rattle.txs_value_cell.specs.declared.action.Action.{Action}
 use Rattle.txs_value_data.specs.declared.value.Value.{Value}
@@ -23,9 +23,9 @@ use Rattle.txs_theorem_threads.proofs.Meant.{Any}
 use Rattle.txs_theorem_threads.specs.FollowsAgent.{SoundAction}
 use Rattle.txs_theorem_audit.specs.Verdict.{is_sent_call, sends_if}
 use Rattle.txs_theorem_audit.proofs.Onward.{Step, action_leads}
-use Rattle.txs_theorem_audit_eval.specs.Evaluated.{ActionEnd, ActionGives, end_by_answers, means_on}
-use Rattle.txs_theorem_audit_eval.proofs.Evaluating.{found_so}
-use Rattle.txs_audit_piece.specs.Judged.{EndsBy}
+use Rattle.txs_theorem_audit.specs.Evaluated.{ActionEnd, ActionGives, end_by_answers, means_on}
+use Rattle.txs_theorem_audit.proofs.Evaluating.{found_so}
+use Rattle.txs_audit_book.specs.Judged.{EndsBy}
 use Rattle.txs_audit_event.proofs.Sending.{sent_of, source, source_sound}
 use Rattle.txs_audit_event.specs.Given.{gave_by, is_open, is_short_end}
 use Rattle.txs_audit_event.specs.Transactions.{gave_what, valued_what}

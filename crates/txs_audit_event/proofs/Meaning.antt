@@ -1,8 +1,8 @@
 -- What is answered of a thread or an action tells what it means, with as many turns as suffice and with more.
 use Rattle.std.proofs.Common.{◌≡◌, ◌≤◌, ◌<◌, ◌⊎◌, ℕ, suc, ◌-◌, true, false, List, [], ◌∷◌, length, Option, Some, None, Result, Ok, Err, refl, sym, ap, ◌∙◌, subst, ⊎_elim, arith}
 use Rattle.std.specs.Prelude.{not}
-use Rattle.txs_value_base.specs.Places.{nth}
-use Rattle.txs_value_base.specs.declared.fault.Fault.{Fault}
+use Rattle.txs_value_data.specs.Places.{nth}
+use Rattle.txs_value_data.specs.declared.fault.Fault.{Fault}
 use Rattle.txs_value_cell.specs.declared.action.Action.{Action}
 use Rattle.txs_value_data.specs.declared.value.Value.{Value}
 use Rattle.txs_world_protocol.specs.SeenEvent.{SeenEvent}
@@ -24,8 +24,8 @@ use Rattle.txs_theorem_threads.proofs.Meant.{Any, none_some}
 use Rattle.txs_theorem_threads.specs.FollowsAll.{source_of}
 use Rattle.txs_theorem_audit.specs.Verdict.{printed_by}
 use Rattle.txs_theorem_audit.proofs.Onward.{From, Step, applied_leads, thread_leads}
-use Rattle.txs_theorem_audit_eval.specs.Evaluated.{prints_by}
-use Rattle.txs_audit_piece.proofs.Sources as piece
+use Rattle.txs_theorem_audit.specs.Evaluated.{prints_by}
+use Rattle.txs_audit_book.proofs.Sources as piece
 use Rattle.txs_audit_event.proofs.Sending.{sent_of, source, source_sound}
 use Rattle.txs_audit_event.specs.Lines.{outcome_of}
 use Rattle.txs_audit_event.specs.Meant.{Known, MayDo, MeantSo, MeantWrong, TellsMeant, doer_means, is_right, of_action, of_thread, ended_by, thread_means}

@@ -1,9 +1,9 @@
 -- What a sentence says is so.
 use Rattle.std.proofs.Common.{◌≡◌, ℕ, zero, suc, ◌+◌, ◌==◌, ◌||◌, ◌-◌, nat_lt, Bool, true, false, List, [], ◌∷◌, ◌++◌, take, drop, append_assoc, Option, Some, None, Result, refl, sym, ap, ◌∙◌, subst, arith, if◌then◌else◌}
 use Rattle.std.proofs.lemmas.Bool.{eqb-true, false≢true}
-use Rattle.txs_value_base.specs.Places.{nth}
-use Rattle.txs_value_base.specs.declared.fault.Fault.{Fault}
-use Rattle.txs_value_base.specs.declared.fault.Span.{Span}
+use Rattle.txs_value_data.specs.Places.{nth}
+use Rattle.txs_value_data.specs.declared.fault.Fault.{Fault}
+use Rattle.txs_value_data.specs.declared.fault.Span.{Span}
 use Rattle.txs_value_cell.specs.declared.action.Action.{Action}
 use Rattle.txs_value_data.specs.declared.value.CellId.{CellId}
 use Rattle.txs_value_data.specs.declared.value.Value.{Value}
@@ -21,7 +21,7 @@ use Rattle.txs_tree_meaning.specs.Right.{is_wrong}
 use Rattle.txs_tree_meaning.specs.Tree.{PlainProgram}
 use Rattle.txs_theorem_audit.specs.Audited.{PlainActorReport}
 use Rattle.txs_theorem_audit.specs.Verdict.{begins, is_full_book, is_full_stop, is_stopped}
-use Rattle.txs_theorem_audit_eval.specs.Evaluated.{same_end}
+use Rattle.txs_theorem_audit.specs.Evaluated.{same_end}
 use Rattle.txs_audit_event.specs.Lines.{end_what, events_in, full_end, full_what, line_from, line_of, line_what, outcome_of, part_what, printed_what, stop_what}
 use Rattle.txs_audit_event.specs.Transactions.{Asked, asked_on, asked_what, booked_what, break, by_what, calm_at, calm_what, cause_what, changed_what, commit_run, commit_what, committed_run, committed_what, disturbed_what, dosync_what, ended_what, fail_what, failure, fault_what, first_written, is_sent_at, late_what, or_else, or_what, other_what, place_what, refusal, refused_run, refused_what, send_what, sent_what, write_what, writer_of, writes_meant, wrong_what, wrote_what}
 use Rattle.txs_audit_event.specs.Truth.{ActTrue, AreFirst, EndTrue, EventTrue, IsWritten, LineTrue, before_line, is_failure, is_send, lines, refused_by, refused_for, retried_for, same_sent, same_there, sends_in}

@@ -1,8 +1,6 @@
 -- What is asked, as it is told.
-use Rattle.std.specs.Prelude.{ℕ, ◌-◌, Bool, List, length, Option, Some, None}
-use Rattle.txs_value_base.specs.Places.{nth}
-use Rattle.txs_world_protocol.specs.Ask.{Writes, buffered}
-use Rattle.txs_world_book.specs.Book.{is_there}
+use Rattle.std.specs.Prelude.{ℕ, ◌-◌, List, length, Option, Some, None}
+use Rattle.txs_value_data.specs.Places.{nth}
 use Rattle.txs_frame.specs.Frame.{PlainTxFrame}
 use Rattle.txs_tree_eval.specs.declared.transaction.TxMeaning.{TxMeaning}
 use Rattle.txs_tree_eval_node.specs.Events.{seen_event, seen_events}
@@ -28,7 +26,3 @@ meant_done (Some m) = Some m.done
 -- what the last of these transactions did
 abbrev pub last_meant : List TxMeaning → Option PlainTxFrame
 last_meant ms = meant_done (nth ms (length ms - 1))
-
--- whether the cell with this number has a value among these
-abbrev pub is_buffered : Writes → ℕ → Bool
-is_buffered ws k = is_there (buffered ws k)

@@ -1,7 +1,7 @@
 -- What differs of what an action came to, by how it ends.
 use Rattle.std.specs.Prelude.{Bool, true, false, List, [], None, Result, Ok, Err}
-use Rattle.txs_value_base.specs.declared.fault.Fault.{Fault}
-use Rattle.txs_value_base.specs.declared.fault.Span.{Span}
+use Rattle.txs_value_data.specs.declared.fault.Fault.{Fault}
+use Rattle.txs_value_data.specs.declared.fault.Span.{Span}
 use Rattle.txs_value_cell.specs.declared.action.Action.{Action}
 use Rattle.txs_value_data.specs.declared.value.Value.{Value}
 use Rattle.txs_world_protocol.specs.declared.event.Event.{Event}
@@ -9,7 +9,7 @@ use Rattle.txs_world_book.specs.Book.{first_failed}
 use Rattle.txs_world_book.specs.declared.cell.StoreCell.{StoreCell}
 use Rattle.txs_tree_meaning.specs.Meaning.{Completion, Completes, Recurs, Faults, Retries, Waits, OutOfTurns, Invalid}
 use Rattle.txs_tree_meaning.specs.Thread.{ThreadState}
-use Rattle.txs_theorem_audit_eval.specs.Evaluated.{ActionEnd, HandedIn, LacksEvent, LacksTurns, Disallows, Unsaid}
+use Rattle.txs_theorem_audit.specs.Evaluated.{ActionEnd, HandedIn, LacksEvent, LacksTurns, Disallows, Unsaid}
 use Rattle.txs_audit_event.specs.Transactions.{booked_what, valued_what}
 use Rattle.txs_audit_event.specs.declared.what.What.{What}
 use Rattle.txs_audit_event.specs.declared.what.What.TheVariants as what

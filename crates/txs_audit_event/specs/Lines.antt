@@ -1,6 +1,6 @@
 -- The first line in which two texts differ, and how an actor ended.
 use Rattle.std.specs.Prelude.{◌≡◌, ℕ, suc, Bool, true, false, ◌==◌, ◌&&◌, List, [], ◌∷◌, ◌++◌, length, Option, Some, None, if◌then◌else◌}
-use Rattle.txs_value_base.specs.Places.{nth}
+use Rattle.txs_value_data.specs.Places.{nth}
 use Rattle.txs_world_book.specs.Book.{is_empty}
 use Rattle.txs_world_protocol.specs.declared.event.Event.{Event}
 use Rattle.txs_world_protocol.specs.declared.event.Outcome.{Outcome}
@@ -10,7 +10,7 @@ use Rattle.txs_tree_meaning.specs.Meaning.{Completion, Completes, Recurs, Faults
 use Rattle.txs_tree_meaning.specs.Thread.{ThreadState}
 use Rattle.txs_theorem_audit.specs.Audited.{PlainActorReport}
 use Rattle.txs_theorem_audit.specs.Verdict.{begins, is_full_book, is_full_stop, is_stopped}
-use Rattle.txs_theorem_audit_eval.specs.Evaluated.{same_end}
+use Rattle.txs_theorem_audit.specs.Evaluated.{same_end}
 use Rattle.txs_audit_event.specs.declared.what.What.{What}
 use Rattle.txs_audit_event.specs.declared.what.What.TheVariants as what
 

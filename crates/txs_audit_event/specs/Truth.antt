@@ -1,8 +1,8 @@
 -- What a sentence says is so: what it says to be found is there, what it says to be expected is what the text gives, and the two differ.
 use Rattle.std.specs.Prelude.{◌≡◌, ℕ, Bool, true, false, ◌==◌, List, [], ◌∷◌, take, Option, Some, None, Result, if◌then◌else◌}
-use Rattle.txs_value_base.specs.Places.{nth}
-use Rattle.txs_value_base.specs.declared.fault.Fault.{Fault}
-use Rattle.txs_value_base.specs.declared.fault.Span.{Span}
+use Rattle.txs_value_data.specs.Places.{nth}
+use Rattle.txs_value_data.specs.declared.fault.Fault.{Fault}
+use Rattle.txs_value_data.specs.declared.fault.Span.{Span}
 use Rattle.txs_value_cell.specs.declared.action.Action.{Action}
 use Rattle.txs_value_data.specs.declared.value.CellId.{CellId}
 use Rattle.txs_value_data.specs.declared.value.Value.{Value}

@@ -1,30 +1,29 @@
 //! What differs of what an action came to, against its act.
 
 ghost use Rattle.std.specs.Prelude.{◌≡◌, ◌≤◌, ◌<◌, ◌-◌, ◌⊎◌, length, suc, take, true, false, IfOk, IsTrue, IsFalse};
-ghost use Rattle.txs_value_base.specs.Places.{fault_at};
-ghost use Rattle.txs_value_base.specs.declared.fault.FaultKind.TheVariants.{AgentFailed};
+ghost use Rattle.txs_value_data.specs.Places.{fault_at};
+ghost use Rattle.txs_value_data.specs.declared.fault.FaultKind.TheVariants.{AgentFailed};
 ghost use Rattle.txs_world_book.specs.Served.{cells_of};
 ghost use Rattle.txs_tree_eval_node.specs.Events.{seen_events};
 ghost use Rattle.txs_tree_meaning.specs.Known.{known};
 ghost use Rattle.txs_tree_meaning.specs.View.{functions_of, program_of};
 ghost use Rattle.txs_theorem_audit.specs.Verdict.{is_sent_call};
-ghost use Rattle.txs_theorem_audit_eval.specs.Evaluated.{means_on};
-ghost use Rattle.txs_audit_piece.specs.Judged.{as_end};
+ghost use Rattle.txs_theorem_audit.specs.Evaluated.{means_on};
+ghost use Rattle.txs_audit_book.specs.Judged.{as_end};
 ghost use Rattle.txs_audit_event.specs.Given.{gave_by, is_open, is_short_end};
 ghost use Rattle.txs_audit_event.specs.Transactions.{booked_what, gave_what, or_what, sent_what, valued_what};
 
 use crate::commits::sent_what;
 use crate::what::What;
 use std::alloc::{AllocError, Global};
+use txs_audit_book::{ActionEnd, action_end};
 use txs_audit_evidence::Books;
 use txs_audit_evidence::acts::{Act, answered};
 use txs_audit_evidence::bounds::{first_bound, next_bound};
 use txs_audit_evidence::transactions::first_failed;
-use txs_audit_piece::{ActionEnd, action_end};
 use txs_tree_eval::Seen;
-use txs_value_base::{Fault, FaultKind, Span};
 use txs_value_cell::Action;
-use txs_value_data::{CellId, Value, copy_value};
+use txs_value_data::{CellId, Fault, FaultKind, Span, Value, copy_value};
 use txs_world_protocol::same_new;
 
 /// What an action came to, in memory of its own.

@@ -18,8 +18,7 @@ use std::alloc::{AllocError, Global};
 use txs_audit_evidence::Books;
 use txs_frame::TxFrame;
 use txs_tree_eval::{RefView, Seen, TxMeaning};
-use txs_value_base::Fault;
-use txs_value_data::Listed;
+use txs_value_data::{Fault, Listed};
 use txs_world_protocol::{EventKind, Outcome};
 
 /// A fault, and what the last transaction did that was noted until then.

@@ -2,7 +2,7 @@
 
 ghost use Rattle.std.specs.Prelude.{◌≡◌, ◌<◌, ◌+◌, ◌^◌, ◌∷◌, [], ℕ, length, true, IfOk, option_copied};
 ghost use Rattle.txs_frame.specs.Frame.{sends_of_commit};
-ghost use Rattle.txs_value_base.specs.Places.{nth};
+ghost use Rattle.txs_value_data.specs.Places.{nth};
 ghost use Rattle.txs_tree_eval_transaction.specs.Views.{plain_view, world_of};
 ghost use Rattle.txs_tree_meaning.specs.Known.{known};
 ghost use Rattle.txs_tree_meaning.specs.Transaction.{redone, value_or};
@@ -21,9 +21,8 @@ use txs_audit_evidence::Books;
 use txs_frame::{Commute, TxFrame};
 use txs_tree_eval::{EvalStop, RefView, eval_pure};
 use txs_tree_eval_transaction::{merge, put_write, value_in, valued};
-use txs_value_base::{Callee, Span};
 use txs_value_cell::{Action, copy_action};
-use txs_value_data::{CellId, Listed, Value, copy_value};
+use txs_value_data::{Callee, CellId, Listed, Span, Value, copy_value};
 use txs_world_protocol::{same_action, same_cell, same_value};
 
 // ---- what a transaction writes

@@ -2,43 +2,15 @@
 
 ghost use Rattle.std.specs.Prelude.{◌≡◌, ◌≤◌, ◌<◌, ◌+◌, length, take, drop, true, IfOk};
 ghost use Rattle.txs_world_book.specs.Book.{writes_to};
-ghost use Rattle.txs_audit_event.specs.Asking.{is_buffered};
 ghost use Rattle.txs_audit_event.specs.Transactions.{by_what, disturbed_what, first_written, or_else, writer_of};
 
 use crate::what::What;
 use std::alloc::AllocError;
 use txs_audit_evidence::Books;
 use txs_frame::TxFrame;
-use txs_value_base::Span;
-use txs_value_data::{CellId, Value};
-use txs_world_protocol::{Event, EventKind};
-
-/// Whether the cell with this number is among these writes.
-fn is_written_by(writes: &[(CellId, Value)], number: u16) -> bool
-    ensures { result ≡ is_buffered writes.now number }
-{
-    for write in writes {
-        if write.0.number == number {
-            return true;
-        }
-    }
-    false
-}
-
-/// Whether an event writes the cell with this number.
-fn writes_to(kind: &EventKind, number: u16) -> bool
-    ensures { result ≡ writes_to kind.now number }
-{
-    match kind {
-        EventKind::Commit { writes, .. } => is_written_by(writes.as_slice(), number),
-        EventKind::Act {
-            agent,
-            new: Ok(_),
-            ..
-        } => agent.number == number,
-        _ => false,
-    }
-}
+use txs_value_data::{CellId, Span};
+use txs_world_book::writes_to;
+use txs_world_protocol::Event;
 
 /// The index of the first of these events that writes the cell with this number, at this index or later; how many there are where none does.
 fn writer_of(book: &[Event], number: u16, from: usize) -> usize

@@ -1,7 +1,7 @@
 //! What differs at an event: it isn't allowed, it comes behind the end, or its transaction was disturbed.
 
 ghost use Rattle.std.specs.Prelude.{◌≡◌, ◌++◌, ◌∷◌, [], not, take, IfOk};
-ghost use Rattle.txs_value_base.specs.Places.{nth};
+ghost use Rattle.txs_value_data.specs.Places.{nth};
 ghost use Rattle.txs_world_book.specs.Served.{cells_of};
 ghost use Rattle.txs_world_protocol.specs.declared.event.EventKind.TheVariants.{SendRefused};
 ghost use Rattle.txs_tree_eval_transaction.specs.Views.{plain_view, world_of};
@@ -24,9 +24,8 @@ use std::alloc::{AllocError, Global};
 use txs_audit_evidence::transactions::{end_at, first_failed};
 use txs_frame::TxFrame;
 use txs_tree_eval::RefView;
-use txs_value_base::Span;
 use txs_value_cell::Action;
-use txs_value_data::{CellId, CellKind, Value};
+use txs_value_data::{CellId, CellKind, Span, Value};
 use txs_world_protocol::{EventKind, Outcome, Place};
 
 // ---- what is supposed

@@ -6,8 +6,8 @@ ghost use Rattle.txs_theorem_audit.specs.Audited.{books_of, ran_as};
 
 use crate::what::What;
 use std::alloc::{AllocError, Global};
+use txs_audit_book::ends::{begins, is_full_stop, is_stopped, same_end};
 use txs_audit_evidence::Books;
-use txs_audit_piece::ends::{begins, is_full_stop, is_stopped, same_end};
 use txs_value_data::Listed;
 use txs_world_protocol::{ActorReport, Outcome};
 

@@ -6,7 +6,7 @@ ghost use Rattle.txs_tree_meaning.specs.Known.{known};
 ghost use Rattle.txs_tree_meaning.specs.Right.{is_wrong};
 ghost use Rattle.txs_tree_meaning.specs.View.{functions_of, program_of};
 ghost use Rattle.txs_theorem_audit.specs.Verdict.{is_sent_call, least_of};
-ghost use Rattle.txs_theorem_audit_eval.specs.Evaluated.{prints_by};
+ghost use Rattle.txs_theorem_audit.specs.Evaluated.{prints_by};
 ghost use Rattle.txs_audit_event.specs.Meant.{Known, is_right, MayDo, TellsMeant, doer_means, ended_by, of_action, of_thread};
 
 use std::alloc::{AllocError, Global};
@@ -14,9 +14,8 @@ use txs_audit_evidence::Books;
 use txs_audit_evidence::acts::answered;
 use txs_audit_evidence::bounds::{first_bound, next_bound, wants_turns};
 use txs_tree_eval::{ActionMeaning, Needs, Seen, ThreadMeaning, TxMeaning, eval_thread};
-use txs_value_base::Fault;
 use txs_value_cell::Action;
-use txs_value_data::{Listed, Value};
+use txs_value_data::{Fault, Listed, Value};
 use txs_world_protocol::Outcome;
 
 /// A thread of the program, or an action on its agent's state, before the agent's validator looks at its value.

@@ -1,8 +1,7 @@
 //! What differs.
 
-use txs_value_base::{Fault, Span};
 use txs_value_cell::Action;
-use txs_value_data::{CellId, Listed, Value};
+use txs_value_data::{CellId, Fault, Listed, Span, Value};
 use txs_world_protocol::Outcome;
 
 /// What differs. What is expected is what the text gives, or what the books do; what is found is what the report says.

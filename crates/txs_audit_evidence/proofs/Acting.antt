@@ -3,8 +3,8 @@ use Rattle.std.proofs.Common.{◌≡◌, ℕ, zero, suc, ◌+◌, ◌<◌, ◌==
 use Rattle.std.specs.Prelude.{not, nat_lt}
 use Rattle.std.proofs.lemmas.Bool.{eqb-true, false≢true, lt-ltb}
 use Rattle.std.proofs.lemmas.List.{append-nil}
-use Rattle.txs_value_base.specs.Places.{nth}
-use Rattle.txs_value_base.specs.declared.fault.Fault.{Fault}
+use Rattle.txs_value_data.specs.Places.{nth}
+use Rattle.txs_value_data.specs.declared.fault.Fault.{Fault}
 use Rattle.txs_value_cell.specs.Cells.{World}
 use Rattle.txs_value_cell.specs.Forms.{same_kind}
 use Rattle.txs_value_cell.specs.declared.action.Action.{Action}
@@ -31,7 +31,7 @@ use Rattle.txs_theorem_audit.proofs.Agreeing.{sized_of}
 use Rattle.txs_theorem_audit.proofs.Findings.{and_fine, check_fine, not_there, not_true}
 use Rattle.txs_theorem_audit.proofs.Listing.{there_is, within}
 use Rattle.txs_theorem_audit.specs.Audited.{Fine, books_of, check}
-use Rattle.txs_theorem_order.specs.Order.{book_or_none}
+use Rattle.txs_theorem_serial.specs.Order.{book_or_none}
 use Rattle.txs_theorem_audit.specs.Verdict.{atoms_from, book_found, is_legal_kind, is_legal_swap}
 use Rattle.txs_audit_book.specs.Replayed.{IsLegalBook, IsRun, value_there}
 use Rattle.txs_audit_book.specs.Swapped.{atom_test}

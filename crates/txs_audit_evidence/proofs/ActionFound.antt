@@ -3,11 +3,11 @@ use Rattle.std.proofs.Common.{◌≡◌, ◌≤◌, ◌+◌, ◌-◌, ◌==◌, 
 use Rattle.std.specs.Prelude.{nat_le, not}
 use Rattle.std.proofs.lemmas.Bool.{eq-eqb, eqb-true, false≢true}
 use Rattle.std.proofs.lemmas.List.{length_push}
-use Rattle.txs_value_base.specs.Places.{nth}
-use Rattle.txs_value_base.specs.declared.fault.Fault.{Fault}
-use Rattle.txs_value_base.specs.declared.fault.Span.{Span}
-use Rattle.txs_value_base.specs.declared.op.Callee.{Callee}
-use Rattle.txs_value_base.specs.declared.op.Callee.TheVariants.{Core as CoreOp, Function}
+use Rattle.txs_value_data.specs.Places.{nth}
+use Rattle.txs_value_data.specs.declared.fault.Fault.{Fault}
+use Rattle.txs_value_data.specs.declared.fault.Span.{Span}
+use Rattle.txs_value_data.specs.declared.op.Callee.{Callee}
+use Rattle.txs_value_data.specs.declared.op.Callee.TheVariants.{Core as CoreOp, Function}
 use Rattle.txs_value_apply.specs.Core.{takes}
 use Rattle.txs_value_cell.specs.declared.action.Action.{Action}
 use Rattle.txs_value_cell.specs.declared.cell.CellDefinition.{CellDefinition}
@@ -38,9 +38,9 @@ use Rattle.txs_theorem_audit.specs.Audited.{PlainReport, books_of, Finding, Fine
 use Rattle.txs_theorem_audit.specs.Verdict.{act_ends, action_covered, action_found, action_prints, begins, covered_all, full_ends, is_full_book, is_sent_call, is_sent_known, least_of, noted_in, printed_by, part_printed, rest_ends, same_numbers, still_ends, still_found}
 use Rattle.txs_theorem_audit.proofs.Agreeing.{sent_of}
 use Rattle.txs_theorem_audit.proofs.Findings.{not_there}
-use Rattle.txs_theorem_audit_eval.specs.Evaluated.{ActBy, ActionEnd, ActionGives, ActionNotedBy, CalmBy, CoveredBy, RestFullBy, StillBy, act_by, calm_found_by, covered_all_by, means_on, prints_by, rest_full_by, still_by}
-use Rattle.txs_audit_piece.proofs.Sources.{all_but_last}
-use Rattle.txs_audit_piece.specs.Judged.{EndsBy, is_fine}
+use Rattle.txs_theorem_audit.specs.Evaluated.{ActBy, ActionEnd, ActionGives, ActionNotedBy, CalmBy, CoveredBy, RestFullBy, StillBy, act_by, calm_found_by, covered_all_by, means_on, prints_by, rest_full_by, still_by}
+use Rattle.txs_audit_book.proofs.Sources.{all_but_last}
+use Rattle.txs_audit_book.specs.Judged.{EndsBy, is_fine}
 use Rattle.txs_audit_evidence.specs.Acted.{acted, calm_since, covered_since, end_by, waited}
 use Rattle.txs_audit_evidence.specs.declared.acts.Ending.{Ending}
 use Rattle.txs_audit_evidence.specs.declared.acts.Ending.TheVariants as ending

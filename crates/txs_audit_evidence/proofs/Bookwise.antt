@@ -2,7 +2,7 @@
 use Rattle.std.proofs.Common.{◌≡◌, ◌≤◌, ◌<◌, ◌+◌, ◌&&◌, nat_lt, ℕ, suc, Bool, true, false, List, [], ◌∷◌, ◌++◌, length, drop, get_or, Some, refl, sym, ap, ◌∙◌, subst, arith, ⊎_elim}
 use Rattle.std.proofs.lemmas.Bool.{cases_lt, false≢true, ltb-true}
 use Rattle.std.proofs.lemmas.List.{drop_all, drop_more, get_or_append_left, get_or_push, length_push}
-use Rattle.txs_value_base.specs.Places.{nth}
+use Rattle.txs_value_data.specs.Places.{nth}
 use Rattle.txs_value_cell.specs.Agents.{agents_from}
 use Rattle.txs_value_data.specs.Limits.{most_events}
 use Rattle.txs_value_data.specs.declared.value.CellId.{CellId}
@@ -22,7 +22,7 @@ use Rattle.txs_theorem_audit.proofs.Listing.{listed_home}
 use Rattle.txs_audit_book.specs.Replayed.{IsLegalBook, IsOffAt, actor_in}
 use Rattle.txs_audit_book.specs.Swapped.{SwapsAre, atom_test}
 use Rattle.txs_audit_book.specs.Tests.{store_test}
-use Rattle.txs_audit_piece.specs.Judged.{is_fine}
+use Rattle.txs_audit_book.specs.Judged.{is_fine}
 use Rattle.txs_audit_evidence.specs.Evidence.{AreSwaps}
 use Rattle.txs_audit_evidence.proofs.Sized.{threads_many}
 

@@ -1,7 +1,7 @@
 -- What is found with a bound of turns that suffices is found with more.
 use Rattle.std.proofs.Common.{◌≡◌, ◌≤◌, ◌⊎◌, inl, inr, ℕ, suc, Bool, true, List, [], ◌∷◌, length, take, Option, Some, None, Result, refl, sym, ap, ◌∙◌, subst, ⊎_elim}
-use Rattle.txs_value_base.specs.Places.{nth}
-use Rattle.txs_value_base.specs.declared.fault.Fault.{Fault}
+use Rattle.txs_value_data.specs.Places.{nth}
+use Rattle.txs_value_data.specs.declared.fault.Fault.{Fault}
 use Rattle.txs_value_cell.specs.declared.action.Action.{Action}
 use Rattle.txs_value_data.specs.declared.value.CellId.{CellId}
 use Rattle.txs_value_data.specs.declared.value.Value.{Value}
@@ -28,7 +28,7 @@ use Rattle.txs_theorem_audit.specs.Verdict.{action_covered, action_found, is_sen
 use Rattle.txs_theorem_audit.proofs.Agreeing.{sent_of}
 use Rattle.txs_theorem_audit.proofs.Differing.{source, source_sound}
 use Rattle.txs_theorem_audit.proofs.Onward.{Step, applied_leads}
-use Rattle.txs_theorem_audit_eval.specs.Evaluated.{ActionNotedBy, means_on, prints_by}
+use Rattle.txs_theorem_audit.specs.Evaluated.{ActionNotedBy, means_on, prints_by}
 use Rattle.txs_audit_evidence.proofs.ActionFound.{action_printed}
 
 -- what a law of more turns says of what is found with n, and of whether commits are covered then

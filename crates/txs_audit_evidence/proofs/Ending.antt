@@ -9,7 +9,7 @@ use Rattle.txs_world_protocol.specs.declared.report.Report.{Report}
 use Rattle.txs_tree_meaning.specs.View.{Parts, program_of}
 use Rattle.txs_theorem_audit.specs.Audited.{PlainReport, PlainTerms, Finding, Fine, Off, and_then, ran_as, report_as}
 use Rattle.txs_theorem_audit.specs.Verdict.{agents_over, ends_found, threads_over}
-use Rattle.txs_audit_trace.specs.Named.{off_in}
+use Rattle.txs_audit_order.specs.Named.{off_in}
 
 module _ (p : Parts) (w : PlainTerms) (b : PlainReport) (r : Report) (same : report_as r ≡ b) (ts : List ActorReport) (ts_are : ts ≡ r.threads.items) where
   abbrev of_agents : Finding

@@ -4,7 +4,7 @@ use Rattle.std.specs.Borrow.{Bor}
 use Rattle.std.specs.Prelude.{IfSome, option_copied}
 use Rattle.std.proofs.lemmas.Bool.{eqb-true}
 use Rattle.std.proofs.lemmas.List.{drop_all, drop_more}
-use Rattle.txs_value_base.specs.Places.{nth}
+use Rattle.txs_value_data.specs.Places.{nth}
 use Rattle.txs_value_cell.specs.Agents.{agents_from}
 use Rattle.txs_value_data.specs.declared.value.CellId.{CellId}
 use Rattle.txs_frame.specs.Frame.{has_number}
@@ -19,9 +19,9 @@ use Rattle.txs_tree_eval.specs.declared.transaction.TxMeaning.{TxMeaning}
 use Rattle.txs_tree_meaning.specs.View.{program_of}
 use Rattle.txs_theorem_runs.specs.Told.{Place}
 use Rattle.txs_theorem_audit.specs.Audited.{Fine, Off, and_then, books_of, check, place_of}
-use Rattle.txs_theorem_order.specs.Order.{book_or_none}
+use Rattle.txs_theorem_serial.specs.Order.{book_or_none}
 use Rattle.txs_theorem_audit.specs.Verdict.{atoms_from, is_commit, is_end}
-use Rattle.txs_theorem_audit_eval.specs.Evaluated.{calm_at_by, calm_by, calm_found_by, covered_all_by, covered_if_by, state_of, with_first}
+use Rattle.txs_theorem_audit.specs.Evaluated.{calm_at_by, calm_by, calm_found_by, covered_all_by, covered_if_by, state_of, with_first}
 use Rattle.txs_theorem_serial.specs.Serial.{is_covered}
 use Rattle.txs_audit_evidence.specs.Evidence.{AreLegal, PlainBooks, atoms_in}
 use Rattle.txs_audit_evidence.specs.Named.{plain_trace}

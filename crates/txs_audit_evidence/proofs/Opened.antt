@@ -1,6 +1,6 @@
 -- What going through the books of a report says of them.
 use Rattle.std.proofs.Common.{◌≡◌, ◌<◌, ◌+◌, ℕ, zero, suc, true, List, [], ◌∷◌, length, get_or, Some, sym, ap, ◌∙◌, subst, arith}
-use Rattle.txs_value_base.specs.Places.{nth}
+use Rattle.txs_value_data.specs.Places.{nth}
 use Rattle.txs_value_cell.specs.Agents.{agents_from}
 use Rattle.txs_value_cell.specs.declared.cell.CellDefinition.{CellDefinition}
 use Rattle.txs_value_data.specs.declared.value.CellId.{CellId}
@@ -15,7 +15,7 @@ use Rattle.txs_world_protocol.specs.Ask.{same_value}
 use Rattle.txs_world_protocol.specs.declared.event.Event.{Event}
 use Rattle.txs_world_protocol.specs.declared.report.Report.{Report}
 use Rattle.txs_theorem_audit.specs.Audited.{books_of, report_as}
-use Rattle.txs_theorem_order.specs.Order.{book_or_none}
+use Rattle.txs_theorem_serial.specs.Order.{book_or_none}
 use Rattle.txs_theorem_audit.specs.Verdict.{atoms_from, fits_sizes, is_value}
 use Rattle.txs_theorem_audit.proofs.Listing.{within}
 use Rattle.txs_theorem_serial.proofs.Together.{agents_many}

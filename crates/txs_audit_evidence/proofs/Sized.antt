@@ -1,7 +1,7 @@
 -- What a report of the right sizes has.
 use Rattle.std.proofs.Common.{◌≡◌, ◌≤◌, ◌<◌, ◌&&◌, ◌==◌, ℕ, zero, suc, true, List, [], ◌∷◌, length, get_or, Option, Some, None, Bor, HoldsAt, MatchOption, option_copied, refl, sym, ap, ◌∙◌, arith}
 use Rattle.std.proofs.lemmas.Bool.{eqb-true}
-use Rattle.txs_value_base.specs.Places.{nth}
+use Rattle.txs_value_data.specs.Places.{nth}
 use Rattle.txs_value_cell.specs.Agents.{agents_from}
 use Rattle.txs_tree_meaning.specs.View.{Parts, program_of, threads_of}
 use Rattle.txs_tree_meaning.specs.declared.node.Thread.{Thread}

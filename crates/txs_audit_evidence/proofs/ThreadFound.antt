@@ -1,7 +1,7 @@
 -- What is found of a thread, by what its evaluator answers.
 use Rattle.std.proofs.Common.{◌≡◌, ℕ, suc, zero, ◌<◌, ◌==◌, ◌&&◌, nat_lt, Bool, true, false, List, [], ◌∷◌, length, get_or, map, Some, Result, Ok, Err, IfOk, IfSome, refl, sym, ap, ◌∙◌, subst, arith, if◌then◌else◌}
 use Rattle.std.proofs.lemmas.Bool.{eqb-true, ltb-true}
-use Rattle.txs_value_base.specs.Places.{nth}
+use Rattle.txs_value_data.specs.Places.{nth}
 use Rattle.txs_value_data.specs.declared.value.Value.{Value}
 use Rattle.txs_world_protocol.specs.SeenEvent.{SeenEvent}
 use Rattle.txs_world_protocol.specs.declared.event.Event.{Event}
@@ -28,9 +28,9 @@ use Rattle.txs_theorem_threads.specs.Noted.{txs_of}
 use Rattle.txs_theorem_audit.specs.Audited.{PlainActorReport, PlainReport, books_of, place_of, ran_as, report_as, Finding, Fine, Off, Short, and_then}
 use Rattle.txs_theorem_audit.specs.Pieces.{OfThread, piece_finding, piece_serial, thread_finding, thread_serial}
 use Rattle.txs_theorem_audit.specs.Verdict.{calm_found, covered_all, end_found, fits_sizes, full_found, is_full_book, is_full_stop, noted_by, thread_ends, thread_found}
-use Rattle.txs_theorem_audit_eval.specs.Evaluated.{CalmBy, CoveredBy, FullBy, NotedBy, calm_found_by, covered_all_by, full_by}
-use Rattle.txs_audit_piece.specs.Judged.{is_fine}
-use Rattle.txs_audit_piece.proofs.Sources.{source_sound, source_told}
+use Rattle.txs_theorem_audit.specs.Evaluated.{CalmBy, CoveredBy, FullBy, NotedBy, calm_found_by, covered_all_by, full_by}
+use Rattle.txs_audit_book.specs.Judged.{is_fine}
+use Rattle.txs_audit_book.proofs.Sources.{source_sound, source_told}
 
 -- ---- findings
 

@@ -1,7 +1,7 @@
 -- What a legal book says of numbers that no cell has: nothing is written to them, and no such agent fails. An atom's book has no commits.
 use Rattle.std.proofs.Common.{◌≡◌, ◌≤◌, ◌<◌, ℕ, zero, suc, Bool, true, false, ◌&&◌, ◌||◌, ◌==◌, nat_lt, List, [], ◌∷◌, ◌++◌, length, take, Option, Some, None, refl, sym, ap, ◌∙◌, arith, if◌then◌else◌}
 use Rattle.std.proofs.lemmas.Bool.{false≢true, ltb-true}
-use Rattle.txs_value_base.specs.Places.{nth}
+use Rattle.txs_value_data.specs.Places.{nth}
 use Rattle.txs_value_data.specs.Limits.{most_events}
 use Rattle.txs_value_data.specs.declared.value.CellId.{CellId}
 use Rattle.txs_world_book.specs.Book.{Mail, acted, goes_on, is_there, mail_after, mail_changed, mail_from, makes, no_mail, written, writes_of}

@@ -1,7 +1,7 @@
 -- Acts of agents, as a trace names them, and what is found of actions.
 use Rattle.std.specs.Prelude.{◌≡◌, ◌≤◌, ℕ, suc, Bool, false, List, ◌++◌, drop, take, Option, Some, None, Result}
-use Rattle.txs_value_base.specs.Places.{nth}
-use Rattle.txs_value_base.specs.declared.fault.Fault.{Fault}
+use Rattle.txs_value_data.specs.Places.{nth}
+use Rattle.txs_value_data.specs.declared.fault.Fault.{Fault}
 use Rattle.txs_value_cell.specs.declared.action.Action.{Action}
 use Rattle.txs_value_data.specs.declared.value.Value.{Value}
 use Rattle.txs_world_book.specs.Served.{cells_of}
@@ -15,7 +15,7 @@ use Rattle.txs_theorem_serial.specs.Whole.{is_act, is_act_kind}
 use Rattle.txs_theorem_audit.specs.Audited.{PlainReport, books_of, Finding, and_then}
 use Rattle.txs_theorem_audit.specs.Pieces.{acts_print, part_of}
 use Rattle.txs_theorem_audit.specs.Verdict.{act_ends, calm_found, covered_all, noted_in, rest_ends}
-use Rattle.txs_theorem_audit_eval.specs.Evaluated.{means_on}
+use Rattle.txs_theorem_audit.specs.Evaluated.{means_on}
 use Rattle.txs_audit_evidence.specs.Evidence.{PlainBooks}
 use Rattle.txs_audit_evidence.specs.declared.acts.Act.{Act}
 use Rattle.txs_audit_evidence.specs.declared.acts.Ending.{Ending}

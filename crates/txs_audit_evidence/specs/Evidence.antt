@@ -1,7 +1,7 @@
 -- The books of a report gone through, and what it is that they were.
 use Rattle.std.specs.Prelude.{◌≡◌, ◌<◌, ◌&&◌, ℕ, zero, suc, true, false, List, [], length, Option, Some, None, Result, Ok, Err, Vec}
 use Rattle.std.proofs.Common.{get_or}
-use Rattle.txs_value_base.specs.Places.{nth}
+use Rattle.txs_value_data.specs.Places.{nth}
 use Rattle.txs_value_cell.specs.Agents.{agents_from}
 use Rattle.txs_value_data.specs.declared.value.CellId.{CellId}
 use Rattle.txs_value_data.specs.declared.value.Value.{Value}
@@ -16,8 +16,8 @@ use Rattle.txs_theorem_audit.specs.Verdict.{atom_found, atoms_found, atoms_from,
 use Rattle.txs_audit_book.specs.Replayed.{IsLegalBook, PlainReplay, plain_replay}
 use Rattle.txs_audit_book.specs.Swapped.{SwapsAre, atom_test}
 use Rattle.txs_audit_book.specs.Tests.{store_test}
-use Rattle.txs_audit_piece.specs.Judged.{as_found, is_fine}
-use Rattle.txs_audit_piece.specs.declared.finding.Finding.{Finding}
+use Rattle.txs_audit_book.specs.Judged.{as_found, is_fine}
+use Rattle.txs_audit_book.specs.declared.finding.Finding.{Finding}
 
 -- a program and a report
 pub record PlainBooks : Type 0 where

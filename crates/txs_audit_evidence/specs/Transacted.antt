@@ -6,7 +6,7 @@ use Rattle.txs_world_protocol.specs.declared.event.Event.{Event}
 use Rattle.txs_world_protocol.specs.declared.event.EventKind.{EventKind}
 use Rattle.txs_tree_eval.specs.declared.transaction.TxMeaning.{TxMeaning}
 use Rattle.txs_theorem_audit.specs.Verdict.{is_commit, is_end}
-use Rattle.txs_theorem_audit_eval.specs.Evaluated.{state_of}
+use Rattle.txs_theorem_audit.specs.Evaluated.{state_of}
 use Rattle.txs_theorem_serial.specs.Serial.{is_covered}
 
 -- what an event is, where it ends a transaction

@@ -1,7 +1,7 @@
 //! The actions of agents, and how agents end.
 
 ghost use Rattle.std.specs.Prelude.{◌≡◌, ◌==◌, ◌&&◌, ◌≤◌, ◌<◌, ◌+◌, ◌^◌, ◌-◌, ◌∷◌, [], length, not, suc, true, take, drop, IfOk, Some, option_copied};
-ghost use Rattle.txs_value_base.specs.Places.{nth};
+ghost use Rattle.txs_value_data.specs.Places.{nth};
 ghost use Rattle.txs_value_cell.specs.Agents.{agents_from};
 ghost use Rattle.txs_world.specs.Store.{next_action};
 ghost use Rattle.txs_world_book.specs.Book.{newest, opening};
@@ -14,8 +14,8 @@ ghost use Rattle.txs_theorem_runs.specs.Told.{seen_of};
 ghost use Rattle.txs_theorem_audit.specs.Audited.{Fine, Off, books_of, place_of, ran_as};
 ghost use Rattle.txs_theorem_audit.specs.Pieces.{OfAct, OfEnd, act_finding, act_finding_at, acts_print, end_finding, end_serial, event_serial, part_of, piece_finding, piece_serial, serial_at};
 ghost use Rattle.txs_theorem_audit.specs.Verdict.{act_ends, action_covered, action_found, action_prints, agent_end, begins, is_full_stop, is_sent_call, least_of, part_printed, printed_by, rest_ends, rest_found, still_found};
-ghost use Rattle.txs_theorem_audit_eval.specs.Evaluated.{means_on, prints_by};
-ghost use Rattle.txs_audit_piece.specs.Judged.{as_found};
+ghost use Rattle.txs_theorem_audit.specs.Evaluated.{means_on, prints_by};
+ghost use Rattle.txs_audit_book.specs.Judged.{as_found};
 ghost use Rattle.txs_audit_evidence.specs.Acted.{HasAct, IsAct, NamesAct, PrintsOn, covered_since, end_by, judged};
 ghost use Rattle.txs_audit_evidence.specs.Named.{plain_entry, plain_trace};
 
@@ -24,17 +24,15 @@ use crate::bounds::{first_bound, is_short, next_bound, wants_turns};
 use crate::numbers::agents_of;
 use crate::transactions::{Found, first_failed, transactions_found};
 use std::alloc::{AllocError, Global};
-use txs_audit_piece::ends::{begins, is_full_stop, is_stopped};
-use txs_audit_piece::{Finding, Stretch, act_ends, action_end, full_ends, still_ends};
-use txs_theorem_audit::{action_stays, rest_stays};
-use txs_theorem_audit_eval::{
-    act_is_answered, action_is_answered, calm_is_answered, covered_is_answered,
-    rest_full_is_answered, still_is_answered,
+use txs_audit_book::ends::{begins, is_full_stop, is_stopped};
+use txs_audit_book::{Finding, Stretch, act_ends, action_end, full_ends, still_ends};
+use txs_theorem_audit::{
+    act_is_answered, action_is_answered, action_stays, calm_is_answered, covered_is_answered,
+    rest_full_is_answered, rest_stays, still_is_answered,
 };
 use txs_tree_eval::{ActionMeaning, Needs, Seen, eval_action};
-use txs_value_base::{Callee, Fault};
 use txs_value_cell::Action;
-use txs_value_data::{CellId, Listed, Value, copy_value};
+use txs_value_data::{Callee, CellId, Fault, Listed, Value, copy_value};
 use txs_world_protocol::{ActorReport, Event, EventKind, Place};
 
 /// The most arguments of an operation.

@@ -1,7 +1,7 @@
 //! The books of a report, gone through, with the program and the report: what pieces are judged by.
 
 ghost use Rattle.std.specs.Prelude.{◌≡◌, ◌≤◌, ◌<◌, length, take, option_copied};
-ghost use Rattle.txs_value_base.specs.Places.{nth};
+ghost use Rattle.txs_value_data.specs.Places.{nth};
 ghost use Rattle.txs_value_data.specs.declared.value.CellId.{CellId as PlainCell};
 ghost use Rattle.txs_world.specs.Store.{next_action};
 ghost use Rattle.txs_world_book.specs.Book.{is_there, mail_after, written};

@@ -3,9 +3,9 @@
 ghost use Rattle.std.specs.Prelude.{◌≡◌, ◌≤◌, ◌<◌, ◌⊎◌, IsFalse, IsTrue};
 ghost use Rattle.txs_tree_eval.specs.declared.meaning.Needs.TheVariants.{Turns};
 ghost use Rattle.txs_theorem_audit.specs.Stays.{IsDecided};
-ghost use Rattle.txs_audit_piece.specs.Judged.{as_found};
+ghost use Rattle.txs_audit_book.specs.Judged.{as_found};
 
-use txs_audit_piece::Finding;
+use txs_audit_book::Finding;
 use txs_tree_eval::Needs;
 
 /// The first bound: one turn, where one is allowed.

@@ -9,14 +9,14 @@ ghost use Rattle.txs_world_book.specs.Served.{cells_of};
 ghost use Rattle.txs_tree_meaning.specs.View.{program_of};
 ghost use Rattle.txs_theorem_audit.specs.Audited.{ran_as};
 ghost use Rattle.txs_theorem_audit.specs.Verdict.{agents_over, ends_found, is_true_stop, threads_over};
-ghost use Rattle.txs_audit_answer.specs.Answered.{terms_as};
-ghost use Rattle.txs_audit_trace.specs.Named.{off_in};
+ghost use Rattle.txs_audit_book.specs.Answered.{terms_as};
+ghost use Rattle.txs_audit_order.specs.Named.{off_in};
 
 use crate::acts::actor_of;
 use crate::books::Books;
 use crate::numbers::agents_of;
 use std::alloc::{AllocError, Global};
-use txs_audit_answer::Terms;
+use txs_audit_book::Terms;
 use txs_value_data::CellId;
 use txs_world_protocol::{ActorReport, Outcome};
 

@@ -1,7 +1,7 @@
 //! What the books of a report leave: the values of cells, and the faults of agents.
 
 ghost use Rattle.std.specs.Prelude.{◌≡◌, ◌≤◌, ◌<◌, ◌||◌, ℕ, length, Some};
-ghost use Rattle.txs_value_base.specs.Places.{nth};
+ghost use Rattle.txs_value_data.specs.Places.{nth};
 ghost use Rattle.txs_value_cell.specs.Forms.{same_kind};
 ghost use Rattle.txs_value_data.specs.Limits.{most_definitions};
 ghost use Rattle.txs_value_data.specs.declared.value.CellId.{CellId as ACell};
@@ -16,11 +16,10 @@ ghost use Rattle.txs_audit_book.specs.Replayed.{newest_there};
 ghost use Rattle.txs_audit_evidence.specs.Leaving.{same_newest};
 
 use txs_audit_book::Replay;
-use txs_audit_piece::ends::same_fault;
+use txs_audit_book::ends::same_fault;
 use txs_tree_eval::History;
-use txs_value_base::Fault;
 use txs_value_cell::CellDefinition;
-use txs_value_data::{CellId, CellKind, Value};
+use txs_value_data::{CellId, CellKind, Fault, Value};
 use txs_world_protocol::same_value;
 
 /// Whether two faults that there may be are the same.

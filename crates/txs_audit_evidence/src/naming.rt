@@ -3,10 +3,10 @@
 ghost use Rattle.std.specs.Prelude.{◌≡◌, ◌&&◌, ◌==◌, option_copied};
 ghost use Rattle.txs_theorem_audit.specs.Audited.{Off, entry_of, report_as};
 ghost use Rattle.txs_theorem_audit.specs.Verdict.{index_if, index_in, length_if};
-ghost use Rattle.txs_audit_piece.specs.Judged.{as_found};
+ghost use Rattle.txs_audit_book.specs.Judged.{as_found};
 ghost use Rattle.txs_audit_evidence.specs.Named.{plain_entry, plain_trace};
 
-use txs_audit_piece::Finding;
+use txs_audit_book::Finding;
 use txs_world_protocol::{ActorReport, Place, Report};
 
 /// Whether this is the place of the event at this index of a book.

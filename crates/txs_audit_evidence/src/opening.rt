@@ -1,7 +1,7 @@
 //! The books of a report are gone through: the store's, and then those of the atoms.
 
 ghost use Rattle.std.specs.Prelude.{◌≡◌, ◌≤◌, ◌&&◌, suc, length, true, IfOk, Some};
-ghost use Rattle.txs_value_base.specs.Places.{nth};
+ghost use Rattle.txs_value_data.specs.Places.{nth};
 ghost use Rattle.txs_tree_meaning.specs.View.{program_of};
 ghost use Rattle.txs_value_data.specs.Limits.{most_events};
 ghost use Rattle.txs_theorem_audit.specs.Audited.{books_of, report_as};
@@ -14,9 +14,8 @@ use crate::left::{has_failed, has_swapped, has_values};
 use crate::naming::{first_length, off_at};
 use crate::numbers::{agents_of, atoms_of};
 use std::alloc::{AllocError, Global};
-use txs_audit_book::{Gone, Replay, go_through, go_through_atom};
-use txs_audit_piece::Finding;
-use txs_audit_piece::finding::check;
+use txs_audit_book::finding::check;
+use txs_audit_book::{Finding, Gone, Replay, go_through, go_through_atom};
 use txs_check::function_table;
 use txs_tree_eval::History;
 use txs_tree_meaning::Program;

@@ -1,7 +1,7 @@
 //! What an audit finds of a thread.
 
 ghost use Rattle.std.specs.Prelude.{◌≡◌, ◌<◌, length, IfOk, Some};
-ghost use Rattle.txs_value_base.specs.Places.{nth};
+ghost use Rattle.txs_value_data.specs.Places.{nth};
 ghost use Rattle.txs_tree_meaning.specs.Thread.{thread_meaning};
 ghost use Rattle.txs_tree_meaning.specs.Tree.{PlainThread};
 ghost use Rattle.txs_tree_meaning.specs.View.{program_of};
@@ -12,17 +12,16 @@ ghost use Rattle.txs_theorem_audit.specs.Audited.{Fine, books_of, ran_as};
 ghost use Rattle.txs_theorem_audit.specs.Explained.{events_of};
 ghost use Rattle.txs_theorem_audit.specs.Pieces.{OfThread, piece_finding, piece_serial, thread_serial};
 ghost use Rattle.txs_theorem_audit.specs.Verdict.{thread_ends, thread_found};
-ghost use Rattle.txs_audit_piece.specs.Judged.{as_found};
+ghost use Rattle.txs_audit_book.specs.Judged.{as_found};
 
 use crate::books::Books;
 use crate::bounds::{first_bound, is_short, next_bound};
 use crate::transactions::{Found, transactions_found};
 use std::alloc::{AllocError, Global};
-use txs_audit_piece::ends::is_full_stop;
-use txs_audit_piece::{Finding, end_found, full_end};
-use txs_theorem_audit::thread_stays;
-use txs_theorem_audit_eval::{
-    calm_is_answered, covered_is_answered, full_is_answered, noted_are_answered,
+use txs_audit_book::ends::is_full_stop;
+use txs_audit_book::{Finding, end_found, full_end};
+use txs_theorem_audit::{
+    calm_is_answered, covered_is_answered, full_is_answered, noted_are_answered, thread_stays,
 };
 use txs_tree_eval::{Seen, ThreadMeaning, eval_thread};
 use txs_world_protocol::ActorReport;

@@ -2,20 +2,20 @@
 
 ghost use Rattle.std.specs.Prelude.{◌≡◌, ◌+◌, ◌^◌, ◌<◌, ◌&&◌, length, true, take, IfOk, IfSome, option_copied};
 ghost use Rattle.txs_frame.specs.Frame.{has_number};
-ghost use Rattle.txs_value_base.specs.Places.{nth};
+ghost use Rattle.txs_value_data.specs.Places.{nth};
 ghost use Rattle.txs_world_book.specs.Book.{first_failed};
 ghost use Rattle.txs_world_book.specs.Served.{cells_of};
 ghost use Rattle.txs_theorem_audit.specs.Audited.{Fine, books_of};
 ghost use Rattle.txs_theorem_audit.specs.Verdict.{is_commit, is_end, is_first_failed, is_untouched};
-ghost use Rattle.txs_theorem_audit_eval.specs.Evaluated.{calm_by, calm_found_by, covered_all_by, state_of};
+ghost use Rattle.txs_theorem_audit.specs.Evaluated.{calm_by, calm_found_by, covered_all_by, state_of};
 ghost use Rattle.txs_theorem_serial.specs.Serial.{are_held, is_covered};
-ghost use Rattle.txs_audit_piece.specs.Judged.{as_found};
+ghost use Rattle.txs_audit_book.specs.Judged.{as_found};
 ghost use Rattle.txs_audit_evidence.specs.Named.{plain_trace};
 ghost use Rattle.txs_audit_evidence.specs.Transacted.{covered_by, end_in, end_of, is_among};
 
 use crate::books::Books;
 use std::alloc::AllocError;
-use txs_audit_piece::Finding;
+use txs_audit_book::Finding;
 use txs_frame::TxFrame;
 use txs_tree_eval::TxMeaning;
 use txs_value_cell::Action;

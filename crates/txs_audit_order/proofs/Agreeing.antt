@@ -5,10 +5,10 @@ use Rattle.std.proofs.lemmas.List.Elements.{All-cons, All-contains, All-head, Al
 use Rattle.std.proofs.lemmas.List.Sorted.{All-permutation, Contains-permutation, IsPermutation-sym}
 use Rattle.std.specs.List.{All, Contains}
 use Rattle.std.specs.List.Sorted.{IsPermutation}
-use Rattle.txs_value_base.specs.Places.{nth}
+use Rattle.txs_value_data.specs.Places.{nth}
 use Rattle.txs_world_protocol.specs.declared.event.Event.{Event}
-use Rattle.txs_theorem_order.specs.Order.{Link}
-use Rattle.txs_theorem_order.specs.Taken.{AreWithin, IsReached, none_taken, one_more, first_free, first_left, is_free, is_taken, lesser, may_take, taken_of, waits_for}
+use Rattle.txs_theorem_serial.specs.Order.{Link}
+use Rattle.txs_theorem_serial.specs.Taken.{AreWithin, IsReached, none_taken, one_more, first_free, first_left, is_free, is_taken, lesser, may_take, taken_of, waits_for}
 use Rattle.txs_audit_order.specs.declared.left.Wait.{Wait}
 use Rattle.txs_audit_order.specs.declared.links.Before.{Before}
 use Rattle.txs_audit_order.specs.Going.{IsGone, none_gone, one_goes, earlier_of, first_to_go, free_in, may_go, stands_in}

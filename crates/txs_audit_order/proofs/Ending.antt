@@ -2,13 +2,13 @@
 use Rattle.std.proofs.Common.{◌≡◌, ◌<◌, ◌≤◌, ◌+◌, nat_lt, ℕ, zero, suc, Bool, true, false, List, [], ◌∷◌, length, get_or, Option, Some, None, refl, sym, ap, ◌∙◌, subst, arith, if◌then◌else◌}
 use Rattle.std.proofs.lemmas.Bool.{and_from, false≢true, lt-ltb, ltb-false, ltb-true, ne_eqb}
 use Rattle.std.proofs.lemmas.List.{get_or_past}
-use Rattle.txs_value_base.specs.Places.{nth}
+use Rattle.txs_value_data.specs.Places.{nth}
 use Rattle.txs_world_protocol.specs.declared.event.Event.{Event}
 use Rattle.txs_world_protocol.specs.declared.event.Place as event
 use Rattle.txs_world_protocol.specs.declared.report.Report.{Report}
 use Rattle.txs_theorem_runs.specs.Told.{Place}
-use Rattle.txs_theorem_order.specs.Order.{Link, book_or_none}
-use Rattle.txs_theorem_order.specs.Taken.{AreWithin, OneLastCut, first_free, first_left, left_event, led_to, number_or, out_of_order, taken_of, waits_for}
+use Rattle.txs_theorem_serial.specs.Order.{Link, book_or_none}
+use Rattle.txs_theorem_serial.specs.Taken.{AreWithin, OneLastCut, first_free, first_left, left_event, led_to, number_or, out_of_order, taken_of, waits_for}
 use Rattle.txs_audit_order.specs.declared.left.Wait.{Wait}
 use Rattle.txs_audit_order.specs.declared.links.Before.{Before}
 use Rattle.txs_audit_order.specs.Going.{AreReady, first_to_go, free_in, may_go}

@@ -1,7 +1,10 @@
 pub mod Agreeing
 pub mod Ending
 pub mod Linking
+pub mod Naming
 pub mod Nearing
 pub mod Passing
 pub mod Sending
+pub mod Sizing
+pub mod Tracing
 pub mod Walking

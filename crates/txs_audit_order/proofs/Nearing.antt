@@ -4,7 +4,7 @@ use Rattle.std.proofs.lemmas.Bool.{and_parts, eqb-true, false≢true, leb-false,
 use Rattle.std.proofs.lemmas.List.{get_or_append_left, get_or_past, get_or_push, length_push, length-take-le, take_more}
 use Rattle.std.proofs.lemmas.List.Elements.{All-push, Contains-append_left, Contains-push}
 use Rattle.std.specs.List.{All}
-use Rattle.txs_theorem_order.specs.Taken.{is_taken}
+use Rattle.txs_theorem_serial.specs.Taken.{is_taken}
 use Rattle.txs_audit_order.specs.declared.left.Wait.{Wait}
 use Rattle.txs_audit_order.specs.declared.links.Before.{Before}
 use Rattle.txs_audit_order.specs.Going.{earlier_of, stands_in}

@@ -4,7 +4,7 @@ use Rattle.std.proofs.lemmas.Bool.{and_from, and_parts, eqb-true, false≢true, 
 use Rattle.std.proofs.lemmas.List.{get_or_past, get_or-set_other, get_or-set_same, length-replicate, length-set, set_past, take_more}
 use Rattle.std.specs.List.Sorted.{IsNonDecreasingBy}
 use Rattle.txs_theorem_runs.specs.Told.{Place}
-use Rattle.txs_theorem_order.specs.Taken.{is_taken, taken_of}
+use Rattle.txs_theorem_serial.specs.Taken.{is_taken, taken_of}
 use Rattle.txs_audit_order.specs.declared.links.Before.{Before}
 use Rattle.txs_audit_order.specs.Going.{IsGone, IsTaking, none_gone, one_goes, are_taken, earlier_of, first_to_go, free_in, left_in, may_go, stands_in}
 

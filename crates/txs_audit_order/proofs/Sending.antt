@@ -5,7 +5,7 @@ use Rattle.std.proofs.lemmas.List.{append_assoc, get_or-replicate, get_or-set_ot
 use Rattle.txs_value_cell.specs.declared.action.Action.{Action}
 use Rattle.txs_world_book.specs.Book.{sent_to}
 use Rattle.txs_world_protocol.specs.declared.event.Event.{Event}
-use Rattle.txs_theorem_order.specs.Order.{senders_from, sent_by}
+use Rattle.txs_theorem_serial.specs.Order.{senders_from, sent_by}
 use Rattle.txs_audit_order.specs.Sent.{AreSenders, in_store, with_events, with_sender, with_sent}
 
 sender_many : (rows : List (List ℕ)) (m k : ℕ) → length (with_sender rows m k) ≡ length rows

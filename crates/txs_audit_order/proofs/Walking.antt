@@ -2,7 +2,7 @@
 use Rattle.std.proofs.Common.{◌≡◌, ◌<◌, ◌≤◌, ◌+◌, ℕ, zero, suc, Bool, true, false, List, [], ◌∷◌, ◌++◌, length, map, get_or, drop, Option, Some, None, refl, sym, ap, ◌∙◌, subst, arith, if◌then◌else◌}
 use Rattle.std.proofs.Math.Path.{fun_ext}
 use Rattle.std.proofs.lemmas.List.{drop_more}
-use Rattle.txs_value_base.specs.Places.{nth}
+use Rattle.txs_value_data.specs.Places.{nth}
 use Rattle.txs_value_cell.specs.Agents.{agents_from, with_agent}
 use Rattle.txs_value_cell.specs.declared.cell.CellDefinition.{CellDefinition}
 use Rattle.txs_value_data.specs.declared.value.CellId.{CellId}
@@ -13,7 +13,7 @@ use Rattle.txs_world_protocol.specs.declared.event.EventKind.{EventKind}
 use Rattle.txs_world_protocol.specs.declared.event.Place as event
 use Rattle.txs_world_protocol.specs.declared.report.ActorReport.{ActorReport}
 use Rattle.txs_theorem_runs.specs.Told.{Place}
-use Rattle.txs_theorem_order.specs.Order.{Link, acts_behind, actor_links, agent_links, as_list, behind_event, event_links, is_over, links_between, links_to, next_event, no_sender, point_of, sender_of, senders_from, thread_links, trace_links}
+use Rattle.txs_theorem_serial.specs.Order.{Link, acts_behind, actor_links, agent_links, as_list, behind_event, event_links, is_over, links_between, links_to, next_event, no_sender, point_of, sender_of, senders_from, thread_links, trace_links}
 use Rattle.txs_audit_order.specs.declared.links.Before.{Before}
 use Rattle.txs_audit_order.specs.declared.traces.Known.{Known}
 use Rattle.txs_audit_order.specs.Linked.{IsBehind, IsCell, agent_said, agents_to, behind_as, cell_said, links_in, next_of, sender_in, sent_place, spots_as, with_links}

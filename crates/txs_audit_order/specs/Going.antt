@@ -3,7 +3,7 @@ use Rattle.std.specs.Prelude.{◌≡◌, ◌<◌, ◌+◌, ◌-◌, ℕ, zero, s
 use Rattle.std.proofs.Common.{get_or}
 use Rattle.std.specs.List.Sorted.{IsNonDecreasingBy}
 use Rattle.txs_theorem_runs.specs.Told.{Place}
-use Rattle.txs_theorem_order.specs.Taken.{is_taken, taken_of, with_next}
+use Rattle.txs_theorem_serial.specs.Taken.{is_taken, taken_of, with_next}
 use Rattle.txs_audit_order.specs.declared.links.Before.{Before}
 
 -- what came before

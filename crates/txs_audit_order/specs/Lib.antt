@@ -1,5 +1,8 @@
 pub mod Going
 pub mod Linked
+pub mod Many
+pub mod Named
 pub mod Ordered
+pub mod Rows
 pub mod Sent
 pub mod Waiting

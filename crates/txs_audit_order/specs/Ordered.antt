@@ -7,8 +7,8 @@ use Rattle.txs_world_protocol.specs.declared.event.Place as event
 use Rattle.txs_world_protocol.specs.declared.report.ActorReport.{ActorReport}
 use Rattle.txs_world_protocol.specs.declared.report.Report.{Report}
 use Rattle.txs_theorem_runs.specs.Told.{Place}
-use Rattle.txs_theorem_order.specs.Order.{Link, all_links, books_in}
-use Rattle.txs_theorem_order.specs.Taken.{out_of_order}
+use Rattle.txs_theorem_serial.specs.Order.{Link, all_links, books_in}
+use Rattle.txs_theorem_serial.specs.Taken.{out_of_order}
 
 -- where an event is, as the laws of runs say it
 abbrev pub place_as : event.Place → Place

@@ -4,7 +4,7 @@ use Rattle.std.proofs.Common.{get_or}
 use Rattle.txs_value_cell.specs.declared.action.Action.{Action}
 use Rattle.txs_world_protocol.specs.declared.event.Event.{Event}
 use Rattle.txs_theorem_runs.specs.Told.{Place}
-use Rattle.txs_theorem_order.specs.Order.{sent_by, senders_from}
+use Rattle.txs_theorem_serial.specs.Order.{sent_by, senders_from}
 
 -- one index more in the row of the cell with this number
 abbrev pub with_sender : List (List ℕ) → ℕ → ℕ → List (List ℕ)

@@ -3,7 +3,7 @@ use Rattle.std.specs.Prelude.{◌≡◌, ◌≤◌, ℕ, zero, suc, Bool, true, 
 use Rattle.std.proofs.Common.{get_or}
 use Rattle.std.specs.List.{All, Contains}
 use Rattle.txs_world_protocol.specs.declared.event.Place as event
-use Rattle.txs_theorem_order.specs.Taken.{taken_of}
+use Rattle.txs_theorem_serial.specs.Taken.{taken_of}
 use Rattle.txs_audit_order.specs.declared.links.Before.{Before}
 use Rattle.txs_audit_order.specs.declared.left.Wait.{Wait}
 use Rattle.txs_audit_order.specs.Going.{stands_in, IsLast}

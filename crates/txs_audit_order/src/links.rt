@@ -2,7 +2,7 @@
 
 ghost use Rattle.std.specs.Prelude.{◌≡◌, ◌++◌, ◌∷◌, [], set, OnOk};
 ghost use Rattle.std.proofs.Common.{get_or};
-ghost use Rattle.txs_theorem_order.specs.Order.{links_to, links_between};
+ghost use Rattle.txs_theorem_serial.specs.Order.{links_to, links_between};
 ghost use Rattle.txs_audit_order.specs.Ordered.{place_as};
 ghost use Rattle.txs_audit_order.specs.Linked.{spot_as, spots_as, behind_as, with_links, next_of, AreSorted, IsSorted};
 

@@ -13,7 +13,7 @@ use crate::rows::Row;
 use crate::taking::last_cut;
 use crate::traces::{all_links, length_of};
 use std::alloc::{AllocError, Global};
-use txs_theorem_order::{links_are_within, one_last_cut};
+use txs_theorem_serial::{links_are_within, one_last_cut};
 use txs_tree_meaning::Program;
 use txs_world_protocol::{Place, Report};
 

@@ -1,7 +1,7 @@
 //! Which events sent the actions of each agent.
 
 ghost use Rattle.std.specs.Prelude.{◌≡◌, ◌∷◌, [], IfOk, OnOk};
-ghost use Rattle.txs_theorem_order.specs.Order.{sent_by};
+ghost use Rattle.txs_theorem_serial.specs.Order.{sent_by};
 ghost use Rattle.txs_audit_order.specs.Sent.{AreSenders, with_sender, with_sent};
 
 use crate::rows::{Row, empty_rows};

@@ -3,7 +3,7 @@
 ghost use Rattle.std.specs.Prelude.{◌≡◌, ◌<◌, length, replicate, take, true, IfOk};
 ghost use Rattle.std.proofs.Common.{get_or};
 ghost use Rattle.std.specs.List.Sorted.{IsNonDecreasingBy};
-ghost use Rattle.txs_theorem_order.specs.Taken.{is_taken};
+ghost use Rattle.txs_theorem_serial.specs.Taken.{is_taken};
 ghost use Rattle.txs_audit_order.specs.declared.links.Before.{Before as PlainBefore};
 ghost use Rattle.txs_audit_order.specs.Going.{AreReady, IsGone, IsLast, IsPassed, IsTaking, are_taken, earlier_of, first_to_go, free_in, may_go, stands_in};
 

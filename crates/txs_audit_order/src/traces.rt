@@ -2,11 +2,11 @@
 
 ghost use Rattle.std.specs.Prelude.{◌≡◌, ◌<◌, ◌∷◌, [], length, map, nat_lt, replicate, option_copied, IfOk, OnOk};
 ghost use Rattle.std.proofs.Common.{get_or};
-ghost use Rattle.txs_value_base.specs.Places.{nth};
+ghost use Rattle.txs_value_data.specs.Places.{nth};
 ghost use Rattle.txs_value_cell.specs.Agents.{agents_from};
 ghost use Rattle.txs_world_book.specs.Book.{is_redo};
 ghost use Rattle.txs_world_book.specs.History.{began_at};
-ghost use Rattle.txs_theorem_order.specs.Order.{actor_links, agent_links, is_over, point_of, thread_links};
+ghost use Rattle.txs_theorem_serial.specs.Order.{actor_links, agent_links, is_over, point_of, thread_links};
 ghost use Rattle.txs_audit_order.specs.Ordered.{books_as, links_as, place_as, traces_in};
 ghost use Rattle.txs_audit_order.specs.Linked.{IsBehind, IsCell, IsFirst, agent_said, links_in, sender_in, spots_as, with_links};
 ghost use Rattle.txs_audit_order.specs.Sent.{AreSenders};

@@ -1,7 +1,7 @@
 -- The table of functions tells which of them are pure and take so many values, and which may be sent to so many.
 use Rattle.std.proofs.Common.{◌≡◌, ℕ, eqb, Bool, true, false, not, ◌&&◌, List, Option, Some, None, refl, sym, ap, ◌∙◌}
 use Rattle.std.proofs.lemmas.Bool.{eqb-true, eq-eqb, not-true, not_from_false}
-use Rattle.txs_value_base.specs.Places.{nth}
+use Rattle.txs_value_data.specs.Places.{nth}
 use Rattle.txs_tree_meaning.specs.Known.{Known}
 use Rattle.txs_tree_meaning.specs.Sound.{PureCall, SentCall}
 use Rattle.txs_check.specs.Signatures.{bare, is_pure_taking, is_pure_call, is_sent_taking, is_sent_call}

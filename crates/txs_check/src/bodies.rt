@@ -14,7 +14,7 @@ use crate::size::nodes_left;
 use crate::validators::{Validators, check_all, check_before};
 use crate::walk::check_node;
 use txs_tree_meaning::{Function, Node, Thread};
-use txs_value_base::Span;
+use txs_value_data::Span;
 
 /// How many of the first threads are before this place of the script.
 fn count_before(from: u32, threads: &[Thread]) -> usize

@@ -12,7 +12,7 @@ use std::alloc::{AllocError, Global};
 use std::marker::Model;
 use txs_tree_meaning::Program;
 use txs_value_apply::takes;
-use txs_value_base::Callee;
+use txs_value_data::Callee;
 
 /// Whether the function of this number is pure and takes so many values.
 fn is_pure_function(signatures: &[Signature], number: u16, count: usize) -> bool

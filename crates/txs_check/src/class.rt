@@ -3,7 +3,7 @@
 ghost use Rattle.std.specs.Prelude.{◌≡◌, false, IfOk};
 ghost use Rattle.txs_tree_meaning.specs.Known.{known};
 ghost use Rattle.txs_value_cell.specs.Forms.{rule};
-ghost use Rattle.txs_value_base.specs.Places.{nth};
+ghost use Rattle.txs_value_data.specs.Places.{nth};
 ghost use Rattle.txs_tree_meaning.specs.View.{tree_of, trees_of, function_of, functions_of};
 ghost use Rattle.txs_check.specs.Signatures.{joined, class_above, class_in, class_in_all, class_standing, bare, known_as, known_if};
 

@@ -6,7 +6,7 @@ ghost use Rattle.txs_check.specs.Errors.{check_number, check_name, out_of_memory
 use std::alloc::AllocError;
 use std::fmt::{self, Display, Formatter, Write};
 use thiserror::Error;
-use txs_value_base::Span;
+use txs_value_data::Span;
 
 /// The reasons for which a program is refused.
 #[derive(Clone, Copy, Debug, PartialEq, Eq, Error)]

@@ -4,8 +4,8 @@ ghost use Rattle.std.specs.Prelude.{◌≡◌};
 ghost use Rattle.txs_check.specs.Refused.{inner, across, only, recurs, placed};
 
 use crate::error::{CheckError, CheckErrorKind};
-use txs_value_base::Span;
 use txs_value_cell::Standing;
+use txs_value_data::Span;
 
 /// Where a node is: in a function outside every transaction of it, in a future outside every transaction,
 /// or in a transaction.

@@ -8,8 +8,8 @@ ghost use Rattle.txs_check.specs.Walked.{behind, left, left_by, taken_off};
 use crate::class::Signature;
 use crate::error::CheckError;
 use crate::walk::check_callee;
-use txs_value_base::{Callee, Span};
 use txs_value_cell::CellDefinition;
+use txs_value_data::{Callee, Span};
 
 /// Cells in the order of their numbers, and where the validator of each stands, or its definition where it has none.
 #[derive(Clone, Copy)]

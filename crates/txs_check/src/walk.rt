@@ -14,8 +14,8 @@ use crate::place::{Target, Zone, only};
 use std::slice::from_ref;
 use txs_tree_meaning::{Node, NodeKind};
 use txs_value_apply::takes;
-use txs_value_base::{Callee, Span};
 use txs_value_cell::{CellForm, Standing};
+use txs_value_data::{Callee, Span};
 
 /// Whether there is such a function and it has so many parameters.
 fn accepts(signature: Option<Signature>, count: usize) -> bool

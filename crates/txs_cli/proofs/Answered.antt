@@ -1,9 +1,9 @@
 -- What holds of an answer, or of a want of memory for it.
 use Rattle.std.proofs.Common.{◌≡◌, ◌≢◌, ◌++◌, ℕ, Bool, List, [], Option, Result, Ok, Err, IfOk, codes, refl}
 use Rattle.std.specs.Option.{IfSome}
-use Rattle.txs_code_load.specs.Load.{IsRefusal}
-use Rattle.txs_code_load.specs.declared.error.LoadError.{LoadError}
-use Rattle.txs_code_load.specs.declared.error.LoadError.TheVariants.{Memory as NoMemory}
+use Rattle.txs_verify.specs.Load.{IsRefusal}
+use Rattle.txs_verify.specs.declared.load_error.LoadError.{LoadError}
+use Rattle.txs_verify.specs.declared.load_error.LoadError.TheVariants.{Memory as NoMemory}
 use Rattle.txs_code_meaning.specs.PlainCode.{PlainCode}
 use Rattle.txs_machine.specs.ErrorName.{error_name}
 use Rattle.txs_machine.specs.declared.run_error.RunError.{RunError}

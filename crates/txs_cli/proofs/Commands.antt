@@ -6,20 +6,20 @@ use Rattle.txs_code_meaning.specs.PlainCode.{PlainCode}
 use Rattle.txs_machine.specs.declared.run_error.RunError.{RunError}
 use Rattle.txs_cli_report.specs.Lines.{Script}
 use Rattle.txs_cli_report.specs.Told.{Told, ScheduleTells, front}
-use Rattle.txs_cli_request.specs.declared.request.Exploring.{Exploring}
-use Rattle.txs_cli_request.specs.declared.request.Input.{Input}
-use Rattle.txs_cli_request.specs.declared.request.Request.{Request}
-use Rattle.txs_cli_request.specs.declared.request.Request.TheVariants.{Record, Replay, Run, Schedule, Show, CheckJson, Explore}
-use Rattle.txs_cli_request.specs.declared.request.RunOptions.{RunOptions}
-use Rattle.txs_cli_request.specs.declared.request.Scheduling.{Scheduling}
-use Rattle.txs_cli_request.specs.declared.request.Showing.{Showing}
+use Rattle.txs_cli_args.specs.declared.request.Exploring.{Exploring}
+use Rattle.txs_cli_args.specs.declared.request.Input.{Input}
+use Rattle.txs_cli_args.specs.declared.request.Request.{Request}
+use Rattle.txs_cli_args.specs.declared.request.Request.TheVariants.{Record, Replay, Run, Schedule, Show, CheckJson, Explore}
+use Rattle.txs_cli_args.specs.declared.request.RunOptions.{RunOptions}
+use Rattle.txs_cli_args.specs.declared.request.Scheduling.{Scheduling}
+use Rattle.txs_cli_args.specs.declared.request.Showing.{Showing}
 use Rattle.txs_cli.specs.CodeTold.{BytesScheduleTell}
 use Rattle.txs_cli.specs.CodeWorkersTold.{StreamWorkedCodeTells}
 use Rattle.txs_cli.specs.WorkersTold.{StreamWorkedTells}
 use Rattle.txs_cli.specs.Telling.{explained_as, PlaysTell, RequestTells, TurnsOfInputTell, TurnsTell, WorkOfInputTells, WorkTells, WorkedRequestTells, audit_workers, wrong_use}
-use Rattle.txs_audit_answer.specs.Answered.{finishing}
-use Rattle.txs_audit_answer.specs.declared.verdict.AuditError.{AuditError}
-use Rattle.txs_audit_answer.specs.declared.verdict.Terms.{Terms}
+use Rattle.txs_audit_book.specs.Answered.{finishing}
+use Rattle.txs_audit_book.specs.declared.verdict.AuditError.{AuditError}
+use Rattle.txs_audit_book.specs.declared.verdict.Terms.{Terms}
 use Rattle.txs_cli_report.proofs.Fronts.{some_always}
 use Rattle.txs_tree_meaning.specs.View.{Parts}
 use Rattle.txs_world_protocol.specs.declared.report.Report.{Report}

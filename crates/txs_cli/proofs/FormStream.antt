@@ -7,10 +7,10 @@ use Rattle.std.proofs.lemmas.List.{take_at}
 use Rattle.txs_code_decode.specs.CodeForm.{code_format, magic_format}
 use Rattle.txs_code_decode.specs.Format.{number_at}
 use Rattle.txs_code_decode.proofs.Decoded.{is_read}
-use Rattle.txs_code_load.proofs.NoForm.{refusals_stay, unsettled}
-use Rattle.txs_code_load.specs.Load.{IsFormOf, IsRefusal, is_settled}
-use Rattle.txs_code_load.specs.declared.error.LoadError.{LoadError}
-use Rattle.txs_code_load.specs.declared.error.LoadError.TheVariants.{Bytes, Code, Memory}
+use Rattle.txs_verify.proofs.NoForm.{refusals_stay, unsettled}
+use Rattle.txs_verify.specs.Load.{IsFormOf, IsRefusal, is_settled}
+use Rattle.txs_verify.specs.declared.load_error.LoadError.{LoadError}
+use Rattle.txs_verify.specs.declared.load_error.LoadError.TheVariants.{Bytes, Code, Memory}
 use Rattle.txs_code_meaning.specs.PlainCode.{PlainCode}
 use Rattle.txs_machine.specs.declared.run_error.RunError.{RunError}
 use Rattle.txs_cli_report.specs.Told.{Told}

@@ -1,9 +1,10 @@
+mod Interleaved
+mod Refused
 pub mod Answered
 pub mod Audits
+pub mod Commands
 pub mod Failing
 pub mod FormStream
-mod Interleaved
 pub mod Ran
 pub mod Recording
-mod Refused
-pub mod Commands
+pub mod Weaker

@@ -1,7 +1,7 @@
 -- What is told of a run is told of the script, or of the bytes, whose code has run.
 use Rattle.std.proofs.Common.{◌≡◌, ◌++◌, ◌∙◌, ℕ, Bool, List, ap, subst, sym}
 use Rattle.txs_code_meaning.specs.PlainCode.{PlainCode}
-use Rattle.txs_code_load.specs.Load.{IsFormOf}
+use Rattle.txs_verify.specs.Load.{IsFormOf}
 use Rattle.txs_machine.specs.declared.run_error.RunError.{RunError}
 use Rattle.txs_machine.specs.declared.schedule.Play.{Play}
 use Rattle.txs_world_shared.specs.SharedState.{numbered_book}

@@ -6,12 +6,12 @@ use Rattle.txs_machine.specs.declared.schedule.Entries.{Entries}
 use Rattle.txs_machine.specs.declared.schedule.Play.{Play}
 use Rattle.txs_world_protocol.specs.declared.report.ActorReport.{ActorReport}
 use Rattle.txs_world_shared.specs.SharedState.{PlainShared}
-use Rattle.txs_cli_plays.specs.Plays.{plays_in}
+use Rattle.txs_cli_report.specs.Plays.{plays_in}
 use Rattle.txs_cli_report.proofs.Printing.{printed_both}
 use Rattle.txs_cli_report.proofs.Threads.{dropped}
 use Rattle.txs_cli_report.specs.Lines.{Script, all_printed}
 use Rattle.txs_cli_report.specs.Told.{Told, IsCompiled, Run, ScheduleTells, ScriptTells, behind_bytes, of_plays, of_script, of_stream}
-use Rattle.txs_cli_request.specs.declared.request.RunOptions.{RunOptions}
+use Rattle.txs_cli_args.specs.declared.request.RunOptions.{RunOptions}
 use Rattle.txs_cli.specs.Recorded.{IsRepeated, Records, ReportRecords}
 use Rattle.txs_cli.specs.Runner.{IsWorked}
 use Rattle.txs_cli.specs.declared.record.Record.{Record}

@@ -1,8 +1,8 @@
 -- What is told of bytes that are refused.
 use Rattle.std.proofs.Common.{◌≡◌, ◌≢◌, ℕ, List, [], Result, Ok, Err, IfOk}
-use Rattle.txs_code_load.specs.Load.{IsRefusal}
-use Rattle.txs_code_load.specs.declared.error.LoadError.{LoadError}
-use Rattle.txs_code_load.specs.declared.error.LoadError.TheVariants.{Memory}
+use Rattle.txs_verify.specs.Load.{IsRefusal}
+use Rattle.txs_verify.specs.declared.load_error.LoadError.{LoadError}
+use Rattle.txs_verify.specs.declared.load_error.LoadError.TheVariants.{Memory}
 use Rattle.txs_cli_report.specs.Lent.{told_of}
 use Rattle.txs_cli_report.specs.declared.told.Told as owned
 use Rattle.txs_cli.specs.CodeTold.{CodeTells, CodeWanted, load_line, of_refused}

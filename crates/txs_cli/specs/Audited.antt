@@ -2,12 +2,12 @@
 use Rattle.std.specs.Prelude.{◌≡◌, ℕ, true, false, List, [], ◌∷◌, ◌++◌, codes, Option}
 use Rattle.std.specs.declared.result.Result.TheVariants.{Ok}
 use Rattle.txs_cli_audit.specs.Audit.{AuditTells}
-use Rattle.txs_audit_answer.specs.Answered.{audit_turns, finishing, terms_as}
-use Rattle.txs_audit_answer.specs.declared.verdict.AuditError.{AuditError}
-use Rattle.txs_cli_plays.specs.Plays.{plays_in}
+use Rattle.txs_audit_book.specs.Answered.{audit_turns, finishing, terms_as}
+use Rattle.txs_audit_book.specs.declared.verdict.AuditError.{AuditError}
+use Rattle.txs_cli_report.specs.Plays.{plays_in}
 use Rattle.txs_cli_report.specs.Lines.{Script}
 use Rattle.txs_cli_report.specs.Told.{Told, Wanted, ScriptTells, IsCompiled, ReportTells, ListTells, NoActorTold, list_name}
-use Rattle.txs_cli_request.specs.declared.request.RunOptions.{RunOptions}
+use Rattle.txs_cli_args.specs.declared.request.RunOptions.{RunOptions}
 use Rattle.txs_code_meaning.specs.PlainCode.{PlainCode}
 use Rattle.txs_machine.specs.Agents.{actors_of}
 use Rattle.txs_machine.specs.RunTheorem.{ExplainsAll}

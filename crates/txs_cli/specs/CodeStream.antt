@@ -1,7 +1,7 @@
 -- How much of a stream is read where it has the byte form of code.
 use Rattle.std.specs.Prelude.{◌≡◌, ◌⊎◌, ◌≤◌, ◌+◌, ◌==◌, ℕ, max, true, false, List, length, take, if◌then◌else◌, Option}
 use Rattle.std.specs.Io.KnownBytes.{Consumes, IsAtEnd}
-use Rattle.txs_code_load.specs.Load.{is_settled}
+use Rattle.txs_verify.specs.Load.{is_settled}
 
 -- What was read of a stream: its first bytes, where it is known what it has. They are all, or they are refused whatever stands behind them.
 pub record IsRead (old new : Option (List ℕ)) (bytes : List ℕ) : Type 0 where

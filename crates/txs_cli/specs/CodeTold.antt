@@ -5,14 +5,14 @@ use Rattle.txs_code_decode.specs.Errors.{code_error_number, code_error_name}
 use Rattle.txs_code_meaning.specs.PlainCode.{PlainCode}
 use Rattle.txs_code_meaning.specs.WellTyped.{WellTyped}
 use Rattle.txs_disasm.specs.Listing.{listing}
-use Rattle.txs_code_load.specs.Load.{IsFormOf, IsRefusal}
-use Rattle.txs_code_load.specs.declared.error.LoadError.{LoadError}
-use Rattle.txs_code_load.specs.declared.error.LoadError.TheVariants.{Bytes, Code, Memory}
+use Rattle.txs_verify.specs.Load.{IsFormOf, IsRefusal}
+use Rattle.txs_verify.specs.declared.load_error.LoadError.{LoadError}
+use Rattle.txs_verify.specs.declared.load_error.LoadError.TheVariants.{Bytes, Code, Memory}
 use Rattle.txs_machine.specs.RunOver.{IsStateOf}
 use Rattle.txs_machine.specs.Agents.{actors_of}
 use Rattle.txs_machine.specs.Schedule.{all_named}
 use Rattle.txs_machine.specs.declared.schedule.Play.{Play}
-use Rattle.txs_cli_plays.specs.Plays.{plays_in}
+use Rattle.txs_cli_report.specs.Plays.{plays_in}
 use Rattle.txs_world_shared.specs.SharedState.{PlainShared, numbered_book}
 use Rattle.txs_cli_report.specs.Lines.{Script}
 use Rattle.txs_cli_report.specs.Told.{Told, RunTells, ListTells, NoActorTold, cells_told, events_told}

@@ -1,9 +1,9 @@
 -- What the program tells of code in its byte form whose threads and agents several workers run.
 use Rattle.std.specs.Prelude.{◌≡◌, ◌≢◌, ℕ, Bool, List, [], ◌++◌, codes}
 use Rattle.txs_code_meaning.specs.PlainCode.{PlainCode}
-use Rattle.txs_code_load.specs.Load.{IsFormOf, IsRefusal}
-use Rattle.txs_code_load.specs.declared.error.LoadError.{LoadError}
-use Rattle.txs_code_load.specs.declared.error.LoadError.TheVariants.{Memory as NoMemory}
+use Rattle.txs_verify.specs.Load.{IsFormOf, IsRefusal}
+use Rattle.txs_verify.specs.declared.load_error.LoadError.{LoadError}
+use Rattle.txs_verify.specs.declared.load_error.LoadError.TheVariants.{Memory as NoMemory}
 use Rattle.txs_machine.specs.ErrorName.{error_name}
 use Rattle.txs_machine.specs.declared.run_error.RunError.{RunError}
 use Rattle.txs_machine.specs.declared.run_error.RunError.TheVariants.{Memory}

@@ -7,4 +7,5 @@ pub mod Recorded
 pub mod RunTold
 pub mod Runner
 pub mod Telling
+pub mod Workers
 pub mod WorkersTold

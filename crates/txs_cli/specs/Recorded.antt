@@ -6,7 +6,7 @@ use Rattle.txs_tree_meaning.specs.Tree.{PlainProgram}
 use Rattle.txs_world_shared.specs.SharedState.{PlainShared}
 use Rattle.txs_cli_report.specs.Lines.{Script}
 use Rattle.txs_cli_report.specs.Told.{Told, IsCompiled, ReportTells, ScheduleTells}
-use Rattle.txs_cli_request.specs.declared.request.RunOptions.{RunOptions}
+use Rattle.txs_cli_args.specs.declared.request.RunOptions.{RunOptions}
 use Rattle.txs_cli.specs.Runner.{IsWorked}
 use Rattle.txs_cli.specs.declared.record.Record.{Record}
 use Rattle.txs_cli.specs.declared.record.Record.TheVariants.{NoRun, NoList, List as Listed}

@@ -7,19 +7,19 @@ use Rattle.txs_cli_report.specs.Lines.{Script}
 use Rattle.txs_cli_report.specs.Told.{Told, Tells, ScheduleTells, front}
 use Rattle.txs_cli_report.specs.Told as wanted
 use Rattle.txs_cli.specs.Audited.{by_workers, ScheduleAuditedTells, StreamAuditedTells}
-use Rattle.txs_audit_answer.specs.Answered.{finishing}
+use Rattle.txs_audit_book.specs.Answered.{finishing}
 use Rattle.txs_cli.specs.CodeWorkersTold.{StreamWorkedCodeTells}
 use Rattle.txs_cli.specs.WorkersTold.{StreamWorkedTells}
 use Rattle.txs_cli.specs.CodeTold.{Listed, BytesTell, BytesScheduleTell}
-use Rattle.txs_audit_answer.specs.declared.verdict.AuditError.{AuditError}
-use Rattle.txs_audit_answer.specs.declared.verdict.Terms.{Terms}
+use Rattle.txs_audit_book.specs.declared.verdict.AuditError.{AuditError}
+use Rattle.txs_audit_book.specs.declared.verdict.Terms.{Terms}
 use Rattle.txs_tree_meaning.specs.View.{Parts}
 use Rattle.txs_world_protocol.specs.declared.report.Report.{Report}
-use Rattle.txs_cli_request.specs.declared.request.Input.{Input}
-use Rattle.txs_cli_request.specs.declared.request.Request.{Request}
-use Rattle.txs_cli_request.specs.declared.request.Request.TheVariants as asked
-use Rattle.txs_cli_request.specs.declared.request.Request.TheVariants.{Check, Build, Run, Record, Schedule, Replay, Show, CheckJson, Explore, Shown, Faulty}
-use Rattle.txs_cli_request.specs.declared.request.RunOptions.{RunOptions}
+use Rattle.txs_cli_args.specs.declared.request.Input.{Input}
+use Rattle.txs_cli_args.specs.declared.request.Request.{Request}
+use Rattle.txs_cli_args.specs.declared.request.Request.TheVariants as asked
+use Rattle.txs_cli_args.specs.declared.request.Request.TheVariants.{Check, Build, Run, Record, Schedule, Replay, Show, CheckJson, Explore, Shown, Faulty}
+use Rattle.txs_cli_args.specs.declared.request.RunOptions.{RunOptions}
 
 -- the name under which lines are explained, where they are: that of the file, or "-" for the standard input
 abbrev pub explained_as : Bool → Option (String Global) → Option (List ℕ)

@@ -1,7 +1,7 @@
 //! What is told of a script whose run is audited, be it by workers or by turns.
 
 ghost use Rattle.std.specs.Prelude.{IfOk};
-ghost use Rattle.txs_audit_answer.specs.Answered.{finishing};
+ghost use Rattle.txs_audit_book.specs.Answered.{finishing};
 ghost use Rattle.txs_cli.specs.Audited.{AuditedRunTells, AuditedTells, by_plays, by_workers};
 ghost use Rattle.txs_cli.specs.Runner.{HasFailed, IsRunnable, IsWorked, RunsLawfully};
 ghost use Rattle.txs_cli_audit.specs.Audit.{HasNoAnswer, IsRight};
@@ -16,7 +16,7 @@ use crate::run::of_failure;
 use crate::script::Working;
 use std::alloc::{AllocError, Global};
 use std::mem;
-use txs_audit_answer::{AuditError, Terms, Verdict};
+use txs_audit_book::{AuditError, Terms, Verdict};
 use txs_cli_audit::{Audited, add_audit};
 use txs_cli_report::explain::Script;
 use txs_cli_report::script::report_lines;

@@ -1,7 +1,7 @@
 //! Reads a script that is to run and to be audited, and writes what is told of it.
 
 ghost use Rattle.std.specs.Prelude.{IfSome};
-ghost use Rattle.txs_audit_answer.specs.Answered.{finishing};
+ghost use Rattle.txs_audit_book.specs.Answered.{finishing};
 ghost use Rattle.txs_cli.specs.Audited.{by_plays, by_workers, ScheduleAuditedTells, StreamAuditedTells};
 ghost use Rattle.txs_cli.specs.Runner.{HasFailed, IsRunnable, RunsLawfully};
 ghost use Rattle.txs_cli_audit.specs.Audit.{HasNoAnswer, IsRight};
@@ -14,13 +14,12 @@ use crate::script::Working;
 use crate::workers_play::unread;
 use std::alloc::Global;
 use std::io::{Read, Write};
-use txs_audit_answer::{AuditError, Terms, Verdict};
-use txs_cli_plays::{ListError, read_plays};
+use txs_audit_book::{AuditError, Terms, Verdict};
 use txs_cli_report::explain::Script;
 use txs_cli_report::schedule::refuse_list;
 use txs_cli_report::streams::read_bytes;
 use txs_cli_report::told::SPENT;
-use txs_cli_report::{write_answer, write_told};
+use txs_cli_report::{ListError, read_plays, write_answer, write_told};
 use txs_code_meaning::Verified;
 use txs_machine::{Entries, Repeated, RunError};
 use txs_tree_meaning::Program;

@@ -11,9 +11,9 @@ use crate::script::Working;
 use crate::usage::no_script;
 use std::alloc::{AllocError, Global};
 use txs_cli_report::told::Told;
-use txs_code_load::load::load_verified;
 use txs_code_meaning::Verified;
 use txs_machine::{Entries, RunError};
+use txs_verify::load::load_verified;
 use txs_world_shared::SharedState;
 
 /// Runs the threads and agents of the code that the bytes are the form of by workers, and tells of its cells and events where they are wanted.

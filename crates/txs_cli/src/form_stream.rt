@@ -3,12 +3,12 @@
 ghost use Rattle.std.specs.Io.KnownBytes.{Consumes, IsAtEnd, Keeps};
 ghost use Rattle.std.specs.Prelude.{◌≡◌, ◌<◌, ◌≤◌, ◌++◌, ◌⊎◌, ℕ, List, length, take, true, false, IfErr, IfOk, OnErr, OnOk};
 ghost use Rattle.txs_cli.specs.CodeStream.{IsNoFurther, IsRead, goal_after};
-ghost use Rattle.txs_code_load.specs.Load.{is_settled};
+ghost use Rattle.txs_verify.specs.Load.{is_settled};
 
 use std::alloc::{AllocError, Global};
 use std::io::{Error, ErrorKind, Read};
 use txs_cli_report::streams::ReadFault;
-use txs_code_load::settled::is_settled;
+use txs_verify::settled::is_settled;
 
 /// So many interrupted reads are a fault.
 const MOST_INTERRUPTED: u32 = 100_000_000;

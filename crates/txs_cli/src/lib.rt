@@ -1,6 +1,6 @@
 //! The program over any streams: `play` takes the words of the command line and a script, and writes what
-//! a run, a check, a listing or a refusal tells, or the text of help or of a usage fault. `play_with` is handed in
-//! how workers run, and how a report is audited: this crate starts nothing and waits for nobody.
+//! a run, a check, a listing or a refusal says, or the text of help or of a usage fault. `play_with` is lent
+//! how workers run, and how a report is audited. `play_by_workers` runs workers by `run_threads`, with a handle that is lent.
 #![tactic(auto)]
 
 pub mod alone;
@@ -11,6 +11,7 @@ mod code;
 mod code_play;
 mod form_stream;
 mod lines;
+pub mod play;
 pub mod program;
 pub mod record;
 mod run;
@@ -20,9 +21,9 @@ mod usage;
 pub mod workers;
 pub mod workers_play;
 
+pub use play::{play_by_workers, record_by_workers};
 pub use program::{play, play_words};
 pub use record::{Record, record_run};
-pub use txs_audit_answer::{AuditError, Terms, Verdict};
-pub use txs_cli_args::parse_words;
-pub use txs_cli_request::{Exploring, Input, Request, RunOptions};
+pub use txs_audit_book::{AuditError, Terms, Verdict};
+pub use txs_cli_args::{Exploring, Input, Request, RunOptions, parse_words};
 pub use workers::play_with;

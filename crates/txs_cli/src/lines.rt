@@ -2,15 +2,15 @@
 
 ghost use Rattle.std.specs.Option.{option_map};
 ghost use Rattle.std.specs.Prelude.{◌≡◌, ◌≢◌, ◌++◌, [], codes, decimal, unwrap_or, IfOk, OnOk};
-ghost use Rattle.txs_code_load.specs.declared.error.LoadError.TheVariants.{Memory};
+ghost use Rattle.txs_verify.specs.declared.load_error.LoadError.TheVariants.{Memory};
 ghost use Rattle.txs_cli_report.specs.Lent.{told_of};
 ghost use Rattle.txs_cli.specs.CodeTold.{at_number, in_body, load_line, refused_front};
 
 use std::alloc::{AllocError, Global};
-use txs_cli_plays::{write_both, write_number};
 use txs_cli_report::told::{REFUSED, Told};
-use txs_code_load::error::LoadError;
+use txs_cli_report::{write_both, write_number};
 use txs_verify::BodyName;
+use txs_verify::load_error::LoadError;
 
 /// Appends a place, and ends the line.
 fn end_line(line: &mut Vec<u8>, at: usize) -> Result<(), AllocError>

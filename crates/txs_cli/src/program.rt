@@ -10,10 +10,9 @@ use crate::schedule::schedule_code;
 use crate::usage::CodeUse;
 use std::alloc::Global;
 use std::io::{Read, Write};
-use txs_cli_args::parse_words;
+use txs_cli_args::{Input, Request, RunOptions, parse_words};
 use txs_cli_report::told::{DONE, SPENT, UNUSABLE};
 use txs_cli_report::{Use, play_schedule, play_script, write_told};
-use txs_cli_request::{Input, Request, RunOptions};
 
 /// The name under which lines are explained, where they are: that of the file, or `-` for standard input.
 pub(crate) fn explained_as(explain: bool, file: &Option<String>) -> Option<&str>

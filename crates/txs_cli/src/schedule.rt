@@ -3,18 +3,17 @@
 ghost use Rattle.std.specs.Io.KnownBytes.{Keeps};
 ghost use Rattle.std.specs.Prelude.{◌≡◌, Err, IfSome, IsErr, None};
 ghost use Rattle.txs_cli.specs.CodeTold.{BytesScheduleTell};
-ghost use Rattle.txs_cli_plays.specs.Plays.{plays_in};
+ghost use Rattle.txs_cli_report.specs.Plays.{plays_in};
 ghost use Rattle.txs_cli_report.specs.Told.{Told as PlainTold, ListTells, Written};
 
 use crate::code_play::play_code;
 use crate::usage::CodeUse;
 use std::alloc::Global;
 use std::io::{Read, Write};
-use txs_cli_plays::{ListError, read_plays};
+use txs_cli_args::RunOptions;
 use txs_cli_report::schedule::refuse_list;
 use txs_cli_report::told::SPENT;
-use txs_cli_report::write_told;
-use txs_cli_request::RunOptions;
+use txs_cli_report::{ListError, read_plays, write_told};
 
 /// Runs the code whose byte form the reader has by a list of plays and then in rounds, and writes what is told of it, as `play_code` does.
 /// A list that isn't one is told of before anything is read, with status 2.

@@ -7,9 +7,9 @@ ghost use Rattle.txs_cli_report.specs.Lent.{script_of, told_of};
 
 use crate::run::run_told;
 use std::alloc::{AllocError, Global};
+use txs_cli_args::RunOptions;
 use txs_cli_report::explain::Script;
 use txs_cli_report::told::{Told, refused};
-use txs_cli_request::RunOptions;
 use txs_code_meaning::Verified;
 use txs_compile::compile;
 use txs_machine::{Entries, RunError};

@@ -8,12 +8,12 @@ ghost use Rattle.txs_cli_report.specs.Lent.{script_of, told_of};
 
 use crate::lines::refused;
 use std::alloc::{AllocError, Global};
+use txs_cli_args::RunOptions;
 use txs_cli_report::explain::Script;
 use txs_cli_report::script::{listing_of, run_by_turns};
 use txs_cli_report::told::Told;
-use txs_cli_request::RunOptions;
-use txs_code_load::load::{load, load_verified};
 use txs_machine::Repeated;
+use txs_verify::load::{load, load_verified};
 
 /// What is done with code.
 #[derive(Clone, Copy)]

@@ -1,7 +1,7 @@
 //! The program, over any streams, with what runs scripts and code handed in.
 
 ghost use Rattle.std.specs.Prelude.{IfSome};
-ghost use Rattle.txs_audit_answer.specs.Answered.{finishing};
+ghost use Rattle.txs_audit_book.specs.Answered.{finishing};
 ghost use Rattle.txs_cli.specs.Runner.{HasFailed, IsRunnable, RunsLawfully};
 ghost use Rattle.txs_cli.specs.Telling.{PlaysTell, TurnsAuditTells, WorkAuditTells, WorkOfInputTells, WorkTells, WorkedRequestTells, audit_workers};
 ghost use Rattle.txs_cli_audit.specs.Audit.{HasNoAnswer, IsRight};
@@ -14,8 +14,8 @@ use crate::script::Working;
 use crate::workers_play::play_workers;
 use std::alloc::Global;
 use std::io::{Read, Write};
-use txs_audit_answer::{AuditError, Terms, Verdict};
-use txs_cli_request::{Input, Request, RunOptions};
+use txs_audit_book::{AuditError, Terms, Verdict};
+use txs_cli_args::{Input, Request, RunOptions};
 use txs_code_meaning::Verified;
 use txs_machine::{Entries, RunError};
 use txs_tree_meaning::Program;

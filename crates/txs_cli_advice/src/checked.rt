@@ -1,17 +1,16 @@
 //! What to do about a program that isn't sound, by what is at the span of the refusal.
 
 ghost use Rattle.std.specs.Prelude.{◌≡◌, None, false, string_bytes, IfOk, IfSome};
-ghost use Rattle.txs_reader_lines.specs.Safe.{Safe};
+ghost use Rattle.txs_reader.specs.Safe.{Safe};
 ghost use Rattle.txs_cli_advice_script.specs.Sentences.{says};
 ghost use Rattle.txs_cli_advice.specs.Seen.{check_seen};
 
 use std::alloc::{AllocError, Global};
 use txs_check::{CheckError, CheckErrorKind};
 use txs_cli_advice_script::{
-    Sentence, about, definition_of, first_vector, forms_of, name_at, of_two, parts_at,
-    place_of_function, plain, surroundings, written,
+    Sentence, about, definition_of, first_vector, forms_of, in_rows, name_at, of_two, parts_at,
+    place_of_function, plain, surroundings, takes, unlike, written,
 };
-use txs_cli_names::{in_rows, takes, unlike};
 use txs_reader::Form;
 
 /// What to do about a function that has to be pure.

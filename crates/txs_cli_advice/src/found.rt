@@ -2,17 +2,16 @@
 //! name of a constant or of a cell.
 
 ghost use Rattle.std.specs.Prelude.{string_bytes, IfOk, IfSome};
-ghost use Rattle.txs_reader_lines.specs.Safe.{Safe};
+ghost use Rattle.txs_reader.specs.Safe.{Safe};
 
 use crate::validated::is_bound;
 use std::alloc::{AllocError, Global};
 use txs_cli_advice_script::{
-    Sentence, bytes_at, definition_of, forms_of, name_at, of_two, parts_at, place_of_function,
-    plain, written,
+    Sentence, bytes_at, definition_of, forms_of, in_rows, name_at, of_two, parts_at,
+    place_of_function, plain, written,
 };
-use txs_cli_names::in_rows;
 use txs_reader::{Bracket, Form};
-use txs_value_base::Span;
+use txs_value_data::Span;
 
 /// The most bytes of a form that is looked at.
 const MOST_LOOKED_AT: usize = 4_096;

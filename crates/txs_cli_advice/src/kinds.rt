@@ -6,7 +6,7 @@ ghost use Rattle.std.specs.Prelude.{◌≡◌, ◌<◌, ◌↔◌, length, IsNon
 use txs_check::CheckErrorKind;
 use txs_reader::ReadErrorKind;
 use txs_resolve_expand::ResolveErrorKind;
-use txs_value_base::FaultKind;
+use txs_value_data::FaultKind;
 
 /// What to do about a list of plays that has an item which says none.
 pub const OF_LIST: &str =

@@ -5,12 +5,9 @@ ghost use Rattle.txs_cli_advice_script.specs.Sentences.{says};
 ghost use Rattle.txs_cli_advice.specs.Seen.{name_seen};
 
 use txs_cli_advice_script::{
-    Around, Sentence, about, definition_of, instead_for, is_of_language, name_at, nearest_defined,
-    of_clojure, of_two, or, plain, surroundings, word_at,
-};
-use txs_cli_names::{
-    Near, inside, instead_of, instead_of_word, nearest_form, nearest_operation, of_called, takes,
-    unlike,
+    Around, Near, Sentence, about, definition_of, inside, instead_for, instead_of, instead_of_word,
+    is_of_language, name_at, nearest_defined, nearest_form, nearest_operation, of_called,
+    of_clojure, of_two, or, plain, surroundings, takes, unlike, word_at,
 };
 use txs_reader::Form;
 use txs_resolve_expand::{ResolveError, ResolveErrorKind};

@@ -1,9 +1,9 @@
 //! What to do about a form of another shape or in a wrong place.
 
 use crate::named::{of_near_word, of_word};
-use txs_cli_advice_script::{Sentence, about, items_at, name_at, of_clojure, or, parts_at, plain};
-use txs_cli_names::{
-    NOT_AT_TOP, inside, instead_of, instead_of_word, nearest_at_top, shape_at_top, unlike,
+use txs_cli_advice_script::{
+    NOT_AT_TOP, Sentence, about, inside, instead_of, instead_of_word, items_at, name_at,
+    nearest_at_top, of_clojure, or, parts_at, plain, shape_at_top, unlike,
 };
 use txs_reader::{Bracket, Form};
 

@@ -1,13 +1,13 @@
 //! What to do about a fault, by what is at its span in the script.
 
 ghost use Rattle.std.specs.Prelude.{◌≡◌, ◌<◌, None, false, length, string_bytes, IfOk, IfSome};
-ghost use Rattle.txs_reader_lines.specs.Safe.{Safe};
+ghost use Rattle.txs_reader.specs.Safe.{Safe};
 ghost use Rattle.txs_cli_advice.specs.Seen.{fault_seen};
 
 use crate::found::{Wrong, on_wrong};
 use crate::validated::on_refused;
 use std::alloc::{AllocError, Global};
-use txs_value_base::{Fault, FaultKind};
+use txs_value_data::{Fault, FaultKind};
 
 /// The most bytes of a script that is read again for a fault: a run may have as many faults as it has threads and agents.
 const MOST_READ: usize = 65_536;

@@ -2,7 +2,7 @@
 //! future, with the refusal that comes next once they are there.
 
 ghost use Rattle.std.specs.Prelude.{◌≡◌, None, false, string_bytes, IfOk, IfSome};
-ghost use Rattle.txs_reader_lines.specs.Safe.{Safe};
+ghost use Rattle.txs_reader.specs.Safe.{Safe};
 ghost use Rattle.txs_cli_advice_script.specs.Sentences.{says};
 ghost use Rattle.txs_cli_advice.specs.Seen.{resolve_seen};
 
@@ -13,17 +13,14 @@ use crate::shaped::{on_form, on_head, on_top};
 use std::alloc::{AllocError, Global};
 use txs_check::{CheckError, CheckErrorKind, check};
 use txs_cli_advice_script::{
-    Sentence, definition_of, forms_of, if_safe, is_of_language, name_at, or, parts_at, plain,
-    surroundings, write, write_count, written,
+    NOT_AT_TOP, Sentence, definition_of, forms_of, if_safe, instead_of, instead_of_word,
+    is_of_language, is_of_top, name_at, nearest_at_top, or, parts_at, plain, surroundings, takes,
+    unlike, write, write_count, written,
 };
-use txs_cli_names::{
-    NOT_AT_TOP, instead_of, instead_of_word, is_of_top, nearest_at_top, takes, unlike,
-};
-use txs_reader::{Bracket, Form};
-use txs_reader_lines::position;
+use txs_reader::{Bracket, Form, position};
 use txs_resolve::resolve;
 use txs_resolve_expand::{ResolveError, ResolveErrorKind};
-use txs_value_base::Span;
+use txs_value_data::Span;
 
 /// The most forms at the top of which the first word is looked up.
 const MOST_LOOKED_UP: usize = 256;

@@ -1,13 +1,12 @@
 //! What to do about a value that a validator refused: which cells may be meant, and what their validators are.
 
 ghost use Rattle.std.specs.Prelude.{string_bytes, IfOk, IfSome};
-ghost use Rattle.txs_reader_lines.specs.Safe.{Safe};
+ghost use Rattle.txs_reader.specs.Safe.{Safe};
 
 use std::alloc::{AllocError, Global};
-use txs_cli_advice_script::{bytes_at, forms_of, if_safe, name_at, parts_at};
-use txs_cli_names::in_rows;
+use txs_cli_advice_script::{bytes_at, forms_of, if_safe, in_rows, name_at, parts_at};
 use txs_reader::{Bracket, Form};
-use txs_value_base::Span;
+use txs_value_data::Span;
 
 /// The kind of the cells that a form changes, by the name with which it begins, and where it names the cell: past the end, if it
 /// names none.

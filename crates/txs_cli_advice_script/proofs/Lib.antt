@@ -1,4 +1,7 @@
+pub mod Lists
+pub mod NearLaws
+pub mod Nearby
 pub mod Parts
 pub mod Shows
-pub mod Lists
-pub mod Nearby
+pub mod Tables
+pub mod Texts

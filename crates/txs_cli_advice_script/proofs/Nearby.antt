@@ -4,12 +4,12 @@ use Rattle.std.specs.Option.{option_or}
 use Rattle.std.proofs.lemmas.List.{length-map}
 use Rattle.std.proofs.lemmas.List.Elements.{Contains-append_right}
 use Rattle.txs_reader.specs.declared.form.Form.{Form}
-use Rattle.txs_value_base.specs.declared.fault.Span.{Span}
+use Rattle.txs_value_data.specs.declared.fault.Span.{Span}
 use Rattle.txs_reader.specs.declared.form.Bracket.{Bracket}
 use Rattle.txs_reader.specs.declared.form.Bracket.TheVariants.{Round, Square}
 use Rattle.txs_reader.specs.Tree.{PlainForm, leaf, group, place, tree, trees, trees_of}
-use Rattle.txs_cli_names.specs.declared.near.Near.{Near}
-use Rattle.txs_cli_names.specs.Nears.{Nearest}
+use Rattle.txs_cli_advice_script.specs.declared.near.Near.{Near}
+use Rattle.txs_cli_advice_script.specs.Nears.{Nearest}
 use Rattle.txs_cli_advice_script.specs.Forms.{first_items, items_in, items_of, list_of, name_in, name_defined, names_defined, parts_in}
 use Rattle.std.specs.List.{position_or_len}
 use Rattle.txs_cli_advice_script.specs.declared.around.Around.{Around}

@@ -3,7 +3,7 @@ use Rattle.std.proofs.Common.{◌≡◌, ℕ, true, List, IsUtf8, Option, Some, 
 use Rattle.std.specs.Option.{option_map}
 use Rattle.std.specs.Str.{chars}
 use Rattle.std.proofs.lemmas.Str.{encodes-chars, scalars-chars}
-use Rattle.txs_reader_lines.specs.Safe.{Safe}
+use Rattle.txs_reader.specs.Safe.{Safe}
 use Rattle.txs_cli_advice_script.specs.Sentences.{is_safe}
 
 pub Safe-from_is_safe : (text : List ℕ) → IsUtf8 text → is_safe text ≡ true → Safe text

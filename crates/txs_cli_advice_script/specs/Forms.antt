@@ -2,11 +2,11 @@
 use Rattle.std.specs.Prelude.{ℕ, Bool, not, ◌&&◌, nat_le, if◌then◌else◌, List, [], ◌∷◌, map, length, take, drop, fold, false, Option, Some, None, slice_get}
 use Rattle.std.specs.Option.{option_or}
 use Rattle.std.specs.Str.{bytes_eq}
-use Rattle.txs_value_base.specs.declared.fault.Span.{Span}
+use Rattle.txs_value_data.specs.declared.fault.Span.{Span}
 use Rattle.txs_reader.specs.declared.form.Bracket.TheVariants.{Round, Square}
 use Rattle.txs_reader.specs.Tree.{PlainForm, PlainForms, leaf, group, first, none, symbol}
-use Rattle.txs_cli_names.specs.Rows.{said_in}
-use Rattle.txs_cli_names.specs.Shown.{text_of}
+use Rattle.txs_cli_advice_script.specs.Rows.{said_in}
+use Rattle.txs_cli_advice_script.specs.Shown.{text_of}
 use Rattle.txs_cli_advice_script.specs.declared.script.TheConstants.{DEFINITIONS}
 
 -- the bytes at a span, and none where the text is shorter

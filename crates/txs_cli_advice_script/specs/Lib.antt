@@ -1,4 +1,9 @@
-pub mod Sentences
 pub mod Forms
-pub mod Surroundings
+pub mod Language
+pub mod Nears
 pub mod Reading
+pub mod Rows
+pub mod Sentences
+pub mod Shown
+pub mod Signs
+pub mod Surroundings

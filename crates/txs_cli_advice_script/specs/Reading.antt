@@ -2,7 +2,7 @@
 use Rattle.std.specs.Prelude.{ℕ, Bool, true, false, not, ◌||◌, List}
 use Rattle.txs_reader.specs.declared.error.ReadErrorKind.{ReadErrorKind}
 use Rattle.txs_reader.specs.declared.error.ReadErrorKind.TheVariants.{NotUtf8, Unclosed, Unopened, BadToken, NumberTooLarge, BadEscape, TooDeep, TooLarge, LeftOut, Memory}
-use Rattle.txs_cli_names.specs.Language.{count_shown, form_shape}
+use Rattle.txs_cli_advice_script.specs.Language.{count_shown, form_shape}
 use Rattle.txs_cli_advice_script.specs.Forms.{is_empty}
 
 -- whether the script at the span says more than the kind of the refusal does

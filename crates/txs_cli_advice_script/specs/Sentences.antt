@@ -2,7 +2,7 @@
 use Rattle.std.specs.Prelude.{ℕ, Bool, not, if◌then◌else◌, List, [], ◌∷◌, ◌++◌, codes, decimal, Option, Some, None}
 use Rattle.std.specs.List.{list_all}
 use Rattle.std.specs.Str.{chars}
-use Rattle.txs_reader_lines.specs.Sign.{is_escaped}
+use Rattle.txs_reader.specs.Sign.{is_escaped}
 use Rattle.txs_cli_advice_script.specs.declared.sentence.Sentence.{Sentence}
 
 -- a number in decimal digits, if there is one

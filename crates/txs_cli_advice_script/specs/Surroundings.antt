@@ -1,11 +1,11 @@
 -- What is around a span: the list that has it as a part, and the names that are in scope there.
 use Rattle.std.specs.Prelude.{◌≡◌, ◌≤◌, ◌⊎◌, ℕ, Bool, nat_le, nat_lt, ◌==◌, ◌&&◌, ◌||◌, List, map, Contains, slice_get}
 use Rattle.std.specs.List.{position_or_len}
-use Rattle.txs_value_base.specs.declared.fault.Span.{Span}
+use Rattle.txs_value_data.specs.declared.fault.Span.{Span}
 use Rattle.txs_reader.specs.declared.form.Bracket.{Bracket}
 use Rattle.txs_reader.specs.Tree.{PlainForm, PlainForms, group, place, trees}
-use Rattle.txs_cli_names.specs.declared.near.Near.{Near}
-use Rattle.txs_cli_names.specs.Rows.{said_in}
+use Rattle.txs_cli_advice_script.specs.declared.near.Near.{Near}
+use Rattle.txs_cli_advice_script.specs.Rows.{said_in}
 use Rattle.txs_cli_advice_script.specs.declared.around.Around.{Around}
 use Rattle.txs_cli_advice_script.specs.declared.around.TheConstants.{CALLERS}
 use Rattle.txs_cli_advice_script.specs.Forms.{list_of, name_in, name_of}

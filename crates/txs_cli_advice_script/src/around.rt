@@ -3,14 +3,14 @@
 ghost use Rattle.std.specs.Prelude.{◌≡◌, ◌<◌, length, slice_get, IfSome};
 ghost use Rattle.std.specs.List.{position_or_len};
 ghost use Rattle.txs_reader.specs.Tree.{group, place, tree, trees, trees_of};
-ghost use Rattle.txs_cli_names.specs.Nears.{Nearest};
+ghost use Rattle.txs_cli_advice_script.specs.Nears.{Nearest};
 ghost use Rattle.txs_cli_advice_script.specs.Forms.{names_defined};
 ghost use Rattle.txs_cli_advice_script.specs.Surroundings.{NearestInside, Surrounds, covers, function_place, names_function, names_of};
 
 use crate::script::{defined_at, first_vector, items_at, name_at};
-use txs_cli_names::{Near, in_rows, nearer};
+use crate::{Near, in_rows, nearer};
 use txs_reader::{Bracket, Form};
-use txs_value_base::Span;
+use txs_value_data::Span;
 
 /// Forms nest at most so deep: a bracket in a hundred others is refused.
 const LEVELS: usize = 101;

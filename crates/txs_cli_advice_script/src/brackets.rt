@@ -1,7 +1,7 @@
 //! The brackets of a script that are open somewhere in it.
 
 use crate::sentence::{Sentence, plain};
-use txs_reader_lines::position;
+use txs_reader::position;
 
 /// Where a byte is: in the code, in a text, behind a backslash in one, or in a comment.
 #[derive(Clone, Copy)]

@@ -1,19 +1,19 @@
 //! What to do about a script that isn't read, by what is at the span of the refusal.
 
 ghost use Rattle.std.specs.Prelude.{◌≡◌, None, false, string_bytes, IfOk, IfSome};
-ghost use Rattle.txs_reader_lines.specs.Safe.{Safe};
+ghost use Rattle.txs_reader.specs.Safe.{Safe};
 ghost use Rattle.txs_cli_advice_script.specs.Reading.{is_seen, of_language};
 ghost use Rattle.txs_cli_advice_script.specs.Sentences.{says};
 
 use crate::brackets::{on_unclosed, on_unopened};
 use crate::script::{bytes_at, word_at};
 use crate::sentence::{Sentence, about, instead_for, of_clojure, of_two, or, plain, written};
-use std::alloc::{AllocError, Global};
-use txs_cli_names::{
+use crate::{
     byte_at, inside, instead_of, instead_of_call, of_code, of_left_out, of_mark, takes, text_of,
 };
+use std::alloc::{AllocError, Global};
 use txs_reader::{ReadError, ReadErrorKind};
-use txs_value_base::Span;
+use txs_value_data::Span;
 
 /// What names of clojure.core have before them where their namespace is written.
 const CORE: &str = "clojure.core/";

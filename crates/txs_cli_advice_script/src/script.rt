@@ -2,15 +2,15 @@
 
 ghost use Rattle.std.specs.Prelude.{◌≡◌, ◌⊎◌, [], if◌then◌else◌, slice_get, IfOk};
 ghost use Rattle.std.specs.Option.{option_map};
-ghost use Rattle.txs_cli_names.specs.Shown.{text_of};
+ghost use Rattle.txs_cli_advice_script.specs.Shown.{text_of};
 ghost use Rattle.txs_reader.specs.Script.{Reads};
 ghost use Rattle.txs_reader.specs.Tree.{tree, trees};
 ghost use Rattle.txs_cli_advice_script.specs.Forms.{bytes_in, defines, first_items, items_in, items_of, last_definition, name_defined, name_in, name_of, parts_in, parts_of};
 
+use crate::{in_rows, text_of};
 use std::alloc::{AllocError, Global};
-use txs_cli_names::{in_rows, text_of};
 use txs_reader::{Bracket, Form, ReadErrorKind, read_script};
-use txs_value_base::Span;
+use txs_value_data::Span;
 
 /// The bytes at a span; none where the text is shorter.
 pub fn bytes_at(text: &[u8], at: Span) -> &[u8]

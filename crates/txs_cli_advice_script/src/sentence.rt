@@ -2,12 +2,12 @@
 
 ghost use Rattle.std.specs.Prelude.{◌≡◌, ◌∷◌, ◌++◌, None, if◌then◌else◌, string_bytes, IfOk, IfSome, OnOk};
 ghost use Rattle.std.specs.Option.{option_and_then, option_map, option_or};
-ghost use Rattle.txs_reader_lines.specs.Safe.{Safe};
+ghost use Rattle.txs_reader.specs.Safe.{Safe};
 ghost use Rattle.txs_cli_advice_script.specs.Sentences.{count_text, if_safe, is_safe, left_out, says, unless_empty, whole_of};
 
 use itoa::Buffer;
 use std::alloc::{AllocError, Global};
-use txs_reader_lines::is_escaped;
+use txs_reader::is_escaped;
 
 /// The parts of a sentence in their order, each empty where it isn't needed. A sentence without its text is none.
 #[derive(Clone, Copy)]

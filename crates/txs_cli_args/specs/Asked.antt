@@ -1,8 +1,8 @@
 -- What the words of a command line ask for.
 use Rattle.std.specs.Prelude.{◌≡◌, true, false}
-use Rattle.txs_cli_request.specs.declared.request.Input.{Input}
-use Rattle.txs_cli_request.specs.declared.request.Request.{Request}
-use Rattle.txs_cli_request.specs.declared.request.Request.TheVariants.{Check, List, Build, Run, Record, Schedule, Replay, Show, CheckJson, Explore, Shown, Faulty}
+use Rattle.txs_cli_args.specs.declared.request.Input.{Input}
+use Rattle.txs_cli_args.specs.declared.request.Request.{Request}
+use Rattle.txs_cli_args.specs.declared.request.Request.TheVariants.{Check, List, Build, Run, Record, Schedule, Replay, Show, CheckJson, Explore, Shown, Faulty}
 
 -- Lines are explained of a script alone: of code in its byte form there is no line to show.
 abbrev pub OfScripts : Input → Type 0

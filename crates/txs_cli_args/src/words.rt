@@ -3,10 +3,10 @@
 ghost use Rattle.std.specs.Prelude.{◌≡◌, true, false, IfOk};
 ghost use Rattle.txs_cli_args.specs.Asked.{ExplainsScripts, OfScripts};
 
+use crate::{Explain, Exploring, Input, Request, RunOptions, Scheduling, Showing};
 use clap::error::ErrorKind;
 use clap::{Arg, ArgAction, ArgMatches, Command, Error, value_parser};
 use std::alloc::{AllocError, Global};
-use txs_cli_request::{Explain, Exploring, Input, Request, RunOptions, Scheduling, Showing};
 
 /// How many steps an actor makes at most, where the words don't say it.
 const DEFAULT_STEPS: u64 = 100_000_000;

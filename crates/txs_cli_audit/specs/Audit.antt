@@ -3,17 +3,17 @@ use Rattle.std.specs.Prelude.{◌≡◌, ℕ, max, true, false, List, [], ◌++�
 use Rattle.std.specs.Borrow.{Bor}
 use Rattle.std.proofs.Common.{Global, Result}
 use Rattle.std.specs.declared.result.Result.TheVariants.{Err}
-use Rattle.txs_audit_answer.specs.Answered.{as_verdict, audit_turns, terms_as}
-use Rattle.txs_audit_answer.specs.declared.verdict.Terms.{Terms}
-use Rattle.txs_audit_answer.specs.declared.verdict.Verdict as answered
-use Rattle.txs_audit_answer.specs.declared.verdict.AuditError.{AuditError}
-use Rattle.txs_audit_answer.specs.declared.verdict.AuditError.TheVariants.{NoThread, Memory}
+use Rattle.txs_audit_book.specs.Answered.{as_verdict, audit_turns, terms_as}
+use Rattle.txs_audit_book.specs.declared.verdict.Terms.{Terms}
+use Rattle.txs_audit_book.specs.declared.verdict.Verdict as answered
+use Rattle.txs_audit_book.specs.declared.verdict.AuditError.{AuditError}
+use Rattle.txs_audit_book.specs.declared.verdict.AuditError.TheVariants.{NoThread, Memory}
 use Rattle.txs_cli_report.specs.Lines.{Script, lesson_of}
 use Rattle.txs_cli_report.specs.Told.{Told}
 use Rattle.txs_theorem_audit.specs.Audited.{Verdict, Agrees, Differs, Undecided, report_as}
 use Rattle.txs_theorem_audit.specs.Verdict.{verdict}
 use Rattle.txs_tree_meaning.specs.View.{Parts, program_of}
-use Rattle.txs_value_base.specs.declared.fault.Span.{Span}
+use Rattle.txs_value_data.specs.declared.fault.Span.{Span}
 use Rattle.txs_world_protocol.specs.declared.report.Report.{Report}
 
 -- an answer, where there is one, is the verdict on this report of a run that was to do this, where each loop makes as many turns at most as its steps allow

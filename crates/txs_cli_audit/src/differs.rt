@@ -4,12 +4,11 @@ use crate::event::{push_name, push_number, write_book};
 use std::alloc::{AllocError, Global};
 use std::str;
 use txs_audit_difference::{Difference, What};
-use txs_reader_lines::is_escaped;
+use txs_reader::is_escaped;
 use txs_tree_meaning::Program;
-use txs_value_base::{Fault, Span};
 use txs_value_cell::Action;
 use txs_value_data::print::write_text;
-use txs_value_data::{CellId, Listed, Value};
+use txs_value_data::{CellId, Fault, Listed, Span, Value};
 use txs_world_protocol::Outcome;
 
 /// How many bytes of a value or of a line are shown at most.

@@ -4,11 +4,10 @@ use crate::explain::Audited;
 use itoa::Buffer;
 use std::alloc::AllocError;
 use std::str;
-use txs_cli_plays::events::name_of;
+use txs_cli_report::events::name_of;
 use txs_tree_meaning::Program;
-use txs_value_base::Span;
 use txs_value_cell::Action;
-use txs_value_data::{CellId, CellKind};
+use txs_value_data::{CellId, CellKind, Span};
 use txs_world_protocol::{ActorReport, Event, EventKind, Outcome, Place, Report};
 
 /// An event of an actor: its index in the actor's trace, which is the trace's length where all events are behind it.

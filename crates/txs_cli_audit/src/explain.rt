@@ -1,20 +1,20 @@
 //! What explains an answer: the form of the text, and which event it is.
 
 ghost use Rattle.std.specs.Prelude.{◌≡◌, ◌++◌, ℕ, List, Option, Some, OnOk};
-ghost use Rattle.txs_audit_answer.specs.Answered.{as_verdict};
+ghost use Rattle.txs_audit_book.specs.Answered.{as_verdict};
 ghost use Rattle.txs_cli_audit.specs.Audit.{LessonOf};
 ghost use Rattle.txs_cli_report.specs.Lent.{script_of, text_in};
 ghost use Rattle.txs_cli_report.specs.Lines.{lesson_of};
-ghost use Rattle.txs_value_base.specs.declared.fault.Span.{Span as PlainSpan};
+ghost use Rattle.txs_value_data.specs.declared.fault.Span.{Span as PlainSpan};
 
 use crate::differs;
 use crate::event::{EventAt, form_of, write_actor, write_event};
 use std::alloc::{AllocError, Global};
-use txs_audit_answer::{Terms, Verdict};
+use txs_audit_book::{Terms, Verdict};
 use txs_audit_difference::{Difference, difference};
 use txs_cli_report::explain::{Script, write_explained};
 use txs_tree_meaning::Program;
-use txs_value_base::Span;
+use txs_value_data::Span;
 use txs_world_protocol::Report;
 
 /// What is audited: a report, against a program.

@@ -1,7 +1,7 @@
 //! Adds what is told of an audit to what is told of its run.
 
 ghost use Rattle.std.specs.Prelude.{◌≡◌, ◌++◌, codes, decimal, OnOk};
-ghost use Rattle.txs_audit_answer.specs.Answered.{as_verdict, audit_turns, terms_as};
+ghost use Rattle.txs_audit_book.specs.Answered.{as_verdict, audit_turns, terms_as};
 ghost use Rattle.txs_cli_audit.specs.Audit.{AnswerTells, AuditTells, HasNoAnswer, IsRight, NoAnswerTells, at_event, audit_line, audit_status, no_answer_line};
 ghost use Rattle.txs_cli_report.specs.Lent.{lines_of, script_of};
 ghost use Rattle.txs_theorem_audit.specs.Audited.{report_as};
@@ -10,10 +10,10 @@ ghost use Rattle.txs_tree_meaning.specs.View.{program_of};
 
 use crate::explain::{Audited, explain};
 use std::alloc::{AllocError, Global};
-use txs_audit_answer::{AuditError, Terms, Verdict};
-use txs_cli_plays::write_number;
+use txs_audit_book::{AuditError, Terms, Verdict};
 use txs_cli_report::explain::Script;
 use txs_cli_report::told::{DONE, SPENT, Told};
+use txs_cli_report::write_number;
 use txs_tree_meaning::Program;
 use txs_world_protocol::Report;
 

@@ -1,3 +1,5 @@
 pub mod LongLines
+pub mod Noted
 pub mod Run
 pub mod Shown
+pub mod Staged

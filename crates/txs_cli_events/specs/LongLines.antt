@@ -1,12 +1,12 @@
 -- The long form of events: a line for each, with all its parts.
 use Rattle.std.specs.Prelude.{ℕ, zero, suc, List, [], ◌∷◌, ◌++◌, length, Option, Some, None, Result, Ok, Err, codes, decimal}
 use Rattle.std.specs.List.{flat_map}
-use Rattle.txs_value_base.specs.Faults.{fault_name}
-use Rattle.txs_value_base.specs.Operations.{op_name}
-use Rattle.txs_value_base.specs.declared.fault.Fault.{Fault}
-use Rattle.txs_value_base.specs.declared.fault.Span.{Span}
-use Rattle.txs_value_base.specs.declared.op.Callee.{Callee}
-use Rattle.txs_value_base.specs.declared.op.Callee.TheVariants.{Core, Function}
+use Rattle.txs_value_data.specs.Faults.{fault_name}
+use Rattle.txs_value_data.specs.Operations.{op_name}
+use Rattle.txs_value_data.specs.declared.fault.Fault.{Fault}
+use Rattle.txs_value_data.specs.declared.fault.Span.{Span}
+use Rattle.txs_value_data.specs.declared.op.Callee.{Callee}
+use Rattle.txs_value_data.specs.declared.op.Callee.TheVariants.{Core, Function}
 use Rattle.txs_value_cell.specs.declared.action.Action.{Action}
 use Rattle.txs_value_cell.specs.declared.cell.CellDefinition.{CellDefinition}
 use Rattle.txs_value_data.specs.View.{plain_of}
@@ -18,7 +18,7 @@ use Rattle.txs_world_protocol.specs.declared.event.Event.{Event}
 use Rattle.txs_world_protocol.specs.declared.event.EventKind.{EventKind}
 use Rattle.txs_world_protocol.specs.declared.event.EventKind.TheVariants.{Read, Commit, Retry, Fail, Refused, Send, SendRefused, Act, Swap, Broke}
 use Rattle.txs_world_protocol.specs.declared.report.Report.{Report}
-use Rattle.txs_cli_plays.specs.EventLines.{event_name}
+use Rattle.txs_cli_report.specs.EventLines.{event_name}
 use Rattle.txs_cli_events.specs.Run.{agent_of, atom_of, cell_name, event_in}
 use Rattle.txs_cli_events.specs.Shown.{shown}
 use Rattle.txs_cli_events.specs.declared.seen.Noted.{Noted}

@@ -8,9 +8,9 @@ ghost use Rattle.txs_cli_events.specs.Run.{agent_of, atom_of};
 use crate::parts::{write_at, write_parts};
 use crate::seen::{Noted, Replayed};
 use std::alloc::{AllocError, Global};
-use txs_cli_plays::events::name_of;
-use txs_cli_plays::{write_both, write_number};
-use txs_value_base::Span;
+use txs_cli_report::events::name_of;
+use txs_cli_report::{write_both, write_number};
+use txs_value_data::Span;
 use txs_world_protocol::Event;
 
 /// Appends whose book it is: the journal, or an atom's.

@@ -10,10 +10,9 @@ ghost use Rattle.txs_value_data.specs.View.{plain_of};
 use crate::seen::Replayed;
 use crate::shown::write_shown;
 use std::alloc::AllocError;
-use txs_cli_plays::{write_both, write_number};
-use txs_value_base::{Callee, Fault, Span};
+use txs_cli_report::{write_both, write_number};
 use txs_value_cell::Action;
-use txs_value_data::{CellId, Value};
+use txs_value_data::{Callee, CellId, Fault, Span, Value};
 use txs_world_protocol::{Cause, EventKind};
 
 /// Appends a span behind these bytes.

@@ -5,9 +5,8 @@ ghost use Rattle.std.specs.List.{slice_get};
 ghost use Rattle.txs_value_cell.specs.Forms.{same_kind};
 ghost use Rattle.txs_cli_events.specs.Run.{actor_in, agent_of, atom_of, cell_name, event_in, numbers_of};
 
-use txs_value_base::Span;
 use txs_value_cell::CellDefinition;
-use txs_value_data::{CellId, CellKind};
+use txs_value_data::{CellId, CellKind, Span};
 use txs_world_protocol::{ActorReport, Event, Place, Report};
 
 /// An event of a run.

@@ -4,7 +4,7 @@ use Rattle.std.specs.Prelude.{if◌then◌else◌}
 use Rattle.std.proofs.lemmas.Bool.{ne_eqb}
 use Rattle.txs_cli_report.proofs.Fronts.{on_ok}
 use Rattle.txs_code_decode.specs.CodeForm.{HasForm}
-use Rattle.txs_code_load.proofs.Formed.{few_cells, few_threads}
+use Rattle.txs_verify.proofs.Formed.{few_cells, few_threads}
 use Rattle.txs_code_meaning.specs.PlainCode.{PlainCode}
 use Rattle.txs_value_data.proofs.PrintedLemmas.{then_more}
 use Rattle.txs_cli_explore.specs.Explored.{ends_line, few_line, last_line}

@@ -1,14 +1,14 @@
 -- What the runs of ways print and tell.
 use Rattle.std.proofs.Common.{◌≡◌, ◌<◌, ◌≤◌, ◌+◌, ◌++◌, ◌∙◌, ℕ, Bool, true, false, List, [], ◌∷◌, Option, Some, Result, IfOk, IfSome, length, take, drop, get_or, refl, sym, ap, subst, append_assoc, Global, Vec}
 use Rattle.std.proofs.lemmas.List.{append-nil, drop_all, take_all}
-use Rattle.txs_audit_answer.specs.declared.verdict.AuditError.{AuditError}
+use Rattle.txs_audit_book.specs.declared.verdict.AuditError.{AuditError}
 use Rattle.txs_cli.specs.Audited.{AuditedRunTells}
 use Rattle.txs_cli_report.proofs.Printing.{printed_both}
 use Rattle.txs_cli_report.specs.Lent.{told_of}
 use Rattle.txs_cli_report.specs.Lines.{Script, all_printed}
 use Rattle.txs_cli_report.specs.Told.{Told, ReportTells}
 use Rattle.txs_cli_report.specs.declared.told.Told as owned
-use Rattle.txs_cli_request.specs.declared.request.RunOptions.{RunOptions}
+use Rattle.txs_cli_args.specs.declared.request.RunOptions.{RunOptions}
 use Rattle.txs_code_meaning.specs.PlainCode.{PlainCode}
 use Rattle.txs_machine.specs.declared.schedule.Entries.{Entries}
 use Rattle.txs_tree_meaning.specs.View.{Parts}

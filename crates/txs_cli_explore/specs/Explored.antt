@@ -2,13 +2,13 @@
 use Rattle.std.specs.Prelude.{◌≡◌, ◌==◌, ℕ, Bool, true, false, List, [], ◌++◌, codes, decimal, length, Option, Some, None, Vec, if◌then◌else◌, map, min}
 use Rattle.std.proofs.Common.{Global}
 use Rattle.std.specs.declared.result.Result.TheVariants.{Ok}
-use Rattle.txs_audit_answer.specs.declared.verdict.AuditError.{AuditError}
+use Rattle.txs_audit_book.specs.declared.verdict.AuditError.{AuditError}
 use Rattle.txs_cli.specs.Audited.{AuditedRunTells}
 use Rattle.txs_cli.specs.Runner.{IsWorked}
-use Rattle.txs_cli_plays.specs.Plays.{plays_in}
+use Rattle.txs_cli_report.specs.Plays.{plays_in}
 use Rattle.txs_cli_report.specs.Lines.{Script}
 use Rattle.txs_cli_report.specs.Told.{Told, Wanted, IsCompiled, ReportTells, ScriptTells}
-use Rattle.txs_cli_request.specs.declared.request.RunOptions.{RunOptions}
+use Rattle.txs_cli_args.specs.declared.request.RunOptions.{RunOptions}
 use Rattle.txs_code_meaning.specs.PlainCode.{PlainCode}
 use Rattle.txs_explore.specs.Reported.{plays_of, reported}
 use Rattle.txs_explore.specs.Told.{explored}

@@ -1,7 +1,7 @@
 //! All outcomes of a script: each is told as a schedule tells it, with the list of plays that comes to it.
 
 ghost use Rattle.std.specs.Prelude.{◌≡◌, ◌≤◌, ◌+◌, ◌<◌, ◌-◌, ◌^◌, ◌++◌, ℕ, length, true, Some, IfOk, IfSome, OnOk};
-ghost use Rattle.txs_audit_answer.specs.Answered.{finishing};
+ghost use Rattle.txs_audit_book.specs.Answered.{finishing};
 ghost use Rattle.txs_cli_audit.specs.Audit.{HasNoAnswer, IsRight};
 ghost use Rattle.txs_cli_explore.specs.Explored.{ExploredTells, IsExplored, OutcomeTells, OutcomesTell, StreamExploredTells, ends_line, few_line, last_line, limit_of, lists_in, switches_word, texts_in};
 ghost use Rattle.txs_cli_report.specs.Lent.{script_of, text_in, told_of};
@@ -15,14 +15,13 @@ use crate::ways::outcomes_of;
 use crate::written::add_outcomes;
 use std::alloc::{AllocError, Global};
 use std::io::{Read, Write};
-use txs_audit_answer::{AuditError, Terms, Verdict};
+use txs_audit_book::{AuditError, Terms, Verdict};
 use txs_cli::workers_play::unread;
-use txs_cli_plays::write_number;
+use txs_cli_args::Exploring;
 use txs_cli_report::explain::Script;
 use txs_cli_report::streams::read_bytes;
 use txs_cli_report::told::{Told, answer, refused};
-use txs_cli_report::write_answer;
-use txs_cli_request::Exploring;
+use txs_cli_report::{write_answer, write_number};
 use txs_code_meaning::Verified;
 use txs_compile::compile;
 use txs_explore::{Explored, Limits, explore};

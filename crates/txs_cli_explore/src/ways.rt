@@ -1,12 +1,12 @@
 //! The outcomes of ways: each way is run again by its list of plays, and what the run tells is an outcome.
 
 ghost use Rattle.std.specs.Prelude.{◌≡◌, ◌++◌, Ok, IfOk, IfSome, OnOk, true};
-ghost use Rattle.txs_audit_answer.specs.Answered.{finishing};
+ghost use Rattle.txs_audit_book.specs.Answered.{finishing};
 ghost use Rattle.txs_cli.specs.Runner.{IsWorked};
 ghost use Rattle.txs_cli_audit.specs.Audit.{HasNoAnswer, IsRight};
 ghost use Rattle.txs_cli_explore.specs.Explored.{ComesBy, OutcomeTells, WayHas, WayTells, outcome_options};
 ghost use Rattle.txs_cli_explore.specs.Outcomes.{AreOutcomes};
-ghost use Rattle.txs_cli_plays.specs.Plays.{plays_in};
+ghost use Rattle.txs_cli_report.specs.Plays.{plays_in};
 ghost use Rattle.txs_cli_report.specs.Lent.{script_of, told_of};
 ghost use Rattle.txs_cli_report.specs.Lines.{all_printed};
 ghost use Rattle.txs_code_decode.specs.CodeForm.{HasForm};
@@ -18,15 +18,15 @@ ghost use Rattle.txs_machine.specs.declared.schedule.Play.TheVariants as play;
 
 use crate::outcomes::{Outcome, add_outcome};
 use std::alloc::{AllocError, Global};
-use txs_audit_answer::{AuditError, Terms, Verdict};
+use txs_audit_book::{AuditError, Terms, Verdict};
 use txs_cli::alone::run_plays;
 use txs_cli::audited::audit_run;
 use txs_cli::script::Working;
-use txs_cli_plays::{ListError, read_plays, write_plays};
+use txs_cli_args::{Exploring, RunOptions};
 use txs_cli_report::explain::Script;
 use txs_cli_report::script::report_run;
 use txs_cli_report::told::Told;
-use txs_cli_request::{Exploring, RunOptions};
+use txs_cli_report::{ListError, read_plays, write_plays};
 use txs_code_meaning::Verified;
 use txs_explore::{Way, has_ending, repeated};
 use txs_machine::{Entries, Play, Repeated};

@@ -6,7 +6,7 @@ ghost use Rattle.txs_cli_explore.specs.Outcomes.{AreWritten, IsBlock, as_word, h
 use crate::changes::add_change;
 use crate::outcomes::Outcome;
 use std::alloc::{AllocError, Global};
-use txs_cli_plays::write_number;
+use txs_cli_report::write_number;
 
 /// A list of plays as a word behind an option.
 fn as_word(list: &[u8]) -> &[u8]

@@ -4,18 +4,18 @@ use Rattle.std.specs.Borrow.{Bor}
 use Rattle.std.proofs.Common.{Result}
 use Rattle.std.specs.declared.result.Result.TheVariants.{Ok, Err}
 use Rattle.serde_json.specs.Data.{Data, null, boolean, number, unsigned, string, Members, no_members, put}
-use Rattle.txs_audit_answer.specs.declared.verdict.Verdict.{Verdict}
-use Rattle.txs_audit_answer.specs.declared.verdict.Verdict.TheVariants.{Agrees, Differs, Undecided}
-use Rattle.txs_audit_answer.specs.declared.verdict.AuditError.{AuditError}
-use Rattle.txs_audit_answer.specs.declared.verdict.AuditError.TheVariants.{NoThread, Memory}
+use Rattle.txs_audit_book.specs.declared.verdict.Verdict.{Verdict}
+use Rattle.txs_audit_book.specs.declared.verdict.Verdict.TheVariants.{Agrees, Differs, Undecided}
+use Rattle.txs_audit_book.specs.declared.verdict.AuditError.{AuditError}
+use Rattle.txs_audit_book.specs.declared.verdict.AuditError.TheVariants.{NoThread, Memory}
 use Rattle.txs_check.specs.Errors.{check_number, check_name}
 use Rattle.txs_compile.specs.declared.compile_error.CompileError.{CompileError}
 use Rattle.txs_compile.specs.declared.compile_error.CompileError.TheVariants.{Read, Resolve, Check as Unsound, Memory as NoMemory}
 use Rattle.txs_cli_json.specs.Json.{IsLineOf, typed}
 use Rattle.txs_reader.specs.Errors.{report_number as read_number, report_name as read_name}
-use Rattle.txs_reader_lines.specs.Place.{line_number, column_number}
+use Rattle.txs_reader.specs.Place.{line_number, column_number}
 use Rattle.txs_resolve_expand.specs.Reported.{report_number as resolve_number, report_name as resolve_name}
-use Rattle.txs_value_base.specs.declared.fault.Span.{Span}
+use Rattle.txs_value_data.specs.declared.fault.Span.{Span}
 
 -- members, and a number of this name
 abbrev pub with_number : List ℕ → ℕ → Members → Members

@@ -8,9 +8,9 @@ ghost use Rattle.txs_cli_json.specs.Members.{audit_members, failure_word, with_e
 
 use crate::spans::Line;
 use std::alloc::{AllocError, Global};
-use txs_audit_answer::{AuditError, Verdict};
+use txs_audit_book::{AuditError, Verdict};
 use txs_cli_report::explain::Script;
-use txs_value_base::Span;
+use txs_value_data::Span;
 
 /// Puts in the verdict that names an event: its actor, and its index in the actor's trace.
 fn put_event(line: &mut Line, verdict: &str, actor: u16, event: usize) -> Result<(), AllocError>

@@ -14,10 +14,9 @@ use crate::value::{fitting_json, name_in};
 use serde_json::Value as Json;
 use std::alloc::{AllocError, Global};
 use txs_cli_events::{Noted, Replayed};
-use txs_cli_plays::events::name_of;
-use txs_value_base::{Callee, Fault};
+use txs_cli_report::events::name_of;
 use txs_value_cell::{Action, CellDefinition};
-use txs_value_data::{CellId, Value};
+use txs_value_data::{Callee, CellId, Fault, Value};
 use txs_world_protocol::{Cause, EventKind, Place};
 
 /// The values of an action.

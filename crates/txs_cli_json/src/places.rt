@@ -1,8 +1,8 @@
 //! Lines and columns of many places in one text.
 
 use std::alloc::{AllocError, Global};
-use txs_reader_lines::place::Position;
-use txs_reader_lines::position;
+use txs_reader::place::Position;
+use txs_reader::position;
 
 /// How many bytes of the text there are from one mark to the next.
 const BLOCK: usize = 1024;

@@ -11,7 +11,7 @@ use std::alloc::{AllocError, Global};
 use txs_cli_advice::{of_check, of_read, of_resolve, on_check, on_read, on_resolve};
 use txs_cli_report::explain::Script;
 use txs_compile::CompileError;
-use txs_value_base::Span;
+use txs_value_data::Span;
 
 /// What is said of a refusal: its number and name, the place, and what to do about it by its kind.
 #[derive(Clone, Copy)]

@@ -8,9 +8,9 @@ use crate::object::Object;
 use crate::places::Places;
 use std::alloc::AllocError;
 use txs_cli_advice::{of_fault, on_fault};
-use txs_reader_lines::place::Position;
-use txs_reader_lines::position;
-use txs_value_base::{Fault, Span};
+use txs_reader::place::Position;
+use txs_reader::position;
+use txs_value_data::{Fault, Span};
 
 /// An object that is a part of a line.
 pub(crate) type Part = Object<36>;

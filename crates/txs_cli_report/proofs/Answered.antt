@@ -1,8 +1,8 @@
 -- What is told where an answer is told of, which may be that there was no memory for it.
 use Rattle.std.proofs.Common.{◌≡◌, ℕ, List, [], Option, Result, Ok, Err, IfOk, codes, refl}
 use Rattle.std.specs.Option.{IfSome}
-use Rattle.txs_cli_plays.specs.Plays.{plays_in}
-use Rattle.txs_cli_plays.specs.declared.plays.WrongPlay.{WrongPlay}
+use Rattle.txs_cli_report.specs.Plays.{plays_in}
+use Rattle.txs_cli_report.specs.declared.plays.WrongPlay.{WrongPlay}
 use Rattle.txs_cli_report.specs.Lent.{answer_of, told_of}
 use Rattle.txs_cli_report.specs.Lines.{Script, IsLesson, list_place}
 use Rattle.txs_cli_report.specs.Told.{Wanted, StreamTells, Tells, of_stream, ListTells, of_wrong, of_memory}

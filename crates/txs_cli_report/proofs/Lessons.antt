@@ -3,9 +3,9 @@ use Rattle.std.proofs.Common.{◌≡◌, ◌≢◌, ◌++◌, ◌∙◌, ℕ, Li
 use Rattle.txs_world_protocol.specs.declared.event.Outcome.{Outcome}
 use Rattle.txs_cli_report.specs.AgentLines.{EndTold, end_status}
 use Rattle.txs_cli_report.specs.Lines.{Script, IsLesson, at_place, end_line, end_place, failed_line, how_ended, status_of, lesson_of, refusal_line, stopped_line}
-use Rattle.txs_value_base.specs.Faults.{fault_name}
-use Rattle.txs_value_base.specs.declared.fault.Fault.{Fault}
-use Rattle.txs_value_base.specs.declared.fault.Span.{Span}
+use Rattle.txs_value_data.specs.Faults.{fault_name}
+use Rattle.txs_value_data.specs.declared.fault.Fault.{Fault}
+use Rattle.txs_value_data.specs.declared.fault.Span.{Span}
 
 -- ---- these are lines
 

@@ -1,8 +1,11 @@
 pub mod Answered
 pub mod Begun
+pub mod Cutting
 pub mod Fronts
 pub mod Lessons
+pub mod Numbers
 pub mod OfAgents
 pub mod Printing
+pub mod Reading
 pub mod Threads
 pub mod Turns

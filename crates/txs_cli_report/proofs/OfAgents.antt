@@ -6,7 +6,7 @@ use Rattle.txs_value_cell.specs.Agents.{agents_from, with_agent}
 use Rattle.txs_cli_report.specs.Lines.{Script}
 use Rattle.txs_cli_report.specs.AgentLines.{AgentTold, AreAgentsTold, end_status, failed_by, named_from, status_of_agents, with_named}
 use Rattle.txs_value_cell.specs.declared.cell.CellDefinition.{CellDefinition}
-use Rattle.txs_value_base.specs.declared.fault.Fault.{Fault}
+use Rattle.txs_value_data.specs.declared.fault.Fault.{Fault}
 use Rattle.txs_value_data.specs.declared.value.CellId.{CellId}
 use Rattle.txs_value_data.specs.declared.value.CellKind.{CellKind}
 use Rattle.txs_value_data.specs.declared.value.CellKind.TheVariants.{Ref, Atom, Agent}

@@ -1,8 +1,8 @@
 -- What stands behind a line on the standard error where it is explained.
 use Rattle.std.specs.Prelude.{ℕ, List, [], ◌∷◌, ◌++◌, Option, Some, None, codes, decimal}
-use Rattle.txs_reader_lines.specs.Place.{line_number, column_number}
-use Rattle.txs_reader_lines.specs.Pointed.{pointed}
-use Rattle.txs_value_base.specs.declared.fault.Span.{Span}
+use Rattle.txs_reader.specs.Place.{line_number, column_number}
+use Rattle.txs_reader.specs.Pointed.{pointed}
+use Rattle.txs_value_data.specs.declared.fault.Span.{Span}
 
 -- the line and the column of an offset of a text, each behind a colon
 abbrev pub place_in : List ℕ → ℕ → List ℕ

@@ -7,12 +7,12 @@ use Rattle.txs_compile.specs.declared.compile_error.CompileError.{CompileError}
 use Rattle.txs_compile.specs.declared.compile_error.CompileError.TheVariants.{Read, Resolve, Check as Unsound, Memory as NoMemory}
 use Rattle.txs_world_protocol.specs.declared.report.ActorReport.{ActorReport}
 use Rattle.txs_cli_report.specs.Explained.{explained}
-use Rattle.txs_cli_plays.specs.declared.plays.WrongPlay.{WrongPlay}
+use Rattle.txs_cli_report.specs.declared.plays.WrongPlay.{WrongPlay}
 use Rattle.txs_reader.specs.Errors.{report_number as read_number, report_name as read_name}
 use Rattle.txs_resolve_expand.specs.Reported.{report_number as resolve_number, report_name as resolve_name}
-use Rattle.txs_value_base.specs.Faults.{fault_name}
-use Rattle.txs_value_base.specs.declared.fault.Fault.{Fault}
-use Rattle.txs_value_base.specs.declared.fault.Span.{Span}
+use Rattle.txs_value_data.specs.Faults.{fault_name}
+use Rattle.txs_value_data.specs.declared.fault.Fault.{Fault}
+use Rattle.txs_value_data.specs.declared.fault.Span.{Span}
 
 -- a script as the program has it: its bytes, and the name of its file where lines are explained
 pub record Script : Type 0 where

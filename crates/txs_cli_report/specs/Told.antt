@@ -26,14 +26,14 @@ use Rattle.txs_world_protocol.specs.declared.report.ActorReport.{ActorReport}
 use Rattle.txs_cli_report.specs.AgentLines.{AreAgentsTold, failure_of, named_from, status_of_agents}
 use Rattle.txs_cli_report.specs.CellLines.{cell_lines}
 use Rattle.txs_cli_report.specs.Lines.{Script, IsLesson, AreThreadsTold, all_printed, list_place, refused_line, refused_place, status_from}
-use Rattle.txs_cli_plays.specs.EventLines.{event_lines}
-use Rattle.txs_cli_plays.specs.Plays.{plays_in}
-use Rattle.txs_cli_plays.specs.declared.plays.WrongPlay.{WrongPlay}
+use Rattle.txs_cli_report.specs.EventLines.{event_lines}
+use Rattle.txs_cli_report.specs.Plays.{plays_in}
+use Rattle.txs_cli_report.specs.declared.plays.WrongPlay.{WrongPlay}
 use Rattle.txs_world_shared.specs.SharedState.{PlainShared, shared_of, numbered_book, newest_of}
 use Rattle.txs_tree_meaning.specs.Tree.{PlainProgram}
 use Rattle.txs_value_data.specs.Limits.{most_nodes, most_script}
 use Rattle.txs_value_cell.specs.declared.cell.CellDefinition.{CellDefinition}
-use Rattle.txs_value_base.specs.declared.fault.Span.{Span}
+use Rattle.txs_value_data.specs.declared.fault.Span.{Span}
 
 -- what is told: the bytes of both streams, and the status
 pub record Told : Type 0 where

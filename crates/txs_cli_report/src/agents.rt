@@ -10,9 +10,8 @@ use crate::explain::Script;
 use crate::told::{Front, Told, how_ended, tell_end};
 use std::alloc::AllocError;
 use txs_machine::ActorReport;
-use txs_value_base::Fault;
 use txs_value_cell::CellDefinition;
-use txs_value_data::{CellId, CellKind};
+use txs_value_data::{CellId, CellKind, Fault};
 use txs_world_protocol::Outcome;
 use txs_world_shared::SharedState;
 

@@ -5,8 +5,8 @@ ghost use Rattle.txs_value_data.specs.Printed.{Extends};
 ghost use Rattle.txs_world_shared.specs.SharedState.{newest_of};
 ghost use Rattle.txs_cli_report.specs.CellLines.{cell_line, cell_lines};
 
+use crate::write_both;
 use std::alloc::AllocError;
-use txs_cli_plays::write_both;
 use txs_value_cell::CellDefinition;
 use txs_value_data::{CellId, Name, Value, write_text};
 use txs_world_shared::SharedState;

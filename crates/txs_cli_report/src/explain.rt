@@ -5,10 +5,10 @@ ghost use Rattle.std.specs.Prelude.{◌≡◌, ◌++◌, OnErr, OnOk};
 ghost use Rattle.txs_value_data.specs.Printed.{Extends};
 ghost use Rattle.txs_cli_report.specs.Explained.{place_where, shown_where, explained};
 
+use crate::{write_both, write_number};
 use std::alloc::AllocError;
-use txs_cli_plays::{write_both, write_number};
-use txs_reader_lines::{position, write_pointed};
-use txs_value_base::Span;
+use txs_reader::{position, write_pointed};
+use txs_value_data::Span;
 
 /// A script of which lines on the standard error tell.
 #[derive(Clone, Copy)]

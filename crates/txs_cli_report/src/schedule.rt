@@ -2,17 +2,17 @@
 
 ghost use Rattle.std.specs.Io.KnownBytes.{Keeps};
 ghost use Rattle.std.specs.Prelude.{◌≡◌, Err, IfSome, IsErr};
-ghost use Rattle.txs_cli_plays.specs.Plays.{plays_in};
+ghost use Rattle.txs_cli_report.specs.Plays.{plays_in};
 ghost use Rattle.txs_cli_report.specs.Lent.{text_in};
 ghost use Rattle.txs_cli_report.specs.Told.{Told as PlainTold, ListTells, ScheduleTells, Written, front, list_name};
 
 use crate::explain::Script;
 use crate::play::{play_script, write_answer, write_told};
 use crate::told::{SPENT, Use, list_name, wrong_list};
+use crate::{ListError, WrongPlay, read_plays};
 use std::alloc::Global;
 use std::io::{Read, Write};
-use txs_cli_plays::{ListError, WrongPlay, read_plays};
-use txs_cli_request::RunOptions;
+use txs_cli_args::RunOptions;
 
 /// Writes what is told of a list of plays that has an item which says none.
 pub fn refuse_list<W: Write, F: Write>(

@@ -8,16 +8,16 @@ ghost use Rattle.txs_cli_report.specs.Lines.{IsLesson, at_place, lesson_of, list
 ghost use Rattle.txs_cli_report.specs.Told.{ScriptTells, Wanted, list_name};
 
 use crate::explain::{Script, write_explained};
+use crate::{WrongPlay, write_both, write_number};
 use std::alloc::{AllocError, Global};
 use txs_cli_advice::{
     OF_JOURNAL, OF_LIST, OF_MEMORY, OF_STEPS, of_check, of_fault, of_read, of_resolve, on_check,
     on_fault, on_read, on_resolve,
 };
-use txs_cli_plays::{WrongPlay, write_both, write_number};
-use txs_cli_request::RunOptions;
+use txs_cli_args::RunOptions;
 use txs_compile::CompileError;
 use txs_machine::{ActorReport, Entries, Repeated};
-use txs_value_base::{Fault, Span};
+use txs_value_data::{Fault, Span};
 use txs_world_protocol::Outcome;
 
 /// What the program tells: its standard output and error, and its status.

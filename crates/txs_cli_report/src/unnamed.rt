@@ -4,10 +4,10 @@ ghost use Rattle.std.specs.Prelude.{◌≡◌, [], IfOk};
 ghost use Rattle.txs_cli_report.specs.Lent.{text_in, told_of};
 ghost use Rattle.txs_cli_report.specs.Told.{NoActorTold};
 
+use crate::WrongPlay;
 use crate::explain::Script;
 use crate::told::{Told, UNUSABLE, complaint, explain, list_name, list_place};
 use std::alloc::{AllocError, Global};
-use txs_cli_plays::WrongPlay;
 use txs_code_meaning::Code;
 use txs_machine::{Play, Repeated};
 use txs_value_cell::count_agents;

@@ -1,7 +1,7 @@
 -- What code that has a form is fit for.
 use Rattle.std.proofs.Common.{arith, ◌≤◌, ◌+◌, ℕ, length}
 use Rattle.txs_code_decode.specs.CodeForm.{HasForm}
-use Rattle.txs_code_load.proofs.Formed.{few_cells, few_threads}
+use Rattle.txs_verify.proofs.Formed.{few_cells, few_threads}
 use Rattle.txs_code_meaning.specs.PlainCode.{PlainCode}
 
 fits : (n m : ℕ) → n ≤ 64 → m ≤ 1000 → n + m ≤ 65535

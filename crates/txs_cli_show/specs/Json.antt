@@ -3,7 +3,7 @@ use Rattle.std.specs.Prelude.{◌≡◌, ◌≤◌, ℕ, max, Bool, true, false,
 use Rattle.txs_cli_events.specs.declared.seen.Noted.{Noted}
 use Rattle.txs_cli_json.specs.Json.{AreJsonLines, end_line, ok_line, problem_line, refusal_kinds, run_kinds}
 use Rattle.txs_cli_report.specs.Told.{IsCompiled, Told}
-use Rattle.txs_cli_request.specs.declared.request.RunOptions.{RunOptions}
+use Rattle.txs_cli_args.specs.declared.request.RunOptions.{RunOptions}
 use Rattle.txs_code_meaning.specs.PlainCode.{PlainCode}
 use Rattle.txs_compile.specs.Compiled.{IsRefusal}
 use Rattle.txs_compile.specs.declared.compile_error.CompileError.{CompileError}

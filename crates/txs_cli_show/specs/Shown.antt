@@ -1,17 +1,17 @@
 -- What is shown of the run of a script by a list of plays: its events in their long form, and its audit.
 use Rattle.std.specs.Prelude.{◌≡◌, ℕ, Bool, true, false, List, [], ◌++◌, codes}
 use Rattle.std.specs.declared.result.Result.TheVariants.{Ok}
-use Rattle.txs_audit_answer.specs.Answered.{audit_turns, finishing, terms_as}
-use Rattle.txs_audit_answer.specs.declared.verdict.AuditError.{AuditError}
+use Rattle.txs_audit_book.specs.Answered.{audit_turns, finishing, terms_as}
+use Rattle.txs_audit_book.specs.declared.verdict.AuditError.{AuditError}
 use Rattle.txs_cli.specs.Audited.{IsPlayed, IsRunReport}
 use Rattle.txs_cli_audit.specs.Audit.{AuditTells}
 use Rattle.txs_cli_events.specs.LongLines.{long_lines}
 use Rattle.txs_cli_events.specs.declared.seen.Noted.{Noted}
-use Rattle.txs_cli_plays.specs.Plays.{plays_in}
-use Rattle.txs_cli_replay.specs.Noted.{AreInOrder, ArePrinted, AreTraced}
+use Rattle.txs_cli_report.specs.Plays.{plays_in}
+use Rattle.txs_cli_events.specs.Noted.{AreInOrder, ArePrinted, AreTraced}
 use Rattle.txs_cli_report.specs.Lines.{Script}
 use Rattle.txs_cli_report.specs.Told.{IsCompiled, ScriptTells, Told, Wanted}
-use Rattle.txs_cli_request.specs.declared.request.RunOptions.{RunOptions}
+use Rattle.txs_cli_args.specs.declared.request.RunOptions.{RunOptions}
 use Rattle.txs_code_meaning.specs.PlainCode.{PlainCode}
 use Rattle.txs_machine.specs.declared.schedule.Entries.{Entries}
 use Rattle.txs_machine.specs.declared.schedule.Play.{Play}

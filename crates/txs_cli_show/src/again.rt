@@ -7,9 +7,8 @@ ghost use Rattle.txs_cli_show.specs.Shown.{IsListed, IsReported, IsShown};
 
 use std::alloc::{AllocError, Global};
 use txs_cli::alone::run_plays;
-use txs_cli_events::{Noted, Replayed};
-use txs_cli_plays::{ListError, read_plays};
-use txs_cli_replay::replay;
+use txs_cli_events::{Noted, Replayed, replay};
+use txs_cli_report::{ListError, read_plays};
 use txs_code_meaning::Verified;
 use txs_machine::{Repeated, ScheduleError};
 use txs_world_protocol::Report;

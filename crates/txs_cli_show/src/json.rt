@@ -11,7 +11,7 @@ ghost use Rattle.txs_cli_show.specs.Json.{CheckShows, EndsInStatus, JsonTells, a
 use crate::again::run_listed;
 use crate::lines::terms_of;
 use std::alloc::{AllocError, Global};
-use txs_audit_answer::{AuditError, Terms, Verdict};
+use txs_audit_book::{AuditError, Terms, Verdict};
 use txs_cli::script::Working;
 use txs_cli_audit::{Audited, reason_of, status_of};
 use txs_cli_events::Replayed;
@@ -21,7 +21,7 @@ use txs_cli_report::told::{REFUSED, SPENT, Told, answer};
 use txs_code_meaning::Verified;
 use txs_compile::{CompileError, compile};
 use txs_tree_meaning::Program;
-use txs_value_base::Span;
+use txs_value_data::Span;
 use txs_world_protocol::Report;
 
 /// These lines, behind them that of this status, and nothing else.

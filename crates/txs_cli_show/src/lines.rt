@@ -1,7 +1,7 @@
 //! The events of a run in their long form, and behind them its audit.
 
 ghost use Rattle.std.specs.Prelude.{◌≡◌, IfOk, OnOk};
-ghost use Rattle.txs_audit_answer.specs.Answered.{finishing};
+ghost use Rattle.txs_audit_book.specs.Answered.{finishing};
 ghost use Rattle.txs_cli_audit.specs.Audit.{HasNoAnswer, IsRight};
 ghost use Rattle.txs_cli_report.specs.Lent.{lines_of, script_of, told_of};
 ghost use Rattle.txs_cli_report.specs.Told.{IsCompiled};
@@ -11,7 +11,7 @@ ghost use Rattle.txs_cli_show.specs.Shown.{MayAudit, ShowTells, lines_shown, pla
 
 use crate::again::run_listed;
 use std::alloc::{AllocError, Global};
-use txs_audit_answer::{AuditError, Terms, Verdict};
+use txs_audit_book::{AuditError, Terms, Verdict};
 use txs_cli::script::Working;
 use txs_cli_audit::{Audited, add_audit};
 use txs_cli_events::{Replayed, write_replayed};

@@ -5,7 +5,7 @@ use Rattle.std.specs.List.{flat_map, list_all}
 use Rattle.std.proofs.lemmas.Bool.{false≢true}
 use Rattle.std.proofs.lemmas.List.Folds.{list_all-append}
 use Rattle.std.proofs.lemmas.Str.{encodes-append}
-use Rattle.txs_reader_lines.specs.Sign.{is_escaped}
+use Rattle.txs_reader.specs.Sign.{is_escaped}
 use Rattle.txs_cli_timeline.specs.Escaped.{escaped, escaped_character, is_hidden}
 use Rattle.txs_cli_timeline.specs.Entities.{is_plain, ends_entity, only_entities}
 

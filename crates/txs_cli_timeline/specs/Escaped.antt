@@ -1,7 +1,7 @@
 -- How a text of a script is written in a picture, as a list of characters.
 use Rattle.std.specs.Prelude.{ℕ, Bool, ◌||◌, ◌==◌, if◌then◌else◌, List, [], ◌∷◌, codes}
 use Rattle.std.specs.List.{flat_map}
-use Rattle.txs_reader_lines.specs.Sign.{is_escaped}
+use Rattle.txs_reader.specs.Sign.{is_escaped}
 
 -- A character is hidden if it can't be seen, changes how others are seen, or is none that XML allows.
 unfoldable pub is_hidden : ℕ → Bool

@@ -5,7 +5,7 @@ ghost use Rattle.txs_cli_timeline.specs.Appended.{Extends};
 ghost use Rattle.txs_cli_timeline.specs.Escaped.{escaped, escaped_character, is_hidden};
 
 use std::alloc::AllocError;
-use txs_reader_lines::is_escaped;
+use txs_reader::is_escaped;
 
 /// Whether a character can't be seen, changes how others are seen, or may not be in XML.
 #[tactic(auto, unfolding(crate::specs::Escaped::is_hidden))]

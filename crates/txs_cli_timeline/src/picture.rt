@@ -13,8 +13,8 @@ use crate::words::{meaning_of, push_actor, push_bytes, push_outcome, push_points
 use std::alloc::{AllocError, Global};
 use std::fmt::Write;
 use txs_cli_events::{Noted, Replayed};
-use txs_cli_plays::events::name_of;
-use txs_value_base::Span;
+use txs_cli_report::events::name_of;
+use txs_value_data::Span;
 use txs_world_protocol::{ActorReport, EventKind, Outcome};
 
 /// How many events a picture has at most.

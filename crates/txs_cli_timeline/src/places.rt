@@ -1,8 +1,8 @@
 //! The lines and columns of a script's bytes, each found in a part of its text.
 
 use std::alloc::{AllocError, Global};
-use txs_reader_lines::place::Position;
-use txs_reader_lines::position;
+use txs_reader::place::Position;
+use txs_reader::position;
 
 /// How many bytes a part has.
 const PART: usize = 1024;

@@ -4,9 +4,8 @@ use std::alloc::{AllocError, Global};
 use std::fmt::Write;
 use std::str;
 use txs_cli_events::Replayed;
-use txs_value_base::Fault;
 use txs_value_cell::Action;
-use txs_value_data::{CellId, CellKind, Items, Value};
+use txs_value_data::{CellId, CellKind, Fault, Items, Value};
 use txs_world_protocol::{Cause, EventKind, Outcome};
 
 /// How many bytes a text has before no more is written.

@@ -7,7 +7,7 @@ use Rattle.std.proofs.lemmas.Bool.{eqb-true, cases_lt, ltb-false, le-ltb}
 use Rattle.std.proofs.lemmas.List.{append-nil, nil_from_length, take_at, drop_at, take-append-drop, length-append, length-take, get_or-drop, get_or-take, get_or_past}
 use Rattle.std.proofs.lemmas.List.Concat.{flat_map-cons}
 use Rattle.std.proofs.lemmas.Nat.{be_bytes_2, be_bytes_4, be_bytes_8, from_be_bytes-to_be_bytes_2, from_be_bytes-to_be_bytes_4, from_be_bytes-to_be_bytes_8}
-use Rattle.txs_value_base.specs.Places.{nth, numbers_from}
+use Rattle.txs_value_data.specs.Places.{nth, numbers_from}
 use Rattle.txs_code_decode.specs.declared.error.CodeErrorKind.{CodeErrorKind}
 use Rattle.txs_code_decode.specs.declared.error.CodeErrorKind.TheVariants.{Truncated, Trailing}
 use Rattle.txs_code_decode.specs.declared.error.Refusal.{Refusal}

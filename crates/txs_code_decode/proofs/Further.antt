@@ -4,13 +4,13 @@ use Rattle.std.specs.Int.{Width, w16, w32, w64, byte_len, from_be_bytes}
 use Rattle.std.proofs.lemmas.Bool.{ltb-false, le-ltb}
 use Rattle.std.proofs.lemmas.Bool.Decides.{eqb_tells}
 use Rattle.std.proofs.lemmas.List.{length-append, length-take, take-append-drop, take_at, drop_at}
-use Rattle.txs_value_base.specs.Places.{nth}
-use Rattle.txs_value_base.specs.Operations.{operations, op_number}
+use Rattle.txs_value_data.specs.Places.{nth}
+use Rattle.txs_value_data.specs.Operations.{operations, op_number}
 use Rattle.txs_value_data.specs.Limits.{most_definitions, most_threads}
 use Rattle.txs_value_data.specs.PlainValue.{PlainValue}
 use Rattle.txs_value_data.specs.View.{plain_of, value_of}
 use Rattle.txs_value_data.specs.declared.value.CellKind.{CellKind}
-use Rattle.txs_value_base.specs.declared.op.Callee.{Callee}
+use Rattle.txs_value_data.specs.declared.op.Callee.{Callee}
 use Rattle.txs_code_meaning.specs.declared.instr.Instr.{Instr}
 use Rattle.txs_code_meaning.specs.declared.instr.Instr.TheVariants as instr
 use Rattle.txs_code_meaning.specs.PlainCode.{CodeBody, PlainCode}

@@ -2,11 +2,11 @@
 use Rattle.std.proofs.Common.{◌≡◌, ◌≢◌, ℕ, zero, suc, ◌+◌, ◌<◌, ◌≤◌, List, [], ◌∷◌, ◌++◌, length, map, get_or, take, add-one, Bool, Ok, Option, Some, None, refl, sym, ap, ◌∙◌, arith, inl, inr}
 use Rattle.std.specs.Prelude.{MatchOption}
 use Rattle.std.proofs.lemmas.Bool.{cases_lt}
-use Rattle.txs_value_base.specs.Operations.{op_number, operations}
-use Rattle.txs_value_base.specs.Places.{nth}
-use Rattle.txs_value_base.specs.declared.fault.Span.{Span}
-use Rattle.txs_value_base.specs.declared.op.Op.{Op}
-use Rattle.txs_value_base.specs.declared.op.Op.TheVariants as ops
+use Rattle.txs_value_data.specs.Operations.{op_number, operations}
+use Rattle.txs_value_data.specs.Places.{nth}
+use Rattle.txs_value_data.specs.declared.fault.Span.{Span}
+use Rattle.txs_value_data.specs.declared.op.Op.{Op}
+use Rattle.txs_value_data.specs.declared.op.Op.TheVariants as ops
 use Rattle.txs_code_meaning.specs.declared.instr.Instr.{Instr}
 use Rattle.std.specs.Int.{w32}
 use Rattle.txs_code_meaning.specs.PlainCode.{CodeBody}
@@ -14,7 +14,7 @@ use Rattle.txs_code_decode.specs.CodeForm.{all_instructions, body_format, instru
 use Rattle.txs_code_decode.specs.Format.{byte_at, counted, number, tested}
 use Rattle.txs_code_decode.specs.ValueForm.{at_most}
 use Rattle.txs_code_decode.specs.InstrForm.{placed_format}
-use Rattle.txs_value_base.proofs.OperationsLemmas.{number-of_operation, op_there}
+use Rattle.txs_value_data.proofs.OperationsLemmas.{number-of_operation, op_there}
 use Rattle.txs_code_decode.proofs.Exact.{InOrder, in_order_by}
 
 -- past its end a list has nothing

@@ -1,7 +1,7 @@
 -- The byte form of cells and constants.
 use Rattle.std.specs.Prelude.{ℕ, Bool, true, false, List, [], ◌∷◌, ◌++◌, map, Option, Some, None}
-use Rattle.txs_value_base.specs.declared.op.Callee.{Callee}
-use Rattle.txs_value_base.specs.declared.op.Callee.TheVariants as callee
+use Rattle.txs_value_data.specs.declared.op.Callee.{Callee}
+use Rattle.txs_value_data.specs.declared.op.Callee.TheVariants as callee
 use Rattle.txs_value_data.specs.Limits.{most_definitions, most_depth}
 use Rattle.txs_value_data.specs.View.{plain_of, value_of}
 use Rattle.txs_value_cell.specs.declared.cell.CellDefinition.{CellDefinition}

@@ -1,15 +1,15 @@
 -- The byte form of instructions.
 use Rattle.std.specs.Prelude.{ℕ, nat_le, List, [], ◌∷◌, ◌++◌}
 use Rattle.std.specs.Int.{w16, w32, to_be_bytes}
-use Rattle.txs_value_base.specs.Operations.{op_number, operations}
-use Rattle.txs_value_base.specs.declared.fault.Span.{Span}
+use Rattle.txs_value_data.specs.Operations.{op_number, operations}
+use Rattle.txs_value_data.specs.declared.fault.Span.{Span}
 use Rattle.txs_value_cell.specs.declared.form.LookForm.TheVariants.{Deref, Ensure}
 use Rattle.txs_value_cell.specs.declared.form.PutForm.TheVariants.{RefSet, Reset}
 use Rattle.txs_value_cell.specs.declared.form.UpdateForm.TheVariants as update
-use Rattle.txs_value_base.specs.declared.op.Callee.{Callee}
-use Rattle.txs_value_base.specs.declared.op.Callee.TheVariants as callee
-use Rattle.txs_value_base.specs.declared.op.Op.{Op}
-use Rattle.txs_value_base.specs.declared.op.Op.TheVariants as ops
+use Rattle.txs_value_data.specs.declared.op.Callee.{Callee}
+use Rattle.txs_value_data.specs.declared.op.Callee.TheVariants as callee
+use Rattle.txs_value_data.specs.declared.op.Op.{Op}
+use Rattle.txs_value_data.specs.declared.op.Op.TheVariants as ops
 use Rattle.txs_code_meaning.specs.declared.instr.Instr.{Instr}
 use Rattle.txs_code_meaning.specs.declared.instr.Instr.TheVariants as instr
 use Rattle.txs_code_meaning.specs.declared.instr.OpenForm.TheVariants as open_form

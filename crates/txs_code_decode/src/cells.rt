@@ -1,7 +1,7 @@
 //! Cells and constants, read.
 
 ghost use Rattle.std.specs.Prelude.{◌≡◌, true};
-ghost use Rattle.txs_value_base.specs.Places.{nth};
+ghost use Rattle.txs_value_data.specs.Places.{nth};
 ghost use Rattle.txs_code_decode.specs.Format.{Gives, many_at};
 ghost use Rattle.txs_code_decode.specs.CellForm.{kinds, kinds_of, kind_format, modes, mode_format, constant_format, cell_format, validator_format};
 
@@ -11,9 +11,8 @@ use crate::operands::callee_at;
 use crate::tag::ValidatorTag;
 use crate::values::{LEVELS, value_at};
 use std::alloc::Global;
-use txs_value_base::Callee;
 use txs_value_cell::{CellDefinition, ErrorMode};
-use txs_value_data::{CellKind, Value};
+use txs_value_data::{Callee, CellKind, Value};
 
 /// The kind of this byte, if one has it.
 fn kind_of(byte: u8) -> Option<CellKind>

@@ -11,8 +11,8 @@ use crate::opcode::Opcode;
 use crate::operands::{Called, Numbered, call_at, called_at, const_at, core_at, number_at};
 use std::alloc::Global;
 use txs_code_meaning::Instr;
-use txs_value_base::Span;
 use txs_value_cell::{LookForm, PutForm, UpdateForm};
+use txs_value_data::Span;
 
 /// The instruction of this byte whose operands are here, where there are so many constants and functions.
 fn operands_at(

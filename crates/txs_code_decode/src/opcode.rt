@@ -1,7 +1,7 @@
 //! Instructions by the byte that says which they are.
 
 ghost use Rattle.std.specs.Prelude.{◌≡◌};
-ghost use Rattle.txs_value_base.specs.Places.{nth};
+ghost use Rattle.txs_value_data.specs.Places.{nth};
 ghost use Rattle.txs_code_decode.specs.InstrForm.{opcode_byte, opcode_of, opcodes};
 
 use txs_code_meaning::{Instr, OpenForm};

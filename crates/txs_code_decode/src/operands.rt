@@ -2,8 +2,8 @@
 
 ghost use Rattle.std.specs.Prelude.{◌≡◌};
 ghost use Rattle.std.specs.Int.{w16};
-ghost use Rattle.txs_value_base.specs.Places.{nth};
-ghost use Rattle.txs_value_base.specs.Operations.{op_number, operations};
+ghost use Rattle.txs_value_data.specs.Places.{nth};
+ghost use Rattle.txs_value_data.specs.Operations.{op_number, operations};
 ghost use Rattle.txs_code_decode.specs.declared.error.CodeErrorKind.TheVariants.{BadOperand};
 ghost use Rattle.txs_code_decode.specs.declared.opcode.Opcode.TheVariants as opcode;
 ghost use Rattle.txs_code_decode.specs.Format.{Gives, number, one_of, tested};
@@ -14,7 +14,7 @@ use crate::error::{CodeErrorKind, Stop, refused};
 use crate::fields::{u8_at, u16_at, u32_at};
 use crate::tag::CalleeTag;
 use txs_code_meaning::{Instr, OpenForm};
-use txs_value_base::{Callee, Op};
+use txs_value_data::{Callee, Op};
 
 /// The operation of this number, if there is one.
 fn op_of(number: u16) -> Option<Op>

@@ -1,7 +1,7 @@
 //! The bytes that say what is behind them.
 
 ghost use Rattle.std.specs.Prelude.{◌≡◌};
-ghost use Rattle.txs_value_base.specs.Places.{nth};
+ghost use Rattle.txs_value_data.specs.Places.{nth};
 ghost use Rattle.txs_code_decode.specs.CellForm.{validator_tags};
 ghost use Rattle.txs_code_decode.specs.InstrForm.{callee_tags};
 ghost use Rattle.txs_code_decode.specs.ValueForm.{tags};

@@ -6,7 +6,7 @@ use Rattle.std.specs.Prelude.{OnOk, is_ok, if◌then◌else◌, slice_index_or}
 use Rattle.std.proofs.lemmas.List.{append-nil, take_all}
 use Rattle.std.proofs.lemmas.List.Concat.{flat_map-cons}
 use Rattle.txs_value_data.specs.PlainValue.{PlainValue, vector, plain_row, plain_size, row_size}
-use Rattle.txs_value_base.specs.declared.fault.Span.{Span}
+use Rattle.txs_value_data.specs.declared.fault.Span.{Span}
 use Rattle.txs_code_meaning.specs.declared.instr.Instr.{Instr}
 use Rattle.txs_code_decode.specs.CodeForm.{paired}
 use Rattle.txs_code_decode.specs.InstrForm.{placed_bytes}

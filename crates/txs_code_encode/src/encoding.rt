@@ -16,9 +16,8 @@ use crate::written::{put_behind, put_name, put_placed, put_validator, put_value}
 use std::alloc::{AllocError, Global};
 use txs_code_decode::{CodeErrorKind, decode};
 use txs_code_meaning::{Body, Code, Instr, has_validator};
-use txs_value_base::Span;
 use txs_value_cell::{CellDefinition, ErrorMode};
-use txs_value_data::{CellKind, Value};
+use txs_value_data::{CellKind, Span, Value};
 
 /// The byte of a kind of cells.
 fn kind_byte(kind: CellKind) -> u8

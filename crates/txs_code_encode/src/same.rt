@@ -3,9 +3,8 @@
 ghost use Rattle.std.specs.Prelude.{◌≡◌, ◌↔◌, IsTrue};
 
 use txs_code_meaning::{Body, Code, Instr, OpenForm};
-use txs_value_base::Span;
 use txs_value_cell::CellDefinition;
-use txs_value_data::same;
+use txs_value_data::{Span, same};
 use txs_world_protocol::same_values;
 
 /// Whether two opens begin the same, with the same callee.

@@ -10,8 +10,7 @@ ghost use Rattle.txs_code_decode.specs.ValueForm.{AreWritable, IsWritable, name_
 use std::alloc::AllocError;
 use txs_code_decode::Opcode;
 use txs_code_meaning::{Instr, OpenForm};
-use txs_value_base::{Callee, Span};
-use txs_value_data::{Items, Name, Value};
+use txs_value_data::{Callee, Items, Name, Span, Value};
 
 /// Appends a byte, and bytes behind it.
 pub(crate) fn put_behind(byte: u8, bytes: &[u8], out: &mut Vec<u8>) -> Result<(), AllocError>

@@ -8,8 +8,8 @@ use Rattle.txs_frame.specs.Frame.{set_ref}
 use Rattle.txs_frame.specs.declared.frame.Commute.{Commute}
 use Rattle.txs_value_cell.specs.Forms.{rule, cell_of, cell_of_kind, cell_if, same_kind}
 use Rattle.txs_value_cell.specs.declared.action.Action.{Action}
-use Rattle.txs_value_base.specs.declared.fault.FaultKind.{FaultKind}
-use Rattle.txs_value_base.specs.declared.fault.Span.{Span}
+use Rattle.txs_value_data.specs.declared.fault.FaultKind.{FaultKind}
+use Rattle.txs_value_data.specs.declared.fault.Span.{Span}
 use Rattle.txs_value_cell.specs.declared.form.CellForm.TheVariants as form
 use Rattle.txs_value_cell.specs.declared.form.FormAsk.{FormAsk}
 use Rattle.txs_value_cell.specs.declared.form.FormAsk.TheVariants.{Nothing, ItsValue, Replacing, Swapping, Sending}

@@ -1,7 +1,7 @@
 -- Code whose instructions have spans of a script.
 use Rattle.std.specs.Prelude.{◌≤◌, List, [], ◌∷◌}
 use Rattle.txs_value_data.specs.Limits.{most_script}
-use Rattle.txs_value_base.specs.declared.fault.Span.{Span}
+use Rattle.txs_value_data.specs.declared.fault.Span.{Span}
 use Rattle.txs_code_meaning.specs.PlainCode.{CodeBody, PlainCode}
 
 -- a span ends where it begins or behind that, and within the longest script

@@ -5,9 +5,8 @@ ghost use Rattle.txs_code_meaning.specs.PlainCode.{PlainCode, CodeBody};
 
 use crate::instr::Instr;
 use std::marker::Model;
-use txs_value_base::Span;
 use txs_value_cell::CellDefinition;
-use txs_value_data::Value;
+use txs_value_data::{Span, Value};
 
 /// The code of a body: how many parameters it has, which are the first of its locals; how many locals in all; and its
 /// instructions, each with the span of what it was made for. A thread's body has no parameters.

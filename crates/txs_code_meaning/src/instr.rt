@@ -1,7 +1,7 @@
 //! Instructions.
 
-use txs_value_base::{Callee, Op};
 use txs_value_cell::{LookForm, PutForm, UpdateForm};
+use txs_value_data::{Callee, Op};
 
 /// What an open begins, with the callee that it names; that of `alter` names none.
 #[derive(Clone, Copy)]

@@ -8,7 +8,7 @@ use Rattle.txs_value_data.specs.declared.value.Value.{Value}
 use Rattle.txs_tree_meaning.specs.Known.{known}
 use Rattle.txs_tree_meaning.specs.Sound.{Sound}
 use Rattle.txs_tree_meaning.specs.Tree.{Tree, Const, Local, If, Do, Let, Loop, Recur, Core, Call, VectorOf, Println, Dosync, Look, Put, Update, Send, Trees, none, more, PlainFunction, PlainThread, PlainProgram}
-use Rattle.txs_tree_build.specs.Everywhere.{Facts, Everywhere, EverywhereIn, InFunction, InThread}
+use Rattle.txs_tree_meaning.specs.Everywhere.{Facts, Everywhere, EverywhereIn, InFunction, InThread}
 use Rattle.txs_code_meaning.specs.OwnCells.{HoldsDefined, RowHoldsDefined, NamesDefined, NameDefined, NamesOwnCells}
 use Rattle.txs_code_meaning.specs.PlainCode.{PlainCode, library_of}
 use Rattle.txs_theorem_threads.specs.FollowsAgent.{FollowsAgents}
@@ -22,9 +22,9 @@ use Rattle.txs_gen.specs.Sends.{sound_sends, SoundProgramSendsSound, CodeOfProgr
 use Rattle.txs_gen.proofs.OwnCells.{code_names_own_cells}
 use Rattle.txs_value_apply.proofs.CoreKeeps.{AnyItems, AnyNumber, Rules, by_items, core_keeps, vector_keeps}
 use Rattle.txs_opt.proofs.FoldedEverywhere.{KeptByOperations}
-use Rattle.txs_theorem_opt.proofs.Programs.{optimised_sound, optimised_has}
+use Rattle.txs_compile.proofs.Programs.{optimised_sound, optimised_has}
 use Rattle.txs_opt.specs.Optimised.{optimised}
-use Rattle.txs_theorem_opt.specs.Optimised.{OptimisedFollows, OptimisedFollowsAgents}
+use Rattle.txs_compile.specs.Optimised.{OptimisedFollows, OptimisedFollowsAgents}
 use Rattle.txs_compile.specs.Compiled.{codes_of}
 use Rattle.txs_compile.proofs.OwnCells.{both, ahead, behind}
 

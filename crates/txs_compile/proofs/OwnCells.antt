@@ -5,8 +5,8 @@ use Rattle.txs_value_data.specs.PlainValue.{PlainValue, nil, truth, int, key, te
 use Rattle.txs_value_data.specs.PlainValue as plain
 use Rattle.txs_value_data.specs.View.{plain_of, plains_of}
 use Rattle.txs_value_cell.specs.declared.cell.CellDefinition.{CellDefinition}
-use Rattle.txs_value_base.specs.declared.fault.Span.{Span}
-use Rattle.txs_value_base.specs.declared.op.Callee.{Callee}
+use Rattle.txs_value_data.specs.declared.fault.Span.{Span}
+use Rattle.txs_value_data.specs.declared.op.Callee.{Callee}
 use Rattle.txs_value_data.specs.declared.value.CellKind.{CellKind}
 use Rattle.txs_value_data.specs.declared.value.Value.{Value}
 use Rattle.txs_value_data.specs.declared.value.Value.TheVariants.{Cell, Vector}
@@ -16,12 +16,12 @@ use Rattle.txs_reader.specs.Tree as form
 use Rattle.txs_tree_meaning.specs.Known.{known, levels}
 use Rattle.txs_tree_meaning.specs.Tree.{Tree, Trees, Mark, Const, Local, Put, more, PlainFunction, PlainThread, PlainProgram}
 use Rattle.txs_code_meaning.specs.OwnCells.{kind_at, HoldsDefined, RowHoldsDefined, NamesDefined, NameDefined, NamesNone, OpeningsNameNone}
-use Rattle.txs_resolve_scope.specs.declared.names.FormName.{FormName}
-use Rattle.txs_resolve_scope.specs.declared.names.FormName.TheVariants as kind
-use Rattle.txs_resolve_scope.specs.declared.scope.Definition.{Definition}
-use Rattle.txs_resolve_scope.specs.declared.scope.Definition.TheVariants.{Constant, Cell as ACell, Function as AFunction}
-use Rattle.txs_resolve_scope.specs.Scope.{Scope, Entry, Meaning, a_form, dotted, a_local, the_current, defined_as, operation, unknown, meaning, with_local}
-use Rattle.txs_resolve_scope.proofs.Meanings.{AllDefined, definition_so, meaning_so}
+use Rattle.txs_resolve_expand.specs.declared.names.FormName.{FormName}
+use Rattle.txs_resolve_expand.specs.declared.names.FormName.TheVariants as kind
+use Rattle.txs_resolve_expand.specs.declared.scope.Definition.{Definition}
+use Rattle.txs_resolve_expand.specs.declared.scope.Definition.TheVariants.{Constant, Cell as ACell, Function as AFunction}
+use Rattle.txs_resolve_expand.specs.Scope.{Scope, Entry, Meaning, a_form, dotted, a_local, the_current, defined_as, operation, unknown, meaning, with_local}
+use Rattle.txs_resolve_expand.proofs.Meanings.{AllDefined, definition_so, meaning_so}
 use Rattle.txs_resolve.specs.declared.definition.CellSort.{CellSort}
 use Rattle.txs_resolve.specs.declared.definition.Validation.{Validation}
 use Rattle.txs_resolve_expand.specs.declared.error.ResolveError.{ResolveError}
@@ -36,7 +36,7 @@ use Rattle.txs_resolve_expand.specs.declared.shapes.Spot.{Spot}
 use Rattle.txs_resolve_expand.specs.Answers.{◌>>=◌, refuse}
 use Rattle.txs_resolve_expand.specs.Expansions.{alone, body, expand_once, form_at}
 use Rattle.txs_resolve_expand.specs.Expressions.{Answer, Bound, Special, row, one_part, putting, choice, binding, changing, Core as ACore, whole, parted, Resolver, spot_at, spot_mark, in_room, some_room, narrow, symbol_node, leaf_node, leaf_value, callee_of, flag, sequence_node, are_wanted, choice_node, single_node, is_wanted, change_node, binding_node, core_of, bound_name, named_all, named_bindings, put_together, made, resolved, named}
-use Rattle.txs_resolve_body.specs.Literals.{literal, literals}
+use Rattle.txs_resolve.specs.Literals.{literal, literals}
 use Rattle.txs_resolve_expand.specs.Namespace.{behind_namespace}
 use Rattle.txs_resolve.specs.Names.{State, nothing, program, new_name, Defining, defining_of, new_cell, validator_named, validator_place, with_definition, entered, defined_as_one, NamedForm, named_form, defined_at, parameters, Written, written, with_function, function, with_thread, future, top_level, step, steps, Resolves}
 use Rattle.txs_resolve.proofs.Scoping.{Every, then_every, one_every, two_every, three_every, if_every}

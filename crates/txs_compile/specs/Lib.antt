@@ -1,1 +1,5 @@
 pub mod Compiled
+pub mod Law
+pub mod Optimised
+pub mod ReadForms
+pub mod ReadProgram

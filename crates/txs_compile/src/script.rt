@@ -20,7 +20,9 @@ ghost use Rattle.txs_tree_meaning.specs.View.{program_of};
 ghost use Rattle.txs_value_data.specs.Limits.{most_nodes};
 ghost use Rattle.txs_compile.specs.Compiled.{IsProgramOf, IsRefusal, codes_of};
 
+use crate::byte_form::code_of_script_has_form;
 use crate::compile_error::CompileError;
+use crate::{optimised_code_follows, optimised_code_follows_agents};
 use std::alloc::Global;
 use txs_check::{CheckErrorKind, check};
 use txs_code_meaning::Verified;
@@ -32,8 +34,6 @@ use txs_opt::optimised_copy;
 use txs_reader::{Form, ReadErrorKind, read_script};
 use txs_resolve::law::resolved_is_marked;
 use txs_resolve::{ResolveErrorKind, resolve};
-use txs_theorem_byte_form::law::code_of_script_has_form;
-use txs_theorem_opt::{optimised_code_follows, optimised_code_follows_agents};
 use txs_tree_meaning::{Program, Raw};
 use txs_value_data::limits::MOST_NODES;
 

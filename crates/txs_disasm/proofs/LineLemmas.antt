@@ -4,7 +4,7 @@ use Rattle.std.specs.Prelude.{IsTrue, OnErr, OnOk, Option, Result, Ok, Err, is_o
 use Rattle.std.proofs.lemmas.Bool.{false≢true}
 use Rattle.std.proofs.Math.Seq.{drop-cons}
 use Rattle.std.proofs.lemmas.List.{append-nil, drop_all}
-use Rattle.txs_value_base.specs.declared.fault.Span.{Span}
+use Rattle.txs_value_data.specs.declared.fault.Span.{Span}
 use Rattle.txs_code_meaning.specs.PlainCode.{CodeBody}
 use Rattle.txs_code_meaning.specs.declared.instr.Instr.{Instr}
 use Rattle.txs_disasm.specs.declared.lines.BodyKind.{BodyKind}

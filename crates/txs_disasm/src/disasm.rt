@@ -11,9 +11,8 @@ use crate::output::Page;
 use std::alloc::Global;
 use std::io::Write;
 use txs_code_meaning::{Body, Code, Instr};
-use txs_value_base::Span;
 use txs_value_cell::CellDefinition;
-use txs_value_data::Value;
+use txs_value_data::{Span, Value};
 
 /// Writes the lines of cells.
 fn list_cells<W: Write>(

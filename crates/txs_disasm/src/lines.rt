@@ -9,9 +9,8 @@ use crate::names::{instr_name, kind_name, mode_words};
 use itoa::Buffer;
 use std::alloc::AllocError;
 use txs_code_meaning::{Body, Instr, OpenForm};
-use txs_value_base::{Callee, Span};
 use txs_value_cell::CellDefinition;
-use txs_value_data::{Value, write_text};
+use txs_value_data::{Callee, Span, Value, write_text};
 
 /// What a body is of.
 #[derive(Clone, Copy)]

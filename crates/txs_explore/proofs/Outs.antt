@@ -1,6 +1,6 @@
 -- Which of all actors was stopped for memory.
 use Rattle.std.proofs.Common.{◌≡◌, ◌+◌, ℕ, List, ◌++◌, length, Some, sym, ap, ◌∙◌}
-use Rattle.txs_value_base.specs.Places.{nth}
+use Rattle.txs_value_data.specs.Places.{nth}
 use Rattle.txs_world_protocol.specs.declared.event.Outcome.TheVariants.{Memory}
 use Rattle.txs_machine.specs.Running.{attendants}
 use Rattle.txs_machine.specs.declared.player.AgentPlayer.{AgentPlayer}

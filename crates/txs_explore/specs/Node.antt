@@ -1,8 +1,6 @@
 -- A place of the search in terms of what was seen there: who may go on, whose asks may be exchanged, and what is told of an end.
 use Rattle.std.specs.Prelude.{◌≡◌, ◌<◌, ℕ, zero, suc, Bool, not, ◌&&◌, ◌==◌, List, [], ◌∷◌, length, map, Option, None, if◌then◌else◌}
-use Rattle.txs_world_protocol.specs.Ask.{Writes, buffered}
 use Rattle.txs_world_protocol.specs.declared.ask.Ask.{Ask}
-use Rattle.txs_world_book.specs.Book.{is_there}
 use Rattle.txs_theorem_explore.specs.Runners.{are_apart, is_due, those}
 use Rattle.txs_world_shared.specs.Parts.{values_of, faults_of}
 use Rattle.txs_world_shared.specs.SharedState.{shared_of}
@@ -15,10 +13,6 @@ use Rattle.txs_explore.specs.declared.look.Node.{Node}
 abbrev pub AreBelow : ℕ → List ℕ → Type 0
 AreBelow n [] = Unit {0}
 AreBelow n (k ∷ ks) = (k < n) × AreBelow n ks
-
--- whether the cell with this number has a value among these
-abbrev pub is_buffered : Writes → ℕ → Bool
-is_buffered ws k = is_there (buffered ws k)
 
 -- what the actor with this number asks next, if it does
 abbrev pub asks_in : List Look → ℕ → Option Ask

@@ -1,7 +1,7 @@
 -- What is told of the end of a code's run, and what is explored of a code.
 use Rattle.std.specs.Prelude.{ℕ, zero, suc, List, [], ◌∷◌, length, Option}
 use Rattle.txs_world_protocol.specs.SeenEvent.{home}
-use Rattle.txs_value_base.specs.declared.fault.Fault.{Fault}
+use Rattle.txs_value_data.specs.declared.fault.Fault.{Fault}
 use Rattle.txs_value_cell.specs.declared.cell.CellDefinition.{CellDefinition}
 use Rattle.txs_value_data.specs.declared.value.CellId.{CellId}
 use Rattle.txs_value_data.specs.declared.value.Value.{Value}

@@ -7,40 +7,14 @@ ghost use Rattle.txs_world.specs.Store.{next_action};
 ghost use Rattle.txs_world_shared.specs.SharedState.{numbered_book, shared_of};
 ghost use Rattle.txs_theorem_explore.specs.Runners.{are_apart, is_due, is_idle, is_steady, may_exchange};
 ghost use Rattle.txs_theorem_explore.specs.System.{has};
-ghost use Rattle.txs_explore.specs.Node.{AreBelow, apart_in, due_in, is_buffered, kept_by};
+ghost use Rattle.txs_explore.specs.Node.{AreBelow, apart_in, due_in, kept_by};
 
 use crate::look::Node;
 use std::alloc::{AllocError, Global};
-use txs_value_data::{CellId, Value};
-use txs_world_protocol::{Ask, Event, EventKind};
+use txs_value_data::CellId;
+use txs_world_book::writes_to;
+use txs_world_protocol::{Ask, Event};
 use txs_world_shared::SharedState;
-
-/// Whether a cell with this number is among these writes.
-fn is_written_by(writes: &[(CellId, Value)], number: u16) -> bool
-    ensures { result ≡ is_buffered writes.now number }
-{
-    for write in writes {
-        if write.0.number == number {
-            return true;
-        }
-    }
-    false
-}
-
-/// Whether an event writes the cell with this number.
-fn writes_to(kind: &EventKind, number: u16) -> bool
-    ensures { result ≡ writes_to kind.now number }
-{
-    match kind {
-        EventKind::Commit { writes, .. } => is_written_by(writes.as_slice(), number),
-        EventKind::Act {
-            agent,
-            new: Ok(_),
-            ..
-        } => agent.number == number,
-        _ => false,
-    }
-}
 
 /// One more, if it is so.
 fn one_more(times: usize, so: bool) -> usize

@@ -2,8 +2,7 @@
 
 ghost use Rattle.std.specs.Prelude.{◌≡◌, ◌↔◌, IsTrue};
 
-use txs_value_base::Fault;
-use txs_value_data::{Listed, Value};
+use txs_value_data::{Fault, Listed, Value};
 use txs_world_protocol::{Outcome, same_values};
 
 /// What is told of an actor: how it ended, if it has, and the bytes that it printed.

@@ -1,7 +1,7 @@
 //! Runs up to some asks, made again from the beginning: what actors run on can't be copied.
 
 ghost use Rattle.std.specs.Prelude.{◌≡◌, ◌≤◌, ◌<◌, ◌+◌, ◌-◌, ◌^◌, ◌++◌, ◌∷◌, ℕ, List, [], length, false, IfOk, OnOk, Some, None};
-ghost use Rattle.txs_value_base.specs.Places.{nth};
+ghost use Rattle.txs_value_data.specs.Places.{nth};
 ghost use Rattle.txs_world_protocol.specs.declared.event.Outcome.TheVariants.{Memory};
 ghost use Rattle.txs_theorem_explore.specs.Runners.{many};
 ghost use Rattle.txs_machine.specs.Running.{attendants};

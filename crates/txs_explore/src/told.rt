@@ -1,7 +1,7 @@
 //! What is told of a report: whether it has the ending of a way, and the run of a way with its report.
 
 ghost use Rattle.std.specs.Prelude.{◌≡◌, ◌≤◌, ◌<◌, ◌+◌, ◌++◌, ◌∷◌, [], length, map, take, true, IfOk, IfSome, IsTrue, OnOk, Some};
-ghost use Rattle.txs_value_base.specs.Places.{nth};
+ghost use Rattle.txs_value_data.specs.Places.{nth};
 ghost use Rattle.txs_world_book.specs.Book.{has_cell};
 ghost use Rattle.txs_world_book.specs.Served.{cells_of};
 ghost use Rattle.txs_world_shared.specs.Parts.{values_of, fault_of, with_fault, faults_of};
@@ -16,9 +16,8 @@ use crate::ways::Way;
 use std::alloc::{AllocError, Global};
 use txs_code_meaning::Verified;
 use txs_machine::{ActorReport, Entries, Play, Repeated, ScheduleError, SharedState, run_repeated};
-use txs_value_base::Fault;
 use txs_value_cell::CellDefinition;
-use txs_value_data::{CellId, CellKind, Value};
+use txs_value_data::{CellId, CellKind, Fault, Value};
 use txs_world_protocol::same_value;
 
 /// Whether an entry says of its actor what is told here.

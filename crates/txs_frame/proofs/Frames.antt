@@ -3,9 +3,9 @@ use Rattle.std.proofs.Common.{◌≡◌, ℕ, ◌||◌, true, false, if◌then�
 use Rattle.std.specs.Prelude.{insert}
 use Rattle.txs_world_protocol.specs.Ask.{Writes, with_write}
 use Rattle.txs_value_cell.specs.declared.action.Action.{Action}
-use Rattle.txs_value_base.specs.declared.fault.FaultKind.TheVariants as fault
-use Rattle.txs_value_base.specs.declared.fault.FaultKind.{FaultKind}
-use Rattle.txs_value_base.specs.declared.op.Callee.{Callee}
+use Rattle.txs_value_data.specs.declared.fault.FaultKind.TheVariants as fault
+use Rattle.txs_value_data.specs.declared.fault.FaultKind.{FaultKind}
+use Rattle.txs_value_data.specs.declared.op.Callee.{Callee}
 use Rattle.txs_value_data.specs.declared.value.CellId.{CellId}
 use Rattle.txs_value_data.specs.declared.value.CellKind.{CellKind}
 use Rattle.txs_value_data.specs.declared.value.CellKind.TheVariants.{Ref}

@@ -1,7 +1,7 @@
 -- What a transaction does at its end before it commits: its commutes are applied again, and validators look at what it writes.
 use Rattle.std.specs.Prelude.{◌≡◌, ℕ, true, false, Bool, is_some, List, [], ◌∷◌, ◌++◌, map, Option, Some, None}
 use Rattle.txs_world_protocol.specs.Ask.{Writes, buffered, with_write}
-use Rattle.txs_value_base.specs.declared.op.Callee.{Callee}
+use Rattle.txs_value_data.specs.declared.op.Callee.{Callee}
 use Rattle.txs_value_cell.specs.Cells.{Validators, validator_at}
 use Rattle.txs_value_data.specs.declared.value.CellId.{CellId}
 use Rattle.txs_value_data.specs.declared.value.Value.{Value}

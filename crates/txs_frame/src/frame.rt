@@ -11,9 +11,8 @@ use crate::own::{How, Own, find, how_at, put, was_commuted, with_commute};
 use std::alloc::{AllocError, Global};
 use std::marker::Model;
 use thiserror::Error;
-use txs_value_base::Callee;
 use txs_value_cell::Action;
-use txs_value_data::{CellId, CellKind, Listed, Value, copy_value, copy_values};
+use txs_value_data::{Callee, CellId, CellKind, Listed, Value, copy_value, copy_values};
 
 /// A commute that is kept: its ref, what it calls, and the arguments behind the ref's value.
 #[derive(Drop)]

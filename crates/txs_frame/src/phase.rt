@@ -13,9 +13,8 @@ use crate::frame::{Commute, TxFrame};
 use std::alloc::{AllocError, Global};
 use std::marker::Model;
 use std::mem;
-use txs_value_base::Callee;
 use txs_value_cell::CellDefinition;
-use txs_value_data::{CellId, Listed, Value, copy_value, copy_values};
+use txs_value_data::{Callee, CellId, Listed, Value, copy_value, copy_values};
 
 /// What a transaction has to do at its end before it commits.
 #[derive(Drop)]

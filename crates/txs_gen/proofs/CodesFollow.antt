@@ -1,7 +1,7 @@
 -- The code of a program follows it, since it is generated from its trees.
 use Rattle.std.proofs.Common.{◌≡◌, ℕ, zero, suc, List, [], ◌∷◌, length, map, Some, refl, sym, ap, ◌∙◌, subst}
 use Rattle.txs_value_data.specs.declared.value.Value.{Value}
-use Rattle.txs_value_base.specs.Places.{nth}
+use Rattle.txs_value_data.specs.Places.{nth}
 use Rattle.txs_tree_meaning.proofs.Callable.{missing, same_some}
 use Rattle.txs_tree_meaning.specs.Known.{known}
 use Rattle.txs_tree_meaning.specs.Sound.{SoundFunctions, SoundCells, SoundThreads}

@@ -4,13 +4,13 @@ use Rattle.std.specs.Prelude.{slice_set}
 use Rattle.std.proofs.Math.Seq.{drop-cons}
 use Rattle.std.proofs.lemmas.List.{append-nil, drop_all}
 use Rattle.std.proofs.lemmas.Bool.Decides.{nat_tests}
-use Rattle.txs_value_base.specs.declared.fault.Span.{Span}
+use Rattle.txs_value_data.specs.declared.fault.Span.{Span}
 use Rattle.txs_value_cell.specs.declared.form.LookForm.{LookForm}
 use Rattle.txs_value_cell.specs.declared.form.PutForm.{PutForm}
 use Rattle.txs_value_cell.specs.declared.form.UpdateForm.{UpdateForm}
-use Rattle.txs_value_base.specs.declared.op.Callee.{Callee}
-use Rattle.txs_value_base.specs.declared.op.Callee.TheVariants.{Core as CoreOp, Function}
-use Rattle.txs_value_base.specs.declared.op.Op.{Op}
+use Rattle.txs_value_data.specs.declared.op.Callee.{Callee}
+use Rattle.txs_value_data.specs.declared.op.Callee.TheVariants.{Core as CoreOp, Function}
+use Rattle.txs_value_data.specs.declared.op.Op.{Op}
 use Rattle.txs_value_data.specs.declared.value.Value.{Value}
 use Rattle.txs_tree_meaning.specs.Sound.{nodes, nodes_in, SoundCallee, SoundSent, SoundLet, SoundDo}
 use Rattle.txs_tree_meaning.specs.Tree.{Mark, Tree, Const, Local, If, Do, Let, Loop, Recur, Core, Call, VectorOf, Println, Dosync, Look, Put, Update, Send, Trees, none, more, count, is_none}

@@ -1,15 +1,15 @@
 -- Each send in generated code is that of a tree, and so names a callee that a program may send.
 use Rattle.std.specs.List.{AllByRecursion}
 use Rattle.std.proofs.Common.{◌≡◌, ℕ, zero, suc, ◌+◌, List, [], ◌∷◌, ◌++◌, map, Option, Some, None, refl, sym, subst}
-use Rattle.txs_value_base.specs.Places.{nth}
-use Rattle.txs_value_base.specs.declared.fault.Span.{Span}
-use Rattle.txs_value_base.specs.declared.op.Callee.{Callee}
-use Rattle.txs_value_base.specs.declared.op.Callee.TheVariants as callee
+use Rattle.txs_value_data.specs.Places.{nth}
+use Rattle.txs_value_data.specs.declared.fault.Span.{Span}
+use Rattle.txs_value_data.specs.declared.op.Callee.{Callee}
+use Rattle.txs_value_data.specs.declared.op.Callee.TheVariants as callee
 use Rattle.txs_value_data.specs.declared.value.CellId.{CellId}
 use Rattle.txs_tree_meaning.specs.Known.{Known, known_of, known_from, known}
 use Rattle.txs_tree_meaning.specs.Sound.{Zone, in_function, in_thread, in_dosync, SoundSent, SoundTree, SoundAll, SoundLet, SoundDo, SoundFunctions, SoundThreads}
 use Rattle.txs_tree_meaning.specs.Tree.{Tree, Const, Local, If, Do, Let, Loop, Recur, Core, Call, VectorOf, Println, Dosync, Look, Put, Update, Send, Trees, none, more, count, PlainFunction, PlainThread, PlainProgram}
-use Rattle.txs_tree_build.specs.Everywhere.{Everywhere, EverywhereIn, InFunction, InThread}
+use Rattle.txs_tree_meaning.specs.Everywhere.{Everywhere, EverywhereIn, InFunction, InThread}
 use Rattle.txs_code_meaning.specs.Machine.{PlainInstr, Push, Load, Store, Pop, Jump, JumpFalse, CoreOf, CallOf, Return, MakeVector, PrintOf, TxBegin, TxEnd, LookOf, PutOf, OpenOf, CloseOf, SendOf, Halt, TakeOf, RunOf, FinishOf, ThreadCode, agent_code, fetch, instr_at}
 use Rattle.txs_code_meaning.specs.PlainCode.{CodeBody, PlainCode, parameters_of, thread_code, library_of}
 use Rattle.txs_theorem_threads.specs.FollowsAll.{source_of}

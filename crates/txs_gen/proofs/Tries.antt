@@ -8,11 +8,11 @@ use Rattle.txs_frame.specs.declared.phase.Task.{Task}
 use Rattle.txs_frame.specs.declared.phase.Task.TheVariants.{Redoes, Validates}
 use Rattle.txs_value_apply.specs.Core.{core}
 use Rattle.txs_value_cell.specs.Cells.{Validators, validator_at}
-use Rattle.txs_value_base.specs.Places.{nth, fault_at}
-use Rattle.txs_value_base.specs.declared.fault.FaultKind.TheVariants.{RetryLimit, AgentFailed}
-use Rattle.txs_value_base.specs.declared.fault.Span.{Span}
-use Rattle.txs_value_base.specs.declared.op.Callee.{Callee}
-use Rattle.txs_value_base.specs.declared.op.Callee.TheVariants.{Core as CoreOp, Function}
+use Rattle.txs_value_data.specs.Places.{nth, fault_at}
+use Rattle.txs_value_data.specs.declared.fault.FaultKind.TheVariants.{RetryLimit, AgentFailed}
+use Rattle.txs_value_data.specs.declared.fault.Span.{Span}
+use Rattle.txs_value_data.specs.declared.op.Callee.{Callee}
+use Rattle.txs_value_data.specs.declared.op.Callee.TheVariants.{Core as CoreOp, Function}
 use Rattle.txs_value_data.specs.declared.value.CellId.{CellId}
 use Rattle.txs_value_data.specs.declared.value.Value.{Value}
 use Rattle.txs_value_data.specs.declared.value.Value.TheVariants.{Nil}

@@ -3,7 +3,7 @@ use Rattle.std.specs.Prelude.{suc, List, map}
 use Rattle.txs_tree_meaning.specs.Known.{Known, known}
 use Rattle.txs_tree_meaning.specs.Sound.{Sound, SoundSent}
 use Rattle.txs_tree_meaning.specs.Tree.{PlainFunction, PlainProgram}
-use Rattle.txs_tree_build.specs.Everywhere.{Facts, InProgram}
+use Rattle.txs_tree_meaning.specs.Everywhere.{Facts, InProgram}
 use Rattle.txs_code_meaning.specs.PlainCode.{PlainCode, thread_code, library_of}
 use Rattle.txs_theorem_threads.specs.Sends.{CodesSendSound, AgentsSendSound}
 use Rattle.txs_gen.specs.Generated.{IsCodeOf}

@@ -11,9 +11,8 @@ ghost use Rattle.txs_value_data.specs.Limits.{most_items, most_locals, most_node
 use std::alloc::AllocError;
 use txs_code_meaning::{Instr, OpenForm};
 use txs_tree_meaning::{Node, NodeKind};
-use txs_value_base::{Callee, Span};
 use txs_value_cell::UpdateForm;
-use txs_value_data::{Value, copy_value};
+use txs_value_data::{Callee, Span, Value, copy_value};
 
 /// What a node's code finds: how many locals there are, how many values are on the stack, and what a
 /// recur does there: from which local on it stores its values, and where it continues.

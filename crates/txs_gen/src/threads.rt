@@ -13,9 +13,8 @@ use crate::emit::{Around, Emitter, emit};
 use std::alloc::{AllocError, Global};
 use txs_code_meaning::{Body, Code, Instr, Verified};
 use txs_tree_meaning::{Function, Node, Program, Thread};
-use txs_value_base::Span;
 use txs_value_cell::copy_cells;
-use txs_value_data::Value;
+use txs_value_data::{Span, Value};
 
 /// Constants, and bodies that push them, with how many values each has on the stack at most.
 #[derive(Drop)]

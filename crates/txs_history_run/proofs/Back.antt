@@ -2,7 +2,7 @@
 use Rattle.std.proofs.Common.{◌≡◌, ◌+◌, ◌<◌, ◌==◌, ℕ, zero, suc, ◌≤◌, ◌^◌, Bool, true, false, List, [], ◌∷◌, ◌++◌, length, map, take, get_or, Option, Some, refl, ap, sym, ◌∙◌, subst, arith}
 use Rattle.std.proofs.lemmas.Bool.Decides.{nat_tests}
 use mathlib.Core.List.{IsPrefix}
-use Rattle.txs_value_base.specs.Places.{nth}
+use Rattle.txs_value_data.specs.Places.{nth}
 use Rattle.txs_world_protocol.specs.SeenEvent.{home}
 use Rattle.txs_value_cell.specs.declared.cell.CellDefinition.{CellDefinition}
 use Rattle.txs_code_meaning.specs.PlainCode.{PlainCode}
@@ -10,10 +10,10 @@ use Rattle.txs_value_data.specs.declared.value.CellId.{CellId}
 use Rattle.txs_history.proofs.Beginnings.{prefix_trans}
 use Rattle.txs_history.specs.History.{events_of, HasOthers, IsWithin}
 use Rattle.txs_theorem_runs.specs.Shared.{store_of}
-use Rattle.txs_theorem_history.specs.History.{History, shared_by, sum_to}
-use Rattle.txs_history_store.specs.Logged.{PlainLoggedAtom, PlainLoggedStore, locks_of}
-use Rattle.txs_history_actor.specs.Actor.{PlainLogged}
-use Rattle.txs_history_actor.proofs.Answering.{follows_longer}
+use Rattle.txs_history.specs.Asked.{History, shared_by, sum_to}
+use Rattle.txs_history.specs.Logged.{PlainLoggedAtom, PlainLoggedStore, locks_of}
+use Rattle.txs_history_run.specs.Actor.{PlainLogged}
+use Rattle.txs_history_run.proofs.Answering.{follows_longer}
 use Rattle.txs_machine.specs.Running.{attendants}
 use Rattle.txs_machine.specs.declared.player.AgentPlayer.{AgentPlayer}
 use Rattle.txs_machine.specs.declared.player.Player.{Player}

@@ -3,8 +3,8 @@ use Rattle.std.proofs.Common.{◌≡◌, ℕ, zero, suc, ◌+◌, ◌==◌, ◌<
 use Rattle.std.proofs.lemmas.Bool.Decides.{nat_tests}
 use Rattle.txs_history.specs.declared.log.Entry.TheVariants as entry
 use Rattle.txs_history.specs.History.{events_of, IsWithin}
-use Rattle.txs_theorem_history.specs.declared.asked.Asked.{Asked}
-use Rattle.txs_theorem_history.specs.History.{History, asks_in, sum_to}
+use Rattle.txs_history.specs.declared.asked.Asked.{Asked}
+use Rattle.txs_history.specs.Asked.{History, asks_in, sum_to}
 
 pub sum_next : (n : ℕ) (f : ℕ → ℕ) → sum_to (n + 1) f ≡ sum_to n f + f n
 sum_next n f = let one : n + 1 ≡ suc n = omega arith in ap (λ m. sum_to m f) one

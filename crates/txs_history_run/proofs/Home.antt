@@ -2,14 +2,14 @@
 use Rattle.std.proofs.Common.{◌≡◌, ◌⊎◌, inl, inr, ◌+◌, ◌<◌, ℕ, zero, suc, Bool, true, false, nat_lt, List, [], ◌∷◌, ◌++◌, length, map, Some, refl, sym, ap, subst, ◌∙◌, arith}
 use Rattle.std.proofs.lemmas.Bool.Decides.{nat_tests}
 use Rattle.txs_world_protocol.specs.declared.event.Event.{Event}
-use Rattle.txs_value_base.specs.Places.{nth}
+use Rattle.txs_value_data.specs.Places.{nth}
 use Rattle.txs_value_data.specs.declared.value.CellId.{CellId}
 use Rattle.txs_code_meaning.specs.PlainCode.{PlainCode}
 use Rattle.txs_machine_actor.specs.PlainActor.{Lives, code_of}
 use Rattle.txs_theorem_runs.specs.Run.{Actor, Play, new_actor}
 use Rattle.txs_theorem_runs.specs.Shared.{Shared}
-use Rattle.txs_theorem_history.specs.Following.{AreBelow, FollowsAll, HistoryIsRun}
-use Rattle.txs_theorem_history.specs.History.{History, asks_in, shared_by, sum_to}
+use Rattle.txs_history.specs.Following.{AreBelow, FollowsAll, HistoryIsRun}
+use Rattle.txs_history.specs.Asked.{History, asks_in, shared_by, sum_to}
 use Rattle.txs_world_shared.specs.SharedState.{PlainShared, shared_of}
 use Rattle.txs_machine.specs.Agents.{actors_of, agents_of}
 use Rattle.txs_machine.specs.RunOver.{IsLimited, books_of}
@@ -19,7 +19,7 @@ use Rattle.txs_machine.specs.declared.player.AgentPlayer.{AgentPlayer}
 use Rattle.txs_machine.specs.declared.player.Player.{Player}
 use Rattle.txs_machine.specs.declared.player.Players.{Players}
 use Rattle.txs_machine.proofs.Together.{agent_at}
-use Rattle.txs_history_actor.specs.Actor.{IsOn, PlainLogged}
+use Rattle.txs_history_run.specs.Actor.{IsOn, PlainLogged}
 use Rattle.txs_history_run.specs.Back.{player_of}
 use Rattle.txs_history_run.specs.Settled.{AreSettled, ArePlayersOf, IsSettled, asks_by}
 use Rattle.txs_history_run.proofs.Lists.{is_some, or_else, within_of, there_at, mapped_at, first_at, second_at, length_map, same_at}

@@ -4,7 +4,7 @@ use Rattle.std.proofs.lemmas.Bool.{false≢true}
 use Rattle.std.proofs.lemmas.Bool.Decides.{nat_tests}
 use Rattle.txs_world_protocol.specs.SeenEvent.{home, atoms_below}
 use Rattle.txs_world_protocol.specs.declared.event.Event.{Event}
-use Rattle.txs_value_base.specs.Places.{nth}
+use Rattle.txs_value_data.specs.Places.{nth}
 use Rattle.txs_value_cell.specs.Forms.{same_kind}
 use Rattle.txs_value_cell.specs.declared.cell.CellDefinition.{CellDefinition}
 use Rattle.txs_value_data.specs.declared.value.CellKind.TheVariants.{Atom}
@@ -13,15 +13,15 @@ use Rattle.txs_world_book.specs.Atom.{PlainAtom}
 use Rattle.txs_world.specs.Store.{PlainStore}
 use Rattle.txs_history.specs.History.{events_of}
 use Rattle.txs_theorem_runs.specs.Shared.{Shared}
-use Rattle.txs_theorem_history.specs.declared.asked.Asked.{Asked}
-use Rattle.txs_theorem_history.specs.History.{History, asks_in, book_by, shared_by, sum_to}
+use Rattle.txs_history.specs.declared.asked.Asked.{Asked}
+use Rattle.txs_history.specs.Asked.{History, asks_in, book_by, shared_by, sum_to}
 use Rattle.txs_world_shared.specs.Apart.{ArePartsOf}
 use Rattle.txs_world_shared.specs.Kept.{atom_id, atoms_of, new_atom, state_of, without_book}
 use Rattle.txs_world_shared.specs.SharedState.{shared_of}
 use Rattle.txs_world_shared.proofs.Apart.{each_new}
 use Rattle.txs_machine.specs.Agents.{actors_of}
-use Rattle.txs_history_store.specs.Logged.{PlainLoggedStore, PlainLoggedAtom, locks_of}
-use Rattle.txs_history_actor.specs.Actor.{PlainLogged}
+use Rattle.txs_history.specs.Logged.{PlainLoggedStore, PlainLoggedAtom, locks_of}
+use Rattle.txs_history_run.specs.Actor.{PlainLogged}
 use Rattle.txs_history_run.specs.Back.{AreBack, asked_of, asked_at, book_of}
 use Rattle.txs_history_run.specs.Settled.{AreSettled, asks_by}
 use Rattle.txs_history_run.proofs.Counting.{asked_under, locks_sum, none_beyond, sum_first, sum_same}

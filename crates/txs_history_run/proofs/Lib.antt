@@ -1,7 +1,15 @@
+pub mod Answering
 pub mod Back
 pub mod Counting
 pub mod Home
 pub mod Left
 pub mod Lists
+pub mod Numbers
+pub mod On
 pub mod Report
+pub mod Room
+pub mod Running
+pub mod Sent
 pub mod Settling
+pub mod Taking
+pub mod Turning

@@ -1,6 +1,6 @@
 -- What is at the places of lists that are made of others.
 use Rattle.std.proofs.Common.{◌≡◌, ◌+◌, ◌<◌, ℕ, zero, suc, List, [], ◌∷◌, ◌++◌, length, map, Option, Some, None, refl, sym, ap, subst, ◌∙◌, arith}
-use Rattle.txs_value_base.specs.Places.{nth}
+use Rattle.txs_value_data.specs.Places.{nth}
 
 abbrev pub is_some : {A : Type 0} → Option A → Type 0
 is_some None = ⊥

@@ -4,7 +4,7 @@ use Rattle.txs_code_meaning.specs.PlainCode.{PlainCode}
 use Rattle.txs_code_meaning.specs.WellTyped.{WellTyped}
 use Rattle.txs_theorem_runs.specs.Invariant.{SharedStands}
 use Rattle.txs_theorem_runs.specs.Report.{TypedAreStaged}
-use Rattle.txs_theorem_history.specs.History.{History}
+use Rattle.txs_history.specs.Asked.{History}
 use Rattle.txs_world_shared.specs.Apart.{ArePartsOf}
 use Rattle.txs_world_shared.specs.Kept.{state_of}
 use Rattle.txs_world_shared.specs.SharedState.{PlainShared, shared_of}
@@ -13,8 +13,8 @@ use Rattle.txs_machine.specs.Playing.{AreReported}
 use Rattle.txs_machine.specs.Running.{attendants}
 use Rattle.txs_machine.specs.declared.player.Players.{Players}
 use Rattle.txs_machine.specs.declared.schedule.Entries.{Entries}
-use Rattle.txs_history_store.specs.Logged.{PlainLoggedStore, PlainLoggedAtom}
-use Rattle.txs_history_actor.specs.Actor.{PlainLogged}
+use Rattle.txs_history.specs.Logged.{PlainLoggedStore, PlainLoggedAtom}
+use Rattle.txs_history_run.specs.Actor.{PlainLogged}
 use Rattle.txs_history_run.specs.Back.{AreBack, IsReportOf, book_of}
 use Rattle.txs_history_run.specs.Settled.{AreSettled, ArePlayersOf, IsRunReport, SettledIsRun}
 use Rattle.txs_history_run.proofs.Left.{settled_so}

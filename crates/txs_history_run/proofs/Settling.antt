@@ -2,7 +2,7 @@
 use Rattle.std.proofs.Common.{◌≡◌, ◌+◌, ◌<◌, ℕ, List, length, map, Some, sym, ap, subst, ◌∙◌}
 use Rattle.txs_world_protocol.specs.declared.event.Event.{Event}
 use Rattle.txs_world_protocol.specs.declared.report.ActorReport.{ActorReport}
-use Rattle.txs_value_base.specs.Places.{nth}
+use Rattle.txs_value_data.specs.Places.{nth}
 use Rattle.txs_tree_meaning.specs.Tree.{PlainThread, PlainProgram}
 use Rattle.txs_code_meaning.specs.PlainCode.{PlainCode, thread_code, library_of}
 use Rattle.txs_theorem_threads.specs.Follows.{Follows}
@@ -17,8 +17,8 @@ use Rattle.txs_theorem_runs.specs.Run.{Actor}
 use Rattle.txs_theorem_runs.specs.Told.{TraceHolds}
 use Rattle.txs_theorem_runs.proofs.Refused.{all_refused}
 use Rattle.txs_theorem_runs.proofs.Whole.{all_undisturbed}
-use Rattle.txs_theorem_history.specs.Following.{HistoryIsRun}
-use Rattle.txs_theorem_history.specs.History.{History}
+use Rattle.txs_history.specs.Following.{HistoryIsRun}
+use Rattle.txs_history.specs.Asked.{History}
 use Rattle.txs_world_shared.specs.SharedState.{PlainShared, shared_of}
 use Rattle.txs_machine.specs.Playing.{AreReported, IsReported}
 use Rattle.txs_machine.specs.RunOver.{AskedOn, RunOver, books_of, places_of}
@@ -32,7 +32,7 @@ use Rattle.txs_machine.specs.declared.schedule.Entries.{Entries}
 use Rattle.txs_machine.proofs.Explaining.{Known, part_explained, part_printed, code_at, part_full, MeansSo, LeastSo, FullSo, entry_explained, reported_at, as_many, books_stand}
 use Rattle.txs_machine.proofs.Scheduled.{entry_so}
 use Rattle.txs_machine.proofs.Together.{agents_done, all_explained_by, attendant_at, told_holds}
-use Rattle.txs_history_actor.specs.Actor.{IsThreadOn, PlainLogged}
+use Rattle.txs_history_run.specs.Actor.{IsThreadOn, PlainLogged}
 use Rattle.txs_history_run.specs.Settled.{AreSettled, ArePlayersOf, IsRunReport, SettledIsRun}
 use Rattle.txs_history_run.proofs.Home.{IsHome, IsTheRun, the_run, thread_home, by_turns, all_attend}
 use Rattle.txs_history_run.proofs.Lists.{within_of, length_map}

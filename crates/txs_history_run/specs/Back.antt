@@ -2,16 +2,16 @@
 use Rattle.std.specs.Prelude.{◌≡◌, ◌<◌, ◌+◌, ◌^◌, ℕ, Bool, false, List, length, map, Option, Some, None}
 use mathlib.Core.List.{IsPrefix}
 use Rattle.txs_world_protocol.specs.SeenEvent.{home}
-use Rattle.txs_value_base.specs.Places.{nth}
+use Rattle.txs_value_data.specs.Places.{nth}
 use Rattle.txs_value_cell.specs.declared.cell.CellDefinition.{CellDefinition}
 use Rattle.txs_world_book.specs.Atom.{PlainAtom}
 use Rattle.txs_code_meaning.specs.PlainCode.{PlainCode}
 use Rattle.txs_history.specs.History.{events_of, IsWithin}
 use Rattle.txs_theorem_runs.specs.Shared.{store_of, atom_of}
-use Rattle.txs_theorem_history.specs.History.{History, shared_by, sum_to}
-use Rattle.txs_history_store.specs.Logged.{PlainLoggedStore, PlainLoggedAtom, locks_of}
-use Rattle.txs_history_actor.specs.Actor.{PlainLogged}
-use Rattle.txs_history_actor.specs.declared.step.Step.TheVariants as step
+use Rattle.txs_history.specs.Asked.{History, shared_by, sum_to}
+use Rattle.txs_history.specs.Logged.{PlainLoggedStore, PlainLoggedAtom, locks_of}
+use Rattle.txs_history_run.specs.Actor.{PlainLogged}
+use Rattle.txs_history_run.specs.declared.step.Step.TheVariants as step
 use Rattle.txs_world_shared.specs.Apart.{ArePartsOf}
 use Rattle.txs_machine.specs.Agents.{actors_of}
 use Rattle.txs_machine.specs.Playing.{AreReported}

@@ -1,2 +1,4 @@
+pub mod Actor
 pub mod Back
+pub mod Callees
 pub mod Settled

@@ -1,13 +1,13 @@
 -- What is known where all actors of a run and all logs are back, and what a report says of them then.
 use Rattle.std.specs.Prelude.{◌≡◌, ℕ, zero, suc, List, [], ◌∷◌, ◌++◌, length, map, Some}
-use Rattle.txs_value_base.specs.Places.{nth}
+use Rattle.txs_value_data.specs.Places.{nth}
 use Rattle.txs_code_meaning.specs.PlainCode.{PlainCode, thread_code, library_of}
 use Rattle.txs_theorem_runs.specs.Agents.{AgentsStaged}
 use Rattle.txs_theorem_runs.specs.Invariant.{SharedStands}
 use Rattle.txs_theorem_runs.specs.Report.{CodesStaged}
 use Rattle.txs_world_shared.specs.SharedState.{PlainShared, shared_of}
-use Rattle.txs_theorem_history.specs.History.{History, asks_in, shared_by, sum_to}
-use Rattle.txs_history_actor.specs.Actor.{PlainLogged, IsFollowing}
+use Rattle.txs_history.specs.Asked.{History, asks_in, shared_by, sum_to}
+use Rattle.txs_history_run.specs.Actor.{PlainLogged, IsFollowing}
 use Rattle.txs_machine.specs.Agents.{actors_of, agents_of, AgentsAreDone, AreExplainedBy}
 use Rattle.txs_machine.specs.Playing.{AreReported}
 use Rattle.txs_machine.specs.RunOver.{IsStateOf, books_of}

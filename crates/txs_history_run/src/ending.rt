@@ -3,7 +3,7 @@
 ghost use Rattle.std.specs.Prelude.{◌≡◌, ◌≤◌, ◌+◌, ◌⊎◌, ◌++◌, ◌^◌, ◌<◌, ◌↔◌, length, map, None, IfOk, IfErr, IfSome, IsTrue, IsFalse};
 ghost use mathlib.Core.List.{IsPrefix};
 ghost use Rattle.txs_history.specs.History.{events_of};
-ghost use Rattle.txs_theorem_history.specs.History.{History, shared_by, sum_to};
+ghost use Rattle.txs_history.specs.Asked.{History, shared_by, sum_to};
 ghost use Rattle.txs_theorem_runs.specs.Shared.{store_of};
 ghost use Rattle.txs_machine.specs.Agents.{actors_of, agents_of};
 ghost use Rattle.txs_machine.specs.RunOver.{IsStateOf};
@@ -14,14 +14,12 @@ ghost use Rattle.txs_world_shared.specs.Kept.{state_of};
 ghost use Rattle.txs_history_run.specs.Back.{ActorsFollow, ActorsSeen, Agree, AreBack, ArePlaced, AreWhole, AtomsLeft, AtomsSeen, IsAllBack, IsPlaced, IsReportOf, IsWhole, asked_at, book_of, player_of};
 ghost use Rattle.txs_history_run.specs.Settled.{IsRunReport, IsSettled, asks_by};
 
+use crate::LoggedActor;
 use crate::law::settled_is_run;
 use std::alloc::{AllocError, Global};
 use txs_code_meaning::Verified;
-use txs_history::Past;
-use txs_history_actor::LoggedActor;
-use txs_history_store::{LoggedAtom, LoggedStore, Run};
+use txs_history::{Asked, LoggedAtom, LoggedStore, Past, Run};
 use txs_machine::{AgentPlayer, Entries, Player, Players, RunError, report_all};
-use txs_theorem_history::Asked;
 use txs_theorem_runs::law::typed_threads_are_staged;
 use txs_value_data::CellId;
 use txs_world_book::AtomBook;

@@ -1,7 +1,7 @@
 -- The actors of a run before its first play, and how many there are.
 use Rattle.std.proofs.Common.{◌≡◌, ◌+◌, ℕ, zero, suc, List, [], ◌∷◌, ◌++◌, length, Option, Some, None, refl, sym, ap, subst, ◌∙◌, arith}
 use Rattle.txs_world_protocol.specs.declared.event.Event.{Event}
-use Rattle.txs_value_base.specs.Places.{nth}
+use Rattle.txs_value_data.specs.Places.{nth}
 use Rattle.txs_code_meaning.specs.Machine.{Unfinished}
 use Rattle.txs_code_meaning.specs.Opening.{opening}
 use Rattle.txs_code_meaning.specs.PlainCode.{PlainCode}

@@ -2,7 +2,7 @@
 use Rattle.std.proofs.Common.{◌≡◌, ◌<◌, ◌+◌, ℕ, zero, suc, List, [], ◌∷◌, ◌++◌, length, set, Option, Some, None, refl, sym, ap, subst, ◌∙◌, ◌⊎◌, inl, inr, arith}
 use Rattle.std.proofs.lemmas.List.{length-set}
 use Rattle.txs_world_protocol.specs.declared.event.Outcome.{Outcome}
-use Rattle.txs_value_base.specs.Places.{nth}
+use Rattle.txs_value_data.specs.Places.{nth}
 use Rattle.txs_code_meaning.specs.OwnCells.{NamesOwnCells}
 use Rattle.txs_code_meaning.specs.PlainCode.{PlainCode}
 use Rattle.txs_code_meaning.specs.WellTyped.{WellTyped}

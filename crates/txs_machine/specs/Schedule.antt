@@ -1,7 +1,7 @@
 -- Runs of all threads of a code over what they share, by turns that a schedule names: what a report says of all threads.
 use Rattle.std.specs.Prelude.{◌≡◌, ◌≤◌, ◌+◌, ℕ, suc, Bool, true, false, ◌&&◌, ◌==◌, nat_lt, List, [], ◌∷◌, ◌++◌, length, map, replicate, Some, None, if◌then◌else◌}
 use Rattle.txs_world_protocol.specs.declared.event.Event.{Event}
-use Rattle.txs_value_base.specs.Places.{nth}
+use Rattle.txs_value_data.specs.Places.{nth}
 use Rattle.txs_tree_meaning.specs.Tree.{PlainProgram}
 use Rattle.txs_code_meaning.specs.PlainCode.{PlainCode, thread_code}
 use Rattle.txs_theorem_threads.specs.FollowsAll.{FollowsAll}

@@ -1,6 +1,6 @@
 -- Serializability: the commits of a report that a program explains are as if its transactions had run one after the other.
 use Rattle.std.specs.Prelude.{◌≡◌, ◌+◌, ℕ, List, length, Some}
-use Rattle.txs_value_base.specs.Places.{nth}
+use Rattle.txs_value_data.specs.Places.{nth}
 use Rattle.txs_value_cell.specs.Cells.{validators_of}
 use Rattle.txs_tree_meaning.specs.Marked.{MarkedProgram}
 use Rattle.txs_tree_meaning.specs.Sound.{Sound}

@@ -8,10 +8,10 @@ use Rattle.txs_world_protocol.specs.declared.event.Outcome.TheVariants as outcom
 use Rattle.txs_frame.specs.Frame.{commuted}
 use Rattle.txs_frame.specs.Phase.{PlainPhase}
 use Rattle.txs_frame.specs.declared.frame.Commute.{Commute}
-use Rattle.txs_value_base.specs.Places.{nth, fault_at}
+use Rattle.txs_value_data.specs.Places.{nth, fault_at}
 use Rattle.txs_value_data.specs.declared.value.Value.{Value}
 use Rattle.txs_value_data.specs.declared.value.Value.TheVariants.{Cell}
-use Rattle.txs_value_base.specs.declared.fault.FaultKind.TheVariants.{RetryLimit, AgentFailed}
+use Rattle.txs_value_data.specs.declared.fault.FaultKind.TheVariants.{RetryLimit, AgentFailed}
 use Rattle.txs_value_cell.specs.declared.form.LookForm.TheVariants.{Deref, Ensure}
 use Rattle.txs_value_cell.specs.declared.form.PutForm.TheVariants.{Reset}
 use Rattle.txs_value_cell.specs.declared.form.UpdateForm.TheVariants as update
@@ -45,7 +45,7 @@ use Rattle.txs_machine_actor.proofs.Applying.{AllLook, tasks_do, typed_look, len
 use Rattle.txs_machine_actor.proofs.Landing.{look_ready, begin_ready, end_ready, no_own_swap, open_stands, open_ready, put_stands, put_ready, send_stands, send_ready, close_stands, close_ready}
 use Rattle.txs_machine_actor.proofs.Effects.{home_all}
 use Rattle.txs_machine_actor.proofs.Replies.{by_reply}
-use Rattle.txs_value_base.specs.declared.fault.Fault.{Fault}
+use Rattle.txs_value_data.specs.declared.fault.Fault.{Fault}
 use Rattle.txs_value_cell.specs.declared.action.Action.{Action}
 
 -- the actor can go on, in whatever body, as the actor of the same thread

@@ -1,14 +1,14 @@
 -- An actor can go on after an instruction on cells or the transaction, and after the answer to what it asks.
 use Rattle.std.proofs.Common.{◌≡◌, ℕ, suc, ◌+◌, ◌-◌, ◌<◌, ◌≤◌, true, false, List, [], ◌∷◌, ◌++◌, length, Some, sym, ap, ◌∙◌, subst, arith}
 use Rattle.std.proofs.lemmas.List.{length_push}
-use Rattle.txs_value_base.specs.Places.{nth}
+use Rattle.txs_value_data.specs.Places.{nth}
 use Rattle.txs_value_cell.specs.declared.form.LookForm.{LookForm}
 use Rattle.txs_value_cell.specs.declared.form.PutForm.{PutForm}
 use Rattle.txs_value_cell.specs.declared.form.Standing.TheVariants.{Inside, Outside}
 use Rattle.txs_value_cell.specs.declared.form.UpdateForm.{UpdateForm}
 use Rattle.txs_value_cell.specs.declared.form.CellForm.TheVariants as form
-use Rattle.txs_value_base.specs.declared.op.Callee.{Callee}
-use Rattle.txs_value_base.specs.declared.op.Callee.TheVariants as callee
+use Rattle.txs_value_data.specs.declared.op.Callee.{Callee}
+use Rattle.txs_value_data.specs.declared.op.Callee.TheVariants as callee
 use Rattle.txs_value_data.specs.declared.value.Value.{Value}
 use Rattle.txs_code_meaning.specs.PlainCode.{CodeBody}
 use Rattle.txs_code_meaning.specs.WellTyped.{Stages, Stage, plain, opened, applied, depth_at, stage_at, Fits, FitsStage, FunctionKind, MayStand, FormMayStand, form_of, CalleeTakes, IsImpure, IsPureCallee, Applies, IsFollowed, IsKind, Returns}

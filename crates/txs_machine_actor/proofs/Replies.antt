@@ -8,7 +8,7 @@ use Rattle.txs_frame.specs.Frame.{PlainTxFrame, commuted, set_writes}
 use Rattle.txs_frame.specs.Phase.{PlainPhase}
 use Rattle.txs_frame.specs.declared.frame.Commute.{Commute}
 use Rattle.txs_value_cell.specs.declared.action.Action.{Action as AnAction}
-use Rattle.txs_value_base.specs.declared.fault.Fault.{Fault}
+use Rattle.txs_value_data.specs.declared.fault.Fault.{Fault}
 use Rattle.txs_value_data.specs.declared.value.CellId.{CellId}
 use Rattle.txs_value_data.specs.declared.value.Value.{Value}
 use Rattle.txs_machine_actor.specs.PlainActor.{MayAnswer}

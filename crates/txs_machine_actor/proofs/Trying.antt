@@ -1,9 +1,9 @@
 -- Transactions that are tried again, or were tried for the last time.
 use Rattle.std.proofs.Common.{◌≡◌, ℕ, suc, Option, sym, ap, ◌∙◌}
-use Rattle.txs_value_base.specs.Places.{fault_at}
-use Rattle.txs_value_base.specs.declared.fault.Fault.{Fault}
-use Rattle.txs_value_base.specs.declared.fault.FaultKind.TheVariants.{RetryLimit}
-use Rattle.txs_value_base.specs.declared.fault.Span.{Span}
+use Rattle.txs_value_data.specs.Places.{fault_at}
+use Rattle.txs_value_data.specs.declared.fault.Fault.{Fault}
+use Rattle.txs_value_data.specs.declared.fault.FaultKind.TheVariants.{RetryLimit}
+use Rattle.txs_value_data.specs.declared.fault.Span.{Span}
 use Rattle.txs_machine_transaction.specs.Transaction.{IsSwapping}
 use Rattle.txs_machine_transaction.specs.declared.state.Pending.{Pending}
 use Rattle.txs_machine_transaction.specs.declared.state.Savepoint.{Savepoint}

@@ -19,9 +19,8 @@ use std::mem;
 use txs_code_meaning::Verified;
 use txs_machine_stack::Stack;
 use txs_machine_transaction::Pending;
-use txs_value_base::{Callee, Fault, FaultKind, Op, Span, Stop};
 use txs_value_cell::{Action, CellDefinition};
-use txs_value_data::Value;
+use txs_value_data::{Callee, Fault, FaultKind, Op, Span, Stop, Value};
 use txs_world_protocol::Outcome;
 
 /// The validator of the agent of an action, if it has one, and where the action's send is.

@@ -10,8 +10,8 @@ ghost use Rattle.txs_machine_loop.specs.Values.{last_of, under};
 ghost use Rattle.txs_machine_transaction.specs.declared.state.Transaction.TheVariants.{Applying, Running};
 ghost use Rattle.txs_value_apply.specs.Core.{core, takes};
 ghost use Rattle.txs_value_apply.specs.Truth.{choose};
-ghost use Rattle.txs_value_base.specs.declared.fault.FaultKind.TheVariants.{InvalidState};
-ghost use Rattle.txs_value_base.specs.declared.fault.Span.{Span as ASpan};
+ghost use Rattle.txs_value_data.specs.declared.fault.FaultKind.TheVariants.{InvalidState};
+ghost use Rattle.txs_value_data.specs.declared.fault.Span.{Span as ASpan};
 ghost use Rattle.txs_value_cell.specs.Cells.{validator_at, validators_of};
 ghost use Rattle.txs_value_cell.specs.Forms.{rule, cell_of};
 ghost use Rattle.txs_value_cell.specs.declared.form.CellForm.TheVariants as form;
@@ -27,9 +27,8 @@ use txs_frame::{Phase, TxFrame, validator_of};
 use txs_machine_stack::{Stack, function_of};
 use txs_machine_transaction::{Savepoint, Transaction};
 use txs_value_apply::{apply_owned, is_false};
-use txs_value_base::{Callee, Fault, FaultKind, Op, Span, Stop};
 use txs_value_cell::{CellDefinition, CellForm, PutForm, UpdateForm};
-use txs_value_data::{Value, copy_value};
+use txs_value_data::{Callee, Fault, FaultKind, Op, Span, Stop, Value, copy_value};
 use txs_world_protocol::Outcome;
 
 /// Whether a validator that gave this accepts: by any value but `nil` and `false`.

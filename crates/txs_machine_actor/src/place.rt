@@ -1,12 +1,12 @@
 //! Where in its script an actor was stopped.
 
 ghost use Rattle.std.specs.Prelude.{◌≡◌};
-ghost use Rattle.txs_value_base.specs.Places.{nth};
+ghost use Rattle.txs_value_data.specs.Places.{nth};
 ghost use Rattle.txs_machine_actor.specs.PlainActor.{next_place, place_in, stopped_at};
 
 use crate::actor::Actor;
 use txs_code_meaning::{Body, Verified};
-use txs_value_base::Span;
+use txs_value_data::Span;
 use txs_world_protocol::Outcome;
 
 /// The span of the instruction at this place of a body, if it has one.

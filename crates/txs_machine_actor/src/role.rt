@@ -9,9 +9,8 @@ use std::marker::Model;
 use std::mem;
 use txs_machine_stack::Stack;
 use txs_machine_transaction::{Pending, copy_sends, join_sends};
-use txs_value_base::Fault;
 use txs_value_cell::Action;
-use txs_value_data::{CellId, Listed};
+use txs_value_data::{CellId, Fault, Listed};
 
 /// An action that an agent runs, the sends that it holds, and the fault that it is over with, where that is yet to be handed in.
 pub struct InHand {

@@ -10,19 +10,19 @@ use Rattle.txs_value_apply.specs.Core.{Answer, core, takes}
 use Rattle.txs_value_cell.specs.Cells.{Validators}
 use Rattle.txs_value_cell.specs.Forms.{rule, cell_of}
 use Rattle.txs_value_data.specs.Limits.{reruns}
-use Rattle.txs_value_base.specs.Places.{fault_at}
+use Rattle.txs_value_data.specs.Places.{fault_at}
 use Rattle.txs_value_cell.specs.declared.action.Action.{Action}
-use Rattle.txs_value_base.specs.declared.fault.Fault.{Fault}
-use Rattle.txs_value_base.specs.declared.fault.FaultKind.{FaultKind}
-use Rattle.txs_value_base.specs.declared.fault.FaultKind.TheVariants.{SetAfterCommute}
-use Rattle.txs_value_base.specs.declared.fault.Span.{Span}
+use Rattle.txs_value_data.specs.declared.fault.Fault.{Fault}
+use Rattle.txs_value_data.specs.declared.fault.FaultKind.{FaultKind}
+use Rattle.txs_value_data.specs.declared.fault.FaultKind.TheVariants.{SetAfterCommute}
+use Rattle.txs_value_data.specs.declared.fault.Span.{Span}
 use Rattle.txs_value_cell.specs.declared.form.CellForm.{CellForm}
 use Rattle.txs_value_cell.specs.declared.form.CellForm.TheVariants as form
 use Rattle.txs_value_cell.specs.declared.form.LookForm.TheVariants.{Deref, Ensure}
 use Rattle.txs_value_cell.specs.declared.form.PutForm.TheVariants.{RefSet, Reset}
 use Rattle.txs_value_cell.specs.declared.form.UpdateForm.TheVariants as update
-use Rattle.txs_value_base.specs.declared.op.Callee.{Callee}
-use Rattle.txs_value_base.specs.declared.op.Callee.TheVariants as callee
+use Rattle.txs_value_data.specs.declared.op.Callee.{Callee}
+use Rattle.txs_value_data.specs.declared.op.Callee.TheVariants as callee
 use Rattle.txs_value_data.specs.declared.value.CellId.{CellId}
 use Rattle.txs_value_data.specs.declared.value.CellKind.TheVariants.{Ref}
 use Rattle.txs_value_data.specs.declared.value.Value.{Value}

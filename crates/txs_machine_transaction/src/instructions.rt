@@ -8,7 +8,7 @@ ghost use Rattle.txs_value_cell.specs.Cells.{Validators, validators_of};
 ghost use Rattle.txs_value_apply.specs.Core.{Answers, core, takes};
 ghost use Rattle.txs_frame.specs.declared.frame.Commute.{Commute as ACommute};
 ghost use Rattle.txs_value_cell.specs.Forms.{rule, cell_of};
-ghost use Rattle.txs_value_base.specs.declared.fault.Span.{Span as ASpan};
+ghost use Rattle.txs_value_data.specs.declared.fault.Span.{Span as ASpan};
 ghost use Rattle.txs_value_data.specs.declared.value.CellId.{CellId as ACell};
 ghost use Rattle.txs_value_data.specs.declared.value.Value.{Value as AValue};
 ghost use Rattle.txs_value_cell.specs.declared.form.CellForm.TheVariants as form;
@@ -30,9 +30,10 @@ use txs_code_meaning::{Instr, OpenForm};
 use txs_frame::{Commute, Phase, SetError, TxFrame};
 use txs_machine_stack::Stack;
 use txs_value_apply::apply_owned;
-use txs_value_base::{Callee, Fault, FaultKind, Op, Span, Stop};
 use txs_value_cell::{Action, CellDefinition, CellForm, LookForm, PutForm, UpdateForm};
-use txs_value_data::{CellId, Listed, Value, copy_value, copy_values};
+use txs_value_data::{
+    Callee, CellId, Fault, FaultKind, Listed, Op, Span, Stop, Value, copy_value, copy_values,
+};
 
 /// Whether a transaction runs.
 #[inline(always)]

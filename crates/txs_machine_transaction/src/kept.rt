@@ -12,9 +12,8 @@ use std::alloc::{AllocError, Global};
 use std::marker::Model;
 use std::mem;
 use txs_machine_stack::Stack;
-use txs_value_base::Span;
-use txs_value_data::CellId;
 use txs_value_data::limits::RERUNS;
+use txs_value_data::{CellId, Span};
 
 /// How often a transaction that runs may run again, and how many inner ones it has.
 #[derive(Clone, Copy)]

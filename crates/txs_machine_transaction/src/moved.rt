@@ -1,9 +1,8 @@
 //! What instructions on cells or the transaction come to.
 
 use crate::state::Pending;
-use txs_value_base::{Fault, FaultKind};
 use txs_value_cell::Action;
-use txs_value_data::CellId;
+use txs_value_data::{CellId, Fault, FaultKind};
 
 /// What an instruction on cells or the transaction came to.
 #[derive(Drop)]

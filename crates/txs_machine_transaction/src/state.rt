@@ -2,9 +2,8 @@
 
 use txs_frame::{Commute, Phase};
 use txs_machine_stack::Stack;
-use txs_value_base::{Fault, Span};
 use txs_value_cell::Action;
-use txs_value_data::{CellId, Listed, Value};
+use txs_value_data::{CellId, Fault, Listed, Span, Value};
 
 /// Where a transaction or a swap began: its span, and the stack there, whose body continues at its first instruction.
 #[derive(Drop)]

@@ -1,14 +1,14 @@
 -- Trees whose calls, and the callees of whose forms on cells, are all of some kind, as of functions before one of them, and which have
 -- forms on cells only where that may be.
 use Rattle.std.proofs.Common.{◌≡◌, ℕ, suc, ◌+◌, ◌<◌, ◌≤◌, Bool, true, false, ◌&&◌, List, length, Option, Some, None, refl}
-use Rattle.txs_value_base.specs.Places.{nth}
-use Rattle.txs_value_base.specs.declared.op.Callee.{Callee}
-use Rattle.txs_value_base.specs.declared.op.Callee.TheVariants.{Core as CoreOp, Function}
+use Rattle.txs_value_data.specs.Places.{nth}
+use Rattle.txs_value_data.specs.declared.op.Callee.{Callee}
+use Rattle.txs_value_data.specs.declared.op.Callee.TheVariants.{Core as CoreOp, Function}
 use Rattle.std.proofs.lemmas.Bool.{false≢true}
 use Rattle.txs_tree_meaning.specs.Known.{Known, is_pure, pure_in, all_pure}
 use Rattle.txs_tree_meaning.specs.Scoped.{ScopedCallee, ScopedTree, ScopedAll, ScopedLet}
 use Rattle.txs_tree_meaning.specs.Tree.{Mark, Tree, Const, Local, If, Do, Let, Loop, Recur, Core, Call, VectorOf, Println, Dosync, Look, Put, Update, Send, Trees, none, more, count, PlainFunction}
-use Rattle.txs_tree_build.specs.Shift.{shifted, all_shifted}
+use Rattle.txs_tree_meaning.specs.Shift.{shifted, all_shifted}
 use Rattle.txs_opt.specs.Inline.{bound, may_inline, opened, called, inlined, all_inlined, let_inlined}
 
 -- which functions a tree calls and names, and what holds where it has a form whose values validators look at

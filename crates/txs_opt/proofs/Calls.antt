@@ -1,16 +1,16 @@
 -- Calls that become the function's body, and those that don't.
 use Rattle.std.proofs.Common.{◌≡◌, ℕ, zero, suc, ◌+◌, ◌-◌, ◌<◌, ◌≤◌, nat_eq, nat_le, Bool, true, false, ◌&&◌, not, List, [], ◌∷◌, ◌++◌, length, get_or, take, Option, Some, None, refl, sym, ap, ◌∙◌, subst, arith}
-use Rattle.txs_value_base.specs.Places.{nth}
+use Rattle.txs_value_data.specs.Places.{nth}
 use Rattle.txs_value_data.specs.Limits.{most_locals}
 use Rattle.txs_tree_meaning.specs.Sound.{nodes}
 use Rattle.txs_tree_meaning.specs.Tree.{Mark, Tree, Trees, Call, none, more, count, PlainFunction}
 use Rattle.txs_tree_meaning.specs.View.{function_of, functions_of, tree_of, trees_of}
 use Rattle.txs_tree_meaning.specs.declared.node.Function.{Function}
 use Rattle.txs_tree_meaning.specs.declared.node.Node.{Node}
-use Rattle.txs_tree_build.proofs.Locals.{top_reach}
-use Rattle.txs_tree_build.proofs.Rows.{behind, trees_behind}
-use Rattle.txs_tree_build.specs.Locals.{top, reach, reach_let}
-use Rattle.txs_tree_build.specs.Shift.{shifted}
+use Rattle.txs_tree_meaning.proofs.Locals.{top_reach}
+use Rattle.txs_tree_meaning.proofs.Rows.{behind, trees_behind}
+use Rattle.txs_tree_meaning.specs.Locals.{top, reach, reach_let}
+use Rattle.txs_tree_meaning.specs.Shift.{shifted}
 use Rattle.txs_opt.proofs.InlinedRows.{take_behind, count_take}
 use Rattle.txs_opt.proofs.Inlining.{opens_of}
 use Rattle.txs_opt.proofs.Reach.{reach_shifted, bound_reach, args_above, arg_at}

@@ -1,11 +1,11 @@
 -- What holds everywhere in a program holds everywhere in it with calls inlined.
 use Rattle.std.proofs.Common.{◌≡◌, ℕ, zero, suc, ◌+◌, Bool, true, false, List, [], ◌∷◌, ◌++◌, Option, Some, None, refl, sym, subst}
 use Rattle.std.specs.List.{AllByRecursion}
-use Rattle.txs_value_base.specs.Places.{nth}
+use Rattle.txs_value_data.specs.Places.{nth}
 use Rattle.txs_tree_meaning.proofs.Callable.{missing, same_some}
 use Rattle.txs_tree_meaning.specs.Tree.{Mark, Tree, Const, Local, If, Do, Let, Loop, Recur, Core, Call, VectorOf, Println, Dosync, Look, Put, Update, Send, Trees, none, more, count, PlainFunction, PlainThread, PlainProgram}
-use Rattle.txs_tree_build.specs.Everywhere.{Facts, Everywhere, EverywhereIn, InFunction, InThread, InProgram}
-use Rattle.txs_tree_build.specs.Shift.{shifted, all_shifted}
+use Rattle.txs_tree_meaning.specs.Everywhere.{Facts, Everywhere, EverywhereIn, InFunction, InThread, InProgram}
+use Rattle.txs_tree_meaning.specs.Shift.{shifted, all_shifted}
 use Rattle.txs_opt.specs.Inline.{bound, may_inline, opened, called, inlined, all_inlined, let_inlined, functions_inlined, threads_inlined, budget_of, inlined_program}
 use Rattle.txs_opt.proofs.InlinedFunctions.{with_inlined}
 use Rattle.txs_opt.proofs.Inlining.{count_inlined}

@@ -1,6 +1,6 @@
 -- Where a function with its calls inlined stands.
 use Rattle.std.proofs.Common.{◌≡◌, ℕ, zero, suc, ◌+◌, ◌<◌, ◌≤◌, List, [], ◌∷◌, ◌++◌, length, Some, None, refl, sym, ap, ◌∙◌, subst, length-append, arith}
-use Rattle.txs_value_base.specs.Places.{nth}
+use Rattle.txs_value_data.specs.Places.{nth}
 use Rattle.txs_tree_meaning.proofs.Callable.{missing, same_some}
 use Rattle.txs_tree_meaning.specs.Tree.{Tree, PlainFunction}
 use Rattle.txs_opt.proofs.Below.{Below, Lower, wider_below, inlined_below}

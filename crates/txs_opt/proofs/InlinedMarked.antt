@@ -1,11 +1,11 @@
 -- The marks of a program with calls inlined are right where those of the program are.
 use Rattle.std.proofs.Common.{◌≡◌, ℕ, zero, suc, ◌+◌, Bool, true, false, List, [], ◌∷◌, ◌++◌, Option, Some, None, refl, subst}
-use Rattle.txs_value_base.specs.Places.{nth}
+use Rattle.txs_value_data.specs.Places.{nth}
 use Rattle.txs_tree_meaning.proofs.Callable.{missing}
 use Rattle.txs_tree_meaning.proofs.Marks.{marked_less}
 use Rattle.txs_tree_meaning.specs.Marked.{AtLeast, Marked, MarkedAll, MarkedDo, MarkedFunctions, MarkedThreads, MarkedProgram}
 use Rattle.txs_tree_meaning.specs.Tree.{Mark, Tree, Const, Local, If, Do, Let, Loop, Recur, Core, Call, VectorOf, Println, Dosync, Look, Put, Update, Send, Trees, none, more, count, PlainFunction, PlainThread, PlainProgram}
-use Rattle.txs_tree_build.specs.Shift.{shifted, all_shifted}
+use Rattle.txs_tree_meaning.specs.Shift.{shifted, all_shifted}
 use Rattle.txs_opt.specs.Inline.{bound, may_inline, opened, called, inlined, all_inlined, let_inlined, functions_inlined, threads_inlined, budget_of, inlined_program}
 use Rattle.txs_opt.proofs.InlinedFunctions.{with_inlined}
 

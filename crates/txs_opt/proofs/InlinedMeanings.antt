@@ -2,16 +2,16 @@
 use Rattle.std.proofs.Common.{◌≡◌, ℕ, zero, suc, ◌<◌, ◌≤◌, Bool, true, false, List, [], length, Option, Some, None, refl, ap, ◌∙◌, sym, subst, arith}
 use Rattle.txs_world_protocol.specs.SeenEvent.{SeenEvent}
 use Rattle.txs_value_cell.specs.Cells.{World, validators_of}
-use Rattle.txs_value_base.specs.Places.{nth}
-use Rattle.txs_value_base.specs.declared.op.Callee.{Callee}
-use Rattle.txs_value_base.specs.declared.op.Callee.TheVariants.{Core as CoreOp, Function}
+use Rattle.txs_value_data.specs.Places.{nth}
+use Rattle.txs_value_data.specs.declared.op.Callee.{Callee}
+use Rattle.txs_value_data.specs.declared.op.Callee.TheVariants.{Core as CoreOp, Function}
 use Rattle.txs_value_data.specs.declared.value.Value.{Value}
 use Rattle.txs_tree_meaning.specs.Meaning.{Invalid, bind, closed, give, Effects, turns, eval, call_at}
 use Rattle.txs_tree_meaning.specs.Pure.{no_effects, pure_calls, pure_meaning}
 use Rattle.txs_tree_meaning.specs.Thread.{ThreadState, on_events, around, thread_meaning}
 use Rattle.txs_tree_meaning.specs.Transaction.{TxState, in_transaction_lacking, tx_start, tx_meaning, tx_meaning_lacking}
 use Rattle.txs_tree_meaning.specs.Tree.{Tree, PlainFunction, ThreadSource}
-use Rattle.txs_tree_build.specs.Shift.{shifted}
+use Rattle.txs_tree_meaning.specs.Shift.{shifted}
 use Rattle.txs_opt.specs.Inline.{inlined, functions_inlined}
 use Rattle.txs_opt.specs.Keeps.{inlined_source}
 use Rattle.txs_opt.specs.Observed.{observed_end}

@@ -1,11 +1,11 @@
 -- A program with calls inlined means what the program meant: exactly, where each function calls functions before it alone, or
 -- wherever the program has a meaning.
 use Rattle.std.proofs.Common.{◌≡◌, ℕ, zero, suc, Bool, true, false, List, [], length, nat_eq, if◌then◌else◌, Option, Some, None, refl, sym, subst, arith}
-use Rattle.txs_value_base.specs.Places.{nth}
+use Rattle.txs_value_data.specs.Places.{nth}
 use Rattle.txs_value_data.specs.declared.value.Value.{Value}
 use Rattle.txs_tree_meaning.specs.Meaning.{Completion, Invalid, bind, again, give, Effects, turns, eval, call_at}
 use Rattle.txs_tree_meaning.specs.Tree.{Tree, PlainFunction}
-use Rattle.txs_tree_build.specs.Shift.{shifted}
+use Rattle.txs_tree_meaning.specs.Shift.{shifted}
 use Rattle.txs_opt.specs.Inline.{recurs, inlined, functions_inlined}
 use Rattle.txs_opt.proofs.Below.{Kind, Below}
 use Rattle.txs_opt.proofs.Inlining.{inlined_like}

@@ -7,9 +7,9 @@ use Rattle.txs_tree_meaning.specs.View.{tree_of, trees_of, function_of, function
 use Rattle.txs_tree_meaning.specs.declared.node.Function.{Function}
 use Rattle.txs_tree_meaning.specs.declared.node.Node.{Node}
 use Rattle.txs_tree_meaning.specs.declared.node.Thread.{Thread}
-use Rattle.txs_tree_build.proofs.Copies.{functions_behind, threads_behind}
-use Rattle.txs_tree_build.proofs.Rows.{behind, trees_behind}
-use Rattle.txs_tree_build.specs.Locals.{reach, reach_all, reach_let}
+use Rattle.txs_tree_meaning.proofs.Copies.{functions_behind, threads_behind}
+use Rattle.txs_tree_meaning.proofs.Rows.{behind, trees_behind}
+use Rattle.txs_tree_meaning.specs.Locals.{reach, reach_all, reach_let}
 use Rattle.txs_opt.specs.Inline.{InlinedTree, InlinedTrees, InlinedFunctions, inlined, all_inlined, let_inlined, functions_inlined, threads_inlined}
 
 -- a tree in front of others, which were inlined behind it

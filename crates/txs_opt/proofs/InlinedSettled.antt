@@ -1,9 +1,9 @@
 -- With calls inlined, nothing is left to fold in a folded program: what takes a call's place is no constant, as the call was none.
 use Rattle.std.proofs.Common.{◌≡◌, ℕ, zero, suc, ◌+◌, Bool, true, false, List, [], ◌∷◌, ◌++◌, Option, Some, None, refl, sym, ◌∙◌, subst}
-use Rattle.txs_value_base.specs.Places.{nth}
+use Rattle.txs_value_data.specs.Places.{nth}
 use Rattle.txs_tree_meaning.proofs.Callable.{missing, same_some}
 use Rattle.txs_tree_meaning.specs.Tree.{Mark, Tree, Const, Local, If, Do, Let, Loop, Recur, Core, Call, VectorOf, Println, Dosync, Look, Put, Update, Send, Trees, none, more, count, PlainFunction, PlainThread, PlainProgram}
-use Rattle.txs_tree_build.specs.Shift.{shifted, all_shifted}
+use Rattle.txs_tree_meaning.specs.Shift.{shifted, all_shifted}
 use Rattle.txs_opt.specs.Fold.{value_of, with_value, constants, folded_program}
 use Rattle.txs_opt.specs.Inline.{bound, may_inline, opened, called, inlined, all_inlined, let_inlined, functions_inlined, threads_inlined, budget_of, inlined_program}
 use Rattle.txs_opt.proofs.InlinedFunctions.{with_inlined}

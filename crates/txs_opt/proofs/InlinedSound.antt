@@ -2,14 +2,14 @@
 use Rattle.std.proofs.Common.{◌≡◌, ℕ, suc, max, ◌+◌, ◌≤◌, nat_le, Bool, true, false, List, [], ◌∷◌, ◌++◌, length, take, Option, Some, None, refl, sym, ap, ◌∙◌, subst, arith}
 use Rattle.std.proofs.Math.Nat.{min-le_right}
 use Rattle.txs_value_apply.specs.Core.{takes}
-use Rattle.txs_value_base.specs.Places.{nth}
+use Rattle.txs_value_data.specs.Places.{nth}
 use Rattle.txs_value_data.specs.Limits.{most_locals, most_nodes}
 use Rattle.txs_tree_meaning.proofs.Callable.{both, same_some, nth-take, function_at, tree-widened, tree-outside, tree-inside}
 use Rattle.txs_tree_meaning.specs.Known.{Known, is_inside, is_outside, is_pure, levels_of, inside_in, any_inside, outside_in, any_outside, pure_in, all_pure, known_of, known_from, known}
 use Rattle.txs_tree_meaning.specs.Sound.{Sound, Zone, in_function, in_thread, in_dosync, MayCall, SoundCall, SoundCallee, SoundSent, SoundTree, SoundAll, SoundLet, SoundDo, SoundFunction, SoundFunctions, SoundThreads, nodes, nodes_in, nodes_of_functions, nodes_of_all}
 use Rattle.txs_tree_meaning.specs.Tree.{Mark, Tree, Const, Local, If, Do, Let, Loop, Recur, Core, Call, VectorOf, Println, Dosync, Look, Put, Update, Send, Trees, none, more, count, PlainFunction, PlainThread, PlainProgram}
-use Rattle.txs_tree_build.specs.Locals.{reach, reach_let}
-use Rattle.txs_tree_build.specs.Shift.{shifted}
+use Rattle.txs_tree_meaning.specs.Locals.{reach, reach_let}
+use Rattle.txs_tree_meaning.specs.Shift.{shifted}
 use Rattle.txs_opt.specs.Inline.{bound, may_inline, opened, called, inlined, all_inlined, let_inlined, functions_inlined, threads_inlined, budget_of, inlined_program}
 use Rattle.txs_opt.proofs.FoldedSound.{call_sound, callee_sound, sent_sound, cells_sound}
 use Rattle.txs_opt.proofs.InlinedFunctions.{with_inlined, length_inlined}

@@ -1,15 +1,15 @@
 -- A tree with calls inlined means what the tree meant, where a function that was inlined means what its body does.
 use Rattle.std.proofs.Common.{◌≡◌, ℕ, suc, ◌+◌, nat_eq, nat_le, Bool, true, false, ◌&&◌, not, List, [], ◌∷◌, ◌++◌, length, Option, Some, None, refl, sym, ap, ◌∙◌, subst, length-append, arith}
 use Rattle.std.proofs.lemmas.Bool.{false≢true}
-use Rattle.txs_value_base.specs.Places.{nth}
+use Rattle.txs_value_data.specs.Places.{nth}
 use Rattle.txs_value_data.specs.Limits.{most_locals}
 use Rattle.txs_value_data.specs.declared.value.Value.{Value}
 use Rattle.txs_tree_meaning.proofs.Callable.{both}
 use Rattle.txs_tree_meaning.specs.Meaning.{Completion, Effects, eval, eval_all, eval_let}
 use Rattle.txs_tree_meaning.specs.Sound.{nodes}
 use Rattle.txs_tree_meaning.specs.Tree.{Mark, Tree, Const, Local, If, Do, Let, Loop, Recur, Core, Call, VectorOf, Println, Dosync, Look, Put, Update, Send, Trees, none, more, count, is_none, PlainFunction}
-use Rattle.txs_tree_build.specs.Locals.{reach}
-use Rattle.txs_tree_build.specs.Shift.{shifted}
+use Rattle.txs_tree_meaning.specs.Locals.{reach}
+use Rattle.txs_tree_meaning.specs.Shift.{shifted}
 use Rattle.txs_opt.specs.Inline.{bound, recurs, most_inlined, let_of_call, may_inline, opened, called, inlined, all_inlined, let_inlined}
 use Rattle.txs_opt.proofs.Below.{Kind, Below, AllBelow, all_inlined_below}
 use Rattle.txs_opt.proofs.Like.{Likeness, PartsLike, bind_like_in, like_trans}

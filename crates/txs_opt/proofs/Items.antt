@@ -8,7 +8,7 @@ use Rattle.txs_tree_meaning.specs.View.{tree_of, trees_of}
 use Rattle.txs_tree_meaning.specs.declared.node.Node.{Node}
 use Rattle.txs_opt.specs.Fold.{value_of, before, seen_items, whole, folded, folded_all}
 use Rattle.txs_opt.specs.Items.{joined, kept_item, stays}
-use Rattle.txs_tree_build.proofs.Rows.{behind, trees_behind}
+use Rattle.txs_tree_meaning.proofs.Rows.{behind, trees_behind}
 
 folded_behind : (es : Trees) (e : Tree) → folded_all (behind es e) ≡ behind (folded_all es) (folded e)
 folded_behind none e = refl

@@ -4,7 +4,7 @@ use Rattle.std.proofs.lemmas.List.{append-nil}
 use Rattle.txs_value_data.specs.declared.value.Value.{Value}
 use Rattle.txs_tree_meaning.specs.Meaning.{Completion, Completes, Effects, bind, eval, eval_all, eval_let}
 use Rattle.txs_tree_meaning.specs.Tree.{Tree, Trees, none, more}
-use Rattle.txs_tree_build.specs.Shift.{shifted}
+use Rattle.txs_tree_meaning.specs.Shift.{shifted}
 use Rattle.txs_opt.specs.Inline.{bound}
 use Rattle.txs_opt.proofs.Below.{Kind, Below, AllBelow}
 use Rattle.txs_opt.proofs.Like.{Likeness, PartsLike, bind_like}

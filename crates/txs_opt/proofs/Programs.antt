@@ -5,7 +5,7 @@ use Rattle.txs_tree_meaning.specs.Tree.{PlainFunction, PlainThread}
 use Rattle.txs_tree_meaning.specs.View.{function_of, functions_of, thread_of, threads_of}
 use Rattle.txs_tree_meaning.specs.declared.node.Function.{Function}
 use Rattle.txs_tree_meaning.specs.declared.node.Thread.{Thread}
-use Rattle.txs_tree_build.proofs.Copies.{functions_behind, threads_behind}
+use Rattle.txs_tree_meaning.proofs.Copies.{functions_behind, threads_behind}
 use Rattle.txs_opt.specs.Fold.{folded_function, folded_functions, folded_thread, folded_threads}
 
 folded_behind : (fs : List PlainFunction) (f : PlainFunction) → folded_functions (fs ++ f ∷ []) ≡ folded_functions fs ++ folded_function f ∷ []

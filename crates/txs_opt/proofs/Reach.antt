@@ -3,8 +3,8 @@ use Rattle.std.proofs.Common.{◌≡◌, ℕ, zero, suc, max, ◌+◌, ◌<◌, 
 use Rattle.txs_tree_meaning.specs.Tree.{Tree, Const, Local, If, Do, Let, Loop, Recur, Core, Call, VectorOf, Println, Dosync, Look, Put, Update, Send, Trees, none, more, count}
 use Rattle.txs_tree_meaning.specs.View.{tree_of, trees_of}
 use Rattle.txs_tree_meaning.specs.declared.node.Node.{Node}
-use Rattle.txs_tree_build.specs.Locals.{reach, reach_all, reach_let}
-use Rattle.txs_tree_build.specs.Shift.{shifted, all_shifted}
+use Rattle.txs_tree_meaning.specs.Locals.{reach, reach_all, reach_let}
+use Rattle.txs_tree_meaning.specs.Shift.{shifted, all_shifted}
 use Rattle.txs_opt.proofs.Shifting.{count_shifted}
 use Rattle.txs_opt.specs.Inline.{bound}
 

@@ -1,10 +1,10 @@
 -- Bodies that are sound name what is there: a sound program's names are resolved.
 use Rattle.std.proofs.Common.{◌≡◌, ℕ, zero, suc, ◌+◌, ◌<◌, ◌≤◌, List, [], ◌∷◌, ◌++◌, length, take, Option, Some, None, ap, subst, length-append, arith}
-use Rattle.txs_value_base.specs.Places.{nth}
+use Rattle.txs_value_data.specs.Places.{nth}
 use Rattle.txs_value_data.specs.Limits.{most_items, most_parameters, most_definitions, most_threads}
-use Rattle.txs_value_base.specs.declared.op.Callee.{Callee}
+use Rattle.txs_value_data.specs.declared.op.Callee.{Callee}
 use Rattle.txs_value_cell.specs.declared.cell.CellDefinition.{CellDefinition}
-use Rattle.txs_value_base.specs.declared.op.Callee.TheVariants.{Core as CoreOp, Function}
+use Rattle.txs_value_data.specs.declared.op.Callee.TheVariants.{Core as CoreOp, Function}
 use Rattle.txs_tree_meaning.proofs.Callable.{missing, nth-length, length-known}
 use Rattle.txs_tree_meaning.specs.Known.{Known, known_of, known_from, known}
 use Rattle.txs_tree_meaning.specs.Scoped.{Scoped, ScopedTree, ScopedAll, ScopedLet, ScopedCallee, ScopedFunctions, ScopedThreads, ScopedValidator, ScopedCells}

@@ -2,15 +2,15 @@
 use Rattle.std.proofs.Common.{◌≡◌, ℕ, suc, max, ◌+◌, ◌<◌, ◌≤◌, nat_lt, Bool, true, false, if◌then◌else◌, List, Option, Some, None, refl, sym, ap, ◌∙◌, subst, arith}
 use Rattle.std.proofs.lemmas.Bool.{false≢true}
 use Rattle.txs_value_apply.specs.Core.{takes}
-use Rattle.txs_value_base.specs.Places.{nth}
+use Rattle.txs_value_data.specs.Places.{nth}
 use Rattle.txs_value_data.specs.Limits.{most_locals}
-use Rattle.txs_value_base.specs.declared.op.Callee.{Callee}
-use Rattle.txs_value_base.specs.declared.op.Callee.TheVariants.{Core as CoreOp, Function}
+use Rattle.txs_value_data.specs.declared.op.Callee.{Callee}
+use Rattle.txs_value_data.specs.declared.op.Callee.TheVariants.{Core as CoreOp, Function}
 use Rattle.txs_tree_meaning.specs.Known.{Known, callee_levels, levels_of}
 use Rattle.txs_tree_meaning.specs.Sound.{Zone, in_dosync, SoundCall, SoundCallee, SoundSent, SoundTree, SoundAll, SoundLet, SoundDo, nodes, nodes_in}
 use Rattle.txs_tree_meaning.specs.Tree.{Tree, Const, Local, If, Do, Let, Loop, Recur, Core, Call, VectorOf, Println, Dosync, Look, Put, Update, Send, Trees, none, more, count}
-use Rattle.txs_tree_build.specs.Locals.{reach, reach_all, reach_let}
-use Rattle.txs_tree_build.specs.Shift.{moved, shifted, all_shifted}
+use Rattle.txs_tree_meaning.specs.Locals.{reach, reach_all, reach_let}
+use Rattle.txs_tree_meaning.specs.Shift.{moved, shifted, all_shifted}
 use Rattle.txs_opt.specs.Inline.{bound, recurs, last_recurs}
 use Rattle.txs_opt.proofs.Keeping.{EasesAt, eases_itself, neither, Kept, AllKept, none_kept, more_kept, const_kept, local_kept, if_kept, do_kept, recur_kept, core_kept, vector_kept, println_kept, dosync_kept, call_kept, let_kept, loop_kept, look_kept, put_kept, update_kept, send_kept}
 use Rattle.txs_opt.proofs.Shifting.{count_shifted}

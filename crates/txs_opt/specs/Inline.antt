@@ -1,10 +1,10 @@
 -- What inlining makes of a program: calls of small functions stand as the functions' bodies.
 use Rattle.std.specs.Prelude.{ℕ, suc, min, ◌+◌, ◌-◌, nat_eq, nat_le, Bool, true, false, ◌&&◌, ◌||◌, not, List, [], ◌∷◌, ◌++◌, Option, Some, None}
-use Rattle.txs_value_base.specs.Places.{nth}
+use Rattle.txs_value_data.specs.Places.{nth}
 use Rattle.txs_value_data.specs.Limits.{most_locals, most_nodes}
 use Rattle.txs_tree_meaning.specs.Sound.{nodes, nodes_of_functions, nodes_of_all}
-use Rattle.txs_tree_build.specs.Locals.{reach}
-use Rattle.txs_tree_build.specs.Shift.{shifted}
+use Rattle.txs_tree_meaning.specs.Locals.{reach}
+use Rattle.txs_tree_meaning.specs.Shift.{shifted}
 use Rattle.txs_tree_meaning.specs.Tree.{Mark, Tree, Const, Local, If, Do, Let, Loop, Recur, Core, Call, VectorOf, Println, Dosync, Look, Put, Update, Send, Trees, none, more, count, PlainFunction, PlainThread, PlainProgram}
 
 -- arguments as the values of a let with d locals, each of which sees the j values before it

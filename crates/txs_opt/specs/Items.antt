@@ -1,8 +1,8 @@
 -- What folding makes of one node, and of an item of a Do.
 use Rattle.std.specs.Prelude.{◌≡◌, Bool, true, false, List, Option, Some, None, Result, Ok, Err, Vec}
 use Rattle.std.specs.Global.{Global}
-use Rattle.txs_value_base.specs.declared.fault.Stop.{Stop}
-use Rattle.txs_value_base.specs.declared.fault.Stop.TheVariants.{Fault, Memory}
+use Rattle.txs_value_data.specs.declared.fault.Stop.{Stop}
+use Rattle.txs_value_data.specs.declared.fault.Stop.TheVariants.{Fault, Memory}
 use Rattle.txs_value_data.specs.declared.value.Value.{Value}
 use Rattle.txs_tree_meaning.specs.Tree as tree
 use Rattle.txs_tree_meaning.specs.Tree.{Mark, Tree, Trees, none, more}

@@ -3,8 +3,8 @@ use Rattle.std.specs.Prelude.{◌≡◌, ◌≤◌, ◌+◌, ℕ, List, [], leng
 use Rattle.txs_world_protocol.specs.SeenEvent.{SeenEvent}
 use Rattle.txs_value_cell.specs.Cells.{World}
 use Rattle.txs_value_cell.specs.declared.action.Action.{Action}
-use Rattle.txs_value_base.specs.Places.{nth}
-use Rattle.txs_value_base.specs.declared.op.Callee.{Callee}
+use Rattle.txs_value_data.specs.Places.{nth}
+use Rattle.txs_value_data.specs.declared.op.Callee.{Callee}
 use Rattle.txs_value_data.specs.declared.value.Value.{Value}
 use Rattle.txs_tree_meaning.specs.Known.{known}
 use Rattle.txs_tree_meaning.specs.Pure.{pure_meaning}

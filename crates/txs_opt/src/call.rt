@@ -2,19 +2,18 @@
 
 ghost use Rattle.std.specs.Prelude.{◌≡◌, ◌<◌, ◌≤◌, ◌-◌, IfOk, MatchOption, false, nat_le, true};
 ghost use Rattle.txs_opt.specs.Inline.{bound, called, let_of_call, may_inline, most_inlined};
-ghost use Rattle.txs_tree_build.specs.Locals.{reach, reach_let};
+ghost use Rattle.txs_tree_meaning.specs.Locals.{reach, reach_let};
 ghost use Rattle.txs_tree_meaning.specs.Sound.{nodes};
 ghost use Rattle.txs_tree_meaning.specs.Tree.{Mark};
 ghost use Rattle.txs_tree_meaning.specs.View.{function_of, functions_of, mark_of, tree_of, trees_of};
-ghost use Rattle.txs_value_base.specs.Places.{nth};
+ghost use Rattle.txs_value_data.specs.Places.{nth};
 ghost use Rattle.txs_value_data.specs.Limits.{most_locals};
 
 use crate::locals::{has_few, values_have_few};
 use crate::tail::has_recur;
 use std::alloc::{AllocError, Global};
 use txs_check::nodes_left;
-use txs_tree_build::{Row, Shift, Spot, let_node, row_node, shift_node};
-use txs_tree_meaning::{Function, Node};
+use txs_tree_meaning::{Function, Node, Row, Shift, Spot, let_node, row_node, shift_node};
 
 /// The nodes that a function's body may have, so that calls of it become its body.
 const MOST_INLINED: u32 = 40;

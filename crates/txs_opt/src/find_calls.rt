@@ -2,12 +2,11 @@
 
 ghost use Rattle.std.specs.Prelude.{◌≡◌, ◌||◌};
 ghost use Rattle.txs_opt.specs.Optimised.{calls, functions_call, some_call, threads_call};
-ghost use Rattle.txs_tree_build.specs.Shapes.{row_tree};
+ghost use Rattle.txs_tree_meaning.specs.Shapes.{row_tree};
 ghost use Rattle.txs_tree_meaning.specs.Tree.{Mark};
 ghost use Rattle.txs_tree_meaning.specs.View.{functions_of, threads_of, tree_of, trees_of};
 
-use txs_tree_build::{Row, Shape, view};
-use txs_tree_meaning::{Function, Node, Thread};
+use txs_tree_meaning::{Function, Node, Row, Shape, Thread, view};
 
 /// Whether a call is in one of the nodes.
 #[cycle(calls)]

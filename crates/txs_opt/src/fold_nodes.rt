@@ -2,20 +2,18 @@
 
 ghost use Rattle.std.specs.Prelude.{◌≡◌, IfOk, OnOk, MatchOption, None, Some};
 ghost use Rattle.txs_opt.specs.Fold.{chosen, constants, folded, folded_all, seen_items, settled, settled_core, settled_vector, value_of, whole};
-ghost use Rattle.txs_tree_build.specs.Shapes.{row_tree};
+ghost use Rattle.txs_tree_meaning.specs.Shapes.{row_tree};
 ghost use Rattle.txs_opt.specs.Items.{SettlesAs, joined, kept_item, stays, values_in};
 ghost use Rattle.txs_tree_meaning.specs.Tree as tree;
 ghost use Rattle.txs_tree_meaning.specs.View.{mark_of, tree_of, trees_of};
 
 use std::alloc::{AllocError, Global};
-use txs_tree_build::{
-    Row, Shape, Spot, const_node, dosync_node, if_node, let_node, local_node, look_node, loop_node,
-    put_node, row_node, send_node, spot_of, update_node, view,
+use txs_tree_meaning::{
+    Node, Row, Shape, Spot, const_node, dosync_node, if_node, let_node, local_node, look_node,
+    loop_node, put_node, row_node, send_node, spot_of, update_node, view,
 };
-use txs_tree_meaning::Node;
 use txs_value_apply::{apply, is_false, make_vector, takes};
-use txs_value_base::{Op, Stop};
-use txs_value_data::{Value, copy_value};
+use txs_value_data::{Op, Stop, Value, copy_value};
 
 /// The value of a constant.
 fn constant<'a>(node: &'a Node) -> Option<&'a Value>

@@ -7,8 +7,8 @@ ghost use Rattle.txs_tree_meaning.specs.View.{function_of, functions_of, program
 use crate::fold_nodes::fold_node;
 use std::alloc::{AllocError, Global};
 use txs_tree_meaning::{Function, Program, Raw, Thread};
-use txs_value_base::Span;
 use txs_value_cell::{CellDefinition, copy_cells};
+use txs_value_data::Span;
 
 /// The function with its body folded.
 fn fold_function(alloc: Global, function: &Function) -> Result<Function, AllocError>

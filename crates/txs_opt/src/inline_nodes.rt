@@ -2,19 +2,18 @@
 
 ghost use Rattle.std.specs.Prelude.{◌≡◌, ◌≤◌, IfOk};
 ghost use Rattle.txs_opt.specs.Inline.{all_inlined, inlined, let_inlined};
-ghost use Rattle.txs_tree_build.specs.Locals.{reach, reach_all, reach_let};
-ghost use Rattle.txs_tree_build.specs.Shapes.{row_tree};
+ghost use Rattle.txs_tree_meaning.specs.Locals.{reach, reach_all, reach_let};
+ghost use Rattle.txs_tree_meaning.specs.Shapes.{row_tree};
 ghost use Rattle.txs_tree_meaning.specs.View.{functions_of, mark_of, tree_of, trees_of};
 ghost use Rattle.txs_value_data.specs.Limits.{most_locals};
 
 use crate::call::call_node;
 use crate::locals::behind;
 use std::alloc::{AllocError, Global};
-use txs_tree_build::{
-    Row, Shape, Spot, const_node, dosync_node, if_node, let_node, local_node, look_node, loop_node,
-    put_node, row_node, send_node, spot_of, update_node, view,
+use txs_tree_meaning::{
+    Function, Node, Row, Shape, Spot, const_node, dosync_node, if_node, let_node, local_node,
+    look_node, loop_node, put_node, row_node, send_node, spot_of, update_node, view,
 };
-use txs_tree_meaning::{Function, Node};
 use txs_value_data::copy_value;
 
 /// Each of the nodes with calls inlined, all with the same locals.

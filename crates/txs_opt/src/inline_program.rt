@@ -2,7 +2,7 @@
 
 ghost use Rattle.std.specs.Prelude.{◌≡◌, ◌<◌, ◌≤◌, ◌+◌, [], IfErr, IfOk, MatchOption};
 ghost use Rattle.txs_opt.specs.Inline.{budget_of, functions_inlined, inlined, inlined_program, threads_inlined};
-ghost use Rattle.txs_tree_build.specs.Locals.{reach};
+ghost use Rattle.txs_tree_meaning.specs.Locals.{reach};
 ghost use Rattle.txs_tree_meaning.specs.Sound.{nodes_of_all, nodes_of_functions};
 ghost use Rattle.txs_tree_meaning.specs.View.{function_of, functions_of, program_of, thread_of, threads_of, tree_of};
 ghost use Rattle.txs_value_data.specs.Limits.{most_locals};
@@ -11,8 +11,8 @@ use crate::inline_nodes::inline_node;
 use std::alloc::{AllocError, Global};
 use txs_check::nodes_left;
 use txs_tree_meaning::{Function, Program, Raw, Thread};
-use txs_value_base::Span;
 use txs_value_cell::{CellDefinition, copy_cells};
+use txs_value_data::Span;
 use txs_value_data::limits::MOST_NODES;
 
 /// How many of so many nodes are left after those of the functions' bodies; none where they have more.

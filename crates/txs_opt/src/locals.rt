@@ -2,13 +2,12 @@
 
 ghost use Rattle.std.specs.Prelude.{◌≡◌, ◌<◌, ◌≤◌, ◌+◌, max, nat_le, MatchOption};
 ghost use Rattle.txs_opt.specs.Inline.{bound};
-ghost use Rattle.txs_tree_build.specs.Locals.{reach, reach_all, reach_let};
+ghost use Rattle.txs_tree_meaning.specs.Locals.{reach, reach_all, reach_let};
 ghost use Rattle.txs_tree_meaning.specs.Tree.{count};
 ghost use Rattle.txs_tree_meaning.specs.View.{tree_of, trees_of};
 ghost use Rattle.txs_value_data.specs.Limits.{most_locals};
 
-use txs_tree_build::{Shape, view};
-use txs_tree_meaning::Node;
+use txs_tree_meaning::{Node, Shape, view};
 use txs_value_data::limits::MOST_LOCALS;
 
 /// So many locals, or those up to this one, where they keep the limit.

@@ -2,12 +2,11 @@
 
 ghost use Rattle.std.specs.Prelude.{◌≡◌};
 ghost use Rattle.txs_opt.specs.Inline.{last_recurs, recurs};
-ghost use Rattle.txs_tree_build.specs.Shapes.{row_tree};
+ghost use Rattle.txs_tree_meaning.specs.Shapes.{row_tree};
 ghost use Rattle.txs_tree_meaning.specs.Tree.{Mark};
 ghost use Rattle.txs_tree_meaning.specs.View.{tree_of, trees_of};
 
-use txs_tree_build::{Row, Shape, view};
-use txs_tree_meaning::Node;
+use txs_tree_meaning::{Node, Row, Shape, view};
 
 /// Whether there is such a recur in the last of the nodes.
 #[cycle(recurs)]

@@ -5,7 +5,7 @@ use Rattle.std.proofs.lemmas.List.{take-append-drop, drop-drop}
 use Rattle.std.proofs.lemmas.Bool.Decides.{nat_tests}
 use Rattle.std.proofs.Math.Seq.{drop-length, drop-cons}
 use Rattle.std.specs.List.{flat_map}
-use Rattle.txs_value_base.specs.declared.fault.Span.{Span}
+use Rattle.txs_value_data.specs.declared.fault.Span.{Span}
 use Rattle.txs_reader.specs.declared.form.Bracket.{Bracket}
 use Rattle.txs_reader.specs.declared.error.ReadErrorKind.{ReadErrorKind}
 use Rattle.txs_reader.specs.declared.error.ReadErrorKind.TheVariants.{Unclosed, Unopened, BadEscape, TooDeep, TooLarge, LeftOut, Memory}

@@ -1,7 +1,7 @@
 -- The tree of a form, by cases.
 use Rattle.std.proofs.Common.{◌≡◌, Bool, List, [], ◌∷◌, ◌++◌, ℤ, Vec, ap, ◌∙◌, rules, ℕ, Global}
 use Rattle.std.proofs.lemmas.List.{map-append}
-use Rattle.txs_value_base.specs.declared.fault.Span.{Span}
+use Rattle.txs_value_data.specs.declared.fault.Span.{Span}
 use Rattle.txs_reader.specs.declared.form.Bracket.{Bracket}
 use Rattle.txs_reader.specs.declared.form.Form.{Form, Nil, Truth, Number, Text, Keyword, Symbol, Group, the_lemmas}
 use Rattle.txs_reader.specs.Tree.{text, nil, truth, number, keyword, symbol, PlainForm, leaf, group, tree, trees, trees_of}

@@ -1,7 +1,7 @@
 -- What is at the front of a text's inside, and how far one has been read.
 use Rattle.std.specs.Prelude.{ℕ, ◌≡◌, ◌+◌, List, ◌∷◌, ◌++◌, length, drop, flat_map, encode_utf8}
 use Rattle.std.specs.List.{AllByRecursion}
-use Rattle.txs_value_base.specs.declared.fault.Span.{Span}
+use Rattle.txs_value_data.specs.declared.fault.Span.{Span}
 use Rattle.txs_reader.specs.declared.error.ReadErrorKind.{ReadErrorKind}
 use Rattle.txs_reader.specs.declared.error.ReadErrorKind.TheVariants.{Memory}
 use Rattle.txs_reader.specs.declared.error.ReadError.{ReadError}

@@ -2,10 +2,16 @@ pub mod Bytes
 pub mod Completes
 pub mod Errors
 pub mod Escapes
+pub mod Extends
 pub mod OpenForms
+pub mod Place
+pub mod Pointed
 pub mod Quoted
 pub mod Reached
 pub mod Refused
 pub mod Rows
+pub mod Safe
 pub mod Script
+pub mod Sign
 pub mod Tree
+pub mod Window

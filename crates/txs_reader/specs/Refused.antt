@@ -1,6 +1,6 @@
 -- What a refusal tells.
 use Rattle.std.specs.Prelude.{◌≡◌, ◌<◌, ℕ, List, Err, length}
-use Rattle.txs_value_base.specs.declared.fault.Span.{Span}
+use Rattle.txs_value_data.specs.declared.fault.Span.{Span}
 use Rattle.txs_reader.specs.declared.error.ReadErrorKind.{ReadErrorKind}
 use Rattle.txs_reader.specs.declared.error.ReadErrorKind.TheVariants.{Memory, TooLarge}
 use Rattle.txs_reader.specs.declared.error.ReadError.{ReadError}

@@ -1,7 +1,7 @@
 -- What a form is, without where it lies in memory.
 use Rattle.std.specs.Prelude.{ℕ, suc, ◌≤◌, max, codes, List, [], ◌∷◌, map, ℤ, Bool}
 use Rattle.txs_value_data.specs.Limits.{most_items}
-use Rattle.txs_value_base.specs.declared.fault.Span.{Span}
+use Rattle.txs_value_data.specs.declared.fault.Span.{Span}
 use Rattle.txs_reader.specs.declared.form.Bracket.{Bracket}
 use Rattle.txs_reader.specs.declared.form.Form.{Form, fold-Form}
 use Rattle.txs_reader.specs.declared.form.Form.TheOpen.{Form-F}

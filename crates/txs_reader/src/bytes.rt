@@ -6,7 +6,7 @@ ghost use Rattle.txs_reader.specs.Bytes.{is_white, is_left_out_byte, is_word_byt
 ghost use Rattle.txs_reader.specs.Script.{between};
 
 use memchr::memchr2;
-use txs_value_base::Span;
+use txs_value_data::Span;
 
 #[tactic(auto, unfolding(crate::specs::Bytes::is_white))]
 pub fn is_white(b: u8) -> bool

@@ -7,7 +7,7 @@ ghost use Rattle.txs_reader.specs.Refused.{out_of_memory};
 use std::alloc::{AllocError, AllocFailed};
 use std::fmt::{self, Display, Formatter, Write};
 use thiserror::Error;
-use txs_value_base::Span;
+use txs_value_data::Span;
 
 /// The reasons for which a script isn't read.
 #[derive(Clone, Copy, Debug, PartialEq, Eq, Error)]

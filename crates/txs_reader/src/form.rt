@@ -3,8 +3,7 @@
 ghost use Rattle.std.specs.Prelude.{◌≡◌};
 ghost use Rattle.txs_reader.specs.Tree.{tree, place};
 
-use txs_value_base::Span;
-use txs_value_data::{Name, Text};
+use txs_value_data::{Name, Span, Text};
 
 /// The two kinds of brackets: a list is in round ones, a vector in square ones.
 #[derive(Clone, Copy, PartialEq, Eq)]

@@ -1,27 +1,42 @@
 //! The reader of scripts: bytes to forms with their spans, or the first refusal with its place. What a
 //! script is, and where the reading of one stops, is said by relations on whole texts; for each input
 //! exactly one of them holds, for one answer, and it is the reader's.
+//!
+//! And places in a text: the line and the column of a byte, the line around it, and what points to a span.
 #![tactic(auto)]
 
 ghost use Rattle.std.specs.Prelude.{◌≡◌, ◌⊎◌, List, ℕ};
-ghost use Rattle.txs_value_base.specs.declared.fault.Span.{Span};
-ghost use Rattle.txs_reader.specs.declared.error.ReadErrorKind.{ReadErrorKind};
-ghost use Rattle.txs_reader.specs.Tree.{PlainForm};
 ghost use Rattle.txs_reader.specs.Script.{Reads, ReadStops};
+ghost use Rattle.txs_reader.specs.Tree.{PlainForm};
+ghost use Rattle.txs_reader.specs.declared.error.ReadErrorKind.{ReadErrorKind};
+ghost use Rattle.txs_value_data.specs.declared.fault.Span.{Span};
 
 mod bytes;
 pub mod error;
 mod escape;
+mod find;
 pub mod form;
+mod law;
+mod line_bytes;
+mod lines;
 mod open_form;
 mod open_forms;
+pub mod place;
+mod pointed;
 mod quoted;
 pub mod reader;
+mod sign;
+mod window;
 mod word;
 
 pub use error::{ReadError, ReadErrorKind};
+pub use find::position;
 pub use form::{Bracket, Form};
+pub use law::{lines_are_safe, places_follow, plain_lines_stay, window_holds};
+pub use lines::line_at;
+pub use pointed::write_pointed;
 pub use reader::read_script;
+pub use sign::is_escaped;
 
 /// A script has one reading, or its reading stops at one place for one reason.
 pub fn one_answer()

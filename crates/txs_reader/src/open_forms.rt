@@ -9,9 +9,8 @@ ghost use Rattle.txs_reader.specs.Tree.{tree};
 use crate::form::{Bracket, Form};
 use crate::open_form::OpenForm;
 use std::alloc::{AllocError, Global};
-use txs_value_base::Span;
-use txs_value_data::Name;
 use txs_value_data::limits::MOST_ITEMS;
+use txs_value_data::{Name, Span};
 
 /// What has been read: the openings, and all whole forms in one row, first those before the outermost
 /// opening, then those between it and the next, and so on. So a list takes memory only where it closes,

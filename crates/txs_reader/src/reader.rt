@@ -15,9 +15,8 @@ use crate::open_forms::OpenForms;
 use crate::quoted::read_quoted;
 use crate::word::form_of;
 use std::alloc::Global;
-use txs_value_base::Span;
-use txs_value_data::Text;
 use txs_value_data::limits::{MOST_NESTING, MOST_SCRIPT, MOST_TEXT};
+use txs_value_data::{Span, Text};
 
 /// Reads an opening bracket, or a `@`.
 fn open(

@@ -12,9 +12,8 @@ ghost use Rattle.txs_reader.specs.Tree.{Leaf, leaf, tree};
 use crate::error::{ReadError, ReadErrorKind};
 use crate::form::Form;
 use std::alloc::Global;
-use txs_value_base::Span;
-use txs_value_data::Name;
 use txs_value_data::value::is_symbol_byte;
+use txs_value_data::{Name, Span};
 
 /// How many bytes a name may have.
 const MAX_NAME: usize = 255;

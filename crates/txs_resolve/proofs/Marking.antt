@@ -1,7 +1,7 @@
 -- The program of a script is marked as it is wanted, form by form.
 use Rattle.std.proofs.Common.{ℕ, true, false, nat_lt, Bool, List, [], ◌∷◌, ◌++◌, length, Option, Some, None, Ok, Err, IfOk, subst}
 use Rattle.txs_value_data.specs.Limits.{most_definitions, most_depth, most_levels, most_threads}
-use Rattle.txs_value_base.specs.declared.fault.Span.{Span}
+use Rattle.txs_value_data.specs.declared.fault.Span.{Span}
 use Rattle.txs_value_data.specs.declared.value.Value.{Value}
 use Rattle.txs_reader.specs.declared.form.Bracket.TheVariants.{Round, Square}
 use Rattle.txs_reader.specs.Tree.{PlainForm as Form, PlainForms as Forms, leaf, group, first}
@@ -9,17 +9,17 @@ use Rattle.txs_reader.specs.Tree.{none as no_forms}
 use Rattle.txs_tree_meaning.specs.Marked.{Exactly, MarkedBy, FunctionsMarkedBy, ThreadsMarkedBy, ProgramMarkedBy}
 use Rattle.txs_tree_meaning.specs.Tree.{Tree, PlainFunction, PlainThread, PlainProgram}
 use Rattle.txs_resolve_expand.specs.declared.error.ResolveErrorKind.TheVariants.{TooMany}
-use Rattle.txs_resolve_scope.specs.declared.names.FormName.{FormName}
-use Rattle.txs_resolve_scope.specs.declared.names.FormName.TheVariants as kind
-use Rattle.txs_resolve_scope.specs.Scope.{Scope}
+use Rattle.txs_resolve_expand.specs.declared.names.FormName.{FormName}
+use Rattle.txs_resolve_expand.specs.declared.names.FormName.TheVariants as kind
+use Rattle.txs_resolve_expand.specs.Scope.{Scope}
 use Rattle.txs_resolve.specs.declared.definition.CellSort.{CellSort}
 use Rattle.txs_resolve.specs.declared.definition.Validation.{Validation}
-use Rattle.txs_value_base.specs.declared.op.Callee.{Callee}
+use Rattle.txs_value_data.specs.declared.op.Callee.{Callee}
 use Rattle.txs_resolve_expand.specs.Answers.{◌>>=◌}
 use Rattle.txs_resolve_expand.specs.Expansions.{body, form_at}
 use Rattle.txs_resolve_expand.specs.Expressions.{Answer, named}
-use Rattle.txs_resolve_body.specs.Literals.{literal}
-use Rattle.txs_resolve_body.proofs.Marks.{form_marked}
+use Rattle.txs_resolve.specs.Literals.{literal}
+use Rattle.txs_resolve.proofs.Marks.{form_marked}
 use Rattle.txs_resolve_expand.specs.Namespace.{behind_namespace}
 use Rattle.txs_resolve.specs.Names.{State, nothing, program, new_name, Defining, defining_of, validator_named, validator_place, with_definition, defined_as_one, NamedForm, named_form, defined_at, parameters, Written, written, with_function, function, with_thread, future, top_level, step, steps, named_script, Resolves}
 use Rattle.txs_resolve.proofs.Scoping.{Every, then_every, one_every, three_every, if_every}

@@ -1,7 +1,7 @@
 -- A form that is no list, as a definition's form and at the top level, a list by the form at its head, and a script by its steps.
 use Rattle.std.proofs.Common.{◌≡◌, ◌∷◌, ℕ, ℤ, Bool, List, Option, None, Ok, Err, refl, sym, ap, ◌∙◌, subst}
-use Rattle.txs_value_base.specs.declared.fault.Span.{Span}
-use Rattle.txs_resolve_scope.specs.declared.names.FormName.{FormName}
+use Rattle.txs_value_data.specs.declared.fault.Span.{Span}
+use Rattle.txs_resolve_expand.specs.declared.names.FormName.{FormName}
 use Rattle.txs_reader.specs.declared.form.Bracket.TheVariants.{Round}
 use Rattle.txs_reader.specs.declared.form.Form.{Form, Nil, Truth, Number, Text, Keyword, Symbol}
 use Rattle.txs_reader.specs.Tree.{PlainForm, Leaf, nil, truth, number, text, keyword, symbol, leaf, group, tree}
@@ -13,8 +13,8 @@ use Rattle.txs_resolve_expand.specs.Expressions.{Answer}
 use Rattle.txs_resolve_expand.specs.Answers.{◌>>=◌}
 use Rattle.txs_resolve_expand.specs.Namespace.{behind_namespace}
 use Rattle.txs_resolve_expand.specs.Parts.{plain}
-use Rattle.txs_resolve_body.specs.declared.stop.Stop.{Stop}
-use Rattle.txs_resolve_body.specs.declared.stop.Stop.TheVariants.{Refused}
+use Rattle.txs_resolve.specs.declared.stop.Stop.{Stop}
+use Rattle.txs_resolve.specs.declared.stop.Stop.TheVariants.{Refused}
 use Rattle.txs_resolve.specs.Given.{Ends, Leaves}
 use Rattle.txs_resolve.specs.Names.{State, defining_of, named_script, nothing, only_literal, program, step, steps, top_level}
 

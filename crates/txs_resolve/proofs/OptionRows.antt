@@ -1,14 +1,14 @@
 -- The options of cells, and what their validators call: each row by computing.
 use Rattle.std.proofs.Common.{◌≡◌, ℕ, List, [], ◌∷◌, Some, None, Ok, codes, refl}
-use Rattle.txs_value_base.specs.declared.fault.Span.{Span}
-use Rattle.txs_value_base.specs.declared.op.Callee.TheVariants.{Core as CoreOp, Function as TheFunction}
-use Rattle.txs_value_base.specs.declared.op.Op.TheVariants.{Add}
+use Rattle.txs_value_data.specs.declared.fault.Span.{Span}
+use Rattle.txs_value_data.specs.declared.op.Callee.TheVariants.{Core as CoreOp, Function as TheFunction}
+use Rattle.txs_value_data.specs.declared.op.Op.TheVariants.{Add}
 use Rattle.txs_value_cell.specs.declared.cell.ErrorMode.TheVariants.{Fail, Continue}
 use Rattle.txs_value_data.specs.declared.value.CellKind.TheVariants.{Ref, Atom, Agent}
 use Rattle.txs_reader.specs.Tree.{PlainForm as Form, PlainForms as Forms, leaf, first, keyword, symbol}
 use Rattle.txs_reader.specs.Tree.{none as no_forms}
-use Rattle.txs_resolve_scope.specs.declared.scope.Definition.TheVariants.{Cell as ACell, Function as AFunction}
-use Rattle.txs_resolve_scope.specs.Scope.{Entry, meaning}
+use Rattle.txs_resolve_expand.specs.declared.scope.Definition.TheVariants.{Cell as ACell, Function as AFunction}
+use Rattle.txs_resolve_expand.specs.Scope.{Entry, meaning}
 use Rattle.txs_resolve_expand.specs.declared.error.ResolveErrorKind.TheVariants.{NotCallable, UnknownName}
 use Rattle.txs_resolve_expand.specs.Answers.{refuse}
 use Rattle.txs_resolve.specs.Names.{options_behind, validator_named}

@@ -1,11 +1,11 @@
 -- What a script defines is scoped, form by form.
 use Rattle.std.proofs.Common.{◌≡◌, ◌<◌, ◌≤◌, ◌+◌, ℕ, zero, suc, true, false, nat_lt, if◌then◌else◌, List, [], ◌∷◌, ◌++◌, length, Option, Some, None, Ok, Err, refl, sym, ap, subst, length-append, arith}
 use Rattle.txs_value_data.specs.Limits.{most_depth, most_levels}
-use Rattle.txs_value_base.specs.Places.{nth}
+use Rattle.txs_value_data.specs.Places.{nth}
 use Rattle.txs_value_cell.specs.declared.cell.CellDefinition.{CellDefinition}
-use Rattle.txs_value_base.specs.declared.fault.Span.{Span}
-use Rattle.txs_value_base.specs.declared.op.Callee.{Callee}
-use Rattle.txs_value_base.specs.declared.op.Callee.TheVariants.{Core as CoreOp, Function as TheFunction}
+use Rattle.txs_value_data.specs.declared.fault.Span.{Span}
+use Rattle.txs_value_data.specs.declared.op.Callee.{Callee}
+use Rattle.txs_value_data.specs.declared.op.Callee.TheVariants.{Core as CoreOp, Function as TheFunction}
 use Rattle.txs_value_data.specs.declared.value.CellId.{CellId}
 use Rattle.txs_value_data.specs.declared.value.Value.{Value}
 use Rattle.txs_reader.specs.declared.form.Bracket.TheVariants.{Round, Square}
@@ -16,19 +16,19 @@ use Rattle.txs_tree_meaning.specs.Scoped.{Scoped, ScopedCallee, ScopedCells, Sco
 use Rattle.txs_tree_meaning.specs.Tree.{Tree, Trees, Const, Local, If, Do, Let, Loop, Recur, Core, Call, VectorOf, Println, Dosync, Look, Put, Update, Send, none, more, count, PlainFunction, PlainThread, PlainProgram}
 use Rattle.txs_tree_meaning.proofs.Callable.{length-known}
 use Rattle.txs_resolve_expand.specs.declared.error.ResolveErrorKind.TheVariants.{BadForm, TooMany}
-use Rattle.txs_resolve_scope.specs.declared.names.FormName.{FormName}
-use Rattle.txs_resolve_scope.specs.declared.names.FormName.TheVariants as kind
-use Rattle.txs_resolve_scope.specs.declared.scope.Definition.{Definition}
-use Rattle.txs_resolve_scope.specs.declared.scope.Definition.TheVariants.{Constant, Cell as ACell, Function as AFunction}
+use Rattle.txs_resolve_expand.specs.declared.names.FormName.{FormName}
+use Rattle.txs_resolve_expand.specs.declared.names.FormName.TheVariants as kind
+use Rattle.txs_resolve_expand.specs.declared.scope.Definition.{Definition}
+use Rattle.txs_resolve_expand.specs.declared.scope.Definition.TheVariants.{Constant, Cell as ACell, Function as AFunction}
 use Rattle.txs_resolve.specs.declared.definition.CellSort.{CellSort}
 use Rattle.txs_resolve.specs.declared.definition.Validation.{Validation}
 use Rattle.txs_resolve_expand.specs.Expansions.{body, form_at}
 use Rattle.txs_resolve_expand.specs.Expressions.{Answer, callee_of, named, spot_at}
-use Rattle.txs_resolve_body.specs.Literals.{literal}
+use Rattle.txs_resolve.specs.Literals.{literal}
 use Rattle.txs_resolve_expand.specs.Namespace.{behind_namespace}
 use Rattle.txs_resolve.specs.Names.{State, nothing, program, new_name, Defining, defining_of, new_cell, top_scope, validator_named, validator_place, with_constant, with_definition, defined_as_one, NamedForm, named_form, defined_at, define, parameter, parameters, Written, written, with_function, function, with_thread, future, top_level, step, steps, named_script, Resolves}
 use Rattle.txs_resolve_expand.specs.Answers.{◌>>=◌, refuse}
-use Rattle.txs_resolve_scope.specs.Scope.{Scope, Entry, may_bind}
+use Rattle.txs_resolve_expand.specs.Scope.{Scope, Entry, may_bind}
 use Rattle.txs_resolve.specs.Scripts.{IsKnown, AreKnown, ScopedState}
 use Rattle.txs_resolve.proofs.Scoping.{Every, then_every, one_every, three_every, if_every, is_less, CalleeFits, callee_of_fits, Placed, form_named}
 

@@ -1,12 +1,12 @@
 -- What the resolution of names makes of forms is scoped, and has no more levels than there is room.
 use Rattle.std.proofs.Common.{◌||◌, ◌≡◌, ◌<◌, ◌≤◌, ◌+◌, ℕ, zero, suc, Bool, true, false, nat_lt, bytes_eq, if◌then◌else◌, List, [], ◌∷◌, length, Option, Some, None, Ok, Err, refl, sym, ap, subst, arith}
 use Rattle.std.proofs.lemmas.Bool.Decides.{nat_tests}
-use Rattle.txs_value_base.specs.Places.{nth}
-use Rattle.txs_value_base.specs.declared.fault.Span.{Span}
+use Rattle.txs_value_data.specs.Places.{nth}
+use Rattle.txs_value_data.specs.declared.fault.Span.{Span}
 use Rattle.txs_value_cell.specs.declared.form.CellForm.{CellForm}
 use Rattle.txs_value_cell.specs.declared.form.CellForm.TheVariants as on_cell
-use Rattle.txs_value_base.specs.declared.op.Callee.{Callee}
-use Rattle.txs_value_base.specs.declared.op.Callee.TheVariants.{Core as CoreOp, Function as TheFunction}
+use Rattle.txs_value_data.specs.declared.op.Callee.{Callee}
+use Rattle.txs_value_data.specs.declared.op.Callee.TheVariants.{Core as CoreOp, Function as TheFunction}
 use Rattle.txs_value_data.specs.declared.value.Value.{Value}
 use Rattle.txs_value_data.specs.declared.value.Value.TheVariants.{Cell}
 use Rattle.txs_reader.specs.declared.form.Bracket.TheVariants.{Round, Square}
@@ -18,8 +18,8 @@ use Rattle.txs_tree_meaning.specs.Tree.{Tree, Trees, Mark, Const, Local, Put, mo
 use Rattle.txs_tree_meaning.proofs.Callable.{nth-length}
 use Rattle.txs_resolve_expand.specs.declared.error.ResolveError.{ResolveError}
 use Rattle.txs_resolve_expand.specs.declared.error.ResolveErrorKind.TheVariants.{BadForm, TooMany}
-use Rattle.txs_resolve_scope.specs.declared.names.FormName.{FormName}
-use Rattle.txs_resolve_scope.specs.declared.names.FormName.TheVariants as kind
+use Rattle.txs_resolve_expand.specs.declared.names.FormName.{FormName}
+use Rattle.txs_resolve_expand.specs.declared.names.FormName.TheVariants as kind
 use Rattle.txs_resolve_expand.specs.declared.shapes.Change.{Change}
 use Rattle.txs_resolve_expand.specs.declared.shapes.Change.TheVariants as change_by
 use Rattle.txs_resolve_expand.specs.declared.shapes.Single.{Single}
@@ -27,13 +27,13 @@ use Rattle.txs_resolve_expand.specs.declared.shapes.Single.TheVariants as single
 use Rattle.txs_resolve_expand.specs.declared.shapes.Sequence.{Sequence}
 use Rattle.txs_resolve_expand.specs.declared.shapes.Sequence.TheVariants as sequence
 use Rattle.txs_resolve_expand.specs.declared.shapes.Spot.{Spot}
-use Rattle.txs_resolve_scope.specs.declared.scope.Definition.{Definition}
-use Rattle.txs_resolve_scope.specs.declared.scope.Definition.TheVariants.{Constant, Cell as ACell, Function as AFunction}
+use Rattle.txs_resolve_expand.specs.declared.scope.Definition.{Definition}
+use Rattle.txs_resolve_expand.specs.declared.scope.Definition.TheVariants.{Constant, Cell as ACell, Function as AFunction}
 use Rattle.txs_resolve_expand.specs.Expansions.{alone, body, expand_once, form_at}
 use Rattle.txs_resolve_expand.specs.Expressions.{Answer, Bound, Special, row, one_part, putting, choice, binding, changing, Core as ACore, whole, parted, Resolver, spot_at, spot_mark, some_room, in_room, narrow, symbol_node, leaf_value, leaf_node, callee_at, callee_of, flag, sequence_node, are_wanted, choice_node, single_node, is_wanted, change_node, binding_node, are_pairs, cell_form, of_family, special, applied, list_core, core_of, bound_name, named_all, named_bindings, put_together, made, resolved, named}
 use Rattle.txs_resolve_expand.specs.Answers.{◌>>=◌, refuse}
-use Rattle.txs_resolve_scope.specs.Scope.{Scope, Entry, with_local, number_in, definition_of, may_bind, Meaning, a_form, dotted, a_local, the_current, defined_as, operation, unknown, meaning}
-use Rattle.txs_resolve_scope.proofs.Meanings.{meaning_so}
+use Rattle.txs_resolve_expand.specs.Scope.{Scope, Entry, with_local, number_in, definition_of, may_bind, Meaning, a_form, dotted, a_local, the_current, defined_as, operation, unknown, meaning}
+use Rattle.txs_resolve_expand.proofs.Meanings.{meaning_so}
 use Rattle.txs_resolve.specs.Scripts.{IsKnown, AreKnown}
 
 -- ---- answers

@@ -1,22 +1,22 @@
 -- What a symbol in an expression is, by the nearest local of its name and by what is defined.
 use Rattle.std.proofs.Common.{◌≡◌, ℕ, suc, Bool, true, false, not, ◌&&◌, List, Option, Some, None, Ok, if◌then◌else◌, refl, sym, ap, ◌∙◌, subst}
 use Rattle.std.specs.List.{list_any}
-use Rattle.txs_value_base.specs.Operations.{op_name, operations}
-use Rattle.txs_value_base.specs.declared.fault.Span.{Span}
-use Rattle.txs_value_base.specs.declared.op.Op.{Op}
+use Rattle.txs_value_data.specs.Operations.{op_name, operations}
+use Rattle.txs_value_data.specs.declared.fault.Span.{Span}
+use Rattle.txs_value_data.specs.declared.op.Op.{Op}
 use Rattle.txs_value_data.specs.declared.value.CellId.{CellId}
 use Rattle.txs_value_data.specs.declared.value.Value.{Value}
 use Rattle.txs_value_data.specs.declared.value.Value.TheVariants.{Cell}
 use Rattle.txs_reader.specs.Tree.{leaf, symbol}
 use Rattle.txs_tree_meaning.specs.Tree.{Const, Local}
 use Rattle.txs_tree_meaning.specs.View.{mark_of}
-use Rattle.txs_resolve_scope.specs.declared.names.FormName.{FormName}
-use Rattle.txs_resolve_scope.specs.declared.scope.Definition.{Definition}
-use Rattle.txs_resolve_scope.specs.declared.scope.Definition.TheVariants.{Constant, Cell as ACell}
-use Rattle.txs_resolve_scope.specs.Nearest.{IsNearest, NoneNamed}
-use Rattle.txs_value_base.specs.Places.{with_name}
-use Rattle.txs_resolve_scope.specs.Scope.{Scope, Meaning, dotted, the_current, definition_of, form_name, form_names, is_current, is_dot, is_none, local_number, may_bind, meaning, or_defined, or_form, or_local, or_unknown}
-use Rattle.txs_resolve_scope.proofs.Nearest.{alone, nowhere}
+use Rattle.txs_resolve_expand.specs.declared.names.FormName.{FormName}
+use Rattle.txs_resolve_expand.specs.declared.scope.Definition.{Definition}
+use Rattle.txs_resolve_expand.specs.declared.scope.Definition.TheVariants.{Constant, Cell as ACell}
+use Rattle.txs_resolve_expand.specs.Nearest.{IsNearest, NoneNamed}
+use Rattle.txs_value_data.specs.Places.{with_name}
+use Rattle.txs_resolve_expand.specs.Scope.{Scope, Meaning, dotted, the_current, definition_of, form_name, form_names, is_current, is_dot, is_none, local_number, may_bind, meaning, or_defined, or_form, or_local, or_unknown}
+use Rattle.txs_resolve_expand.proofs.Nearest.{alone, nowhere}
 use Rattle.txs_resolve_expand.specs.declared.error.ResolveErrorKind.TheVariants.{UnknownName}
 use Rattle.txs_resolve_expand.specs.Answers.{refuse}
 use Rattle.txs_resolve_expand.specs.Expressions.{named, spot_at, symbol_node}

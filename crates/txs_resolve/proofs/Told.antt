@@ -1,11 +1,11 @@
 -- No refusal of names is a want of memory.
 use Rattle.std.proofs.Common.{◌≡◌, ◌≢◌, ℕ, zero, suc, ◌-◌, ◌==◌, Bool, true, false, ◌&&◌, ◌||◌, nat_lt, if◌then◌else◌, List, [], ◌∷◌, length, Option, Some, None, Ok, Err, sym, subst}
 use Rattle.txs_value_data.specs.Limits.{most_depth, most_items, most_levels, most_definitions, most_threads, most_parameters, most_locals}
-use Rattle.txs_value_base.specs.Operations.{op_name, operations}
-use Rattle.txs_value_base.specs.declared.fault.Span.{Span}
+use Rattle.txs_value_data.specs.Operations.{op_name, operations}
+use Rattle.txs_value_data.specs.declared.fault.Span.{Span}
 use Rattle.txs_value_cell.specs.declared.form.CellForm.{CellForm}
 use Rattle.txs_value_cell.specs.declared.form.CellForm.TheVariants as on_cell
-use Rattle.txs_value_base.specs.declared.op.Callee.TheVariants.{Function as TheFunction}
+use Rattle.txs_value_data.specs.declared.op.Callee.TheVariants.{Function as TheFunction}
 use Rattle.txs_value_data.specs.declared.value.Value.{Value}
 use Rattle.txs_value_data.specs.declared.value.Value.TheVariants.{Vector, Cell}
 use Rattle.txs_value_data.specs.View.{plains_of}
@@ -16,19 +16,19 @@ use Rattle.txs_tree_meaning.specs.Tree.{Const, Local, Put, more}
 use Rattle.txs_resolve_expand.specs.declared.error.ResolveError.{ResolveError}
 use Rattle.txs_resolve_expand.specs.declared.error.ResolveErrorKind.{ResolveErrorKind}
 use Rattle.txs_resolve_expand.specs.declared.error.ResolveErrorKind.TheVariants.{UnknownName, Redefined, BadForm, NotCallable, LocalCalled, SelfCall, TooMany, Memory}
-use Rattle.txs_resolve_scope.specs.declared.names.FormName.{FormName}
-use Rattle.txs_resolve_scope.specs.declared.names.FormName.TheVariants as kind
-use Rattle.txs_resolve_scope.specs.declared.scope.Definition.TheVariants.{Constant, Cell as ACell, Function as AFunction}
-use Rattle.txs_value_base.specs.Places.{with_name}
-use Rattle.txs_resolve_scope.specs.Scope.{Scope, Entry, definition_of, is_none, may_bind, meaning, with_local, Meaning, a_form, dotted, a_local, the_current, defined_as, operation, unknown}
+use Rattle.txs_resolve_expand.specs.declared.names.FormName.{FormName}
+use Rattle.txs_resolve_expand.specs.declared.names.FormName.TheVariants as kind
+use Rattle.txs_resolve_expand.specs.declared.scope.Definition.TheVariants.{Constant, Cell as ACell, Function as AFunction}
+use Rattle.txs_value_data.specs.Places.{with_name}
+use Rattle.txs_resolve_expand.specs.Scope.{Scope, Entry, definition_of, is_none, may_bind, meaning, with_local, Meaning, a_form, dotted, a_local, the_current, defined_as, operation, unknown}
 use Rattle.txs_resolve_expand.specs.declared.shapes.Spot.{Spot}
 use Rattle.txs_resolve_expand.specs.Answers.{◌>>=◌, refuse}
 use Rattle.txs_resolve_expand.specs.Expansions.{alone, body, expand_once, form_at}
-use Rattle.txs_value_base.specs.declared.op.Callee.{Callee}
+use Rattle.txs_value_data.specs.declared.op.Callee.{Callee}
 use Rattle.txs_resolve_expand.specs.Expressions.{Answer, Special, row, one_part, putting, choice, binding, changing, Core as ACore, whole, parted, Resolver, spot_at, spot_mark, some_room, in_room, narrow, symbol_node, leaf_value, leaf_node, callee_at, callee_of, flag, sequence_node, are_wanted, choice_node, single_node, is_wanted, change_node, binding_node, are_pairs, cell_form, of_family, special, applied, list_core, core_of, bound_name, named_all, named_bindings, put_together, made, resolved, named}
-use Rattle.txs_resolve_body.specs.Literals.{literal, literals}
-use Rattle.txs_resolve_body.specs.declared.stop.Stop.{Stop}
-use Rattle.txs_resolve_body.specs.declared.stop.Stop.TheVariants.{Refused}
+use Rattle.txs_resolve.specs.Literals.{literal, literals}
+use Rattle.txs_resolve.specs.declared.stop.Stop.{Stop}
+use Rattle.txs_resolve.specs.declared.stop.Stop.TheVariants.{Refused}
 use Rattle.txs_resolve.specs.Given.{Ends}
 use Rattle.txs_resolve_expand.specs.Namespace.{behind_namespace}
 use Rattle.txs_resolve.specs.Names.{State, nothing, program, new_name, Defining, defining_of, top_scope, validator_named, validator_place, with_definition, entered, defined_as_one, NamedForm, named_form, defined_at, parameter, parameters, Written, written, with_function, function, with_thread, future, top_level, step, steps, named_script, ResolveStops}

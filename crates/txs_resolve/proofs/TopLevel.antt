@@ -1,20 +1,20 @@
 -- What the parts of a top-level form are.
 use Rattle.std.proofs.Common.{◌≡◌, ℕ, List, [], ◌∷◌, length, slice_index_or, Option, Some, None, Ok, Err, IsOk, refl, sym, ap, ◌∙◌, subst, arith}
-use Rattle.txs_value_base.specs.declared.fault.Span.{Span}
+use Rattle.txs_value_data.specs.declared.fault.Span.{Span}
 use Rattle.txs_reader.specs.declared.form.Form.{Form}
 use Rattle.txs_reader.specs.Tree.{tree, leaf, symbol, first}
 use Rattle.txs_resolve_expand.specs.Expressions.{Answer}
 use Rattle.txs_resolve_expand.specs.Answers.{◌>>=◌}
-use Rattle.txs_resolve_body.specs.Walk.{Becomes}
+use Rattle.txs_resolve.specs.Walk.{Becomes}
 use Rattle.txs_tree_meaning.specs.Tree.{Tree}
 use Rattle.txs_resolve.specs.Given.{Ends, Leaves}
 use Rattle.txs_resolve_expand.specs.declared.error.ResolveError.{ResolveError}
 use Rattle.txs_value_data.specs.declared.value.Value.{Value}
-use Rattle.txs_resolve_body.specs.Given.{Gives, refusal_of}
-use Rattle.txs_value_base.specs.declared.op.Callee.{Callee}
+use Rattle.txs_resolve.specs.BodyGiven.{Gives, refusal_of}
+use Rattle.txs_value_data.specs.declared.op.Callee.{Callee}
 use Rattle.txs_resolve.specs.Names.{State, named_form}
-use Rattle.txs_resolve_body.specs.declared.stop.Stop.{Stop}
-use Rattle.txs_resolve_body.specs.declared.stop.Stop.TheVariants.{Refused, Memory}
+use Rattle.txs_resolve.specs.declared.stop.Stop.{Stop}
+use Rattle.txs_resolve.specs.declared.stop.Stop.TheVariants.{Refused, Memory}
 use Rattle.txs_resolve_expand.specs.Parts.{plain}
 
 pub not_one_form : (name : List ℕ) (at : Span) (fs : List Form) → (length fs ≡ 1 → ⊥) → named_form (first (leaf (symbol name) at) (plain fs)) ≡ None

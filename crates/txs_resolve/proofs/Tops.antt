@@ -2,7 +2,7 @@
 use Rattle.std.proofs.Common.{◌≡◌, ◌<◌, ◌≤◌, ℕ, suc, Bool, true, false, nat_lt, cond, List, [], ◌∷◌, ◌++◌, length, map, Option, Some, None, Ok, refl, sym, ap, ◌∙◌, subst, arith}
 use Rattle.std.proofs.lemmas.Bool.Decides.{nat_tests}
 use Rattle.std.proofs.lemmas.List.{map-append}
-use Rattle.txs_value_base.specs.declared.fault.Span.{Span}
+use Rattle.txs_value_data.specs.declared.fault.Span.{Span}
 use Rattle.txs_reader.specs.declared.form.Form.{Form}
 use Rattle.txs_tree_meaning.specs.Tree.{Tree, PlainFunction, PlainThread}
 use Rattle.txs_tree_meaning.specs.View.{tree_of, thread_of, threads_of, function_of, functions_of}
@@ -11,18 +11,18 @@ use Rattle.txs_tree_meaning.specs.declared.node.Thread.{Thread}
 use Rattle.txs_tree_meaning.specs.declared.node.Function.{Function}
 use Rattle.txs_tree_meaning.proofs.Callable.{length-functions_of}
 use Rattle.txs_tree_meaning.specs.Known.{Known, known, known_of, levels}
-use Rattle.txs_resolve_body.specs.Depths.{depths}
-use Rattle.txs_resolve_scope.specs.declared.scope.Definition.TheVariants.{Function as AFunction}
+use Rattle.txs_resolve.specs.Depths.{depths}
+use Rattle.txs_resolve_expand.specs.declared.scope.Definition.TheVariants.{Function as AFunction}
 use Rattle.txs_resolve_expand.specs.declared.error.ResolveErrorKind.TheVariants.{TooMany}
 use Rattle.txs_resolve.specs.declared.script.Script.{Script}
 use Rattle.txs_resolve_expand.specs.Expansions.{body}
 use Rattle.txs_resolve_expand.specs.Expressions.{Answer, named}
 use Rattle.txs_resolve.specs.Names.{State, with_thread, future, Written, new_name, parameters, with_function, function}
 use Rattle.txs_resolve_expand.specs.Answers.{◌>>=◌, refuse}
-use Rattle.txs_resolve_scope.specs.Scope.{Scope, Entry}
+use Rattle.txs_resolve_expand.specs.Scope.{Scope, Entry}
 use Rattle.txs_resolve.specs.Scripts.{state_of, IsScript}
 use Rattle.txs_resolve_expand.specs.Parts.{plain}
-use Rattle.txs_resolve_body.proofs.LevelLists.{depths_levels}
+use Rattle.txs_resolve.proofs.LevelLists.{depths_levels}
 use Rattle.txs_resolve.proofs.ScopedScripts.{known_more}
 use Rattle.txs_resolve.proofs.Scoping.{Every, Placed, form_named}
 

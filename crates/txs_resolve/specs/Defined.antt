@@ -3,16 +3,16 @@
 use Rattle.std.specs.Prelude.{◌≢◌, ℕ, List, [], ◌∷◌, ◌++◌, Option, Some, None, Ok, Err}
 use Rattle.txs_value_data.specs.Limits.{most_depth}
 use Rattle.txs_value_cell.specs.declared.cell.CellDefinition.{CellDefinition}
-use Rattle.txs_value_base.specs.declared.fault.Span.{Span}
+use Rattle.txs_value_data.specs.declared.fault.Span.{Span}
 use Rattle.txs_value_data.specs.declared.value.Value.{Value}
 use Rattle.txs_reader.specs.declared.form.Bracket.TheVariants.{Round}
 use Rattle.txs_reader.specs.Tree.{PlainForm as Form, PlainForms as Forms, group, first}
-use Rattle.txs_resolve_scope.specs.declared.names.FormName.{FormName}
-use Rattle.txs_resolve_scope.specs.declared.names.FormName.TheVariants as kind
+use Rattle.txs_resolve_expand.specs.declared.names.FormName.{FormName}
+use Rattle.txs_resolve_expand.specs.declared.names.FormName.TheVariants as kind
 use Rattle.txs_resolve.specs.declared.definition.CellSort.{CellSort}
 use Rattle.txs_resolve_expand.specs.Expansions.{form_at}
 use Rattle.txs_resolve_expand.specs.Expressions.{Answer}
-use Rattle.txs_resolve_body.specs.Literals.{literal}
+use Rattle.txs_resolve.specs.Literals.{literal}
 use Rattle.txs_resolve.specs.Names.{Defining, defining_of, NamedForm, named_form, new_cell, validator_place, Written, written}
 
 -- A cell without its validator: what that calls is told by what is defined before.

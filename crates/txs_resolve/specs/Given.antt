@@ -2,8 +2,8 @@
 use Rattle.std.specs.Prelude.{◌≡◌, ℕ, List, Result, Ok, Err, IsOk}
 use Rattle.txs_resolve_expand.specs.declared.error.ResolveError.{ResolveError}
 use Rattle.txs_resolve_expand.specs.Expressions.{Answer}
-use Rattle.txs_resolve_body.specs.declared.stop.Stop.{Stop}
-use Rattle.txs_resolve_body.specs.declared.stop.Stop.TheVariants.{Refused, Memory}
+use Rattle.txs_resolve.specs.declared.stop.Stop.{Stop}
+use Rattle.txs_resolve.specs.declared.stop.Stop.TheVariants.{Refused, Memory}
 
 -- the definition's names are those of the locals
 abbrev pub GivesLocals : Result (Unit {0}) ResolveError → List (List ℕ) → Answer (List (List ℕ)) → Type 0

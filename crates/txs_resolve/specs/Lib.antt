@@ -1,5 +1,10 @@
+pub mod BodyGiven
 pub mod Defined
+pub mod Depths
 pub mod Given
+pub mod Literals
+pub mod Made
 pub mod Memory
 pub mod Names
 pub mod Scripts
+pub mod Walk

@@ -7,16 +7,16 @@ use Rattle.txs_tree_meaning.specs.Known.{Known, known}
 use Rattle.txs_tree_meaning.specs.Scoped.{ScopedCells, ScopedFunctions, ScopedThreads}
 use Rattle.txs_tree_meaning.specs.View.{functions_of, threads_of}
 use Rattle.txs_value_data.specs.Limits.{most_definitions, most_levels, most_threads}
-use Rattle.txs_value_base.specs.Places.{nth}
-use Rattle.txs_value_base.specs.declared.fault.Span.{Span}
-use Rattle.txs_resolve_scope.specs.declared.scope.Definition.{Definition}
-use Rattle.txs_resolve_scope.specs.declared.scope.Definition.TheVariants.{Constant, Cell, Function}
+use Rattle.txs_value_data.specs.Places.{nth}
+use Rattle.txs_value_data.specs.declared.fault.Span.{Span}
+use Rattle.txs_resolve_expand.specs.declared.scope.Definition.{Definition}
+use Rattle.txs_resolve_expand.specs.declared.scope.Definition.TheVariants.{Constant, Cell, Function}
 use Rattle.txs_resolve.specs.declared.definition.CellOptions.{CellOptions}
 use Rattle.txs_resolve.specs.declared.definition.Opening.{Opening}
 use Rattle.txs_resolve.specs.declared.script.Script.{Script}
 use Rattle.txs_resolve.specs.declared.script.Signature.{Signature}
 use Rattle.txs_resolve.specs.Names.{State, Defining, Options, Written, NamedForm, with_function}
-use Rattle.txs_resolve_scope.specs.Scope.{Entry, with_locals}
+use Rattle.txs_resolve_expand.specs.Scope.{Entry, with_locals}
 use Rattle.txs_resolve_expand.specs.Answers.{◌>>=◌}
 use Rattle.txs_resolve_expand.specs.Expansions.{body}
 use Rattle.txs_resolve_expand.specs.Expressions.{Answer, named}

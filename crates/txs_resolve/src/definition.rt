@@ -4,15 +4,13 @@ ghost use Rattle.std.specs.Prelude.{◌≡◌, Some};
 ghost use Rattle.txs_reader.specs.Tree.{tree, trees, trees_of};
 ghost use Rattle.txs_resolve_expand.specs.Expansions.{form_at};
 ghost use Rattle.txs_resolve.specs.Names.{cell_of, defining_of, first_validator, is_error_mode, is_validator, kind_at, mode_of, mode_or_fail, only_literal, opened, options_behind, with_mode, with_option};
-ghost use Rattle.txs_resolve_body.specs.Literals.{are_literals, is_literal};
+ghost use Rattle.txs_resolve.specs.Literals.{are_literals, is_literal};
 ghost use Rattle.txs_resolve.specs.Scripts.{defining, form_in, options_as, options_in};
 
 use txs_reader::{Bracket, Form};
-use txs_resolve_expand::form_at;
-use txs_resolve_scope::FormName;
-use txs_value_base::{Callee, Span};
+use txs_resolve_expand::{FormName, form_at};
 use txs_value_cell::ErrorMode;
-use txs_value_data::CellKind;
+use txs_value_data::{Callee, CellKind, Span};
 
 /// The kind of a cell, and of an agent its error mode.
 #[derive(Clone, Copy)]

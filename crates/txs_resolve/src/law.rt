@@ -1,17 +1,17 @@
 //! Laws of the resolution of names. Each is the contract of a function that does nothing when it runs.
 
 ghost use Rattle.std.specs.Prelude.{◌≡◌, ◌≢◌, ◌⊎◌, ℕ, suc, Bool, true, false, List, map, None, Ok, Some};
-ghost use Rattle.txs_resolve_scope.specs.Nearest.{IsNearest, NoneNamed};
-ghost use Rattle.txs_value_base.specs.Places.{with_name};
-ghost use Rattle.txs_resolve_scope.specs.Scope.{Scope, definition_of, is_current, may_bind};
-ghost use Rattle.txs_resolve_scope.specs.declared.scope.Definition.TheVariants.{Constant, Cell as ACell};
+ghost use Rattle.txs_resolve_expand.specs.Nearest.{IsNearest, NoneNamed};
+ghost use Rattle.txs_value_data.specs.Places.{with_name};
+ghost use Rattle.txs_resolve_expand.specs.Scope.{Scope, definition_of, is_current, may_bind};
+ghost use Rattle.txs_resolve_expand.specs.declared.scope.Definition.TheVariants.{Constant, Cell as ACell};
 ghost use Rattle.txs_reader.specs.Tree.{PlainForm as Form, leaf, symbol};
 ghost use Rattle.txs_tree_meaning.specs.Marked.{Exactly, ProgramMarkedBy};
 ghost use Rattle.txs_tree_meaning.specs.Scoped.{Scoped};
 ghost use Rattle.txs_tree_meaning.specs.Tree.{Const, Local, PlainFunction, PlainProgram, PlainThread};
 ghost use Rattle.txs_tree_meaning.specs.View.{mark_of};
-ghost use Rattle.txs_value_base.specs.Operations.{op_name, operations};
-ghost use Rattle.txs_value_base.specs.declared.fault.Span.{Span};
+ghost use Rattle.txs_value_data.specs.Operations.{op_name, operations};
+ghost use Rattle.txs_value_data.specs.declared.fault.Span.{Span};
 ghost use Rattle.txs_value_data.specs.declared.value.CellId.{CellId};
 ghost use Rattle.txs_value_data.specs.declared.value.Value.{Value};
 ghost use Rattle.txs_value_data.specs.declared.value.Value.TheVariants.{Cell};

@@ -6,18 +6,18 @@ ghost use Rattle.txs_resolve_expand.specs.Namespace.{behind_namespace};
 ghost use Rattle.txs_resolve.specs.Names.{Resolves, ResolveStops, no_memory, nothing, steps};
 ghost use Rattle.txs_resolve.specs.Memory.{FirstResolves};
 ghost use Rattle.txs_resolve.specs.Scripts.{state_of, IsScript};
-ghost use Rattle.txs_resolve_body.specs.declared.stop.Stop.TheVariants as stop;
+ghost use Rattle.txs_resolve.specs.declared.stop.Stop.TheVariants as stop;
 ghost use Rattle.txs_resolve_expand.specs.declared.error.ResolveErrorKind.TheVariants.{Memory};
 ghost use Rattle.txs_reader.specs.Tree.{trees};
 ghost use Rattle.txs_tree_meaning.specs.View.{program_of};
 
+use crate::Stop;
 use crate::script::{Script, step};
 use std::alloc::Global;
 use txs_reader::Form;
-use txs_resolve_body::Stop;
 use txs_resolve_expand::{ResolveError, ResolveErrorKind, behind_namespace};
 use txs_tree_meaning::Raw;
-use txs_value_base::Span;
+use txs_value_data::Span;
 
 /// Defines what all top-level forms define.
 fn steps<'a>(alloc: Global, script: &mut Script<'a>, forms: &'a [Form]) -> Result<(), Stop>

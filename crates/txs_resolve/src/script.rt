@@ -6,8 +6,8 @@ ghost use Rattle.txs_resolve_expand.specs.Parts.{seen};
 ghost use Rattle.txs_resolve_expand.specs.Expansions.{body, form_at};
 ghost use Rattle.txs_resolve.specs.Names.{nothing, entered, new_cell, new_name, named_form, define, untold, validator_named, validator_place, written, function, future, parameter, parameters, are_symbols, step, with_cell, with_constant, with_definition, with_function};
 ghost use Rattle.txs_resolve_expand.specs.Expressions.{named};
-ghost use Rattle.txs_resolve_scope.specs.declared.scope.Definition.TheVariants.{Function as AFunction};
-ghost use Rattle.txs_resolve_scope.specs.Scope.{definition_of, with_locals};
+ghost use Rattle.txs_resolve_expand.specs.declared.scope.Definition.TheVariants.{Function as AFunction};
+ghost use Rattle.txs_resolve_expand.specs.Scope.{definition_of, with_locals};
 ghost use Rattle.txs_resolve.specs.Scripts.{at_top, form_in, function_with, opened_as, state_of, IsScript, written_in, name_and_form};
 ghost use Rattle.txs_reader.specs.declared.form.Bracket.TheVariants.{Round};
 ghost use Rattle.txs_reader.specs.Tree.{tree, trees, trees_of, group};
@@ -17,20 +17,19 @@ ghost use Rattle.txs_tree_meaning.specs.View.{functions_of, threads_of, tree_of}
 ghost use Rattle.txs_value_data.specs.Limits.{most_definitions, most_levels, most_parameters, most_threads};
 
 use crate::definition::{CellSort, Opening, Validation, defining_of};
+use crate::{Stop, body, fits, levels, literal, refused};
 use std::alloc::{AllocError, Global};
 use txs_reader::{Bracket, Form};
-use txs_resolve_body::{Stop, body, fits, levels, literal, refused};
 use txs_resolve_expand::{
-    ResolveError, ResolveErrorKind, Spot, callee, form_at, is_symbol, refusal,
+    Definition, FormName, ResolveError, ResolveErrorKind, Scope, Spot, callee, form_at, is_symbol,
+    may_bind, operation_of, refusal,
 };
-use txs_resolve_scope::{Definition, FormName, Scope, may_bind, operation_of};
 use txs_tree_meaning::{Function, Node, Thread};
-use txs_value_base::{Callee, Span};
 use txs_value_cell::CellDefinition;
 use txs_value_data::limits::{
     MOST_DEFINITIONS, MOST_DEPTH, MOST_LEVELS, MOST_PARAMETERS, MOST_THREADS,
 };
-use txs_value_data::{CellId, Name, Value};
+use txs_value_data::{Callee, CellId, Name, Span, Value};
 
 /// What a script has defined so far: names, cells, and where the validator of each stands, or its definition where it has none;
 /// functions and threads, the levels of the functions by their numbers, and how often `def` stood.

@@ -1,10 +1,10 @@
 -- What the symbol of a hidden local stands for.
 use Rattle.std.proofs.Common.{◌≡◌, ℕ, [], Option, Some, Ok, if◌then◌else◌, ap}
-use Rattle.txs_value_base.specs.Operations.{op_name, operations}
+use Rattle.txs_value_data.specs.Operations.{op_name, operations}
 use Rattle.txs_reader.specs.Tree.{symbol}
 use Rattle.txs_tree_meaning.specs.Tree.{Local}
-use Rattle.txs_value_base.specs.Places.{with_name}
-use Rattle.txs_resolve_scope.specs.Scope.{Scope, local_number, meaning, a_local, definition_of, is_current, or_defined, or_local, or_unknown, the_current}
+use Rattle.txs_value_data.specs.Places.{with_name}
+use Rattle.txs_resolve_expand.specs.Scope.{Scope, local_number, meaning, a_local, definition_of, is_current, or_defined, or_local, or_unknown, the_current}
 use Rattle.txs_resolve_expand.specs.declared.shapes.Spot.{Spot}
 use Rattle.txs_resolve_expand.specs.Expressions.{in_room, leaf_node, spot_mark, symbol_node}
 

@@ -1,5 +1,9 @@
+pub mod Heads
 pub mod HiddenLocals
+pub mod Meanings
 pub mod Namespaces
+pub mod Nearest
 pub mod Rows
+pub mod Scopes
 pub mod Singles
 pub mod Tables

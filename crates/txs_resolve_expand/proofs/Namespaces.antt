@@ -1,10 +1,10 @@
 -- What `(ns name)` is made of.
 use Rattle.std.proofs.Common.{◌≡◌, false, List, [], ◌∷◌, length, slice_index_or, Some, refl, arith}
-use Rattle.txs_value_base.specs.declared.fault.Span.{Span}
+use Rattle.txs_value_data.specs.declared.fault.Span.{Span}
 use Rattle.txs_reader.specs.declared.form.Bracket.TheVariants.{Round}
 use Rattle.txs_reader.specs.declared.form.Form.{Form}
 use Rattle.txs_reader.specs.Tree.{group, tree}
-use Rattle.txs_resolve_scope.specs.declared.names.FormName.TheVariants.{Ns}
+use Rattle.txs_resolve_expand.specs.declared.names.FormName.TheVariants.{Ns}
 use Rattle.txs_resolve_expand.specs.Expressions.{is_symbol}
 use Rattle.txs_resolve_expand.specs.Namespace.{is_namespace, names_space}
 use Rattle.txs_resolve_expand.specs.Parts.{plain}

@@ -1,11 +1,11 @@
 -- Lists of one part, which are that part.
 use Rattle.std.proofs.Common.{◌≡◌, Bool, true, false, List, [], ◌∷◌, Some, length, get_or, if◌then◌else◌, refl, ap, ◌∙◌, arith}
-use Rattle.txs_value_base.specs.declared.fault.Span.{Span}
+use Rattle.txs_value_data.specs.declared.fault.Span.{Span}
 use Rattle.txs_reader.specs.declared.form.Bracket.TheVariants.{Round}
 use Rattle.txs_reader.specs.declared.form.Form.{Form}
 use Rattle.txs_reader.specs.Tree.{PlainForm as FormTree, group, tree, first}
 use Rattle.txs_reader.specs.Tree.{none as no_forms}
-use Rattle.txs_resolve_scope.specs.declared.names.FormName.{FormName}
+use Rattle.txs_resolve_expand.specs.declared.names.FormName.{FormName}
 use Rattle.txs_resolve_expand.specs.Expansions.{alone, form_at, is_alone, list}
 use Rattle.txs_resolve_expand.specs.Parts.{is_single, plain}
 use Rattle.txs_resolve_expand.proofs.Tables.{head_form, head_named}

@@ -1,19 +1,19 @@
 -- What a list is, by the name at its head and by how many parts it has.
 use Rattle.std.proofs.Common.{◌≡◌, ◌≤◌, ◌<◌, ◌%◌, ◌&&◌, ℕ, zero, suc, Bool, true, false, List, [], ◌∷◌, ◌++◌, Option, Some, None, Ok, if◌then◌else◌, length, nat_lt, refl, sym, ap, subst, ◌∙◌, arith}
-use Rattle.txs_value_base.specs.declared.fault.Span.{Span}
+use Rattle.txs_value_data.specs.declared.fault.Span.{Span}
 use Rattle.txs_value_cell.specs.declared.form.CellForm.{CellForm}
 use Rattle.txs_value_cell.specs.declared.form.CellForm.TheVariants as on_cell
 use Rattle.txs_value_cell.specs.declared.form.LookForm.{LookForm}
 use Rattle.txs_value_cell.specs.declared.form.PutForm.{PutForm}
-use Rattle.txs_value_base.specs.declared.op.Op.{Op}
+use Rattle.txs_value_data.specs.declared.op.Op.{Op}
 use Rattle.txs_reader.specs.declared.form.Bracket.TheVariants.{Round}
 use Rattle.txs_reader.specs.declared.form.Form.{Form}
 use Rattle.txs_reader.specs.Tree.{PlainForm as FormTree, PlainForms as Forms, leaf, group, first, tree, symbol}
 use Rattle.txs_reader.specs.Tree.{none as no_forms}
-use Rattle.txs_resolve_scope.specs.declared.names.FormName.{FormName}
-use Rattle.txs_resolve_scope.specs.declared.names.FormName.TheVariants as kind
-use Rattle.txs_value_base.specs.Places.{with_name}
-use Rattle.txs_resolve_scope.specs.Scope.{Scope, form_name, form_names}
+use Rattle.txs_resolve_expand.specs.declared.names.FormName.{FormName}
+use Rattle.txs_resolve_expand.specs.declared.names.FormName.TheVariants as kind
+use Rattle.txs_value_data.specs.Places.{with_name}
+use Rattle.txs_resolve_expand.specs.Scope.{Scope, form_name, form_names}
 use Rattle.txs_resolve_expand.specs.declared.error.ResolveErrorKind.TheVariants.{BadForm}
 use Rattle.txs_resolve_expand.specs.declared.shapes.Sequence.TheVariants as sequence
 use Rattle.txs_resolve_expand.specs.declared.shapes.Spot.{Spot}

@@ -1,6 +1,6 @@
 -- An answer of the resolver, and what is made of it.
 use Rattle.std.specs.Prelude.{Result, Ok, Err}
-use Rattle.txs_value_base.specs.declared.fault.Span.{Span}
+use Rattle.txs_value_data.specs.declared.fault.Span.{Span}
 use Rattle.txs_resolve_expand.specs.declared.error.ResolveError.{ResolveError}
 use Rattle.txs_resolve_expand.specs.declared.error.ResolveErrorKind.{ResolveErrorKind}
 

@@ -1,11 +1,11 @@
 -- The tree of a form, or the first refusal met: forms are walked in source order, each before its parts.
 use Rattle.std.specs.Prelude.{ℕ, zero, suc, ◌-◌, Bool, true, false, ◌&&◌, ◌||◌, nat_lt, List, length, Option, Some, None, Result, Ok, if◌then◌else◌}
 use Rattle.txs_value_data.specs.Limits.{most_items, most_locals}
-use Rattle.txs_value_base.specs.declared.fault.Span.{Span}
-use Rattle.txs_value_base.specs.declared.op.Op.{Op}
-use Rattle.txs_value_base.specs.declared.op.Op.TheVariants.{Add, Subtract, Multiply}
-use Rattle.txs_value_base.specs.declared.op.Callee.{Callee}
-use Rattle.txs_value_base.specs.declared.op.Callee.TheVariants.{Core as CoreOp, Function as TheFunction}
+use Rattle.txs_value_data.specs.declared.fault.Span.{Span}
+use Rattle.txs_value_data.specs.declared.op.Op.{Op}
+use Rattle.txs_value_data.specs.declared.op.Op.TheVariants.{Add, Subtract, Multiply}
+use Rattle.txs_value_data.specs.declared.op.Callee.{Callee}
+use Rattle.txs_value_data.specs.declared.op.Callee.TheVariants.{Core as CoreOp, Function as TheFunction}
 use Rattle.txs_value_cell.specs.declared.form.CellForm.{CellForm}
 use Rattle.txs_value_cell.specs.declared.form.CellForm.TheVariants as on_cell
 use Rattle.txs_value_cell.specs.declared.form.LookForm.TheVariants.{Deref, Ensure}
@@ -21,8 +21,8 @@ use Rattle.txs_tree_meaning.specs.Tree.{Tree, Trees, Mark, Const, Local, If, Do,
 use Rattle.txs_tree_meaning.specs.View.{mark_of}
 use Rattle.txs_resolve_expand.specs.declared.error.ResolveError.{ResolveError}
 use Rattle.txs_resolve_expand.specs.declared.error.ResolveErrorKind.TheVariants.{UnknownName, BadForm, NotCallable, LocalCalled, SelfCall, TooMany}
-use Rattle.txs_resolve_scope.specs.declared.names.FormName.{FormName}
-use Rattle.txs_resolve_scope.specs.declared.names.FormName.TheVariants as kind
+use Rattle.txs_resolve_expand.specs.declared.names.FormName.{FormName}
+use Rattle.txs_resolve_expand.specs.declared.names.FormName.TheVariants as kind
 use Rattle.txs_resolve_expand.specs.declared.shapes.Change.{Change}
 use Rattle.txs_resolve_expand.specs.declared.shapes.Change.TheVariants as change_by
 use Rattle.txs_resolve_expand.specs.declared.shapes.Sequence.{Sequence}
@@ -30,10 +30,10 @@ use Rattle.txs_resolve_expand.specs.declared.shapes.Sequence.TheVariants as sequ
 use Rattle.txs_resolve_expand.specs.declared.shapes.Single.{Single}
 use Rattle.txs_resolve_expand.specs.declared.shapes.Single.TheVariants as single
 use Rattle.txs_resolve_expand.specs.declared.shapes.Spot.{Spot}
-use Rattle.txs_resolve_scope.specs.declared.scope.Definition.TheVariants.{Constant, Cell as ACell, Function as AFunction}
+use Rattle.txs_resolve_expand.specs.declared.scope.Definition.TheVariants.{Constant, Cell as ACell, Function as AFunction}
 use Rattle.txs_resolve_expand.specs.Answers.{◌>>=◌, refuse}
 use Rattle.txs_resolve_expand.specs.Expansions.{alone, body, expand_once, form_at}
-use Rattle.txs_resolve_scope.specs.Scope.{Scope, with_local, may_bind, meaning, Meaning, a_form, dotted, a_local, the_current, defined_as, operation, unknown}
+use Rattle.txs_resolve_expand.specs.Scope.{Scope, with_local, may_bind, meaning, Meaning, a_form, dotted, a_local, the_current, defined_as, operation, unknown}
 
 -- an answer: what a form is, or why it is nothing
 abbrev pub Answer : Type 0 → Type 0

@@ -2,5 +2,8 @@ pub mod Answers
 pub mod Expansions
 pub mod Expressions
 pub mod Namespace
+pub mod Nearest
 pub mod Parts
 pub mod Reported
+pub mod Scope
+pub mod Viewed

@@ -5,7 +5,7 @@ ghost use Rattle.txs_resolve_expand.specs.Reported.{report_number, report_name};
 
 use std::fmt::{self, Debug, Display, Formatter, Write};
 use thiserror::Error;
-use txs_value_base::Span;
+use txs_value_data::Span;
 
 /// The reasons for which forms are no program.
 #[derive(Clone, Copy, PartialEq, Eq, Error)]

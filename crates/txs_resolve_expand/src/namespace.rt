@@ -3,13 +3,13 @@
 ghost use Rattle.std.specs.Prelude.{◌≡◌, Some};
 ghost use Rattle.txs_resolve_expand.specs.Expansions.{form_at};
 ghost use Rattle.txs_resolve_expand.specs.Namespace.{behind_namespace, is_namespace, names_space};
-ghost use Rattle.txs_resolve_scope.specs.declared.names.FormName.TheVariants.{Ns};
+ghost use Rattle.txs_resolve_expand.specs.declared.names.FormName.TheVariants.{Ns};
 ghost use Rattle.txs_reader.specs.Tree.{tree, trees, trees_of};
 
+use crate::FormName;
 use crate::parts::form_at;
 use crate::shapes::is_symbol;
 use txs_reader::{Bracket, Form};
-use txs_resolve_scope::FormName;
 
 /// Whether there is one part, which is a symbol.
 fn is_name(parts: &[Form]) -> bool

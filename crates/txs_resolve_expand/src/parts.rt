@@ -1,15 +1,15 @@
 //! Forms as the resolver meets them: as they are written, or as an expansion makes them.
 
 ghost use Rattle.std.specs.Prelude.{◌≡◌, true, length};
-ghost use Rattle.txs_resolve_scope.specs.Scope.{Scope};
+ghost use Rattle.txs_resolve_expand.specs.Scope.{Scope};
 ghost use Rattle.txs_reader.specs.Tree.{tree};
 ghost use Rattle.txs_resolve_expand.specs.Expansions.{alone, form_at, is_alone};
 ghost use Rattle.txs_resolve_expand.specs.Parts.{is_single, part_form, plain, PartFits};
-ghost use Rattle.txs_value_base.specs.declared.fault.Span.{Span as ASpan};
+ghost use Rattle.txs_value_data.specs.declared.fault.Span.{Span as ASpan};
 
 use crate::shapes::{Change, Couple, Sequence, Single};
+use crate::{FormName, form_of};
 use txs_reader::{Bracket, Form};
-use txs_resolve_scope::{FormName, form_of};
 use txs_value_data::Name;
 
 /// A form: one that is written, or one that an expansion makes of written ones.

@@ -1,13 +1,13 @@
 //! What each form is, once it is expanded: the table of the forms.
 
 ghost use Rattle.std.specs.Prelude.{◌≡◌, ◌∷◌, Ok, IfOk, Some, IfSome};
-ghost use Rattle.txs_resolve_scope.specs.declared.names.FormName.TheVariants.{Cond, Do};
-ghost use Rattle.txs_resolve_scope.specs.Scope.{Scope as AScope};
+ghost use Rattle.txs_resolve_expand.specs.declared.names.FormName.TheVariants.{Cond, Do};
+ghost use Rattle.txs_resolve_expand.specs.Scope.{Scope as AScope};
 ghost use Rattle.txs_reader.specs.declared.form.Bracket.TheVariants.{Round};
 ghost use Rattle.txs_reader.specs.Tree.{tree, group, first, place};
-ghost use Rattle.txs_value_base.specs.declared.fault.Span.{Span as ASpan};
+ghost use Rattle.txs_value_data.specs.declared.fault.Span.{Span as ASpan};
 ghost use Rattle.txs_value_cell.specs.declared.form.CellForm.TheVariants.{Look, Put};
-ghost use Rattle.txs_value_base.specs.declared.op.Callee.TheVariants.{Core as CoreOp};
+ghost use Rattle.txs_value_data.specs.declared.op.Callee.TheVariants.{Core as CoreOp};
 ghost use Rattle.txs_resolve_expand.specs.Expansions.{expand_once};
 ghost use Rattle.txs_resolve_expand.specs.declared.shapes.Spot.{Spot as ASpot};
 ghost use Rattle.txs_resolve_expand.specs.Expressions.{applied, cell_form, core_of, of_family};
@@ -17,10 +17,10 @@ ghost use Rattle.txs_resolve_expand.specs.Parts.{core_at as the_core};
 use crate::error::{ResolveError, ResolveErrorKind, refusal};
 use crate::parts::{Core, Part, Special, Whole, alone, form_at};
 use crate::shapes::{Change, Couple, Sequence, Single, Spot, are_pairs, callee, is_chain};
+use crate::{FormName, Scope};
 use txs_reader::{Bracket, Form};
-use txs_resolve_scope::{FormName, Scope};
-use txs_value_base::{Callee, Op, Span};
 use txs_value_cell::{CellForm, LookForm, PutForm, UpdateForm};
+use txs_value_data::{Callee, Op, Span};
 
 /// The first of the forms, else nil.
 fn first_of(forms: &[Form]) -> Part<'_>

@@ -2,14 +2,14 @@
 
 ghost use Rattle.std.specs.Prelude.{◌≡◌};
 ghost use Rattle.txs_resolve_expand.specs.Expressions.{are_pairs, callee_at, callee_of, is_chain, is_symbol};
-ghost use Rattle.txs_resolve_scope.specs.Viewed.{meant};
+ghost use Rattle.txs_resolve_expand.specs.Viewed.{meant};
 ghost use Rattle.txs_reader.specs.Tree.{tree, trees, trees_of};
 
 use crate::error::{ResolveError, ResolveErrorKind, refusal};
+use crate::{Definition, Found, Scope};
 use txs_reader::Form;
-use txs_resolve_scope::{Definition, Found, Scope};
-use txs_value_base::{Callee, Op, Span};
 use txs_value_cell::{LookForm, PutForm, UpdateForm};
+use txs_value_data::{Callee, Op, Span};
 
 /// Where a node is: how many levels it may have, its span, and whether its result is wanted.
 #[derive(Clone, Copy)]

@@ -1,8 +1,8 @@
 // The byte form of `(future (println 7))`, as it is documented, and what is refused of it where.
 use std::alloc::Global;
 use txs_code_encode::{CodeErrorKind, Opcode, bytes_of, decode};
-use txs_code_load::settled::is_settled;
 use txs_code_meaning::Instr;
+use txs_verify::settled::is_settled;
 
 pub const FORM: &[u8] = b"TXS1\
     \x00\x00\x00\x00\x00\x01\x03\x00\x00\x00\x00\x00\x00\x00\x07\x00\x00\x00\x01\

@@ -3,9 +3,8 @@
 use std::alloc::Global;
 use std::str::Split;
 use txs_frame::{SetError, TxFrame};
-use txs_value_base::{Callee, Op, Span};
 use txs_value_cell::Action;
-use txs_value_data::{CellId, CellKind, Listed, Value, write_text};
+use txs_value_data::{Callee, CellId, CellKind, Listed, Op, Span, Value, write_text};
 
 // A word of one digit, or two, as a number.
 pub fn number_of(word: &str) -> u8 {

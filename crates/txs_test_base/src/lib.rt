@@ -1,8 +1,10 @@
-//! What no contract says of the crates below trees, and of code as bytes: that calls succeed with ample
-//! memory, the worked rows of places and of what a transaction's frame holds, how mailboxes run, printed
+//! What no contract says of the crates below trees, of code as bytes, and of the state that actors share: that calls succeed
+//! with ample memory, the worked rows of places, of a transaction's frame, and of what store and atoms serve. How mailboxes run, printed
 //! text, damaged code, and limits.
 #![tactic(auto)]
 
+#[cfg(test)]
+mod asks;
 #[cfg(test)]
 mod bytes;
 #[cfg(test)]
@@ -15,6 +17,10 @@ mod mail;
 mod positions;
 #[cfg(test)]
 mod reader;
+#[cfg(test)]
+mod replies;
+#[cfg(test)]
+mod shared;
 #[cfg(test)]
 mod values;
 #[cfg(test)]

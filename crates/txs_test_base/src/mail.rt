@@ -1,9 +1,8 @@
 // What no clause says: that the calls succeed with ample memory, and that puts and takes cost the same however many wait.
 use std::alloc::Global;
-use txs_mail::Mailbox;
-use txs_value_base::{Callee, Op, Span};
 use txs_value_cell::Action;
-use txs_value_data::{CellId, CellKind, Listed};
+use txs_value_data::{Callee, CellId, CellKind, Listed, Op, Span};
+use txs_world::Mailbox;
 
 // Sends `(send g inc)`, which stands at this place: whether there was room.
 fn send(mailbox: &mut Mailbox, alloc: Global, at: u32) -> bool {

@@ -1,6 +1,6 @@
 // What no clause says: places as editors tell them, and the two lines as they are seen on a terminal.
-use txs_reader_lines::place::Position;
-use txs_reader_lines::{line_at, position, write_pointed};
+use txs_reader::place::Position;
+use txs_reader::{line_at, position, write_pointed};
 
 // é and ß have two bytes, € three.
 const SCRIPT: &str = "(future\n\t(println \"é€\" (inc ß)))\n\nend";

@@ -1,7 +1,7 @@
 // What no clause says: the worked rows, and that calls succeed with ample memory.
 use std::alloc::Global;
 use txs_reader::{Bracket, Form, ReadError, ReadErrorKind, read_script};
-use txs_value_base::Span;
+use txs_value_data::Span;
 
 /// The number of the refusal and its span; all 0 for a script that is read.
 fn stop(alloc: Global, script: &[u8]) -> (u8, u32, u32) {

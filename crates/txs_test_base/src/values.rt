@@ -3,8 +3,9 @@
 use std::alloc::Global;
 use txs_code_encode::decode;
 use txs_value_apply::{apply, apply_owned, make_vector, takes};
-use txs_value_base::Op;
-use txs_value_data::{CellId, CellKind, Listed, Value, copy_value, copy_values, same, write_line};
+use txs_value_data::{
+    CellId, CellKind, Listed, Op, Value, copy_value, copy_values, same, write_line,
+};
 
 // Code without threads, with an agent and the constants `nil true -7 :key "text" [1 [2]]`, the agent and false.
 const CODE: &[u8] =

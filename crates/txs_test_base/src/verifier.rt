@@ -2,8 +2,8 @@
 use crate::bytes::write_changed;
 use crate::frame::{next_number, number_of};
 use std::alloc::Global;
-use txs_code_load::error::LoadError;
-use txs_code_load::load::{load, load_verified};
+use txs_verify::load::{load, load_verified};
+use txs_verify::load_error::LoadError;
 use txs_verify::{BodyName, VerifyError};
 
 // Instructions by their names, and their bytes without their spans: a number, a ref, an operation, ..

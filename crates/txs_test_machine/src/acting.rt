@@ -4,8 +4,7 @@ use std::alloc::Global;
 use txs_check::is_sent_callee;
 use txs_tree_eval::{ActionMeaning, Needs, Seen, eval_action};
 use txs_tree_meaning::Program;
-use txs_value_base::{Callee, Span};
-use txs_value_data::{CellId, Value};
+use txs_value_data::{Callee, CellId, Span, Value};
 
 const NOWHERE: Span = Span { from: 0, to: 0 };
 

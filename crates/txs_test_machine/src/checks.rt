@@ -4,7 +4,7 @@ use std::alloc::Global;
 use txs_check::law::{one_answer, sound_where_nothing_refuses};
 use txs_check::{check, is_pure_callee};
 use txs_tree_meaning::{Program, Raw};
-use txs_value_base::{Callee, Op};
+use txs_value_data::{Callee, Op};
 
 #[test]
 fn an_empty_program_is_sound(rt: HostRuntime) {

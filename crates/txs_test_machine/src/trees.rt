@@ -4,8 +4,7 @@ use std::alloc::Global;
 use txs_check::is_pure_callee;
 use txs_tree_eval::{EvalStop, eval_pure};
 use txs_tree_meaning::Program;
-use txs_value_base::{Callee, Op, Span};
-use txs_value_data::Value;
+use txs_value_data::{Callee, Op, Span, Value};
 
 const NOWHERE: Span = Span { from: 0, to: 0 };
 

@@ -6,7 +6,7 @@ ghost use Rattle.txs_world_shared.specs.SharedState.{shared_of};
 
 use std::alloc::{AllocError, Global};
 use std::mem;
-use txs_audit_answer::{Terms, Verdict};
+use txs_audit_book::{Terms, Verdict};
 use txs_cli_audit::{Audited, add_answer};
 use txs_cli_report::explain::Script;
 use txs_cli_report::told::{Told, answer};

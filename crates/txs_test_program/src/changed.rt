@@ -2,8 +2,8 @@
 use crate::program::write;
 use std::alloc::Global;
 use txs_code_encode::bytes_of;
-use txs_code_load::error::LoadError;
-use txs_code_load::load::load;
+use txs_verify::load::load;
+use txs_verify::load_error::LoadError;
 
 /// Whether bytes are refused, or are the form of the code that they are taken as.
 fn are_refused_or_form(alloc: Global, bytes: &[u8]) -> bool {

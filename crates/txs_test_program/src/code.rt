@@ -4,7 +4,7 @@ use crate::program::{says, write};
 use std::alloc::Global;
 use std::io::{self, Read};
 use txs_cli::play_words;
-use txs_cli_request::{Input, Request};
+use txs_cli_args::{Input, Request};
 
 /// The bytes of the code of `(future (println 7))`: the magic, no cells, one constant, no functions, and a thread of three instructions.
 const SEVEN: [u8; 62] = [

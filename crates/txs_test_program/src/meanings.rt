@@ -3,7 +3,7 @@ use crate::program::{says, write_number};
 use std::alloc::{AllocError, Global};
 use txs_compile::compile;
 use txs_tree_eval::{ThreadMeaning, eval_thread};
-use txs_value_base::Fault;
+use txs_value_data::Fault;
 use txs_world_protocol::Outcome;
 
 // Appends what the run of a thread tells that ended so.

@@ -5,7 +5,7 @@ use std::alloc::Global;
 use std::io;
 use std::io::{ErrorKind, Read, Write};
 use txs_cli::play_words;
-use txs_cli_request::{Input, Request, RunOptions};
+use txs_cli_args::{Input, Request, RunOptions};
 
 // Gives at most three bytes a call, and fails at the call of this number, counted from 0.
 #[derive(Drop)]

@@ -4,9 +4,9 @@ ghost use Rattle.txs_cli_audit.specs.Audit.{IsRight};
 use std::alloc::Global;
 use std::sync::Wait;
 use std::thread::Threads;
-use txs_audit_answer::{AuditError, Terms, Verdict};
-use txs_cli_request::{Input, Request, RunOptions};
-use txs_program::play_by_workers;
+use txs_audit_book::{AuditError, Terms, Verdict};
+use txs_cli::play_by_workers;
+use txs_cli_args::{Input, Request, RunOptions};
 use txs_tree_meaning::Program;
 use txs_world_protocol::Report;
 

@@ -4,10 +4,10 @@ use Rattle.std.specs.Prelude.{not, nat_lt, ◌-◌, nat_le}
 use Rattle.std.proofs.lemmas.Bool.{eqb-true, false≢true, eq-eqb, leb-true, cases_lt}
 use Rattle.std.proofs.lemmas.Bool.Decides.{nat_tests}
 use Rattle.std.proofs.lemmas.List.{append-nil}
-use Rattle.txs_value_base.specs.Places.{nth, fault_at}
-use Rattle.txs_value_base.specs.declared.fault.Fault.{Fault}
-use Rattle.txs_value_base.specs.declared.op.Callee.{Callee}
-use Rattle.txs_value_base.specs.declared.op.Callee.TheVariants.{Core as CoreOp, Function}
+use Rattle.txs_value_data.specs.Places.{nth, fault_at}
+use Rattle.txs_value_data.specs.declared.fault.Fault.{Fault}
+use Rattle.txs_value_data.specs.declared.op.Callee.{Callee}
+use Rattle.txs_value_data.specs.declared.op.Callee.TheVariants.{Core as CoreOp, Function}
 use Rattle.txs_value_cell.specs.Agents.{agents_from}
 use Rattle.txs_value_cell.specs.Cells.{Validators, validators_of}
 use Rattle.txs_value_cell.specs.Forms.{same_kind}
@@ -54,10 +54,10 @@ use Rattle.txs_theorem_runs.specs.Transactions.{SaidAt, SaidIf, SaidOf, undistur
 use Rattle.txs_theorem_serial.proofs.Noting.{threads_note, actions_note, action_holds, action_waits}
 use Rattle.txs_theorem_serial.specs.Serial.{RunOf, RunsOf, Noted, EndsNoted}
 use Rattle.txs_value_apply.specs.Core.{takes}
-use Rattle.txs_value_base.specs.declared.fault.FaultKind.TheVariants.{AgentFailed}
-use Rattle.txs_value_base.specs.declared.fault.Span.{Span}
+use Rattle.txs_value_data.specs.declared.fault.FaultKind.TheVariants.{AgentFailed}
+use Rattle.txs_value_data.specs.declared.fault.Span.{Span}
 use Rattle.txs_value_data.specs.declared.value.Value.TheVariants.{Nil}
-use Rattle.txs_theorem_order.specs.Taken.{NoneIsOrdered, NamedOnACycle}
+use Rattle.txs_theorem_serial.specs.Taken.{NoneIsOrdered, NamedOnACycle}
 use Rattle.txs_theorem_audit.specs.Audited.{PlainActorReport, PlainReport, books_of, entry_of, Finding, Fine, Off, Short, and_then, check}
 use Rattle.txs_theorem_audit.specs.Explained.{Sized, Begins, Stopped, EndsAs, events_of, meaning_of, AtomExplained, AgentExplained}
 use Rattle.txs_theorem_audit.specs.Laws.{AgreesIsExplained}

@@ -2,6 +2,7 @@ pub mod Agreeing
 pub mod Beginning
 pub mod Differing
 pub mod Ends
+pub mod Evaluating
 pub mod Findings
 pub mod Least
 pub mod Listing

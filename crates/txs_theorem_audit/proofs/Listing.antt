@@ -2,7 +2,7 @@
 use Rattle.std.proofs.Common.{◌≡◌, ◌<◌, ◌≤◌, ℕ, zero, suc, ◌+◌, ◌==◌, ◌&&◌, ◌||◌, Bool, true, false, List, [], ◌∷◌, ◌++◌, length, take, Some, refl, sym, ap, ◌∙◌, subst, arith, if◌then◌else◌}
 use Rattle.std.proofs.lemmas.Bool.{false≢true}
 use Rattle.std.proofs.lemmas.List.{append-nil}
-use Rattle.txs_value_base.specs.Places.{nth}
+use Rattle.txs_value_data.specs.Places.{nth}
 use Rattle.txs_value_cell.specs.Agents.{agents_from, with_agent}
 use Rattle.txs_value_cell.specs.Forms.{same_kind}
 use Rattle.txs_value_cell.specs.declared.cell.CellDefinition.{CellDefinition}
@@ -15,7 +15,7 @@ use Rattle.txs_world_protocol.specs.declared.event.Event.{Event}
 use Rattle.txs_world_book.specs.Book.{Each, agents_below, has_agent, has_cell, is_of_kind}
 use Rattle.txs_world_book.specs.Served.{cells_of}
 use Rattle.txs_theorem_runs.specs.Shared.{is_atom, has_atom}
-use Rattle.txs_theorem_order.specs.Order.{book_or_none}
+use Rattle.txs_theorem_serial.specs.Order.{book_or_none}
 use Rattle.txs_theorem_audit.specs.Audited.{PlainReport, books_of}
 use Rattle.txs_theorem_audit.specs.Verdict.{atoms_from}
 use Rattle.txs_theorem_audit.proofs.Findings.{not_there, nth_beyond}

@@ -1,8 +1,8 @@
 -- An act that an agent's trace names is of that agent.
 use Rattle.std.proofs.Common.{◌≡◌, ◌<◌, ℕ, zero, suc, ◌+◌, ◌==◌, ◌||◌, Bool, true, false, List, [], ◌∷◌, ◌++◌, length, take, Some, Result, refl, sym, ap, ◌∙◌, subst, arith, if◌then◌else◌}
 use Rattle.std.proofs.lemmas.Bool.{eqb-true, false≢true}
-use Rattle.txs_value_base.specs.Places.{nth}
-use Rattle.txs_value_base.specs.declared.fault.Fault.{Fault}
+use Rattle.txs_value_data.specs.Places.{nth}
+use Rattle.txs_value_data.specs.declared.fault.Fault.{Fault}
 use Rattle.txs_value_cell.specs.Agents.{agents_from}
 use Rattle.txs_value_cell.specs.declared.action.Action.{Action}
 use Rattle.txs_value_data.specs.declared.value.CellId.{CellId}
@@ -14,7 +14,7 @@ use Rattle.txs_world_book.specs.Book.{LegalKind, actor_of, agents_below, has_age
 use Rattle.txs_world_book.specs.Served.{cells_of}
 use Rattle.txs_tree_meaning.specs.Tree.{PlainProgram}
 use Rattle.txs_theorem_runs.specs.Told.{Place, TraceHolds, places_by, places_in}
-use Rattle.txs_theorem_order.specs.Order.{book_or_none}
+use Rattle.txs_theorem_serial.specs.Order.{book_or_none}
 use Rattle.txs_theorem_audit.specs.Audited.{PlainActorReport, PlainReport, books_of, Fine}
 use Rattle.txs_theorem_audit.specs.Verdict.{atoms_from, atoms_found, fits_sizes, store_found, traces_found}
 use Rattle.txs_theorem_audit.proofs.Agreeing.{among_first, among_more, atoms_mean, sized_of, store_legal, traces_hold}

@@ -5,9 +5,9 @@ use Rattle.std.proofs.lemmas.Bool.Decides.{nat_tests}
 use Rattle.txs_value_cell.specs.Agents.{agents_from}
 use Rattle.txs_tree_meaning.specs.Tree.{PlainProgram}
 use Rattle.txs_theorem_runs.specs.Told.{Place}
-use Rattle.txs_theorem_order.proofs.Within.{links_are_within}
-use Rattle.txs_theorem_order.specs.Order.{IsOrdered}
-use Rattle.txs_theorem_order.specs.Taken.{out_of_order, AreWithin, NoneIsOrdered, SomeIsNotOrdered, NamedOnACycle}
+use Rattle.txs_theorem_serial.proofs.Within.{links_are_within}
+use Rattle.txs_theorem_serial.specs.Order.{IsOrdered}
+use Rattle.txs_theorem_serial.specs.Taken.{out_of_order, AreWithin, NoneIsOrdered, SomeIsNotOrdered, NamedOnACycle}
 use Rattle.txs_theorem_audit.specs.Audited.{PlainActorReport, PlainReport, books_of, entry_of, Fine}
 use Rattle.txs_theorem_audit.specs.Verdict.{index_if, report_links, named_off, place_off, order_found}
 use Rattle.txs_theorem_audit.proofs.Findings.{off_fine, NotOff}

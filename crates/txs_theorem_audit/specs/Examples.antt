@@ -1,9 +1,9 @@
 -- Reports of small programs, and what an audit answers of them.
 use Rattle.std.specs.Prelude.{◌≡◌, ℕ, suc, true, false, List, [], ◌∷◌, Option, Some, None, Result, Ok, Err}
-use Rattle.txs_value_base.specs.declared.fault.Fault.{Fault}
-use Rattle.txs_value_base.specs.declared.fault.FaultKind.TheVariants.{InvalidState, NotANumber}
-use Rattle.txs_value_base.specs.declared.op.Op.{Op}
-use Rattle.txs_value_base.specs.declared.op.Op.TheVariants.{Add, Multiply, Inc, Dec, Equal, IsPositive, Less}
+use Rattle.txs_value_data.specs.declared.fault.Fault.{Fault}
+use Rattle.txs_value_data.specs.declared.fault.FaultKind.TheVariants.{InvalidState, NotANumber}
+use Rattle.txs_value_data.specs.declared.op.Op.{Op}
+use Rattle.txs_value_data.specs.declared.op.Op.TheVariants.{Add, Multiply, Inc, Dec, Equal, IsPositive, Less}
 use Rattle.txs_value_data.specs.declared.value.Value.{Value}
 use Rattle.txs_value_data.specs.declared.value.Value.TheVariants.{Int, Nil, Cell}
 use Rattle.txs_tree_meaning.specs.Tree.{Mark, Tree, Const, Local, If, Do, Loop, Recur, Core, Dosync, Look, Put, Update, Println, Send as SendTo, none, more, PlainProgram, PlainThread}
@@ -21,7 +21,7 @@ use Rattle.txs_value_cell.specs.declared.form.LookForm.TheVariants.{Deref, Ensur
 use Rattle.txs_value_cell.specs.declared.cell.CellDefinition.{CellDefinition}
 use Rattle.txs_world_protocol.specs.Ask.{Writes}
 use Rattle.txs_theorem_runs.specs.Told.{Place}
-use Rattle.txs_value_base.specs.declared.op.Callee.TheVariants.{Core as CoreOp}
+use Rattle.txs_value_data.specs.declared.op.Callee.TheVariants.{Core as CoreOp}
 use Rattle.txs_value_data.specs.declared.value.CellId.{CellId}
 use Rattle.txs_value_data.specs.declared.value.CellKind.{CellKind}
 use Rattle.txs_value_data.specs.declared.value.CellKind.TheVariants.{Agent, Atom, Ref}

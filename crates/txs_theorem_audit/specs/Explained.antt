@@ -1,6 +1,6 @@
 -- What it is that a program explains a report.
 use Rattle.std.specs.Prelude.{◌≡◌, ℕ, true, false, List, [], ◌++◌, length, Option, Some, None}
-use Rattle.txs_value_base.specs.Places.{nth}
+use Rattle.txs_value_data.specs.Places.{nth}
 use Rattle.txs_value_cell.specs.Agents.{agents_from}
 use Rattle.txs_value_cell.specs.Forms.{same_kind}
 use Rattle.txs_value_cell.specs.declared.cell.CellDefinition.{CellDefinition}
@@ -26,7 +26,7 @@ use Rattle.txs_theorem_runs.specs.Full.{WaitsFull, EndsFull}
 use Rattle.txs_theorem_runs.specs.Shared.{has_atom}
 use Rattle.txs_theorem_runs.specs.Told.{TraceHolds, seen_of}
 use Rattle.txs_theorem_runs.specs.Transactions.{SaidOf, undisturbed}
-use Rattle.txs_theorem_order.specs.Order.{IsOrdered}
+use Rattle.txs_theorem_serial.specs.Order.{IsOrdered}
 use Rattle.txs_theorem_audit.specs.Audited.{PlainActorReport, PlainReport, PlainTerms, books_of}
 use Rattle.txs_theorem_audit.specs.Verdict.{atoms_from, least_printed, report_links}
 

@@ -18,7 +18,7 @@ use Rattle.txs_theorem_threads.specs.Noted.{txs_of}
 use Rattle.txs_theorem_runs.specs.Agents.{ActionDid}
 use Rattle.txs_theorem_runs.specs.Transactions.{SaidOf}
 use Rattle.txs_theorem_serial.specs.Whole.{all_covered, all_txs, serial_if_covered, OneByOne}
-use Rattle.txs_value_base.specs.Places.{nth}
+use Rattle.txs_value_data.specs.Places.{nth}
 use Rattle.txs_theorem_audit.specs.Audited.{PlainActorReport, PlainReport, PlainTerms, books_of, Agrees, Differs}
 use Rattle.txs_theorem_audit.specs.Explained.{meaning_of, ThreadExplained, AgentExplained, IsExplained}
 use Rattle.txs_theorem_audit.specs.Verdict.{verdict}

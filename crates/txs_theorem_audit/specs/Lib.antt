@@ -1,4 +1,5 @@
 pub mod Audited
+pub mod Evaluated
 pub mod Examples
 pub mod Explained
 pub mod Laws

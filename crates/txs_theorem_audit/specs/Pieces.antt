@@ -1,6 +1,6 @@
 -- The last tests of an audit in pieces: each thread, each action of an agent that is over, and the end of each agent.
 use Rattle.std.specs.Prelude.{◌≡◌, ℕ, suc, Bool, true, ◌&&◌, ◌+◌, ◌-◌, List, [], ◌∷◌, ◌++◌, length, take, drop, Option, Some, None, if◌then◌else◌}
-use Rattle.txs_value_base.specs.Places.{nth}
+use Rattle.txs_value_data.specs.Places.{nth}
 use Rattle.txs_tree_meaning.specs.Tree.{PlainProgram, PlainThread}
 use Rattle.txs_theorem_threads.specs.Noted.{txs_of}
 use Rattle.txs_value_cell.specs.Agents.{agents_from}

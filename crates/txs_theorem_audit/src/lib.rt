@@ -1,4 +1,5 @@
-//! What an audit's answer says of a report. Nothing in this crate runs.
+//! What an audit's answer says of a report, and what it finds of threads and actions by what the evaluators answer. Nothing in this
+//! crate runs.
 #![tactic(auto)]
 
 ghost use Rattle.txs_theorem_audit.specs.Examples.{
@@ -17,7 +18,14 @@ ghost use Rattle.txs_theorem_audit.specs.NotSerial.{SkewIsNotOneByOne};
 ghost use Rattle.txs_theorem_audit.specs.Pieces.{HalvesAreWhole, PiecesAreAll};
 ghost use Rattle.txs_theorem_audit.specs.Stays.{ActionStays, RestStays, ThreadStays};
 
-use txs_theorem_order::{named_on_a_cycle, none_is_ordered, some_is_not_ordered};
+mod answered;
+
+pub use answered::{
+    act_is_answered, action_is_answered, calm_is_answered, covered_is_answered, end_is_answered,
+    full_is_answered, least_is_answered, noted_are_answered, rest_full_is_answered,
+    still_is_answered,
+};
+use txs_theorem_serial::{named_on_a_cycle, none_is_ordered, some_is_not_ordered};
 
 /// A program explains a report on which an audit agrees.
 pub fn agrees_is_explained()

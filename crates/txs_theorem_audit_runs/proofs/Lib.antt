@@ -1,4 +1,13 @@
-pub mod Numbered
+pub mod Comes
 pub mod Ending
+pub mod Keeping
+pub mod Numbered
+pub mod Ordered
 pub mod Ordering
+pub mod Playing
+pub mod Plays
 pub mod Running
+pub mod Senders
+pub mod Times
+pub mod Traces
+pub mod Walk

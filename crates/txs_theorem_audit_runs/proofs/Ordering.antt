@@ -1,6 +1,6 @@
 -- The events of a run's report have an order: that of the turns of the run.
 use Rattle.std.proofs.Common.{◌≡◌, ◌<◌, ℕ, zero, suc, ◌+◌, true, false, List, [], ◌∷◌, length, map, Some, refl, sym, ap, ◌∙◌, subst, arith}
-use Rattle.txs_value_base.specs.Places.{nth}
+use Rattle.txs_value_data.specs.Places.{nth}
 use Rattle.txs_value_cell.specs.Agents.{agents_from}
 use Rattle.txs_value_cell.specs.Cells.{validators_of}
 use Rattle.txs_value_cell.specs.declared.cell.CellDefinition.{CellDefinition}
@@ -17,8 +17,8 @@ use Rattle.txs_theorem_runs.specs.Run.{Actor, State}
 use Rattle.txs_theorem_runs.specs.Shared.{Shared}
 use Rattle.txs_theorem_runs.specs.Staged.{StagedActor}
 use Rattle.txs_theorem_runs.specs.Told.{Place, trace_of}
-use Rattle.txs_theorem_order.specs.Order.{IsOrdered, all_links}
-use Rattle.txs_theorem_order_runs.specs.Runs.{traces_from, StateIsOrdered, RunsAreOrdered}
+use Rattle.txs_theorem_serial.specs.Order.{IsOrdered, all_links}
+use Rattle.txs_theorem_audit_runs.specs.OrderedRuns.{traces_from, StateIsOrdered, RunsAreOrdered}
 use Rattle.txs_machine_actor.specs.PlainActor.{own_body, code_of}
 use Rattle.txs_machine.specs.Scheduled.{run_of, IsEntryOf}
 use Rattle.txs_machine.proofs.Together.{agent_at, agent_acts}

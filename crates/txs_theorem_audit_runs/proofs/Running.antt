@@ -1,8 +1,8 @@
 -- The report of a run that a program explains is explained as an audit asks.
 use Rattle.std.proofs.Common.{◌≡◌, ◌≤◌, ℕ, zero, suc, ◌+◌, Bool, true, false, List, [], ◌∷◌, ◌++◌, length, map, Option, Some, None, refl, sym, ap, ◌∙◌, subst, arith, ⊎_elim, if◌then◌else◌}
 use Rattle.std.proofs.lemmas.Bool.{false≢true, cases_lt}
-use Rattle.txs_value_base.specs.Places.{nth}
-use Rattle.txs_value_base.specs.declared.fault.Fault.{Fault}
+use Rattle.txs_value_data.specs.Places.{nth}
+use Rattle.txs_value_data.specs.declared.fault.Fault.{Fault}
 use Rattle.txs_value_cell.specs.Agents.{agents_from, with_agent}
 use Rattle.txs_value_cell.specs.Forms.{same_kind}
 use Rattle.txs_value_cell.specs.declared.cell.CellDefinition.{CellDefinition}
@@ -45,8 +45,8 @@ use Rattle.txs_theorem_audit.proofs.Agreeing.{sound_thread}
 use Rattle.txs_theorem_audit.proofs.Beginning.{cut}
 use Rattle.txs_theorem_audit.proofs.Differing.{settles}
 use Rattle.txs_theorem_audit.specs.Laws.{DiffersIsNotExplained}
-use Rattle.txs_theorem_order.specs.Order.{IsOrdered}
-use Rattle.txs_theorem_order_runs.specs.Runs.{RunsAreOrdered}
+use Rattle.txs_theorem_serial.specs.Order.{IsOrdered}
+use Rattle.txs_theorem_audit_runs.specs.OrderedRuns.{RunsAreOrdered}
 use Rattle.txs_theorem_audit.proofs.Waiting.{HasEatenUp, ends_up, waits_front}
 use Rattle.txs_theorem_audit.proofs.Findings.{not_there}
 use Rattle.txs_theorem_audit.proofs.Listing.{there_is, within}

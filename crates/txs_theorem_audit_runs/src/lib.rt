@@ -1,10 +1,13 @@
-//! An audit of a run's report never differs. Nothing in this crate runs.
+//! The events of every run have an order, and an audit of a run's report never differs. Nothing in this crate runs.
 #![tactic(auto)]
 
 ghost use Rattle.txs_theorem_audit_runs.specs.Runs.{RunsAreExplained, RunsNeverDiffer};
 
+mod order;
+
+use crate::runs_are_ordered;
+pub use order::runs_are_ordered;
 use txs_theorem_audit::differs_is_not_explained;
-use txs_theorem_order_runs::runs_are_ordered;
 
 /// The report of a run that a program explains is explained as an audit asks.
 pub fn runs_are_explained()

@@ -1,6 +1,6 @@
 -- The bodies of a script's program begin one behind the other.
 use Rattle.std.proofs.Common.{◌≡◌, ℕ, suc, ◌<◌, ◌≤◌, inl, inr, List, [], ◌∷◌, ◌++◌, length, Ok, Err, sym, ap, subst, arith}
-use Rattle.txs_value_base.specs.declared.fault.Span.{Span}
+use Rattle.txs_value_data.specs.declared.fault.Span.{Span}
 use Rattle.txs_reader.specs.Script.{Reads}
 use Rattle.txs_reader.specs.Tree.{PlainForm as Form, place, trees_of}
 use Rattle.txs_tree_meaning.specs.Tree.{PlainFunction, PlainThread, PlainProgram}

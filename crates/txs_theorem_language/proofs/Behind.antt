@@ -3,12 +3,12 @@ use Rattle.std.proofs.Common.{◌<◌, ◌≤◌, ◌+◌, ℕ, Bool, List, [], 
 use Rattle.txs_reader.specs.Tree.{PlainForm as Form}
 use Rattle.txs_tree_meaning.specs.Known.{Known, known, levels, levels_of}
 use Rattle.txs_tree_meaning.specs.Tree.{Tree}
-use Rattle.txs_resolve_scope.specs.declared.scope.Definition.{Definition}
-use Rattle.txs_resolve_scope.specs.declared.scope.Definition.TheVariants.{Constant, Cell, Function}
-use Rattle.txs_resolve_scope.specs.Scope.{Entry, Scope}
+use Rattle.txs_resolve_expand.specs.declared.scope.Definition.{Definition}
+use Rattle.txs_resolve_expand.specs.declared.scope.Definition.TheVariants.{Constant, Cell, Function}
+use Rattle.txs_resolve_expand.specs.Scope.{Entry, Scope}
 use Rattle.txs_resolve_expand.specs.Expressions.{Answer, named}
-use Rattle.txs_resolve_body.specs.Depths.{depths}
-use Rattle.txs_resolve_body.proofs.LevelLists.{depths_levels, known_levels, place_levels}
+use Rattle.txs_resolve.specs.Depths.{depths}
+use Rattle.txs_resolve.proofs.LevelLists.{depths_levels, known_levels, place_levels}
 use Rattle.txs_resolve.specs.Names.{State, nothing}
 use Rattle.txs_resolve.specs.Scripts.{AreKnown, IsKnown, ScopedState}
 use Rattle.txs_resolve.proofs.Scoping.{Every}

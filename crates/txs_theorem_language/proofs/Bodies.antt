@@ -1,17 +1,17 @@
 -- The bodies of a script's program stand in it one behind the other.
 use Rattle.std.proofs.Common.{◌≡◌, ℕ, zero, suc, ◌+◌, ◌<◌, ◌≤◌, ◌⊎◌, inl, inr, Bool, true, false, nat_lt, List, [], ◌∷◌, ◌++◌, length, map, take, drop, Option, Some, None, Ok, Err, refl, sym, ap, subst, ◌∙◌, arith, if◌then◌else◌}
 use Rattle.std.proofs.lemmas.Bool.Decides.{nat_tests}
-use Rattle.txs_value_base.specs.declared.fault.Span.{Span}
-use Rattle.txs_value_base.specs.declared.op.Callee.{Callee}
+use Rattle.txs_value_data.specs.declared.fault.Span.{Span}
+use Rattle.txs_value_data.specs.declared.op.Callee.{Callee}
 use Rattle.txs_value_data.specs.declared.value.Value.{Value}
 use Rattle.txs_reader.specs.declared.form.Bracket.TheVariants.{Round, Square}
 use Rattle.txs_reader.specs.Script.{Reads}
 use Rattle.txs_reader.specs.Tree.{PlainForm as Form, PlainForms as Forms, leaf, group, first, place, symbol, text, trees_of}
 use Rattle.txs_reader.specs.Tree.{none as no_forms}
 use Rattle.txs_tree_meaning.specs.Tree.{Tree, PlainFunction, PlainThread, PlainProgram}
-use Rattle.txs_resolve_scope.specs.Scope.{Scope}
-use Rattle.txs_resolve_scope.specs.declared.names.FormName.{FormName}
-use Rattle.txs_resolve_scope.specs.declared.names.FormName.TheVariants as kind
+use Rattle.txs_resolve_expand.specs.Scope.{Scope}
+use Rattle.txs_resolve_expand.specs.declared.names.FormName.{FormName}
+use Rattle.txs_resolve_expand.specs.declared.names.FormName.TheVariants as kind
 use Rattle.txs_resolve.specs.declared.definition.CellSort.{CellSort}
 use Rattle.txs_resolve.specs.declared.definition.Validation.{Validation}
 use Rattle.txs_resolve_expand.specs.declared.error.ResolveError.{ResolveError}
@@ -19,7 +19,7 @@ use Rattle.txs_resolve_expand.specs.declared.error.ResolveErrorKind.TheVariants.
 use Rattle.txs_resolve_expand.specs.Answers.{◌>>=◌}
 use Rattle.txs_resolve_expand.specs.Expansions.{body, form_at}
 use Rattle.txs_resolve_expand.specs.Expressions.{Answer, named}
-use Rattle.txs_resolve_body.specs.Literals.{literal}
+use Rattle.txs_resolve.specs.Literals.{literal}
 use Rattle.txs_resolve_expand.specs.Namespace.{behind_namespace, is_namespace}
 use Rattle.txs_resolve.specs.Names.{State, nothing, program, new_name, Defining, NamedForm, validator_named, validator_place, with_definition, entered, defined_as_one, defined_at, define, defining_of, named_form, are_symbols, parameters, Written, written, written_behind, untold, with_function, function, with_thread, future, top_level, step, steps, Resolves}
 use Rattle.txs_value_cell.specs.declared.cell.CellDefinition.{CellDefinition}

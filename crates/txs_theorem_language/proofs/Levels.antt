@@ -1,17 +1,17 @@
 -- One level more changes no tree.
 use Rattle.std.proofs.Common.{◌≡◌, ℕ, zero, suc, ◌<◌, Bool, true, false, ◌||◌, nat_lt, Option, Some, None, Ok, Err, refl, sym, ap, subst, ◌∙◌, arith, if◌then◌else◌}
 use Rattle.std.proofs.lemmas.Bool.Decides.{nat_tests}
-use Rattle.txs_value_base.specs.declared.fault.Span.{Span}
-use Rattle.txs_value_base.specs.declared.op.Callee.{Callee}
-use Rattle.txs_value_base.specs.declared.op.Callee.TheVariants.{Function as TheFunction}
+use Rattle.txs_value_data.specs.declared.fault.Span.{Span}
+use Rattle.txs_value_data.specs.declared.op.Callee.{Callee}
+use Rattle.txs_value_data.specs.declared.op.Callee.TheVariants.{Function as TheFunction}
 use Rattle.txs_reader.specs.declared.form.Bracket.TheVariants.{Round, Square}
 use Rattle.txs_reader.specs.Tree.{Leaf, PlainForm as Form, PlainForms as Forms, leaf, group, first, place, number, symbol, nil, truth, text, keyword, parts}
 use Rattle.txs_reader.specs.Tree.{none as no_forms}
 use Rattle.txs_tree_meaning.specs.Tree.{Tree, Trees, Put, more}
-use Rattle.txs_resolve_scope.specs.declared.names.FormName.{FormName}
-use Rattle.txs_resolve_scope.specs.declared.names.FormName.TheVariants as kind
-use Rattle.txs_resolve_scope.specs.declared.scope.Definition.TheVariants.{Constant, Cell as ACell, Function as AFunction}
-use Rattle.txs_resolve_scope.specs.Scope.{Scope, Meaning, a_form, dotted, a_local, the_current, defined_as, operation, unknown, meaning, with_local}
+use Rattle.txs_resolve_expand.specs.declared.names.FormName.{FormName}
+use Rattle.txs_resolve_expand.specs.declared.names.FormName.TheVariants as kind
+use Rattle.txs_resolve_expand.specs.declared.scope.Definition.TheVariants.{Constant, Cell as ACell, Function as AFunction}
+use Rattle.txs_resolve_expand.specs.Scope.{Scope, Meaning, a_form, dotted, a_local, the_current, defined_as, operation, unknown, meaning, with_local}
 use Rattle.txs_resolve_expand.specs.declared.error.ResolveError.{ResolveError}
 use Rattle.txs_resolve_expand.specs.declared.error.ResolveErrorKind.TheVariants.{TooMany}
 use Rattle.txs_resolve_expand.specs.declared.shapes.Spot.{Spot}

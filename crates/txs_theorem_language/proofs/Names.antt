@@ -2,14 +2,14 @@
 use Rattle.std.proofs.Common.{◌≡◌, ◌≢◌, ℕ, Bool, true, false, not, ◌&&◌, bytes_eq, List, length, Option, Some, None, if◌then◌else◌, refl, sym, ap, ◌∙◌, subst}
 use Rattle.std.proofs.lemmas.Slice.Eq.{bytes_eq-Decides}
 use Rattle.std.specs.List.{list_any}
-use Rattle.txs_value_base.specs.Operations.{op_name, operations}
-use Rattle.txs_value_base.specs.declared.op.Op.{Op}
-use Rattle.txs_resolve_scope.specs.declared.names.FormName.{FormName}
-use Rattle.txs_resolve_scope.specs.declared.scope.Definition.{Definition}
-use Rattle.txs_resolve_scope.specs.Nearest.{NoneNamed}
-use Rattle.txs_value_base.specs.Places.{with_name}
-use Rattle.txs_resolve_scope.specs.Scope.{Scope, Meaning, a_local, defined_as, dotted, operation, unknown, the_current, definition_of, form_name, form_names, is_current, is_dot, is_none, local_number, may_bind, meaning, or_defined, or_form, or_local, or_unknown, with_local}
-use Rattle.txs_resolve_scope.proofs.Nearest.{nowhere}
+use Rattle.txs_value_data.specs.Operations.{op_name, operations}
+use Rattle.txs_value_data.specs.declared.op.Op.{Op}
+use Rattle.txs_resolve_expand.specs.declared.names.FormName.{FormName}
+use Rattle.txs_resolve_expand.specs.declared.scope.Definition.{Definition}
+use Rattle.txs_resolve_expand.specs.Nearest.{NoneNamed}
+use Rattle.txs_value_data.specs.Places.{with_name}
+use Rattle.txs_resolve_expand.specs.Scope.{Scope, Meaning, a_local, defined_as, dotted, operation, unknown, the_current, definition_of, form_name, form_names, is_current, is_dot, is_none, local_number, may_bind, meaning, or_defined, or_form, or_local, or_unknown, with_local}
+use Rattle.txs_resolve_expand.proofs.Nearest.{nowhere}
 
 abbrev pub IsTrue : Bool → Type 0
 IsTrue true = Unit {0}

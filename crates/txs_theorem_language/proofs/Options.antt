@@ -1,6 +1,6 @@
 -- Where the validator of a cell stands in its definition.
 use Rattle.std.proofs.Common.{◌≡◌, ℕ, ◌<◌, ◌≤◌, Bool, true, false, if◌then◌else◌, Option, Some, None, subst, arith}
-use Rattle.txs_value_base.specs.declared.fault.Span.{Span}
+use Rattle.txs_value_data.specs.declared.fault.Span.{Span}
 use Rattle.txs_value_data.specs.declared.value.CellKind.{CellKind}
 use Rattle.txs_value_data.specs.declared.value.CellKind.TheVariants.{Ref, Atom, Agent}
 use Rattle.txs_value_cell.specs.declared.cell.ErrorMode.{ErrorMode}
@@ -9,7 +9,7 @@ use Rattle.txs_reader.specs.Tree.{PlainForm as Form, PlainForms as Forms, leaf, 
 use Rattle.txs_reader.specs.Tree.{none as no_forms}
 use Rattle.txs_resolve.specs.declared.definition.CellSort.{CellSort}
 use Rattle.txs_resolve_expand.specs.Expansions.{form_at}
-use Rattle.txs_resolve_body.specs.Literals.{is_literal}
+use Rattle.txs_resolve.specs.Literals.{is_literal}
 use Rattle.txs_resolve.specs.Names.{Defining, Options, no_options, only_literal, mode_of, is_error_mode, is_validator, first_mode, with_mode, first_validator, with_option, with_options, options_from, options_behind, mode_or_fail, opened, cell_of, kind_at, defining_of}
 use Rattle.txs_theorem_language.specs.TextOrder.{Nests, NestIn}
 use Rattle.txs_theorem_language.proofs.Windows.{nests_on, nest_ends}

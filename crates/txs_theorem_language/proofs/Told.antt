@@ -1,10 +1,10 @@
 -- What ends before a refusal was resolved.
 use Rattle.std.proofs.Common.{◌≡◌, ℕ, suc, ◌<◌, ◌≤◌, ◌⊎◌, inl, inr, Bool, true, false, ◌||◌, nat_lt, Ok, Err, refl, sym, ap, subst, arith, if◌then◌else◌}
-use Rattle.txs_value_base.specs.declared.fault.Span.{Span}
+use Rattle.txs_value_data.specs.declared.fault.Span.{Span}
 use Rattle.txs_reader.specs.declared.form.Bracket.TheVariants.{Round}
 use Rattle.txs_reader.specs.Tree.{PlainForm as Form, PlainForms as Forms, leaf, group, first, place, nil, parts}
 use Rattle.txs_tree_meaning.specs.Tree.{Tree, Put, more}
-use Rattle.txs_resolve_scope.specs.Scope.{Scope, with_local}
+use Rattle.txs_resolve_expand.specs.Scope.{Scope, with_local}
 use Rattle.txs_resolve_expand.specs.declared.error.ResolveError.{ResolveError}
 use Rattle.txs_resolve_expand.specs.declared.error.ResolveErrorKind.TheVariants.{TooMany}
 use Rattle.txs_resolve_expand.specs.declared.shapes.Sequence.{Sequence}

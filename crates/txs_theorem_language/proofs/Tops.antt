@@ -3,29 +3,29 @@ use Rattle.std.proofs.Common.{◌≡◌, ℕ, suc, ◌+◌, ◌-◌, ◌<◌, �
 use Rattle.std.proofs.lemmas.Bool.{false≢true}
 use Rattle.std.proofs.lemmas.Bool.Decides.{nat_tests}
 use Rattle.txs_value_data.specs.Limits.{most_depth, most_levels, most_parameters}
-use Rattle.txs_value_base.specs.declared.fault.Span.{Span}
+use Rattle.txs_value_data.specs.declared.fault.Span.{Span}
 use Rattle.txs_value_data.specs.declared.value.Value.{Value}
 use Rattle.txs_value_data.specs.declared.value.Value.TheVariants.{Vector}
 use Rattle.txs_value_data.specs.declared.value.CellKind.{CellKind}
-use Rattle.txs_value_base.specs.declared.op.Callee.{Callee}
-use Rattle.txs_value_base.specs.declared.op.Callee.TheVariants.{Function as TheFunction}
+use Rattle.txs_value_data.specs.declared.op.Callee.{Callee}
+use Rattle.txs_value_data.specs.declared.op.Callee.TheVariants.{Function as TheFunction}
 use Rattle.txs_value_data.specs.View.{plains_of}
 use Rattle.txs_reader.specs.declared.form.Bracket.TheVariants.{Round, Square}
 use Rattle.txs_reader.specs.Tree.{PlainForm as Form, PlainForms as Forms, leaf, group, first, number, symbol, nil, truth, text, keyword, parts}
 use Rattle.txs_reader.specs.Tree.{none as no_forms}
 use Rattle.txs_tree_meaning.specs.Tree.{Tree}
-use Rattle.txs_resolve_scope.specs.declared.names.FormName.{FormName}
-use Rattle.txs_resolve_scope.specs.declared.names.FormName.TheVariants as kind
-use Rattle.txs_resolve_scope.specs.declared.scope.Definition.TheVariants.{Constant, Cell as ACell, Function as AFunction}
-use Rattle.txs_resolve_scope.specs.Scope.{Entry, Meaning, a_form, dotted, a_local, the_current, defined_as, operation, unknown, may_bind, meaning}
-use Rattle.txs_resolve_scope.proofs.Meanings.{meaning_so}
+use Rattle.txs_resolve_expand.specs.declared.names.FormName.{FormName}
+use Rattle.txs_resolve_expand.specs.declared.names.FormName.TheVariants as kind
+use Rattle.txs_resolve_expand.specs.declared.scope.Definition.TheVariants.{Constant, Cell as ACell, Function as AFunction}
+use Rattle.txs_resolve_expand.specs.Scope.{Entry, Meaning, a_form, dotted, a_local, the_current, defined_as, operation, unknown, may_bind, meaning}
+use Rattle.txs_resolve_expand.proofs.Meanings.{meaning_so}
 use Rattle.txs_resolve.specs.declared.definition.CellSort.{CellSort}
 use Rattle.txs_resolve_expand.specs.declared.error.ResolveError.{ResolveError}
 use Rattle.txs_resolve_expand.specs.declared.error.ResolveErrorKind.TheVariants.{BadForm, Redefined, TooMany}
 use Rattle.txs_resolve_expand.specs.Answers.{◌>>=◌, refuse}
 use Rattle.txs_resolve_expand.specs.Expansions.{body, form_at}
 use Rattle.txs_resolve_expand.specs.Expressions.{Answer, callee_at, callee_of, named, spot_at}
-use Rattle.txs_resolve_body.specs.Literals.{is_literal, are_literals, literal, literals}
+use Rattle.txs_resolve.specs.Literals.{is_literal, are_literals, literal, literals}
 use Rattle.txs_resolve.specs.Names.{State, new_name, Defining, NamedForm, Options, mode_or_fail, only_literal, options_behind, opened, top_scope, validator_named, validator_place, cell_of, kind_at, defining_of, named_form, with_definition, entered, defined_as_one, defined_at, are_symbols, parameters, Written, written, written_behind, untold, with_function, function, with_thread, future, top_level, step, ResolveStops}
 use Rattle.txs_theorem_language.specs.Standing.{IsOne, one_now, one_later}
 use Rattle.txs_theorem_language.specs.Faults.{is_free, is_definition, Defines, by_def, by_defn, IsTooMuch, is_too_deep, is_too_long, has_too_much, IsNth, nth_now, nth_later, has_parameter, HasTopFault, is_no_definition, defines_other, defines_no_literal, defines_no_function, defines_reserved, parameter_reserved, defines_again, defines_too_many, functions_too_many, threads_too_many, parameters_too_many, defines_too_much, defines_with_validator, ValidatorFault, validator_unknown, validator_dotted, validator_no_symbol, validator_no_function, validator_too_deep, is_no_function, FaultAtTop, of_itself, of_body, of_thread, FaultInScript}

@@ -3,26 +3,26 @@ use Rattle.std.proofs.Common.{◌≡◌, ◌≢◌, ℕ, suc, ◌+◌, ◌-◌, 
 use Rattle.std.proofs.lemmas.Bool.{false≢true}
 use Rattle.std.proofs.lemmas.Bool.Decides.{nat_tests}
 use Rattle.txs_value_data.specs.Limits.{most_depth, most_levels, most_parameters}
-use Rattle.txs_value_base.specs.declared.fault.Span.{Span}
+use Rattle.txs_value_data.specs.declared.fault.Span.{Span}
 use Rattle.txs_value_data.specs.declared.value.Value.{Value}
 use Rattle.txs_value_data.specs.declared.value.Value.TheVariants.{Vector}
 use Rattle.txs_value_data.specs.View.{plains_of}
 use Rattle.txs_reader.specs.declared.form.Bracket.TheVariants.{Round, Square}
 use Rattle.txs_reader.specs.Tree.{PlainForm as Form, PlainForms as Forms, leaf, group, first, symbol, nil, truth, number, text, keyword, parts}
 use Rattle.txs_reader.specs.Tree.{none as no_forms}
-use Rattle.txs_resolve_scope.specs.declared.names.FormName.{FormName}
-use Rattle.txs_resolve_scope.specs.declared.names.FormName.TheVariants as kind
-use Rattle.txs_value_base.specs.declared.op.Callee.{Callee}
-use Rattle.txs_value_base.specs.declared.op.Callee.TheVariants.{Function as TheFunction}
-use Rattle.txs_resolve_scope.specs.declared.scope.Definition.TheVariants.{Constant, Cell as ACell, Function as AFunction}
-use Rattle.txs_resolve_scope.specs.Scope.{Meaning, a_form, dotted, a_local, the_current, defined_as, operation, unknown, may_bind, meaning}
+use Rattle.txs_resolve_expand.specs.declared.names.FormName.{FormName}
+use Rattle.txs_resolve_expand.specs.declared.names.FormName.TheVariants as kind
+use Rattle.txs_value_data.specs.declared.op.Callee.{Callee}
+use Rattle.txs_value_data.specs.declared.op.Callee.TheVariants.{Function as TheFunction}
+use Rattle.txs_resolve_expand.specs.declared.scope.Definition.TheVariants.{Constant, Cell as ACell, Function as AFunction}
+use Rattle.txs_resolve_expand.specs.Scope.{Meaning, a_form, dotted, a_local, the_current, defined_as, operation, unknown, may_bind, meaning}
 use Rattle.txs_resolve_expand.specs.declared.error.ResolveError.{ResolveError}
 use Rattle.txs_resolve_expand.specs.declared.error.ResolveErrorKind.{ResolveErrorKind}
 use Rattle.txs_resolve_expand.specs.declared.error.ResolveErrorKind.TheVariants.{BadForm, Redefined, TooMany}
 use Rattle.txs_resolve_expand.specs.Answers.{◌>>=◌, refuse}
 use Rattle.txs_resolve_expand.specs.Expansions.{body, form_at}
 use Rattle.txs_resolve_expand.specs.Expressions.{Answer, callee_at, is_symbol, named, spot_at}
-use Rattle.txs_resolve_body.specs.Literals.{literal, literals}
+use Rattle.txs_resolve.specs.Literals.{literal, literals}
 use Rattle.txs_resolve.specs.Names.{State, nothing, new_name, Defining, NamedForm, defining_of, named_form, top_scope, validator_named, validator_place, with_definition, entered, defined_as_one, defined_at, parameter, parameters, Written, written, with_function, function, with_thread, future, top_level, step, steps}
 use Rattle.txs_theorem_language.specs.FirstForm.{StopsAt}
 use Rattle.txs_theorem_language.specs.Standing.{IsOne, one_now, one_later}

@@ -1,8 +1,8 @@
 -- What the limit of levels refuses.
 use Rattle.std.specs.Prelude.{◌≡◌, List, Ok, Err}
-use Rattle.txs_value_base.specs.declared.fault.Span.{Span}
+use Rattle.txs_value_data.specs.declared.fault.Span.{Span}
 use Rattle.txs_reader.specs.Tree.{PlainForm as Form}
-use Rattle.txs_resolve_scope.specs.Scope.{Scope}
+use Rattle.txs_resolve_expand.specs.Scope.{Scope}
 use Rattle.txs_resolve_expand.specs.declared.error.ResolveErrorKind.TheVariants.{TooMany}
 use Rattle.txs_resolve_expand.specs.Answers.{refuse}
 use Rattle.txs_resolve_expand.specs.Expressions.{Answer}

@@ -1,13 +1,13 @@
 -- Renaming a local: the same forms with the same spans, in which the local has another name wherever a symbol stands for it.
 use Rattle.std.specs.Prelude.{◌≡◌, ◌≢◌, ℕ, Bool, true, false, ◌||◌, bytes_eq, List, [], Option, Some, None, if◌then◌else◌}
-use Rattle.txs_value_base.specs.declared.fault.Span.{Span}
+use Rattle.txs_value_data.specs.declared.fault.Span.{Span}
 use Rattle.txs_reader.specs.declared.form.Bracket.{Bracket}
 use Rattle.txs_reader.specs.declared.form.Bracket.TheVariants.{Round, Square}
 use Rattle.txs_reader.specs.Tree.{Leaf, PlainForm as Form, PlainForms as Forms, leaf, group, first, number, symbol, nil, truth, text, keyword}
 use Rattle.txs_reader.specs.Tree.{none as no_forms}
-use Rattle.txs_resolve_scope.specs.declared.names.FormName.{FormName}
-use Rattle.txs_resolve_scope.specs.declared.names.FormName.TheVariants as kind
-use Rattle.txs_resolve_scope.specs.Scope.{may_bind}
+use Rattle.txs_resolve_expand.specs.declared.names.FormName.{FormName}
+use Rattle.txs_resolve_expand.specs.declared.names.FormName.TheVariants as kind
+use Rattle.txs_resolve_expand.specs.Scope.{may_bind}
 use Rattle.txs_resolve_expand.specs.Expansions.{form_at, list}
 
 -- the new name in the place of the old one; every other name stays

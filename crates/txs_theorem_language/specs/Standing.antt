@@ -4,7 +4,7 @@ use Rattle.txs_value_cell.specs.declared.form.PutForm.{PutForm}
 use Rattle.txs_reader.specs.Tree.{PlainForm as Form, PlainForms as Forms, first, place}
 use Rattle.txs_reader.specs.Tree.{none as no_forms}
 use Rattle.txs_tree_meaning.specs.Tree.{Tree}
-use Rattle.txs_resolve_scope.specs.Scope.{Scope, with_local}
+use Rattle.txs_resolve_expand.specs.Scope.{Scope, with_local}
 use Rattle.txs_resolve_expand.specs.declared.shapes.Change.{Change}
 use Rattle.txs_resolve_expand.specs.declared.shapes.Sequence.{Sequence}
 use Rattle.txs_resolve_expand.specs.declared.shapes.Single.{Single}

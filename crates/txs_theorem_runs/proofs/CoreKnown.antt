@@ -4,7 +4,7 @@ use Rattle.std.specs.List.{AllByRecursion}
 use Rattle.txs_value_apply.specs.Core.{Answer, core, vector_of}
 use Rattle.txs_value_apply.proofs.CoreKeeps.{AnyItems, AnyNumber, GoodAs, Rules, by_items, good, vector_good}
 use Rattle.txs_value_data.specs.PlainValue.{PlainValue, plain_row}
-use Rattle.txs_value_base.specs.declared.op.Op.{Op}
+use Rattle.txs_value_data.specs.declared.op.Op.{Op}
 use Rattle.txs_value_data.specs.declared.value.Value.{Value}
 use Rattle.txs_value_cell.specs.declared.cell.CellDefinition.{CellDefinition}
 use Rattle.txs_theorem_runs.specs.Lawful.{HasCells, RowHasCells, IsKnown}

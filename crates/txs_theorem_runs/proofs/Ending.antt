@@ -4,7 +4,7 @@ use Rattle.txs_world_protocol.specs.Ask.{Writes, with_write}
 use Rattle.txs_frame.specs.Frame.{PlainTxFrame, commuted, by_ref, written}
 use Rattle.txs_frame.specs.Phase.{with_validation, validations, tasks_of}
 use Rattle.txs_frame.specs.declared.phase.Task.TheVariants.{Redoes}
-use Rattle.txs_value_base.specs.declared.op.Callee.{Callee}
+use Rattle.txs_value_data.specs.declared.op.Callee.{Callee}
 use Rattle.txs_value_cell.specs.Cells.{Validators, validator_at}
 use Rattle.txs_value_data.specs.declared.value.CellId.{CellId}
 use Rattle.txs_value_data.specs.declared.value.Value.{Value}

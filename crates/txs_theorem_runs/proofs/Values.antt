@@ -16,14 +16,14 @@ use Rattle.txs_value_apply.specs.Core.{core, vector_of}
 use Rattle.txs_value_data.proofs.SameLemmas.{numbers}
 use Rattle.txs_value_cell.specs.Cells.{Validators, validator_at}
 use Rattle.txs_value_cell.specs.Forms.{same_kind, rule, cell_if, cell_of_kind, cell_of}
-use Rattle.txs_value_base.specs.Places.{nth, fault_at}
+use Rattle.txs_value_data.specs.Places.{nth, fault_at}
 use Rattle.txs_value_data.specs.Printed.{printed_line}
 use Rattle.txs_value_cell.specs.declared.action.Action.{Action}
 use Rattle.txs_value_cell.specs.declared.cell.CellDefinition.{CellDefinition}
-use Rattle.txs_value_base.specs.declared.fault.Fault.{Fault}
-use Rattle.txs_value_base.specs.declared.fault.FaultKind.{FaultKind}
-use Rattle.txs_value_base.specs.declared.fault.FaultKind.TheVariants.{SetAfterCommute, InvalidState, AgentFailed, RetryLimit}
-use Rattle.txs_value_base.specs.declared.fault.Span.{Span}
+use Rattle.txs_value_data.specs.declared.fault.Fault.{Fault}
+use Rattle.txs_value_data.specs.declared.fault.FaultKind.{FaultKind}
+use Rattle.txs_value_data.specs.declared.fault.FaultKind.TheVariants.{SetAfterCommute, InvalidState, AgentFailed, RetryLimit}
+use Rattle.txs_value_data.specs.declared.fault.Span.{Span}
 use Rattle.txs_value_cell.specs.declared.form.CellForm.TheVariants as form
 use Rattle.txs_value_cell.specs.declared.form.FormRule.{FormRule}
 use Rattle.txs_value_cell.specs.declared.form.LookForm.{LookForm}
@@ -32,8 +32,8 @@ use Rattle.txs_value_cell.specs.declared.form.PutForm.{PutForm}
 use Rattle.txs_value_cell.specs.declared.form.PutForm.TheVariants.{RefSet, Reset}
 use Rattle.txs_value_cell.specs.declared.form.UpdateForm.{UpdateForm}
 use Rattle.txs_value_cell.specs.declared.form.UpdateForm.TheVariants as update
-use Rattle.txs_value_base.specs.declared.op.Callee.{Callee}
-use Rattle.txs_value_base.specs.declared.op.Callee.TheVariants as callee
+use Rattle.txs_value_data.specs.declared.op.Callee.{Callee}
+use Rattle.txs_value_data.specs.declared.op.Callee.TheVariants as callee
 use Rattle.txs_value_data.specs.declared.value.CellId.{CellId}
 use Rattle.txs_value_data.specs.declared.value.CellKind.{CellKind}
 use Rattle.txs_value_data.specs.declared.value.CellKind.TheVariants.{Ref, Atom, Agent}

@@ -10,7 +10,7 @@ use Rattle.txs_code_meaning.specs.ActorState.{ActorState}
 use Rattle.txs_code_meaning.specs.Machine.{ThreadCode, fetch, Push, Configuration, Unfinished, Asking, turn, TakeOf, FinishOf}
 use Rattle.txs_code_meaning.specs.PlainCode.{CodeBody, PlainCode, thread_code}
 use Rattle.txs_code_meaning.specs.WellTyped.{WellTyped}
-use Rattle.txs_value_base.specs.Places.{nth}
+use Rattle.txs_value_data.specs.Places.{nth}
 use Rattle.txs_world_book.specs.Book.{has_cell, actors, opening, has_agent, actor_of}
 use Rattle.txs_world_book.specs.Served.{cells_of}
 use Rattle.txs_theorem_runs.specs.Explains.{code_of}

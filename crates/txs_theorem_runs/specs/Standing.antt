@@ -1,7 +1,7 @@
 -- Where the instructions of an actor may be.
 use Rattle.std.specs.Prelude.{◌≡◌, ℕ, Bool, true, false, List, Option, Some, None}
 use Rattle.txs_world_protocol.specs.Ask.{Exchange}
-use Rattle.txs_value_base.specs.declared.fault.Fault.{Fault}
+use Rattle.txs_value_data.specs.declared.fault.Fault.{Fault}
 use Rattle.txs_code_meaning.specs.Machine.{PlainInstr, LookOf, PutOf, OpenOf, CloseOf, SendOf, TakeOf, RunOf, FinishOf, ThreadCode, fetch, Activity, Outside, Applying, Swapping, Configuration, Unfinished, run}
 use Rattle.txs_code_meaning.specs.Opening.{opening}
 use Rattle.txs_theorem_runs.specs.Staged.{StagedActor}

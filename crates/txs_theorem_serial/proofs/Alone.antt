@@ -6,7 +6,7 @@ use Rattle.txs_world_protocol.specs.Ask.{Writes}
 use Rattle.txs_value_cell.specs.Cells.{World, Validators}
 use Rattle.txs_value_cell.specs.declared.action.Action.{Action}
 use Rattle.txs_frame.specs.Frame.{PlainTxFrame, has_number}
-use Rattle.txs_value_base.specs.declared.op.Callee.{Callee}
+use Rattle.txs_value_data.specs.declared.op.Callee.{Callee}
 use Rattle.txs_tree_meaning.specs.Known.{known}
 use Rattle.txs_tree_meaning.specs.Meaning.{Completion, Completes, Recurs, Faults, Retries, Waits, OutOfTurns, Invalid, bind, closed, Applies, eval}
 use Rattle.txs_tree_meaning.specs.Pure.{nowhere}

@@ -8,10 +8,10 @@ use Rattle.txs_value_cell.specs.declared.action.Action.{Action}
 use Rattle.txs_frame.specs.Frame.{with_cell, has_number, refs_of, commutes_of, is_commuted, set_ref, ensure_ref, commute_ref, hold_send}
 use Rattle.txs_frame.specs.declared.frame.Commute.{Commute}
 use Rattle.txs_value_apply.specs.Truth.{choose}
-use Rattle.txs_value_base.specs.declared.fault.FaultKind.{FaultKind}
-use Rattle.txs_value_base.specs.declared.fault.FaultKind.TheVariants.{SetAfterCommute}
-use Rattle.txs_value_base.specs.declared.fault.Span.{Span}
-use Rattle.txs_value_base.specs.declared.op.Callee.{Callee}
+use Rattle.txs_value_data.specs.declared.fault.FaultKind.{FaultKind}
+use Rattle.txs_value_data.specs.declared.fault.FaultKind.TheVariants.{SetAfterCommute}
+use Rattle.txs_value_data.specs.declared.fault.Span.{Span}
+use Rattle.txs_value_data.specs.declared.op.Callee.{Callee}
 use Rattle.txs_value_cell.specs.declared.form.LookForm.{LookForm}
 use Rattle.txs_value_cell.specs.declared.form.LookForm.TheVariants.{Deref, Ensure}
 use Rattle.txs_value_cell.specs.declared.form.PutForm.{PutForm}

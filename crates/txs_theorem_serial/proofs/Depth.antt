@@ -1,11 +1,11 @@
 -- A pure callee means the same wherever calls may go deep enough for it.
 use Rattle.std.proofs.Common.{◌≡◌, ℕ, zero, suc, ◌<◌, Bool, false, List, [], Option, Some, None, Result, Ok, Err, take, refl, sym, ◌∙◌, subst, inl, arith}
 use Rattle.txs_value_apply.specs.Core.{core}
-use Rattle.txs_value_base.specs.Places.{nth}
-use Rattle.txs_value_base.specs.declared.fault.FaultKind.{FaultKind}
-use Rattle.txs_value_base.specs.declared.fault.Span.{Span}
-use Rattle.txs_value_base.specs.declared.op.Callee.{Callee}
-use Rattle.txs_value_base.specs.declared.op.Callee.TheVariants.{Core as CoreOp, Function}
+use Rattle.txs_value_data.specs.Places.{nth}
+use Rattle.txs_value_data.specs.declared.fault.FaultKind.{FaultKind}
+use Rattle.txs_value_data.specs.declared.fault.Span.{Span}
+use Rattle.txs_value_data.specs.declared.op.Callee.{Callee}
+use Rattle.txs_value_data.specs.declared.op.Callee.TheVariants.{Core as CoreOp, Function}
 use Rattle.txs_value_data.specs.declared.value.Value.{Value}
 use Rattle.txs_tree_meaning.specs.Known.{known}
 use Rattle.txs_tree_meaning.specs.Meaning.{Completion, Completes, bind, give, result_of, turns, eval, call_at}

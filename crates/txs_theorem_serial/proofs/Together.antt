@@ -17,7 +17,7 @@ use Rattle.txs_value_cell.specs.Forms.{same_kind}
 use Rattle.txs_value_cell.specs.declared.action.Action.{Action}
 use Rattle.txs_value_cell.specs.declared.cell.CellDefinition.{CellDefinition}
 use Rattle.txs_frame.specs.Frame.{PlainTxFrame, has_number, sends_of_commit}
-use Rattle.txs_value_base.specs.Places.{nth}
+use Rattle.txs_value_data.specs.Places.{nth}
 use Rattle.txs_tree_meaning.specs.Sound.{SoundFunctions}
 use Rattle.txs_tree_meaning.specs.Thread.{TxRun, is_held}
 use Rattle.txs_tree_meaning.specs.Tree.{PlainFunction}

@@ -1,3 +1,5 @@
 pub mod Laws
+pub mod Order
 pub mod Serial
+pub mod Taken
 pub mod Whole

@@ -7,7 +7,7 @@ use Rattle.txs_world_protocol.specs.declared.event.EventKind.TheVariants.{Commit
 use Rattle.txs_world_book.specs.Book.{changed}
 use Rattle.txs_value_cell.specs.Cells.{World, Validators, validators_of}
 use Rattle.txs_value_cell.specs.declared.cell.CellDefinition.{CellDefinition}
-use Rattle.txs_value_base.specs.Places.{nth}
+use Rattle.txs_value_data.specs.Places.{nth}
 use Rattle.txs_tree_meaning.specs.Thread.{TxRun}
 use Rattle.txs_tree_meaning.specs.Tree.{PlainFunction}
 use Rattle.txs_frame.specs.Frame.{sends_of_commit}

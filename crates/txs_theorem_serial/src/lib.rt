@@ -1,7 +1,14 @@
-//! When committed transactions are as if they had run one after the other.
+//! When committed transactions are as if they had run one after the other; in which order the events of all books of a run came, and when
+//! there is an order that fits. Nothing in this crate runs.
 #![tactic(auto)]
 
 ghost use Rattle.txs_theorem_serial.specs.Laws.{ActionsNote, CommitsSerial, CoveredIsSerial, OneForEach, RunsAreSerial, ThreadsNote};
+
+mod order;
+
+pub use order::{
+    links_are_within, named_on_a_cycle, none_is_ordered, one_last_cut, some_is_not_ordered,
+};
 
 /// A covered transaction is serial.
 pub fn covered_is_serial()

@@ -1,10 +1,10 @@
 -- What validators make of two meanings that go together, and of pure ones.
 use Rattle.std.proofs.Common.{◌≡◌, ℕ, zero, suc, true, false, List, [], ◌∷◌, Option, Some, None, refl, ap, ◌∙◌}
 use Rattle.txs_world_protocol.specs.Ask.{Writes}
-use Rattle.txs_value_base.specs.Places.{fault_at}
-use Rattle.txs_value_base.specs.declared.fault.FaultKind.TheVariants.{InvalidState}
-use Rattle.txs_value_base.specs.declared.fault.Span.{Span}
-use Rattle.txs_value_base.specs.declared.op.Callee.{Callee}
+use Rattle.txs_value_data.specs.Places.{fault_at}
+use Rattle.txs_value_data.specs.declared.fault.FaultKind.TheVariants.{InvalidState}
+use Rattle.txs_value_data.specs.declared.fault.Span.{Span}
+use Rattle.txs_value_data.specs.declared.op.Callee.{Callee}
 use Rattle.txs_frame.specs.Frame.{PlainTxFrame, commuted, set_writes, phase_work}
 use Rattle.txs_value_cell.specs.Cells.{World, Validators, validator_at, validators_of}
 use Rattle.txs_value_cell.specs.declared.cell.CellDefinition.{CellDefinition}

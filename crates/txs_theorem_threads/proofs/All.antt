@@ -1,6 +1,6 @@
 -- All threads of a program.
 use Rattle.std.proofs.Common.{◌≡◌, ℕ, zero, suc, List, [], ◌∷◌, length, map, Option, Some, None, refl, sym, ap, subst}
-use Rattle.txs_value_base.specs.Places.{nth}
+use Rattle.txs_value_data.specs.Places.{nth}
 use Rattle.txs_tree_meaning.specs.Known.{Known, known}
 use Rattle.txs_tree_meaning.specs.Sound.{SoundThread, SoundThreads, SoundSource}
 use Rattle.txs_tree_meaning.specs.Tree.{PlainThread}

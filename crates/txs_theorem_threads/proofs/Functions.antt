@@ -6,7 +6,7 @@ use Rattle.txs_tree_meaning.specs.Known.{Known, only_inside, only_outside, is_in
 use Rattle.txs_tree_meaning.specs.Sound.{MayStand, in_function, in_thread, in_dosync, SoundCall, SoundTree, SoundAll, SoundLet, SoundDo, SoundFunction, SoundFunctions}
 use Rattle.txs_tree_meaning.specs.Tree.{Tree, Const, Local, If, Do, Let, Loop, Recur, Core, Call, VectorOf, Println, Dosync, Look, Put, Update, Send, Trees, none, more, count, PlainFunction}
 use Rattle.txs_value_cell.specs.Forms.{rule}
-use Rattle.txs_value_base.specs.Places.{nth}
+use Rattle.txs_value_data.specs.Places.{nth}
 use Rattle.txs_value_cell.specs.declared.form.CellForm.TheVariants as form_of
 use Rattle.txs_value_cell.specs.declared.form.Standing.{Standing}
 use Rattle.txs_value_cell.specs.declared.form.Standing.TheVariants.{Anywhere, Inside, Outside}

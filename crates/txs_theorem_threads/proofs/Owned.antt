@@ -8,7 +8,7 @@ use Rattle.txs_frame.specs.declared.frame.Commute.{Commute}
 use Rattle.txs_value_cell.specs.Cells.{World}
 use Rattle.txs_tree_meaning.specs.Thread.{is_held}
 use Rattle.txs_tree_meaning.specs.Transaction.{valued}
-use Rattle.txs_value_base.specs.declared.op.Callee.{Callee}
+use Rattle.txs_value_data.specs.declared.op.Callee.{Callee}
 use Rattle.txs_value_data.specs.declared.value.CellId.{CellId}
 use Rattle.txs_value_data.specs.declared.value.Value.{Value}
 use Rattle.txs_theorem_threads.specs.Noted.{AreWritten}

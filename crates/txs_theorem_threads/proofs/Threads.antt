@@ -16,14 +16,14 @@ use Rattle.txs_value_apply.specs.Core.{core}
 use Rattle.txs_value_cell.specs.Cells.{World, Validators, validators_of, validator_at}
 use Rattle.txs_value_cell.specs.Forms.{rule, cell_of, may_stand}
 use Rattle.txs_value_data.specs.Limits.{reruns}
-use Rattle.txs_value_base.specs.Places.{fault_at}
+use Rattle.txs_value_data.specs.Places.{fault_at}
 use Rattle.txs_value_data.specs.Printed.{printed_line}
 use Rattle.txs_value_cell.specs.declared.action.Action.{Action}
 use Rattle.txs_value_cell.specs.declared.cell.CellDefinition.{CellDefinition}
-use Rattle.txs_value_base.specs.declared.fault.Fault.{Fault}
-use Rattle.txs_value_base.specs.declared.fault.FaultKind.{FaultKind}
-use Rattle.txs_value_base.specs.declared.fault.FaultKind.TheVariants.{AgentFailed}
-use Rattle.txs_value_base.specs.declared.fault.Span.{Span}
+use Rattle.txs_value_data.specs.declared.fault.Fault.{Fault}
+use Rattle.txs_value_data.specs.declared.fault.FaultKind.{FaultKind}
+use Rattle.txs_value_data.specs.declared.fault.FaultKind.TheVariants.{AgentFailed}
+use Rattle.txs_value_data.specs.declared.fault.Span.{Span}
 use Rattle.txs_value_cell.specs.declared.form.CellForm.TheVariants as form_of
 use Rattle.txs_value_cell.specs.declared.form.LookForm.{LookForm}
 use Rattle.txs_value_cell.specs.declared.form.LookForm.TheVariants.{Deref, Ensure}
@@ -31,8 +31,8 @@ use Rattle.txs_value_cell.specs.declared.form.PutForm.{PutForm}
 use Rattle.txs_value_cell.specs.declared.form.PutForm.TheVariants.{RefSet, Reset}
 use Rattle.txs_value_cell.specs.declared.form.UpdateForm.{UpdateForm}
 use Rattle.txs_value_cell.specs.declared.form.UpdateForm.TheVariants as update_of
-use Rattle.txs_value_base.specs.declared.op.Callee.{Callee}
-use Rattle.txs_value_base.specs.declared.op.Callee.TheVariants.{Core as CoreOp, Function}
+use Rattle.txs_value_data.specs.declared.op.Callee.{Callee}
+use Rattle.txs_value_data.specs.declared.op.Callee.TheVariants.{Core as CoreOp, Function}
 use Rattle.txs_value_data.specs.declared.value.CellId.{CellId}
 use Rattle.txs_value_data.specs.declared.value.Value.{Value}
 use Rattle.txs_value_data.specs.declared.value.Value.TheVariants.{Nil, Cell}

@@ -11,7 +11,7 @@ use Rattle.txs_tree_meaning.specs.Thread.{thread_meaning}
 use Rattle.txs_tree_meaning.specs.Transaction.{tx_meaning}
 use Rattle.txs_tree_meaning.specs.Tree.{Tree, PlainFunction, ThreadSource}
 use Rattle.txs_value_cell.specs.Cells.{World}
-use Rattle.txs_value_base.specs.declared.op.Callee.{Callee}
+use Rattle.txs_value_data.specs.declared.op.Callee.{Callee}
 use Rattle.txs_value_data.specs.declared.value.Value.{Value}
 use Rattle.txs_code_meaning.specs.ActorState.{ActorState}
 use Rattle.txs_code_meaning.specs.Machine.{ThreadCode, Asking, Unfinished}

@@ -1,6 +1,6 @@
 -- What it is that the code of all threads follows a program.
 use Rattle.std.specs.Prelude.{◌≡◌, ℕ, List, length, map, Some}
-use Rattle.txs_value_base.specs.Places.{nth}
+use Rattle.txs_value_data.specs.Places.{nth}
 use Rattle.txs_tree_meaning.specs.Sound.{Sound, SoundSource}
 use Rattle.txs_tree_meaning.specs.Tree.{PlainThread, PlainProgram, ThreadSource}
 use Rattle.txs_code_meaning.specs.Machine.{ThreadCode}

@@ -1,8 +1,8 @@
 -- Code that sends only what a program may send.
 use Rattle.std.specs.Prelude.{◌≡◌, ℕ, suc, List, Some}
-use Rattle.txs_value_base.specs.Places.{nth}
-use Rattle.txs_value_base.specs.declared.fault.Span.{Span}
-use Rattle.txs_value_base.specs.declared.op.Callee.{Callee}
+use Rattle.txs_value_data.specs.Places.{nth}
+use Rattle.txs_value_data.specs.declared.fault.Span.{Span}
+use Rattle.txs_value_data.specs.declared.op.Callee.{Callee}
 use Rattle.txs_value_data.specs.declared.value.CellId.{CellId}
 use Rattle.txs_tree_meaning.specs.Known.{known}
 use Rattle.txs_tree_meaning.specs.Sound.{SoundSent}

@@ -24,9 +24,9 @@ use Rattle.txs_value_data.specs.contracts.value.Value as value
 use Rattle.txs_value_cell.specs.contracts.action.Action as action
 use Rattle.txs_value_data.proofs.value.CellId.TheSendSync as cell_id_sent
 use Rattle.txs_value_data.proofs.value.Name.TheSendSync as name_sent
-use Rattle.txs_value_base.proofs.fault.Fault.TheSendSync as fault_sent
-use Rattle.txs_value_base.proofs.fault.Span.TheSendSync as span_sent
-use Rattle.txs_value_base.proofs.op.Callee.TheSendSync as callee_sent
+use Rattle.txs_value_data.proofs.fault.Fault.TheSendSync as fault_sent
+use Rattle.txs_value_data.proofs.fault.Span.TheSendSync as span_sent
+use Rattle.txs_value_data.proofs.op.Callee.TheSendSync as callee_sent
 use Rattle.txs_value_cell.proofs.cell.ErrorMode.TheSendSync as error_mode_sent
 use Rattle.txs_world_protocol.specs.contracts.ask.Ask as ask_is
 use Rattle.txs_world_protocol.specs.contracts.ask.Reply as reply_is
@@ -58,8 +58,8 @@ use Rattle.txs_value_cell.specs.contracts.cell.CellDefinition as cell_definition
 use Rattle.txs_world_book.specs.contracts.cell.StoreCell as store_cell_is
 use Rattle.txs_world_book.specs.contracts.cell.Cells as cells_is
 use Rattle.txs_world_book.specs.contracts.cell.Cells.TheInside as cells_in
-use Rattle.txs_mail.specs.contracts.mailbox.Mailbox as mailbox_is
-use Rattle.txs_mail.specs.contracts.mailbox.Mailbox.TheInside as mailbox_in
+use Rattle.txs_world.specs.contracts.mailbox.Mailbox as mailbox_is
+use Rattle.txs_world.specs.contracts.mailbox.Mailbox.TheInside as mailbox_in
 use Rattle.txs_world_book.specs.contracts.atom.AtomBook as atom_book_is
 use Rattle.txs_world_book.specs.contracts.atom.AtomBook.TheInside as atom_book_in
 use Rattle.circular_buffer.proofs.heap.HeapCircularBuffer.TheSendSync as ring
@@ -72,15 +72,15 @@ use Rattle.txs_machine.specs.contracts.player.Player as player_is
 use Rattle.txs_history.proofs.log.Log.TheSendSync as log_sent
 use Rattle.txs_history.proofs.log.Past.TheSendSync as past_sent
 use Rattle.txs_history.specs.declared.log.Naming as naming_is
-use Rattle.txs_history_store.specs.declared.run.Run as run_is
-use Rattle.txs_history_store.specs.contracts.serve.Served as served_is
-use Rattle.txs_history_store.specs.contracts.store.LoggedStore as logged_store_is
-use Rattle.txs_history_store.specs.contracts.store.LoggedStore.TheInside as logged_store_in
-use Rattle.txs_history_store.specs.contracts.atom.LoggedAtom as logged_atom_is
-use Rattle.txs_history_store.specs.contracts.atom.LoggedAtom.TheInside as logged_atom_in
-use Rattle.txs_history_actor.specs.contracts.step.Step as step_is
-use Rattle.txs_history_actor.specs.contracts.actor.LoggedActor as logged_actor_is
-use Rattle.txs_history_actor.specs.contracts.actor.LoggedActor.TheInside as logged_actor_in
+use Rattle.txs_history.specs.declared.run.Run as run_is
+use Rattle.txs_history.specs.contracts.serve.Served as served_is
+use Rattle.txs_history.specs.contracts.store.LoggedStore as logged_store_is
+use Rattle.txs_history.specs.contracts.store.LoggedStore.TheInside as logged_store_in
+use Rattle.txs_history.specs.contracts.atom.LoggedAtom as logged_atom_is
+use Rattle.txs_history.specs.contracts.atom.LoggedAtom.TheInside as logged_atom_in
+use Rattle.txs_history_run.specs.contracts.step.Step as step_is
+use Rattle.txs_history_run.specs.contracts.actor.LoggedActor as logged_actor_is
+use Rattle.txs_history_run.specs.contracts.actor.LoggedActor.TheInside as logged_actor_in
 
 pub value_send : IsSend value.the_row
 value_send = search (crosses, knot.crosses, sendable) depth 60 fits 20000

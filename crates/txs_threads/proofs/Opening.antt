@@ -2,7 +2,7 @@
 use Rattle.std.proofs.Common.{◌≡◌, ◌+◌, ◌<◌, ◌≤◌, ◌&&◌, nat_lt, ℕ, zero, suc, Bool, true, false, List, [], ◌∷◌, length, map, get_or, Some, if◌then◌else◌, refl, ap, sym, ◌∙◌, arith}
 use Rattle.std.proofs.lemmas.Bool.{false≢true}
 use Rattle.std.proofs.lemmas.Bool.Decides.{nat_tests}
-use Rattle.txs_value_base.specs.Places.{nth}
+use Rattle.txs_value_data.specs.Places.{nth}
 use Rattle.txs_value_cell.specs.Forms.{same_kind}
 use Rattle.txs_value_cell.specs.declared.cell.CellDefinition.{CellDefinition}
 use Rattle.txs_value_data.specs.declared.value.CellKind.{CellKind}
@@ -19,7 +19,7 @@ use Rattle.txs_theorem_runs.specs.Shared.{Shared, atom_of, has_atom, untouched}
 use Rattle.txs_world_shared.specs.Kept.{atom_id, atoms_of, new_atom, state_of, without_book}
 use Rattle.txs_world_shared.specs.SharedState.{PlainShared, shared_of}
 use Rattle.txs_world_shared.proofs.Apart.{each_new}
-use Rattle.txs_history_store.specs.Logged.{locks_of}
+use Rattle.txs_history.specs.Logged.{locks_of}
 use Rattle.txs_threads.specs.Run.{AreOpened}
 
 -- ---- the locks of the atoms, one after another

@@ -10,7 +10,7 @@ use Rattle.txs_world_protocol.specs.declared.report.ActorReport.{ActorReport}
 use Rattle.txs_history_run.specs.Settled.{IsRunReport}
 use Rattle.txs_world_shared.specs.Kept.{atoms_of}
 use Rattle.txs_world_shared.specs.SharedState.{PlainShared, numbered_book, shared_of}
-use Rattle.txs_value_base.specs.Places.{nth}
+use Rattle.txs_value_data.specs.Places.{nth}
 use Rattle.txs_value_data.specs.declared.value.CellId.{CellId}
 use Rattle.txs_world_book.specs.Atom.{PlainAtom}
 use Rattle.txs_world_book.specs.Book.{has_agent}

@@ -4,16 +4,14 @@ ghost use Rattle.std.specs.Prelude.{◌≡◌, ◌<◌, ◌≤◌, ◌+◌, leng
 ghost use Rattle.txs_machine_actor.specs.PlainActor.{Lives};
 ghost use Rattle.txs_machine_actor.specs.Turns.{IsNew};
 ghost use Rattle.txs_machine.specs.Agents.{agents_of};
-ghost use Rattle.txs_history_actor.specs.Callees.{AreCallees};
+ghost use Rattle.txs_history_run.specs.Callees.{AreCallees};
 
 use crate::scheduler::{Actors, agent_at};
 use std::alloc::{AllocError, Global};
 use txs_code_meaning::Verified;
-use txs_history::Past;
-use txs_history_actor::LoggedActor;
-use txs_history_store::Run;
+use txs_history::{Asked, Past, Run};
+use txs_history_run::LoggedActor;
 use txs_machine_actor::Actor;
-use txs_theorem_history::Asked;
 use txs_value_cell::list_agents;
 use txs_value_data::CellId;
 
@@ -49,7 +47,7 @@ fn actor_at(
 }
 
 /// All actors, before their first turns, the last one first: those of threads are ready, and those of agents are parked, since nothing waits for them yet.
-#[tactic(auto, using(txs_history_actor::proofs::On::renewed))]
+#[tactic(auto, using(txs_history_run::proofs::On::renewed))]
 pub(crate) fn open_all<'a, J: Run>(
     actors: &mut Actors<LoggedActor<'a, J>>,
     alloc: Global,

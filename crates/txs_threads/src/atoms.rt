@@ -1,7 +1,7 @@
 //! The atoms, each under a lock of its own.
 
 ghost use Rattle.std.specs.Prelude.{◌≡◌, ◌≤◌, length, IfErr};
-ghost use Rattle.txs_history_store.specs.Logged.{locks_of};
+ghost use Rattle.txs_history.specs.Logged.{locks_of};
 ghost use Rattle.txs_machine.specs.declared.run_error.RunError.TheVariants.{Memory};
 ghost use Rattle.txs_threads.specs.Run.{AreOpened};
 
@@ -10,10 +10,8 @@ use std::alloc::{AllocError, Global};
 use std::hint::spin_loop;
 use std::sync::{Mutex, MutexGuard, Wait};
 use txs_code_meaning::Verified;
-use txs_history::Opened;
-use txs_history_store::{LoggedAtom, LoggedStore, Run};
+use txs_history::{Asked, LoggedAtom, LoggedStore, Opened, Run};
 use txs_machine::RunError;
-use txs_theorem_history::Asked;
 use txs_value_data::CellId;
 use txs_world::Store;
 use txs_world_book::AtomBook;

@@ -12,12 +12,9 @@ use crate::runnable::{AsksAtom, AsksStore, Ran, Runnable, Wanted};
 use crate::scheduler::{Actors, Scheduler};
 use std::alloc::Global;
 use txs_code_meaning::Verified;
-use txs_history::Past;
-use txs_history_actor::{AfterReply, LoggedActor};
-use txs_history_run::{Gathered, settle};
-use txs_history_store::{LoggedAtom, LoggedStore, Run};
+use txs_history::{Asked, LoggedAtom, LoggedStore, Past, Run};
+use txs_history_run::{AfterReply, Gathered, LoggedActor, settle};
 use txs_machine::{ActorReport, RunError};
-use txs_theorem_history::Asked;
 use txs_value_data::CellId;
 use txs_world_shared::SharedState;
 

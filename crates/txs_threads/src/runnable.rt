@@ -1,8 +1,8 @@
 //! What workers know of an actor, and of what lies under the store's lock.
 
 use txs_gate::{AskKind, Made, kind_of};
-use txs_history_actor::{AfterReply, LoggedActor, Next};
-use txs_history_store::{LoggedAtom, LoggedStore, Run};
+use txs_history::{LoggedAtom, LoggedStore, Run};
+use txs_history_run::{AfterReply, LoggedActor, Next};
 use txs_value_data::CellId;
 use txs_world_protocol::{Ask, Event};
 use txs_world_shared::atoms::atom_named;

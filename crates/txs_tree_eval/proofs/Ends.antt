@@ -1,7 +1,7 @@
 -- What a thread means, by what its body means.
 use Rattle.std.proofs.Common.{◌≡◌, ℕ, zero, suc, ◌<◌, ◌-◌, true, false, List, [], ◌∷◌, ◌++◌, length, map, get_or, Option, Some, None, Result, Ok, Err, IfOk, IfSome, sym, ap, ◌∙◌, subst, subst₂, ⊎_elim, arith}
 use Rattle.std.proofs.lemmas.Bool.{false≢true}
-use Rattle.txs_value_base.specs.Places.{nth}
+use Rattle.txs_value_data.specs.Places.{nth}
 use Rattle.txs_value_cell.specs.declared.cell.CellDefinition.{CellDefinition}
 use Rattle.txs_value_data.specs.declared.value.Value.{Value}
 use Rattle.txs_value_data.specs.declared.value.Value.TheVariants.{Nil}
@@ -32,7 +32,7 @@ use Rattle.txs_tree_eval_transaction.specs.declared.work.TxWork.{TxWork}
 use Rattle.txs_tree_eval_transaction.specs.declared.stop.ThreadStop.{ThreadStop}
 use Rattle.txs_tree_eval_transaction.specs.declared.stop.ThreadStop.TheVariants.{Fault, Event, Wrong, Turns, Memory}
 use Rattle.txs_tree_eval.specs.declared.transaction.TxMeaning.{TxMeaning}
-use Rattle.txs_value_base.specs.declared.fault.Fault as fault
+use Rattle.txs_value_data.specs.declared.fault.Fault as fault
 use Rattle.txs_tree_eval_node.proofs.Called.{sound_everywhere}
 use Rattle.txs_tree_meaning.proofs.Callable.{length-functions_of}
 use Rattle.txs_tree_eval_node.proofs.Ending.{closed_gives}

@@ -1,7 +1,7 @@
 -- What a pure function means, by what is told where it is applied.
 use Rattle.std.proofs.Common.{◌≡◌, ℕ, false, List, length, None, Result, sym, subst, subst₂}
 use Rattle.txs_value_cell.specs.declared.cell.CellDefinition.{CellDefinition}
-use Rattle.txs_value_base.specs.declared.op.Callee.TheVariants.{Function}
+use Rattle.txs_value_data.specs.declared.op.Callee.TheVariants.{Function}
 use Rattle.txs_value_data.specs.declared.value.Value.{Value}
 use Rattle.txs_tree_eval_node.specs.Evaluated.{applied}
 use Rattle.txs_tree_eval_transaction.specs.Worked.{Told}

@@ -15,9 +15,8 @@ use txs_tree_eval_node::evaluate::{apply_outside, copy_locals};
 use txs_tree_eval_node::{Context, Progress, Seen, State};
 use txs_tree_eval_transaction::ThreadStop;
 use txs_tree_meaning::Program;
-use txs_value_base::{Callee, Fault, Span};
 use txs_value_cell::Action;
-use txs_value_data::{Listed, Value};
+use txs_value_data::{Callee, Fault, Listed, Span, Value};
 
 /// What an action means on some events: the bytes that it prints, what it needs, its value or fault, the sends that it holds at its
 /// end, how many events it ate, and what is said of each transaction whose commit it ate, in order. The result is there where it

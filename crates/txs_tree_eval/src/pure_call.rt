@@ -9,10 +9,10 @@ ghost use Rattle.txs_tree_meaning.specs.Pure.{PureCallee, Lasts, pure_meaning, n
 ghost use Rattle.txs_tree_meaning.specs.Sound.{PureCall};
 ghost use Rattle.txs_tree_meaning.specs.Tree.{PlainFunction};
 ghost use Rattle.txs_tree_meaning.specs.View.{functions_of};
-ghost use Rattle.txs_value_base.specs.declared.op.Callee.{Callee as AnyCallee};
+ghost use Rattle.txs_value_data.specs.declared.op.Callee.{Callee as AnyCallee};
 ghost use Rattle.txs_value_data.specs.declared.value.Value.{Value as AnyValue};
 ghost use Rattle.txs_value_apply.specs.Core.{core, takes};
-ghost use Rattle.txs_value_base.specs.declared.op.Callee.TheVariants.{Function};
+ghost use Rattle.txs_value_data.specs.declared.op.Callee.TheVariants.{Function};
 ghost use Rattle.txs_tree_eval.specs.declared.pure_call.EvalStop.TheVariants.{Memory};
 
 use std::alloc::{AllocError, AllocFailed, Global};
@@ -21,8 +21,7 @@ use txs_tree_eval_node::evaluate::{apply_callee, copy_locals};
 use txs_tree_eval_transaction::ThreadStop;
 use txs_tree_meaning::Program;
 use txs_value_apply::apply;
-use txs_value_base::{Callee, Fault, Op, Span, Stop};
-use txs_value_data::Value;
+use txs_value_data::{Callee, Fault, Op, Span, Stop, Value};
 
 /// Why an evaluation gives no value.
 #[derive(Drop)]

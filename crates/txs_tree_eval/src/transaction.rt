@@ -18,8 +18,7 @@ use txs_tree_eval_node::evaluate::{copy_locals, evaluate};
 use txs_tree_eval_node::{Context, State};
 use txs_tree_eval_transaction::{RefView, ThreadStop, TxView, TxWork};
 use txs_tree_meaning::{Node, Program};
-use txs_value_base::Fault;
-use txs_value_data::{CellId, Listed, Value};
+use txs_value_data::{CellId, Fault, Listed, Value};
 
 /// What a transaction means: its value or fault, and until then its values, sets, ensures, commutes and sends, the refs that
 /// it read of the world, by ascending number, and whether the result of a commute was used.

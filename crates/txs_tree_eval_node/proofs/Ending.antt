@@ -34,9 +34,9 @@ use Rattle.txs_tree_eval_transaction.specs.declared.stop.ThreadStop.TheVariants.
 use Rattle.txs_tree_eval_transaction.specs.declared.view.TxView.{TxView}
 use Rattle.txs_value_cell.specs.Cells.{World, validators_of}
 use Rattle.txs_value_data.specs.Limits.{reruns}
-use Rattle.txs_value_base.specs.Places.{fault_at}
-use Rattle.txs_value_base.specs.declared.fault.FaultKind.TheVariants.{AgentFailed}
-use Rattle.txs_value_base.specs.declared.fault.Span.{Span}
+use Rattle.txs_value_data.specs.Places.{fault_at}
+use Rattle.txs_value_data.specs.declared.fault.FaultKind.TheVariants.{AgentFailed}
+use Rattle.txs_value_data.specs.declared.fault.Span.{Span}
 use Rattle.txs_value_data.specs.declared.value.Value.{Value}
 use Rattle.txs_tree_eval_node.proofs.Acting.{finals_agree}
 use Rattle.txs_tree_eval_node.proofs.Applying.{answers_from}

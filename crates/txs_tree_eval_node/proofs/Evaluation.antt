@@ -4,7 +4,7 @@ use Rattle.std.proofs.Math.Seq.{drop-append_seam, take-append_seam}
 use Rattle.std.proofs.lemmas.Bool.{eq-eqb, false≢true}
 use Rattle.std.proofs.lemmas.List.{length-take, take-append-le, take-append-drop}
 use Rattle.txs_value_apply.specs.Core.{is_false}
-use Rattle.txs_value_base.specs.Places.{nth}
+use Rattle.txs_value_data.specs.Places.{nth}
 use Rattle.txs_value_apply.specs.Truth.{choose}
 use Rattle.txs_value_cell.specs.declared.form.PutForm.{PutForm}
 use Rattle.txs_value_data.specs.declared.value.Value.{Value}
@@ -23,7 +23,7 @@ use Rattle.txs_tree_meaning.specs.declared.node.Node.{Node}
 use Rattle.txs_tree_eval_node.specs.declared.state.State.{State}
 use Rattle.txs_tree_eval_transaction.specs.declared.stop.ThreadStop.{ThreadStop}
 use Rattle.txs_tree_eval_transaction.specs.declared.stop.ThreadStop.TheVariants.{Fault, Event, Wrong, Turns, Memory}
-use Rattle.txs_value_base.specs.declared.fault.Span.{Span}
+use Rattle.txs_value_data.specs.declared.fault.Span.{Span}
 use Rattle.txs_tree_meaning.proofs.Soundness.{trees_from}
 
 pub nth_at : (vs : List Value) (i : ℕ) (v : Value) → i < length vs → v ≡ get_or vs i v → nth vs i ≡ Some v

@@ -9,9 +9,8 @@ use crate::seen::Seen;
 use crate::state::{Progress, Transacted};
 use std::alloc::Global;
 use txs_tree_eval_transaction::{RefView, ThreadStop, same_commit};
-use txs_value_base::Span;
 use txs_value_cell::Action;
-use txs_value_data::{CellId, Value};
+use txs_value_data::{CellId, Span, Value};
 use txs_world_protocol::EventKind;
 
 /// The world on which the commutes of a transaction ran, if the event is one of its end: a commit has them on the world at its

@@ -2,7 +2,7 @@
 
 ghost use Rattle.std.specs.Prelude.{◌≡◌, ◌<◌, ◌≤◌, ◌-◌, [], Some, length};
 ghost use Rattle.txs_world_protocol.specs.SeenEvent.{atoms_below, home};
-ghost use Rattle.txs_value_base.specs.Places.{nth};
+ghost use Rattle.txs_value_data.specs.Places.{nth};
 ghost use Rattle.txs_tree_eval_node.specs.Setting.{Setting, callable, deeper, deepest, on_view};
 ghost use Rattle.txs_tree_meaning.specs.Known.{known};
 ghost use Rattle.txs_tree_meaning.specs.Sound.{SoundCells, SoundFunctions};

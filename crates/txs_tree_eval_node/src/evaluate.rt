@@ -33,9 +33,8 @@ use txs_tree_eval_transaction::{
 };
 use txs_tree_meaning::Node;
 use txs_value_apply::is_false;
-use txs_value_base::{Callee, Fault, FaultKind, Span};
 use txs_value_cell::UpdateForm;
-use txs_value_data::{CellId, Listed, Value, copy_value};
+use txs_value_data::{Callee, CellId, Fault, FaultKind, Listed, Span, Value, copy_value};
 
 /// What a node in tail position gives.
 #[derive(Drop)]

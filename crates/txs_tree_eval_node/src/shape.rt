@@ -6,9 +6,8 @@ ghost use Rattle.txs_tree_meaning.specs.View.{tree_of, mark_of};
 
 use std::slice::from_ref;
 use txs_tree_meaning::{Node, NodeKind};
-use txs_value_base::{Callee, Op};
 use txs_value_cell::{CellForm, LookForm, PutForm, UpdateForm};
-use txs_value_data::Value;
+use txs_value_data::{Callee, Op, Value};
 
 /// What is done with the values of a node's parts, which come from left to right.
 #[derive(Clone, Copy)]

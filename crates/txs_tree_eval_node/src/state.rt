@@ -7,8 +7,8 @@ ghost use Rattle.txs_tree_eval_transaction.specs.Worked.{tx_state};
 ghost use Rattle.txs_tree_eval_transaction.specs.declared.stop.ThreadStop.TheVariants.{Memory};
 ghost use Rattle.txs_tree_meaning.specs.Meaning.{Faults};
 ghost use Rattle.txs_tree_meaning.specs.Thread.{from_events, holding, with_tx};
-ghost use Rattle.txs_value_base.specs.Places.{fault_at};
-ghost use Rattle.txs_value_base.specs.declared.fault.FaultKind.TheVariants.{AgentFailed};
+ghost use Rattle.txs_value_data.specs.Places.{fault_at};
+ghost use Rattle.txs_value_data.specs.declared.fault.FaultKind.TheVariants.{AgentFailed};
 ghost use Rattle.txs_tree_meaning.specs.Transaction.{tx_start};
 ghost use Rattle.txs_tree_eval_node.specs.Events.{seen_events};
 ghost use Rattle.txs_world_protocol.specs.SeenEvent.{SeenEvent};
@@ -18,9 +18,8 @@ use std::alloc::{AllocError, Global};
 use txs_frame::TxFrame;
 use txs_tree_eval_transaction::{ThreadStop, TxWork};
 use txs_tree_meaning::Node;
-use txs_value_base::{Fault, FaultKind, Span};
 use txs_value_cell::{Action, copy_action};
-use txs_value_data::{Listed, Value, copy_value};
+use txs_value_data::{Fault, FaultKind, Listed, Span, Value, copy_value};
 
 /// A transaction that came to its end: its body with its locals, whether its result is wanted, its result, and what it did.
 #[derive(Drop)]

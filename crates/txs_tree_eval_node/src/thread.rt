@@ -12,9 +12,8 @@ use crate::seen::Seen;
 use crate::state::Progress;
 use std::alloc::AllocError;
 use txs_tree_eval_transaction::{RefView, ThreadStop, TxWork};
-use txs_value_base::{Callee, Fault, FaultKind, Span};
 use txs_value_cell::Action;
-use txs_value_data::{CellId, Listed, Value};
+use txs_value_data::{Callee, CellId, Fault, FaultKind, Listed, Span, Value};
 use txs_world_protocol::{Cause, EventKind, same_action, same_cell, same_value};
 
 /// How often a transaction is tried.

@@ -4,7 +4,7 @@ use Rattle.txs_tree_eval_transaction.specs.Pasts.{entry_at}
 use Rattle.txs_tree_eval_transaction.specs.declared.view.RefView.{RefView}
 use Rattle.txs_tree_eval_transaction.specs.declared.view.TxView.{TxView}
 use Rattle.txs_value_cell.specs.Cells.{World}
-use Rattle.txs_value_base.specs.Places.{nth}
+use Rattle.txs_value_data.specs.Places.{nth}
 use Rattle.txs_value_data.specs.declared.value.Value.{Value}
 use Rattle.txs_value_data.specs.declared.value.Value.TheVariants.{Nil}
 

@@ -5,7 +5,7 @@ ghost use Rattle.txs_tree_eval_transaction.specs.declared.stop.ThreadStop.TheVar
 ghost use Rattle.txs_tree_eval_transaction.specs.Worked.{stop_without_fault};
 
 use std::alloc::{AllocError, AllocFailed};
-use txs_value_base::Fault;
+use txs_value_data::Fault;
 
 /// Why an evaluation gives no value.
 #[derive(Clone, Copy)]

@@ -11,8 +11,7 @@ ghost use Rattle.txs_value_data.specs.declared.value.Value.TheVariants.{Nil};
 use crate::stop::ThreadStop;
 use std::alloc::Global;
 use txs_value_apply::{apply, make_vector};
-use txs_value_base::{Fault, Op, Span, Stop};
-use txs_value_data::{Value, write_line};
+use txs_value_data::{Fault, Op, Span, Stop, Value, write_line};
 
 /// The operation on its arguments; a fault has the span.
 pub fn operate(alloc: Global, op: Op, args: Vec<Value>, span: Span) -> Result<Value, ThreadStop>

@@ -2,7 +2,7 @@
 
 ghost use Rattle.std.specs.Prelude.{◌≡◌, None, IfOk, option_copied};
 ghost use Rattle.txs_tree_meaning.specs.Transaction.{lacks};
-ghost use Rattle.txs_value_base.specs.Places.{nth};
+ghost use Rattle.txs_value_data.specs.Places.{nth};
 ghost use Rattle.txs_tree_eval_transaction.specs.Views.{held, held_in, plain_tx_view, plain_view, value_of, whole_view, world_of};
 
 use crate::past::History;

@@ -16,9 +16,8 @@ use crate::stop::ThreadStop;
 use crate::view::TxView;
 use std::alloc::AllocError;
 use txs_frame::{SetError, TxFrame};
-use txs_value_base::{Callee, Fault, FaultKind, Span};
 use txs_value_cell::{Action, CellForm, LookForm, UpdateForm};
-use txs_value_data::{CellId, Listed, Value, copy_value};
+use txs_value_data::{Callee, CellId, Fault, FaultKind, Listed, Span, Value, copy_value};
 
 /// What a transaction has done: its values, sets, ensures, commutes and sends, the refs that it read of the world, by
 /// ascending number, and whether the result of a commute was used.

@@ -18,18 +18,18 @@ use Rattle.txs_tree_meaning.specs.Thread.{ThreadState, Surroundings, thread_in, 
 use Rattle.txs_tree_meaning.specs.Transaction.{tx_start, tx_meaning, final_writes}
 use Rattle.txs_tree_meaning.specs.Tree.{Mark, Tree, Const, Local, Do, Loop, Recur, Call, Core, VectorOf, Println, Dosync, Look, Put, Update, Send, none, more, PlainFunction, ThreadSource}
 use Rattle.txs_value_cell.specs.Cells.{World}
-use Rattle.txs_value_base.specs.Places.{fault_at}
+use Rattle.txs_value_data.specs.Places.{fault_at}
 use Rattle.txs_value_cell.specs.declared.action.Action.{Action}
 use Rattle.txs_value_cell.specs.declared.cell.CellDefinition.{CellDefinition}
 use Rattle.txs_value_cell.specs.declared.cell.ErrorMode.TheVariants.{Fail as FailMode}
-use Rattle.txs_value_base.specs.declared.fault.FaultKind.TheVariants.{DivideByZero, InvalidState, NotANumber, NotARef, OutsideOnly, SetAfterCommute, RetryLimit, AgentFailed}
-use Rattle.txs_value_base.specs.declared.fault.Span.{Span}
+use Rattle.txs_value_data.specs.declared.fault.FaultKind.TheVariants.{DivideByZero, InvalidState, NotANumber, NotARef, OutsideOnly, SetAfterCommute, RetryLimit, AgentFailed}
+use Rattle.txs_value_data.specs.declared.fault.Span.{Span}
 use Rattle.txs_value_cell.specs.declared.form.LookForm.TheVariants.{Deref, Ensure}
 use Rattle.txs_value_cell.specs.declared.form.PutForm.TheVariants.{RefSet, Reset}
 use Rattle.txs_value_cell.specs.declared.form.UpdateForm.TheVariants.{Alter, Commute, Swap}
-use Rattle.txs_value_base.specs.declared.op.Callee.{Callee}
-use Rattle.txs_value_base.specs.declared.op.Callee.TheVariants.{Core as CoreOp, Function}
-use Rattle.txs_value_base.specs.declared.op.Op.TheVariants.{Add, Subtract, Multiply, Inc, Quot, IsZero, IsPositive, IsNegative}
+use Rattle.txs_value_data.specs.declared.op.Callee.{Callee}
+use Rattle.txs_value_data.specs.declared.op.Callee.TheVariants.{Core as CoreOp, Function}
+use Rattle.txs_value_data.specs.declared.op.Op.TheVariants.{Add, Subtract, Multiply, Inc, Quot, IsZero, IsPositive, IsNegative}
 use Rattle.txs_value_data.specs.declared.value.CellId.{CellId}
 use Rattle.txs_value_data.specs.declared.value.CellKind.{CellKind}
 use Rattle.txs_value_data.specs.declared.value.CellKind.TheVariants.{Ref, Atom, Agent}

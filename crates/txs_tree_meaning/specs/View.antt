@@ -1,7 +1,7 @@
 -- Nodes as plain trees.
 use Rattle.std.specs.Prelude.{Bool, List, [], ◌∷◌}
 use Rattle.txs_value_cell.specs.declared.cell.CellDefinition.{CellDefinition}
-use Rattle.txs_value_base.specs.declared.fault.Span.{Span}
+use Rattle.txs_value_data.specs.declared.fault.Span.{Span}
 use Rattle.txs_tree_meaning.specs.Tree.{Tree, Trees, Mark, none, more, PlainFunction, PlainThread, PlainProgram}
 use Rattle.txs_tree_meaning.specs.Tree as tree
 use Rattle.txs_tree_meaning.specs.declared.node.Node.{Node}

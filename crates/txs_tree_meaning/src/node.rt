@@ -1,8 +1,7 @@
 //! The nodes of a program.
 
-use txs_value_base::{Callee, Op, Span};
 use txs_value_cell::{LookForm, PutForm, UpdateForm};
-use txs_value_data::Value;
+use txs_value_data::{Callee, Op, Span, Value};
 
 /// What a node does.
 #[cycle(node)]

@@ -8,8 +8,8 @@ ghost use Rattle.txs_tree_meaning.specs.View.{Parts, program_of};
 use crate::node::{Function, Thread};
 use crate::raw::Raw;
 use std::marker::Model;
-use txs_value_base::Span;
 use txs_value_cell::CellDefinition;
+use txs_value_data::Span;
 
 /// A program that the checks accepted: the cells that it defines, in the order of their numbers, its functions
 /// and its threads, each in script order. Contracts see it as `program_of` its parts, which is sound.

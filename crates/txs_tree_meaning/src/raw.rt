@@ -7,8 +7,8 @@ ghost use Rattle.txs_tree_meaning.specs.View.{Parts, program_of};
 
 use crate::node::{Function, Thread};
 use std::marker::Model;
-use txs_value_base::Span;
 use txs_value_cell::CellDefinition;
+use txs_value_data::Span;
 
 /// A program of which names are resolved, and that the checks haven't seen: the cells that it defines, in the
 /// order of their numbers, its functions and its threads, each in script order; and of each cell where its validator stands. Contracts see it as

@@ -7,10 +7,10 @@ use Rattle.txs_value_data.specs.PlainValue.{PlainValue, depth, row_depth, plain_
 use Rattle.txs_value_data.specs.View.{plain_of, plains_of}
 use Rattle.txs_value_data.specs.declared.value.Value.{Value}
 use Rattle.txs_value_data.specs.declared.value.Value.TheVariants.{Vector}
-use Rattle.txs_value_base.specs.declared.fault.FaultKind.{FaultKind}
-use Rattle.txs_value_base.specs.declared.fault.FaultKind.TheVariants.{IndexOut, TooDeep, TooLong}
-use Rattle.txs_value_base.specs.declared.fault.Stop.{Stop}
-use Rattle.txs_value_base.specs.declared.fault.Stop.TheVariants.{Fault, Memory}
+use Rattle.txs_value_data.specs.declared.fault.FaultKind.{FaultKind}
+use Rattle.txs_value_data.specs.declared.fault.FaultKind.TheVariants.{IndexOut, TooDeep, TooLong}
+use Rattle.txs_value_data.specs.declared.fault.Stop.{Stop}
+use Rattle.txs_value_data.specs.declared.fault.Stop.TheVariants.{Fault, Memory}
 use Rattle.txs_value_apply.specs.Core.{Answer, Answers, ◌>>=◌, number_of, items_of, assoc_of, place_in, replaced, vector_of}
 
 -- a fault that is passed on is the answer

@@ -8,12 +8,12 @@ use Rattle.txs_value_data.specs.Same.{same_plain}
 use Rattle.txs_value_data.specs.View.{plain_of, plains_of, value_of}
 use Rattle.txs_value_data.specs.declared.value.Value.{Value}
 use Rattle.txs_value_data.specs.declared.value.Value.TheVariants.{Nil, Truth, Int, Vector}
-use Rattle.txs_value_base.specs.declared.fault.FaultKind.{FaultKind}
-use Rattle.txs_value_base.specs.declared.fault.FaultKind.TheVariants.{Overflow, DivideByZero, NotANumber, NotAVector, IndexOut, PopEmpty, TooDeep, TooLong}
-use Rattle.txs_value_base.specs.declared.fault.Stop.{Stop}
-use Rattle.txs_value_base.specs.declared.fault.Stop.TheVariants.{Fault, Memory}
-use Rattle.txs_value_base.specs.declared.op.Op.{Op}
-use Rattle.txs_value_base.specs.declared.op.Op.TheVariants.{Add, Subtract, Multiply, Inc, Dec, Quot, Rem, Mod, Equal, NotEqual, Less, Greater, LessOrEqual, GreaterOrEqual, Max, Min, Not, IsNil, IsZero, IsPositive, IsNegative, Count, Nth, Conj, Assoc, Peek, Pop}
+use Rattle.txs_value_data.specs.declared.fault.FaultKind.{FaultKind}
+use Rattle.txs_value_data.specs.declared.fault.FaultKind.TheVariants.{Overflow, DivideByZero, NotANumber, NotAVector, IndexOut, PopEmpty, TooDeep, TooLong}
+use Rattle.txs_value_data.specs.declared.fault.Stop.{Stop}
+use Rattle.txs_value_data.specs.declared.fault.Stop.TheVariants.{Fault, Memory}
+use Rattle.txs_value_data.specs.declared.op.Op.{Op}
+use Rattle.txs_value_data.specs.declared.op.Op.TheVariants.{Add, Subtract, Multiply, Inc, Dec, Quot, Rem, Mod, Equal, NotEqual, Less, Greater, LessOrEqual, GreaterOrEqual, Max, Min, Not, IsNil, IsZero, IsPositive, IsNegative, Count, Nth, Conj, Assoc, Peek, Pop}
 
 -- a value or a fault
 abbrev pub Answer : Type 0

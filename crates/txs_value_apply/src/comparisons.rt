@@ -5,8 +5,7 @@ ghost use Rattle.std.specs.Ordering.{int_eq};
 ghost use Rattle.txs_value_apply.specs.Core.{compared, tested, equals, is_false, is_nil};
 
 use crate::numbers::number;
-use txs_value_base::FaultKind;
-use txs_value_data::{Value, same};
+use txs_value_data::{FaultKind, Value, same};
 
 /// `=`
 pub(crate) fn equal(a: &Value, b: &Value) -> bool

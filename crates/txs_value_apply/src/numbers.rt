@@ -3,8 +3,7 @@
 ghost use Rattle.std.specs.Prelude.{◌≡◌, ◌≤◌, length, drop, pos};
 ghost use Rattle.txs_value_apply.specs.Core.{number_of, of_number, of_numbers, from_left, difference_of, plus, minus, times, negated, quotient, remainder, modulo, greatest, least, arg};
 
-use txs_value_base::FaultKind;
-use txs_value_data::Value;
+use txs_value_data::{FaultKind, Value};
 
 /// The number that a value is.
 pub(crate) fn number(value: &Value) -> Result<i64, FaultKind>

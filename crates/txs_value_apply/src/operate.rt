@@ -2,7 +2,7 @@
 
 ghost use Rattle.std.specs.Prelude.{◌≡◌, true, false, length, IsTrue, Err};
 ghost use Rattle.txs_value_apply.specs.Core.{core, takes, may_copy, Answers};
-ghost use Rattle.txs_value_base.specs.declared.fault.Stop.TheVariants.{Memory};
+ghost use Rattle.txs_value_data.specs.declared.fault.Stop.TheVariants.{Memory};
 
 use crate::comparisons::{
     equal, greater, greater_or_equal, is_false, is_negative, is_nil, is_positive, is_zero, less,
@@ -12,8 +12,7 @@ use crate::numbers::{dec, difference, inc, max, min, product, quot, rem, remaind
 use crate::vectors::{assoc, assoc_owned, conj, conj_owned, count, nth, peek, pop, pop_owned};
 use std::alloc::Global;
 use std::mem;
-use txs_value_base::{FaultKind, Op, Stop};
-use txs_value_data::Value;
+use txs_value_data::{FaultKind, Op, Stop, Value};
 
 /// Whether the operation takes so many arguments.
 #[tactic(auto, unfolding(crate::specs::Core::takes))]

@@ -9,9 +9,8 @@ ghost use Rattle.txs_value_data.specs.View.{plain_of, plains_of};
 
 use crate::numbers::number;
 use std::alloc::{AllocError, Global};
-use txs_value_base::{FaultKind, Stop};
 use txs_value_data::limits::{MOST_DEPTH, MOST_ITEMS};
-use txs_value_data::{Items, Value, copy_value};
+use txs_value_data::{FaultKind, Items, Stop, Value, copy_value};
 
 /// The items of the vector that a value is.
 fn items(value: &Value) -> Result<&Items, FaultKind>

@@ -1,14 +1,14 @@
 -- Which values the forms on cells take.
 use Rattle.std.specs.Prelude.{ℕ, Result, Ok, Err, zero, suc, List, [], ◌∷◌, map, Option, None}
-use Rattle.txs_value_base.specs.declared.fault.FaultKind.{FaultKind}
-use Rattle.txs_value_base.specs.declared.fault.FaultKind.TheVariants.{NotARef}
+use Rattle.txs_value_data.specs.declared.fault.FaultKind.{FaultKind}
+use Rattle.txs_value_data.specs.declared.fault.FaultKind.TheVariants.{NotARef}
 use Rattle.txs_value_data.specs.declared.value.CellId.{CellId}
 use Rattle.txs_value_data.specs.declared.value.CellKind.{CellKind}
 use Rattle.txs_value_data.specs.declared.value.CellKind.TheVariants.{Ref, Atom, Agent}
 use Rattle.txs_value_data.specs.declared.value.Value.{Value}
 use Rattle.txs_value_data.specs.declared.value.Value.TheVariants.{Cell}
 use Rattle.txs_value_cell.specs.declared.cell.CellDefinition.{CellDefinition}
-use Rattle.txs_value_base.specs.declared.op.Callee.{Callee}
+use Rattle.txs_value_data.specs.declared.op.Callee.{Callee}
 
 -- a value for each cell, by the cell's number
 abbrev pub World : Type 0

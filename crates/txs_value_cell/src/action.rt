@@ -3,8 +3,7 @@
 ghost use Rattle.std.specs.Prelude.{◌≡◌, IfOk};
 
 use std::alloc::{AllocError, Global};
-use txs_value_base::{Callee, Span};
-use txs_value_data::{CellId, Listed, Value, copy_values};
+use txs_value_data::{Callee, CellId, Listed, Span, Value, copy_values};
 
 /// An action that waits for its agent: what is called on the agent's state and these further arguments, and where the `send`
 /// is in the script.

@@ -6,8 +6,7 @@ ghost use Rattle.txs_value_cell.specs.Forms.{same_kind};
 ghost use Rattle.txs_value_data.specs.declared.value.CellKind.TheVariants.{Agent};
 
 use std::alloc::{AllocError, Global};
-use txs_value_base::Callee;
-use txs_value_data::{CellId, CellKind, Name, Value, copy_value};
+use txs_value_data::{Callee, CellId, CellKind, Name, Value, copy_value};
 
 /// What an agent does after an action that faulted, as `:error-mode` says.
 #[derive(Clone, Copy, PartialEq, Eq)]

@@ -2,12 +2,11 @@
 
 ghost use Rattle.std.specs.Prelude.{◌≡◌, ◌↔◌, IsTrue, Some};
 ghost use Rattle.txs_value_cell.specs.Forms.{cell_of, may_stand, rule, same_kind};
-ghost use Rattle.txs_value_base.specs.declared.fault.FaultKind.TheVariants.{NotARef, NotAnAtom};
+ghost use Rattle.txs_value_data.specs.declared.fault.FaultKind.TheVariants.{NotARef, NotAnAtom};
 ghost use Rattle.txs_value_cell.specs.declared.form.Standing.TheVariants.{Inside, Outside};
 ghost use Rattle.txs_value_data.specs.declared.value.CellKind.TheVariants.{Ref, Atom};
 
-use txs_value_base::FaultKind;
-use txs_value_data::{CellId, CellKind, Value};
+use txs_value_data::{CellId, CellKind, FaultKind, Value};
 
 /// Forms that read a cell.
 #[derive(Clone, Copy)]

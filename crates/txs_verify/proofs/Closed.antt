@@ -1,9 +1,9 @@
 -- Where each marked place leads to marked places with what is behind its instruction, the marks are a table of depths and a staging.
 use Rattle.std.proofs.Common.{arith, inl, inr, ◌≡◌, ◌+◌, ◌-◌, ◌<◌, ◌≤◌, ℕ, suc, List, Some, None, refl, sym, ap, subst, ◌∙◌}
-use Rattle.txs_value_base.specs.Places.{nth}
+use Rattle.txs_value_data.specs.Places.{nth}
 use Rattle.txs_value_cell.specs.declared.form.UpdateForm.{UpdateForm}
-use Rattle.txs_value_base.specs.declared.op.Callee.{Callee}
-use Rattle.txs_value_base.specs.declared.op.Callee.TheVariants as callee
+use Rattle.txs_value_data.specs.declared.op.Callee.{Callee}
+use Rattle.txs_value_data.specs.declared.op.Callee.TheVariants as callee
 use Rattle.txs_code_meaning.specs.WellTyped.{Functions, Owner, plain, opened, applied, Depths, depth_at, Fits, Stages, stage_at, Leads, TakesParameters, FitsStage, IsNamed, Applies, IsPureFunction}
 use Rattle.txs_code_meaning.specs.declared.instr.OpenForm.{OpenForm}
 use Rattle.txs_code_meaning.specs.declared.instr.Instr.{Instr}

@@ -1,6 +1,6 @@
 -- All bodies together: refusals, and well-typed code.
 use Rattle.std.proofs.Common.{arith, ◌≡◌, ◌∙◌, ℕ, zero, suc, ◌+◌, ◌<◌, ◌≤◌, List, [], ◌∷◌, length, Bool, true, false, not, ◌&&◌, nat_eq, Option, Some, None, Result, Ok, Err, IfErr, OnOk, refl, sym, ap, subst}
-use Rattle.txs_value_base.specs.Places.{nth}
+use Rattle.txs_value_data.specs.Places.{nth}
 use Rattle.txs_value_cell.specs.Cells.{Validators, validators_of}
 use Rattle.txs_value_cell.specs.declared.cell.CellDefinition.{CellDefinition}
 use Rattle.txs_value_cell.specs.declared.form.Standing.{Standing}

@@ -1,6 +1,6 @@
 -- The parameters of a function among those of all.
 use Rattle.std.proofs.Common.{arith, ap, sym, ◌∙◌, ◌-◌, ◌≡◌, ◌<◌, ◌≤◌, ℕ, zero, suc, List, [], ◌∷◌, length, get_or, Option, Some, None, refl}
-use Rattle.txs_value_base.specs.Places.{nth}
+use Rattle.txs_value_data.specs.Places.{nth}
 use Rattle.txs_code_meaning.specs.PlainCode.{CodeBody, parameters_of}
 use Rattle.txs_verify.specs.declared.walk.Mark.{Mark}
 use Rattle.txs_verify.specs.Marks.{Marks, mark_at}

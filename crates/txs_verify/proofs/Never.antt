@@ -1,6 +1,6 @@
 -- What a path comes to in a well-typed body, so that no such body is refused.
 use Rattle.std.proofs.Common.{arith, ◌≡◌, ◌≤◌, ℕ, suc, List, Option, Some, None, refl, sym, ap, subst, ◌∙◌}
-use Rattle.txs_value_base.specs.Places.{nth}
+use Rattle.txs_value_data.specs.Places.{nth}
 use Rattle.txs_value_data.specs.declared.value.Value.{Value}
 use Rattle.txs_code_meaning.specs.PlainCode.{CodeBody}
 use Rattle.txs_code_meaning.specs.WellTyped.{Functions, Owner, Stage, plain, opened, applied, Depths, Fits, Stages, FitsStage, WellTypedBody}

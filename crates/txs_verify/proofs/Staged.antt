@@ -1,6 +1,6 @@
 -- A staging has at each place that the code comes to the stage that the instructions before it make, in as many transactions as the path.
 use Rattle.std.proofs.Common.{arith, inl, inr, ◌≡◌, ◌+◌, ◌-◌, ℕ, zero, suc, List, Option, Some, None, refl, sym, ap, subst, ◌∙◌}
-use Rattle.txs_value_base.specs.Places.{nth}
+use Rattle.txs_value_data.specs.Places.{nth}
 use Rattle.txs_code_meaning.specs.PlainCode.{CodeBody}
 use Rattle.txs_code_meaning.specs.WellTyped.{Functions, Owner, plain, opened, applied, form_of, Stages, stage_at, FitsStage, IsStaging, IsBehindOpen}
 use Rattle.txs_code_meaning.specs.declared.instr.OpenForm.{OpenForm}

@@ -1,6 +1,7 @@
 pub mod Alone
 pub mod Errors
 pub mod Going
+pub mod Load
 pub mod Marks
 pub mod Paths
 pub mod Refused

@@ -1,6 +1,6 @@
 -- Marks of a body's places, and when they are closed: each leads to marked places alone.
 use Rattle.std.specs.Prelude.{◌≡◌, ℕ, zero, suc, ◌≤◌, List, [], ◌∷◌, Option, Some, None}
-use Rattle.txs_value_base.specs.Places.{nth}
+use Rattle.txs_value_data.specs.Places.{nth}
 use Rattle.txs_code_meaning.specs.WellTyped.{Depths, Stages}
 use Rattle.txs_code_meaning.specs.declared.instr.Instr.{Instr}
 use Rattle.txs_verify.specs.declared.walk.Mark.{Mark}

@@ -1,6 +1,6 @@
 -- The places that a body's code comes to, each with the depth of the stack and the number of open transactions.
 use Rattle.std.specs.Prelude.{◌≡◌, ◌⊎◌, ℕ, zero, suc, ◌+◌, ◌-◌, ◌<◌, ◌≤◌, List, Option, Some, None}
-use Rattle.txs_value_base.specs.Places.{nth}
+use Rattle.txs_value_data.specs.Places.{nth}
 use Rattle.txs_value_cell.specs.declared.form.CellForm.TheVariants as form
 use Rattle.txs_value_cell.specs.declared.form.Standing.TheVariants.{Outside}
 use Rattle.txs_code_meaning.specs.WellTyped.{Functions, Owner, Returns, Halts, IsImpure, MayStand, FormMayStand, MayCall, IsPureFunction, MayBeSent, Stage, plain, opened, applied, form_of}

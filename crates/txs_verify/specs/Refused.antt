@@ -1,6 +1,6 @@
 -- Why a body whose instructions are each lawful is refused: what a path of it comes to.
 use Rattle.std.specs.Prelude.{◌≡◌, ◌⊎◌, ℕ, ◌<◌, List, [], Some, None}
-use Rattle.txs_value_base.specs.Places.{nth}
+use Rattle.txs_value_data.specs.Places.{nth}
 use Rattle.txs_code_meaning.specs.declared.instr.Instr.{Instr}
 use Rattle.txs_verify.specs.declared.error.VerifyErrorKind.{VerifyErrorKind}
 use Rattle.txs_verify.specs.declared.error.VerifyErrorKind.TheVariants.{JumpOut, StackLow, StackDiffers, LocalOut, ArityWrong, CallOrder, TxNesting, FallsOff, Memory}

@@ -1,7 +1,7 @@
 -- What is wanted of the validators of cells, and why one is refused.
 use Rattle.std.specs.Prelude.{◌≡◌, ◌<◌, ℕ, true, List, length, Some}
-use Rattle.txs_value_base.specs.Places.{nth}
-use Rattle.txs_value_base.specs.declared.op.Callee.{Callee}
+use Rattle.txs_value_data.specs.Places.{nth}
+use Rattle.txs_value_data.specs.declared.op.Callee.{Callee}
 use Rattle.txs_value_cell.specs.Cells.{Validators}
 use Rattle.txs_code_meaning.specs.WellTyped.{CalleeTakes}
 use Rattle.txs_verify.specs.Standing.{is_pure}

@@ -1,6 +1,6 @@
 -- What becomes of marks and of the places that wait, where a place is looked at.
 use Rattle.std.specs.Prelude.{◌≡◌, ◌⊎◌, ℕ, ◌+◌, ◌-◌, List, [], ◌∷◌, ◌++◌, Bool, false, nat_eq, nat_lt, if◌then◌else◌, set, Option, Some, None, Result, Ok, Err}
-use Rattle.txs_value_base.specs.Places.{nth}
+use Rattle.txs_value_data.specs.Places.{nth}
 use Rattle.txs_code_meaning.specs.declared.instr.Instr.{Instr}
 use Rattle.txs_code_meaning.specs.declared.instr.Instr.TheVariants.{Jump, JumpFalse, Return, TxEnd, Halt}
 use Rattle.txs_verify.specs.Marks.{Marks, mark_at, mark_behind}

@@ -4,7 +4,7 @@ ghost use Rattle.std.specs.Prelude.{◌≡◌, ◌<◌, ℕ, length, is_some, na
 ghost use Rattle.txs_world_protocol.specs.Ask.{same_callee};
 ghost use Rattle.txs_code_meaning.specs.PlainCode.{parameters_of};
 ghost use Rattle.txs_code_meaning.specs.declared.instr.Instr.{Instr as AnInstr};
-ghost use Rattle.txs_value_base.specs.Places.{nth};
+ghost use Rattle.txs_value_data.specs.Places.{nth};
 ghost use Rattle.txs_verify.specs.Alone.{IsRightBody, IsWrongAlone, IsRight, applies, closes, fault, has_count, has_local, has_so_many, in_order, is_behind, is_below, is_followed, is_named, is_so_many, jumps_within, named_is_below, opens_form, same_form, takes_so};
 ghost use Rattle.txs_verify.specs.Paths.{before, before_that, opens};
 
@@ -12,8 +12,8 @@ use crate::error::{Refusal, VerifyErrorKind};
 use crate::standing::form_of;
 use txs_code_meaning::{Body, Instr, OpenForm};
 use txs_value_apply::takes;
-use txs_value_base::Callee;
 use txs_value_cell::UpdateForm;
+use txs_value_data::Callee;
 
 /// The instruction at a place, if there is one.
 fn instr_at(instrs: &[Instr], at: usize) -> Option<Instr>

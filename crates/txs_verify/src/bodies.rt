@@ -4,7 +4,7 @@ ghost use Rattle.std.specs.Prelude.{◌≡◌, ◌<◌, ◌≤◌, ◌+◌, ℕ,
 ghost use Rattle.txs_code_meaning.specs.PlainCode.{CodeBody, parameters_of};
 ghost use Rattle.txs_code_meaning.specs.WellTyped.{WellTyped};
 ghost use Rattle.txs_code_meaning.specs.declared.instr.Instr.{Instr as AnInstr};
-ghost use Rattle.txs_value_base.specs.Places.{nth};
+ghost use Rattle.txs_value_data.specs.Places.{nth};
 ghost use Rattle.txs_value_cell.specs.Cells.{validators_of};
 ghost use Rattle.txs_verify.specs.Validators.{EachValidator, IsPure};
 ghost use Rattle.txs_verify.specs.Alone.{IsRight, IsRightBody, IsWrongAlone};

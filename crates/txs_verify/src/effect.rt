@@ -2,7 +2,7 @@
 
 ghost use Rattle.std.specs.Prelude.{◌≡◌, ◌<◌, ◌≤◌};
 ghost use Rattle.txs_code_meaning.specs.PlainCode.{parameters_of};
-ghost use Rattle.txs_value_base.specs.Places.{nth};
+ghost use Rattle.txs_value_data.specs.Places.{nth};
 ghost use Rattle.txs_verify.specs.Paths.{depth_behind, or_none, wants, MayEnd, txs_behind};
 
 use txs_code_meaning::{Body, Instr};

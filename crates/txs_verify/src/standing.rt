@@ -1,7 +1,7 @@
 //! Where instructions may be, and what functions are for.
 
 ghost use Rattle.std.specs.Prelude.{◌≡◌, ◌<◌, ◌+◌, length, slice_index_or, IfOk, IfErr};
-ghost use Rattle.txs_value_base.specs.Places.{nth};
+ghost use Rattle.txs_value_data.specs.Places.{nth};
 ghost use Rattle.txs_code_meaning.specs.WellTyped.{form_of};
 ghost use Rattle.txs_code_meaning.specs.declared.instr.Instr.{Instr as AnInstr};
 ghost use Rattle.txs_verify.specs.Standing.{IsSeen, IsWrong, call_wrong, end_wrong, ends_wrong, first, impure_kind, is_pure, joined, judged, kind_of, kind_wrong, may_be_sent, or_pure, pure_kind, seen_from, send_wrong, unless, wrong};
@@ -10,8 +10,8 @@ use crate::alone::{before, is_open};
 use crate::error::{Refusal, VerifyErrorKind};
 use crate::walk::Mark;
 use txs_code_meaning::{Instr, OpenForm};
-use txs_value_base::Callee;
 use txs_value_cell::{CellForm, Standing, UpdateForm};
+use txs_value_data::Callee;
 
 /// Whether a body is for transactions alone, for outside alone, or impure: it has a form on cells, a print or a transaction.
 #[derive(Clone, Copy)]

@@ -2,8 +2,8 @@
 
 ghost use Rattle.std.specs.Prelude.{◌≡◌, ◌<◌, ◌↔◌, IsTrue, IfErr, OnOk, Some, length};
 ghost use Rattle.txs_code_meaning.specs.PlainCode.{parameters_of};
-ghost use Rattle.txs_value_base.specs.Places.{nth};
-ghost use Rattle.txs_value_base.specs.declared.op.Callee.{Callee as ACallee};
+ghost use Rattle.txs_value_data.specs.Places.{nth};
+ghost use Rattle.txs_value_data.specs.declared.op.Callee.{Callee as ACallee};
 ghost use Rattle.txs_value_cell.specs.Cells.{validators_of};
 ghost use Rattle.txs_verify.specs.Validators.{EachValidator, IsPure, IsRefusedValidator, IsWrongValidator, TakesOne, refused_cell};
 ghost use Rattle.txs_verify.specs.declared.error.VerifyErrorKind.TheVariants.{ArityWrong, TxNesting};
@@ -13,8 +13,8 @@ use crate::error::{BodyName, VerifyError, VerifyErrorKind};
 use crate::standing::{Kind, is_pure};
 use txs_code_meaning::Body;
 use txs_value_apply::takes;
-use txs_value_base::Callee;
 use txs_value_cell::CellDefinition;
+use txs_value_data::Callee;
 
 /// The validator of a cell, if it has one.
 fn validator_at(cells: &[CellDefinition], number: usize) -> Option<Callee>

@@ -2,7 +2,7 @@
 
 ghost use Rattle.std.specs.Prelude.{◌≡◌, ◌<◌, ◌≤◌, ◌+◌, ℕ, List, [], length, Some, Err, IfOk, IfErr, OnOk};
 ghost use Rattle.txs_code_meaning.specs.PlainCode.{parameters_of};
-ghost use Rattle.txs_value_base.specs.Places.{nth};
+ghost use Rattle.txs_value_data.specs.Places.{nth};
 ghost use Rattle.txs_verify.specs.Going.{AllJumpWithin, AreReached, Goes, JumpsWithin, no_marks};
 ghost use Rattle.txs_verify.specs.Marks.{mark_at, IsClosed};
 ghost use Rattle.txs_verify.specs.Refused.{BreaksOff};

@@ -1,3 +1,4 @@
+mod CallsLemmas
 pub mod Actions
 pub mod Answering
 pub mod Kept

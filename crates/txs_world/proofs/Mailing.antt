@@ -7,10 +7,10 @@ use Rattle.std.proofs.lemmas.List.{get_or-set_same, get_or-set_other, length-set
 use Rattle.txs_world_protocol.specs.declared.event.Event.{Event}
 use Rattle.txs_world_protocol.specs.declared.event.EventKind.{EventKind}
 use Rattle.txs_world_protocol.specs.declared.event.EventKind.TheVariants.{Read, Commit, Retry, Fail, Refused, Send, SendRefused, Act, Swap, Broke}
-use Rattle.txs_mail.specs.Mailbox.{PlainMailbox, RoomedMailbox, first, next}
+use Rattle.txs_world.specs.Mailbox.{PlainMailbox, RoomedMailbox, first, next}
 use Rattle.txs_value_cell.specs.declared.action.Action.{Action}
-use Rattle.txs_value_base.specs.Places.{nth}
-use Rattle.txs_value_base.specs.declared.fault.Fault.{Fault}
+use Rattle.txs_value_data.specs.Places.{nth}
+use Rattle.txs_value_data.specs.declared.fault.Fault.{Fault}
 use Rattle.txs_value_data.specs.declared.value.Value.{Value}
 use Rattle.txs_world_book.specs.Book.{goes_on, is_there, Mail, no_mail, mail_after, sent_to, mailed, acted, mail_changed, mail_from}
 use Rattle.txs_world.specs.Inboxes.{PlainInbox, plain_inbox, plain_inboxes, with_action, taken_up, fault_of, finished, no_inbox, mailed_all, all_sent_below, rooms, HaveRoom, RoomFor, promises, Promised, open_inboxes, inbox_of, taken_of}

@@ -15,10 +15,10 @@ use Rattle.txs_value_cell.specs.declared.action.Action.{Action}
 use Rattle.txs_value_data.specs.declared.value.CellId.{CellId}
 use Rattle.txs_value_data.specs.declared.value.Value.{Value}
 use Rattle.txs_value_data.specs.Limits.{most_events}
-use Rattle.txs_value_base.specs.Places.{nth, fault_at}
-use Rattle.txs_value_base.specs.declared.fault.Fault.{Fault}
-use Rattle.txs_value_base.specs.declared.fault.FaultKind.TheVariants.{AgentFailed}
-use Rattle.txs_value_base.specs.declared.fault.Span.{Span}
+use Rattle.txs_value_data.specs.Places.{nth, fault_at}
+use Rattle.txs_value_data.specs.declared.fault.Fault.{Fault}
+use Rattle.txs_value_data.specs.declared.fault.FaultKind.TheVariants.{AgentFailed}
+use Rattle.txs_value_data.specs.declared.fault.Span.{Span}
 use Rattle.txs_world_book.specs.Book.{has_ref, has_agent, cells_in, are_refs, has_refs, are_sends, actor_of, actors, agents_below, may_send, makes, least, least_written, goes_on, is_there, Mail, no_mail, sent_to, acted, mail_after, mail_changed, is_failed, first_failed, waits, is_empty, may_name, may_end, written, LegalKind, Untouched, Guarded, Legal, Undisturbed, opening, is_outdated}
 use Rattle.txs_world.specs.Laws.{TakenWait, StoreStands}
 use Rattle.txs_world.specs.Store.{PlainStore, store_with, may_ask, has_named, is_lawful, is_taken, are_apart, merged, looks, commits, sends_to, first_action, takes, span_of, finishes, hands_out, is_over, serve, store_after}

@@ -1,8 +1,8 @@
 -- What holds of every store.
 use Rattle.std.proofs.Common.{◌≡◌, ◌<◌, ℕ, zero, suc, Bool, true, false, List, [], ◌∷◌, length, get_or, refl, sym, ap, subst, ◌∙◌, arith}
 use Rattle.std.proofs.lemmas.Bool.{false≢true}
-use Rattle.txs_mail.specs.Mailbox.{IsMailbox}
-use Rattle.txs_value_base.specs.Places.{nth}
+use Rattle.txs_world.specs.Mailbox.{IsMailbox}
+use Rattle.txs_value_data.specs.Places.{nth}
 use Rattle.txs_value_cell.specs.declared.action.Action.{Action}
 use Rattle.txs_world_protocol.specs.declared.event.Event.{Event}
 use Rattle.txs_world_book.specs.Book.{Mail, mail_after, is_there, waits, goes_on}

@@ -5,12 +5,12 @@ use Rattle.std.proofs.lemmas.Bool.{false≢true, ltb-true}
 use Rattle.std.proofs.lemmas.Bool.Decides.{nat_tests}
 use Rattle.txs_world_protocol.specs.declared.event.Event.{Event}
 use Rattle.txs_world_protocol.specs.declared.event.EventKind.TheVariants.{Act}
-use Rattle.txs_mail.specs.Mailbox.{IsMailbox, first, next}
+use Rattle.txs_world.specs.Mailbox.{IsMailbox, first, next}
 use Rattle.txs_value_data.specs.Limits.{most_events}
-use Rattle.txs_value_base.specs.Places.{nth}
+use Rattle.txs_value_data.specs.Places.{nth}
 use Rattle.txs_value_cell.specs.declared.action.Action.{Action}
-use Rattle.txs_value_base.specs.declared.fault.Fault.{Fault}
-use Rattle.txs_value_base.specs.declared.fault.Span.{Span}
+use Rattle.txs_value_data.specs.declared.fault.Fault.{Fault}
+use Rattle.txs_value_data.specs.declared.fault.Span.{Span}
 use Rattle.txs_value_data.specs.declared.value.CellId.{CellId}
 use Rattle.txs_value_data.specs.declared.value.Value.{Value}
 use Rattle.txs_world_book.specs.Book.{goes_on, has_agent, has_cell, has_ref, is_failed, is_there, mail_after, newest, opening, waits, written}

@@ -1,9 +1,9 @@
 -- What a store keeps of its agents beside their states, without the room that there is.
 use Rattle.std.specs.Prelude.{◌≡◌, ◌≤◌, ℕ, suc, Bool, true, false, ◌&&◌, nat_lt, List, [], ◌∷◌, length, map, Option, Some, None, Result, Ok, Err, is_some}
 use Rattle.std.proofs.Common.{get_or, set}
-use Rattle.txs_mail.specs.Mailbox.{PlainMailbox, IsMailbox, empty, put, take, finish}
+use Rattle.txs_world.specs.Mailbox.{PlainMailbox, IsMailbox, empty, put, take, finish}
 use Rattle.txs_value_cell.specs.declared.action.Action.{Action}
-use Rattle.txs_value_base.specs.declared.fault.Fault.{Fault}
+use Rattle.txs_value_data.specs.declared.fault.Fault.{Fault}
 use Rattle.txs_value_data.specs.declared.value.Value.{Value}
 use Rattle.txs_world_book.specs.Book.{Mail, sent_to}
 use Rattle.txs_world_book.specs.declared.cell.StoreCell.{StoreCell}

@@ -1,6 +1,8 @@
+pub mod Calls
 pub mod Inboxes
 pub mod Kept
 pub mod Laws
+pub mod Mailbox
 pub mod Places
 pub mod Store
 pub use Rattle.txs_world_book.specs.Atom

@@ -22,10 +22,10 @@ use Rattle.txs_world_book.specs.Book.{has_ref, has_agent, has_readable, cells_in
 use Rattle.txs_value_data.specs.Limits.{most_events}
 use Rattle.txs_world_book.specs.Served.{Served, served, adds}
 use Rattle.txs_world_book.specs.declared.cell.StoreCell.{StoreCell}
-use Rattle.txs_value_base.specs.declared.fault.Fault.{Fault}
-use Rattle.txs_value_base.specs.declared.fault.Span.{Span}
-use Rattle.txs_value_base.specs.declared.fault.FaultKind.TheVariants.{AgentFailed}
-use Rattle.txs_value_base.specs.Places.{fault_at}
+use Rattle.txs_value_data.specs.declared.fault.Fault.{Fault}
+use Rattle.txs_value_data.specs.declared.fault.Span.{Span}
+use Rattle.txs_value_data.specs.declared.fault.FaultKind.TheVariants.{AgentFailed}
+use Rattle.txs_value_data.specs.Places.{fault_at}
 
 -- a store as contracts see it: its cells as they opened, how many threads there are, its book, and of each cell whether it is an agent whose first action is taken
 pub record PlainStore : Type 0 where

@@ -2,15 +2,15 @@
 
 ghost use Rattle.std.specs.Prelude.{◌≡◌, ◌+◌, ◌<◌, ◌≤◌, ◌∷◌, [], ℕ, false, length, set, true, Some, is_some, IfOk, OnErr, OnOk};
 ghost use Rattle.std.proofs.Common.{get_or};
-ghost use Rattle.txs_mail.specs.Mailbox.{next};
+ghost use Rattle.txs_world.specs.Mailbox.{next};
 ghost use Rattle.txs_world_book.specs.Book.{sent_to};
 ghost use Rattle.txs_world.specs.Inboxes.{plain_inbox, plain_inboxes, no_inbox, open_inboxes, mailed_all, taken_up, finished, all_sent_below, rooms, HaveRoom, promises, Promised, AreMailboxes};
 
+use crate::Mailbox;
 use std::alloc::{AllocError, Global};
 use std::collections::VecDeque;
-use txs_mail::Mailbox;
-use txs_value_base::Fault;
 use txs_value_cell::{Action, copy_action};
+use txs_value_data::Fault;
 use txs_world_book::StoreCell;
 
 /// Of an agent the actions that wait, the fault where it has failed, and how many actions it has run. A cell that is no agent

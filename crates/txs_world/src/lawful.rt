@@ -8,9 +8,8 @@ ghost use Rattle.txs_world.specs.Store.{is_lawful, may_ask, has_named, is_taken}
 
 use crate::slot::are_apart;
 use crate::store::Store;
-use txs_value_base::Fault;
 use txs_value_cell::Action;
-use txs_value_data::{CellId, Listed, Value};
+use txs_value_data::{CellId, Fault, Listed, Value};
 use txs_world_book::{
     are_sends, are_written, has_agent, has_readable, has_ref, has_refs, may_send, stand_of,
 };

@@ -14,9 +14,8 @@ use crate::slot::{push_copy, put_all};
 use crate::store::Store;
 use std::alloc::{AllocError, Global};
 use std::collections::VecDeque;
-use txs_value_base::{Fault, FaultKind, Span};
 use txs_value_cell::Action;
-use txs_value_data::{CellId, Listed, Value};
+use txs_value_data::{CellId, Fault, FaultKind, Listed, Span, Value};
 use txs_world_protocol::{EventKind, Reply};
 
 /// The fault that an action came to, if it faulted.

@@ -11,9 +11,8 @@ use crate::slot::{Slot, open_slots};
 use std::alloc::{AllocError, Global};
 use std::collections::VecDeque;
 use std::marker::Model;
-use txs_value_base::Fault;
 use txs_value_cell::{Action, CellDefinition};
-use txs_value_data::{CellId, Value, same};
+use txs_value_data::{CellId, Fault, Value, same};
 use txs_world_book::{Cells, Journal, StoreCell, continues};
 use txs_world_protocol::Event;
 

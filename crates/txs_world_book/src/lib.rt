@@ -8,6 +8,7 @@ pub mod cell;
 pub mod journal;
 pub mod law;
 pub mod named;
+pub mod written;
 
 pub use atom::AtomBook;
 pub use cell::{Cells, StoreCell, continues};
@@ -16,3 +17,4 @@ pub use named::{
     are_sends, are_written, has_agent, has_cell, has_readable, has_ref, has_refs, may_send,
     sends_nothing,
 };
+pub use written::writes_to;

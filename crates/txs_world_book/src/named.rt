@@ -4,9 +4,8 @@ ghost use Rattle.std.specs.Prelude.{◌≡◌};
 ghost use Rattle.txs_world_book.specs.Book.{has_cell, has_ref, has_refs, has_agent, has_readable, cells_in, are_refs, are_sends, is_empty, may_send};
 
 use crate::cell::StoreCell;
-use txs_value_base::Fault;
 use txs_value_cell::Action;
-use txs_value_data::{CellId, CellKind, Value};
+use txs_value_data::{CellId, CellKind, Fault, Value};
 
 /// Whether there is a cell of this kind and number.
 pub fn has_cell(cells: &[StoreCell], cell: CellId) -> bool

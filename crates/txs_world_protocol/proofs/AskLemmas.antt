@@ -2,19 +2,19 @@
 use Rattle.std.proofs.Common.{◌≡◌, ℕ, Bool, true, List, [], ◌∷◌, get_or, Option, Some, None, Result, Ok, Err, refl, sym, ap, ◌∙◌, ◌&&◌, ◌==◌}
 use Rattle.std.proofs.lemmas.Bool.{false≢true}
 use Rattle.txs_world_protocol.specs.Ask.{Writes, same_value, same_cell, same_writes, same_place, same_cells, same_values, same_span, same_callee, same_action, same_actions, same_fault, same_new, same_ask}
-use Rattle.txs_value_base.specs.Faults.{fault_number}
-use Rattle.txs_value_base.specs.Operations.{op_number}
+use Rattle.txs_value_data.specs.Faults.{fault_number}
+use Rattle.txs_value_data.specs.Operations.{op_number}
 use Rattle.txs_value_data.specs.View.{plain_of}
 use Rattle.txs_value_data.proofs.ItemsLemmas.{plain_of-one}
-use Rattle.txs_value_base.proofs.OperationsLemmas.{op_number-differs}
+use Rattle.txs_value_data.proofs.OperationsLemmas.{op_number-differs}
 use Rattle.txs_value_data.proofs.SameLemmas.{same_plain-sound, same_plain-itself, and_both, numbers, number-itself, cells, same_cell-itself}
 use Rattle.txs_value_cell.specs.declared.action.Action.{Action}
-use Rattle.txs_value_base.specs.declared.fault.Fault.{Fault}
-use Rattle.txs_value_base.specs.declared.fault.FaultKind.{FaultKind}
-use Rattle.txs_value_base.specs.declared.fault.FaultKind.TheVariants.{Overflow, DivideByZero, NotANumber, NotAVector, IndexOut, PopEmpty, NotACell, NotARef, NotAnAtom, NotAnAgent, OutsideOnly, SetAfterCommute, RetryLimit, AgentFailed, InvalidState, TooDeep, TooLong}
-use Rattle.txs_value_base.specs.declared.fault.Span.{Span}
-use Rattle.txs_value_base.specs.declared.op.Callee.{Callee}
-use Rattle.txs_value_base.specs.declared.op.Callee.TheVariants.{Core, Function}
+use Rattle.txs_value_data.specs.declared.fault.Fault.{Fault}
+use Rattle.txs_value_data.specs.declared.fault.FaultKind.{FaultKind}
+use Rattle.txs_value_data.specs.declared.fault.FaultKind.TheVariants.{Overflow, DivideByZero, NotANumber, NotAVector, IndexOut, PopEmpty, NotACell, NotARef, NotAnAtom, NotAnAgent, OutsideOnly, SetAfterCommute, RetryLimit, AgentFailed, InvalidState, TooDeep, TooLong}
+use Rattle.txs_value_data.specs.declared.fault.Span.{Span}
+use Rattle.txs_value_data.specs.declared.op.Callee.{Callee}
+use Rattle.txs_value_data.specs.declared.op.Callee.TheVariants.{Core, Function}
 use Rattle.txs_value_data.specs.declared.value.CellId.{CellId}
 use Rattle.txs_value_data.specs.declared.value.Value.{Value}
 use Rattle.txs_world_protocol.specs.declared.ask.Ask.{Ask}

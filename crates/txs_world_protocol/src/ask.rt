@@ -4,9 +4,8 @@ ghost use Rattle.std.specs.Prelude.{◌≡◌, ◌↔◌, IsTrue};
 ghost use Rattle.txs_world_protocol.specs.Ask.{may_add_event, same_ask};
 ghost use Rattle.txs_world_protocol.specs.declared.ask.Ask.{Ask as AnAsk};
 
-use txs_value_base::Fault;
 use txs_value_cell::Action;
-use txs_value_data::{CellId, Listed, Value};
+use txs_value_data::{CellId, Fault, Listed, Value};
 
 /// One request of an actor to the shared state. Each place is a number of events of a book: `at` is the read point of the
 /// transaction that asks, `view` the place of its last view, which is the read point where it has none. Refs are in ascending

@@ -5,9 +5,8 @@ ghost use Rattle.std.specs.Prelude.{◌≡◌, IfOk};
 use crate::ask::{Ask, Reply};
 use crate::event::{Event, EventKind};
 use std::alloc::{AllocError, Global};
-use txs_value_base::Fault;
 use txs_value_cell::{Action, copy_action};
-use txs_value_data::{CellId, Listed, Value, copy_value, copy_values};
+use txs_value_data::{CellId, Fault, Listed, Value, copy_value, copy_values};
 
 /// The same cells with the same values in a list of its own.
 pub fn copy_writes(

@@ -1,8 +1,7 @@
 //! The events that books keep, and how an actor ends.
 
-use txs_value_base::Fault;
 use txs_value_cell::Action;
-use txs_value_data::{CellId, Listed, Value};
+use txs_value_data::{CellId, Fault, Listed, Value};
 
 /// Why a transaction has to run again.
 #[derive(Clone, Copy)]

@@ -1,8 +1,7 @@
 //! What is reported of a run.
 
 use crate::event::{Event, Outcome, Place};
-use txs_value_base::{Fault, Span};
-use txs_value_data::{Listed, Value};
+use txs_value_data::{Fault, Listed, Span, Value};
 
 /// What an actor did.
 #[derive(Drop)]

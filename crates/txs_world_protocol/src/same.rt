@@ -5,9 +5,8 @@
 ghost use Rattle.std.specs.Prelude.{◌≡◌, ◌↔◌, IsTrue};
 ghost use Rattle.txs_world_protocol.specs.Ask.{same_action, same_actions, same_cell, same_fault, same_new, same_value, same_values, same_writes};
 
-use txs_value_base::Fault;
 use txs_value_cell::Action;
-use txs_value_data::{CellId, Value, same};
+use txs_value_data::{CellId, Fault, Value, same};
 
 /// Whether two values are equal.
 pub fn same_value(a: &Value, b: &Value) -> bool

@@ -7,7 +7,7 @@ use Rattle.txs_world_protocol.specs.SeenEvent.{home, atoms_below}
 use Rattle.txs_world_protocol.specs.declared.event.Event.{Event}
 use Rattle.txs_value_data.proofs.SameLemmas.{and_both}
 use Rattle.txs_value_cell.specs.Forms.{same_kind}
-use Rattle.txs_value_base.specs.Places.{nth}
+use Rattle.txs_value_data.specs.Places.{nth}
 use Rattle.txs_value_cell.specs.declared.cell.CellDefinition.{CellDefinition}
 use Rattle.txs_value_data.specs.declared.value.CellId.{CellId}
 use Rattle.txs_value_data.specs.declared.value.CellKind.{CellKind}

@@ -1,6 +1,6 @@
 -- What a report has of the state: of each cell its newest value, and of each agent its fault.
 use Rattle.std.specs.Prelude.{ℕ, suc, List, [], ◌∷◌, Option}
-use Rattle.txs_value_base.specs.declared.fault.Fault.{Fault}
+use Rattle.txs_value_data.specs.declared.fault.Fault.{Fault}
 use Rattle.txs_value_cell.specs.declared.cell.CellDefinition.{CellDefinition}
 use Rattle.txs_value_data.specs.declared.value.CellId.{CellId}
 use Rattle.txs_value_data.specs.declared.value.CellKind.{CellKind}

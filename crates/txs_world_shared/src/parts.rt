@@ -7,9 +7,8 @@ ghost use Rattle.txs_world_shared.specs.Parts.{values_of, fault_of, with_fault, 
 
 use crate::state::SharedState;
 use std::alloc::{AllocError, Global};
-use txs_value_base::Fault;
 use txs_value_cell::CellDefinition;
-use txs_value_data::{CellId, CellKind, Listed, Value, copy_value};
+use txs_value_data::{CellId, CellKind, Fault, Listed, Value, copy_value};
 use txs_world_book::AtomBook;
 use txs_world_protocol::Event;
 

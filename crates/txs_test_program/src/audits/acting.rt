@@ -5,9 +5,8 @@ use std::sync::Wait;
 use std::thread::Threads;
 use txs_audit::Verdict;
 use txs_machine::Play;
-use txs_value_base::Span;
 use txs_value_cell::Action;
-use txs_value_data::{CellId, CellKind, Listed, Value};
+use txs_value_data::{CellId, CellKind, Listed, Span, Value};
 use txs_world_protocol::{Event, EventKind, Report};
 
 /// An agent whose two actions print and commit. Its trace has the indexes 2 to 5: a commit, an act, a commit, an act.

@@ -9,7 +9,7 @@ use std::mem;
 use std::sync::Wait;
 use std::thread::Threads;
 use txs_audit::audit;
-use txs_audit_answer::{AuditError, Terms, Verdict};
+use txs_audit_book::{AuditError, Terms, Verdict};
 use txs_code_meaning::Verified;
 use txs_compile::compile;
 use txs_machine::{Play, run_schedule};

@@ -3,7 +3,7 @@ use crate::audits::case::{Case, always_answers, case_of};
 use std::alloc::Global;
 use std::sync::Wait;
 use std::thread::Threads;
-use txs_audit_answer::Verdict;
+use txs_audit_book::Verdict;
 use txs_machine::Play;
 use txs_value_data::{CellId, CellKind};
 use txs_world_protocol::{Cause, Event, EventKind};

@@ -1,8 +1,7 @@
 // A report with one thing changed.
 use std::alloc::{AllocError, Global};
-use txs_value_base::{Callee, Fault, FaultKind, Op, Span};
 use txs_value_cell::Action;
-use txs_value_data::{CellId, CellKind, Listed, Value};
+use txs_value_data::{Callee, CellId, CellKind, Fault, FaultKind, Listed, Op, Span, Value};
 use txs_world_protocol::{ActorReport, Event, EventKind, Outcome, Place, Report};
 
 /// What is changed of a report.

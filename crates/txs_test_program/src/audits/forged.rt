@@ -4,7 +4,7 @@ use std::alloc::Global;
 use std::mem;
 use std::sync::Wait;
 use std::thread::Threads;
-use txs_audit_answer::Verdict;
+use txs_audit_book::Verdict;
 use txs_machine::Play;
 use txs_value_data::{Listed, Value};
 use txs_world_protocol::{ActorReport, EventKind, Outcome, Place, Report};

@@ -4,9 +4,11 @@ ghost use Rattle.txs_machine.specs.PlainActor.{Lives, unanswered};
 
 use crate::fronts::runs::code_of;
 use std::alloc::Global;
-use txs_code::{CellDefinition, Verified};
+use txs_code_meaning::Verified;
 use txs_machine::{Actor, Turn, may_answer};
-use txs_value::{Ask, CellId, CellKind, Reply};
+use txs_value_cell::CellDefinition;
+use txs_value_data::{CellId, CellKind};
+use txs_world_protocol::{Ask, Reply};
 
 // Answers an actor's ask with the index 0: whether that is a reply to it.
 fn begin(actor: &mut Actor, code: &Verified, ask: Ask) -> bool

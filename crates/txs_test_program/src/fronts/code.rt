@@ -1,12 +1,16 @@
 // Code: compiled, written and read as bytes, verified, and listed.
 use std::alloc::Global;
 use txs_check::check;
-use txs_code::{Code, Verified, decode, encode, form_is_taken, load_verified, same_code};
+use txs_code_decode::decode;
+use txs_code_encode::{encode, same_code};
+use txs_code_meaning::{Code, Verified};
 use txs_compile::compile;
 use txs_disasm::write_listing;
 use txs_gen::generate;
 use txs_reader::read_script;
 use txs_resolve::resolve;
+use txs_verify::law::form_is_taken;
+use txs_verify::load::load_verified;
 use txs_verify::verify;
 
 // The byte form of `(future (println 7))`, as it is documented.

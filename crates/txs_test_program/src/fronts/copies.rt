@@ -1,8 +1,9 @@
 // Copies of actions, asks, replies and events.
 use std::alloc::Global;
-use txs_value::{
-    Action, Ask, Callee, Cause, CellId, CellKind, Event, EventKind, Fault, FaultKind, Listed, Op,
-    Reply, Span, Value, copy_action, copy_ask, copy_event, copy_reply, copy_writes,
+use txs_value_cell::{Action, copy_action};
+use txs_value_data::{Callee, CellId, CellKind, Fault, FaultKind, Listed, Op, Span, Value};
+use txs_world_protocol::{
+    Ask, Cause, Event, EventKind, Reply, copy_ask, copy_event, copy_reply, copy_writes,
 };
 
 const REF: CellId = CellId {

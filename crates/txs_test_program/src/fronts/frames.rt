@@ -2,7 +2,7 @@
 use crate::fronts::copies::quotient;
 use std::alloc::Global;
 use txs_frame::TxFrame;
-use txs_value::{Callee, CellId, CellKind, Listed, Op, Span, Value};
+use txs_value_data::{Callee, CellId, CellKind, Listed, Op, Span, Value};
 
 // A ref by its number.
 fn cell(number: u16) -> CellId {

@@ -1,8 +1,8 @@
 // A mailbox.
 use crate::fronts::copies::quotient;
 use std::alloc::Global;
-use txs_mail::{Action, Mailbox};
-use txs_value::{CellId, CellKind, Span};
+use txs_value_data::{CellId, CellKind, Span};
+use txs_world::{Action, Mailbox};
 
 // Puts an action of this span into a mailbox: whether there was memory.
 fn put(mailbox: &mut Mailbox, alloc: Global, from: u32) -> bool {

@@ -1,8 +1,8 @@
 // Programs copied, folded, and with calls inlined.
 use crate::fronts::scripts::program_of;
 use txs_opt::{fold, inline};
-use txs_tree::{Node, NodeKind, Program, copy_program};
-use txs_value::Value;
+use txs_tree_meaning::{Node, NodeKind, Program, copy_program};
+use txs_value_data::Value;
 
 // Scripts of one form, with the number that their thread prints when they are folded, and where it is in the script.
 const FOLDED: [(&str, i64, u32, u32); 3] = [

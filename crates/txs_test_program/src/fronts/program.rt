@@ -4,10 +4,9 @@ ghost use Rattle.txs_cli_audit.specs.Audit.{IsRight};
 use std::alloc::{AllocError, Global};
 use std::sync::Wait;
 use std::thread::Threads;
-use txs_cli::{AuditError, Request, Terms, Verdict, parse_words, play};
+use txs_cli::{AuditError, Request, Terms, Verdict, parse_words, play, play_by_workers};
 use txs_machine::Report;
-use txs_program::play_by_workers;
-use txs_tree::Program;
+use txs_tree_meaning::Program;
 
 // The arguments between spaces.
 fn args_of(alloc: Global, line: &str) -> Result<Vec<String>, AllocError> {

@@ -1,5 +1,6 @@
 // Replies beside what is wanted of them.
-use txs_value::{Reply, Value};
+use txs_value_data::Value;
+use txs_world_protocol::Reply;
 
 // The name of a reply, the index or the number in it, and the value in it.
 fn parts_of(reply: &Reply) -> (&'static str, u32, Option<&Value>) {

@@ -7,7 +7,7 @@ ghost use Rattle.txs_machine.specs.SharedState.{shared_of};
 use std::alloc::{AllocError, Global};
 use std::sync::Wait;
 use std::thread::Threads;
-use txs_code::Verified;
+use txs_code_meaning::Verified;
 use txs_compile::compile;
 use txs_machine::{Entries, Outcome, Play, Repeated, SharedState, run_repeated, run_schedule};
 use txs_threads::{OpenGate, run_threads};

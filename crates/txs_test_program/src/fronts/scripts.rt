@@ -5,11 +5,13 @@ use txs_check::{check, is_pure_callee, is_sent_callee};
 use txs_frame::TxFrame;
 use txs_reader::read_script;
 use txs_resolve::resolve;
-use txs_tree::{
-    ActionMeaning, Callee, History, Needs, NodeKind, Program, RefView, ThreadMeaning, TxMeaning,
-    eval_action, eval_pure, eval_thread, eval_tx,
+use txs_tree_eval::{
+    ActionMeaning, History, Needs, RefView, ThreadMeaning, TxMeaning, eval_action, eval_pure,
+    eval_thread, eval_tx,
 };
-use txs_value::{Outcome, Span, Value};
+use txs_tree_meaning::{NodeKind, Program};
+use txs_value_data::{Callee, Span, Value};
+use txs_world_protocol::Outcome;
 
 /// The program of a script that has so many forms; none where one of its layers refuses it.
 pub fn program_of(alloc: Global, script: &str, forms: usize) -> Option<Program> {

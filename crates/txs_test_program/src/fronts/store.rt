@@ -2,9 +2,10 @@
 use crate::fronts::copies::commit;
 use crate::fronts::replies::is_reply;
 use std::alloc::Global;
-use txs_code::decode;
-use txs_value::{CellId, CellKind, EventKind, Value, same};
+use txs_code_decode::decode;
+use txs_value_data::{CellId, CellKind, Value, same};
 use txs_world::{Ask, AtomBook, Event, Store};
+use txs_world_protocol::EventKind;
 
 // The code of `(def a (ref 1)) (def b (ref 2)) (def g (agent 10))`.
 const STORE: &[u8] =

@@ -1,6 +1,7 @@
 // Values: an operation, a copy, equality and printed text.
 use std::alloc::Global;
-use txs_value::{Op, Value, apply, copy_value, make_vector, same, takes, write_text};
+use txs_value_apply::{apply, make_vector, takes};
+use txs_value_data::{Op, Value, copy_value, same, write_text};
 
 /// Whether this is the text of a value.
 pub fn is_text(alloc: Global, value: &Value, text: &[u8]) -> bool {

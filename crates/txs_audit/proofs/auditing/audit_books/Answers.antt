@@ -4,10 +4,10 @@ use Rattle.txs_theorem_audit.specs.Audited.{Fine, and_then, answer, report_as}
 use Rattle.txs_theorem_audit.specs.Pieces.{pieces_finding, pieces_of, pieces_serial}
 use Rattle.txs_theorem_audit.specs.Verdict.{ends_found, order_found, verdict}
 use Rattle.txs_theorem_audit.proofs.Findings.{and_fine}
-use Rattle.txs_audit_piece.specs.Judged.{as_found}
+use Rattle.txs_audit_book.specs.Judged.{as_found}
 use Rattle.txs_audit_evidence.specs.Evidence.{Opened, PlainBooks}
-use Rattle.txs_audit_answer.specs.Answered.{as_verdict, terms_as}
-use Rattle.txs_audit_answer.specs.declared.verdict.AuditError.TheVariants.{NoThread}
+use Rattle.txs_audit_book.specs.Answered.{as_verdict, terms_as}
+use Rattle.txs_audit_book.specs.declared.verdict.AuditError.TheVariants.{NoThread}
 use Rattle.txs_audit.proofs.Answering.{by_actors, by_books}
 use Rattle.txs_audit.proofs.Parting.{if_done}
 use Rattle.txs_audit.proofs.auditing.audit_books.Goals as goal

@@ -1,8 +1,8 @@
 use Rattle.std.proofs.Common.{◌∙◌, ap, sym}
 use Rattle.txs_tree_meaning.specs.View.{program_of}
 use Rattle.txs_theorem_audit.specs.Audited.{report_as}
-use Rattle.txs_audit_answer.specs.Answered.{terms_as}
-use Rattle.txs_audit_trace.specs.Named.{off_in}
+use Rattle.txs_audit_book.specs.Answered.{terms_as}
+use Rattle.txs_audit_order.specs.Named.{off_in}
 use Rattle.txs_audit.proofs.Answering.{by_sizes, by_traces}
 use Rattle.txs_audit.proofs.auditing.audit_gated.Goals as goal
 

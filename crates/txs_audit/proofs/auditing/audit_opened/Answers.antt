@@ -2,9 +2,9 @@ use Rattle.std.proofs.Common.{◌≡◌, ◌∙◌, Result, Ok, Err, IfErr, ap, 
 use Rattle.txs_tree_meaning.specs.View.{program_of}
 use Rattle.txs_theorem_audit.specs.Audited.{Fine, and_then, answer}
 use Rattle.txs_theorem_audit.specs.Pieces.{pieces_finding, pieces_of, pieces_serial}
-use Rattle.txs_audit_trace.specs.Named.{off_in}
-use Rattle.txs_audit_answer.specs.Answered.{as_verdict, terms_as}
-use Rattle.txs_audit_answer.specs.declared.verdict.AuditError.TheVariants.{NoThread}
+use Rattle.txs_audit_order.specs.Named.{off_in}
+use Rattle.txs_audit_book.specs.Answered.{as_verdict, terms_as}
+use Rattle.txs_audit_book.specs.declared.verdict.AuditError.TheVariants.{NoThread}
 use Rattle.txs_audit.proofs.Parting.{if_done}
 use Rattle.txs_audit.proofs.auditing.audit_opened.Goals as goal
 use Rattle.txs_audit.specs.Started.{actors_found}

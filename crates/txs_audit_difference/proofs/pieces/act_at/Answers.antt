@@ -1,6 +1,6 @@
 use Rattle.std.proofs.Common.{rules, ◌≡◌, ◌∙◌, ◌-◌, None, ap, arith, length, option_copied, subst, sym}
 use Rattle.std.proofs.lemmas.List.{length-map}
-use Rattle.txs_value_base.specs.Places.{nth}
+use Rattle.txs_value_data.specs.Places.{nth}
 use Rattle.txs_tree_meaning.specs.View.{program_of}
 use Rattle.txs_theorem_audit.specs.Audited.{books_of, place_of, ran_as}
 use Rattle.txs_theorem_audit.specs.Pieces.{part_of}

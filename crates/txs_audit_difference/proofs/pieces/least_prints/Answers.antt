@@ -1,6 +1,6 @@
 use Rattle.std.proofs.Common.{◌∙◌, sym}
 use Rattle.txs_tree_meaning.specs.View.{program_of}
-use Rattle.txs_theorem_audit_eval.specs.Evaluated.{means_on}
+use Rattle.txs_theorem_audit.specs.Evaluated.{means_on}
 use Rattle.txs_audit_evidence.proofs.ThreadFound.{so}
 use Rattle.txs_audit_difference.proofs.Piecing.{front_none, front_some}
 use Rattle.txs_audit_difference.proofs.pieces.least_prints.Goals as goal

@@ -2,7 +2,7 @@ use Rattle.std.proofs.Common.{◌∙◌, ◌++◌, ap}
 use Rattle.txs_tree_eval_node.specs.Events.{seen_events}
 use Rattle.txs_tree_meaning.specs.View.{program_of}
 use Rattle.txs_theorem_audit.specs.Verdict.{printed_by}
-use Rattle.txs_theorem_audit_eval.specs.Evaluated.{means_on}
+use Rattle.txs_theorem_audit.specs.Evaluated.{means_on}
 use Rattle.txs_audit_evidence.proofs.ThreadFound.{so}
 use Rattle.txs_audit_event.specs.Lines.{part_what}
 use Rattle.txs_audit_difference.proofs.pieces.still_printed.Goals as goal

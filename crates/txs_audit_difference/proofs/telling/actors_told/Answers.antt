@@ -1,8 +1,8 @@
 use Rattle.std.proofs.Common.{◌≡◌, ◌∙◌, IfOk, ap, subst, sym}
 use Rattle.txs_tree_meaning.specs.View.{program_of}
 use Rattle.txs_theorem_audit.specs.Audited.{entry_of}
-use Rattle.txs_audit_answer.specs.Answered.{terms_as}
-use Rattle.txs_audit_trace.specs.Named.{off_in}
+use Rattle.txs_audit_book.specs.Answered.{terms_as}
+use Rattle.txs_audit_order.specs.Named.{off_in}
 use Rattle.txs_audit_difference.specs.Difference.{stopped_what_in}
 use Rattle.txs_audit_difference.specs.Pieces.{at_event}
 use Rattle.txs_audit_difference.specs.declared.told.Told.TheVariants as told

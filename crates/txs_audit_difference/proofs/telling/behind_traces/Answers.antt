@@ -1,9 +1,9 @@
 use Rattle.std.proofs.Common.{◌∙◌, ap, subst, sym}
 use Rattle.txs_tree_meaning.specs.View.{program_of}
 use Rattle.txs_theorem_audit.specs.Audited.{report_as}
-use Rattle.txs_audit_answer.specs.Answered.{terms_as}
+use Rattle.txs_audit_book.specs.Answered.{terms_as}
 use Rattle.txs_audit_evidence.specs.Evidence.{Opened, PlainBooks}
-use Rattle.txs_audit_piece.specs.Judged.{as_found}
+use Rattle.txs_audit_book.specs.Judged.{as_found}
 use Rattle.txs_audit_difference.specs.Difference.{actors_told, difference_in}
 use Rattle.txs_audit_difference.proofs.Tells.{books_fine, books_off}
 use Rattle.txs_audit_difference.proofs.telling.behind_traces.Goals as goal

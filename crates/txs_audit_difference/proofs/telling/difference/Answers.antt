@@ -1,7 +1,7 @@
 use Rattle.std.proofs.Common.{◌∙◌, Some, ap, sym}
 use Rattle.txs_tree_meaning.specs.View.{program_of}
 use Rattle.txs_theorem_audit.specs.Audited.{report_as}
-use Rattle.txs_audit_answer.specs.Answered.{terms_as}
+use Rattle.txs_audit_book.specs.Answered.{terms_as}
 use Rattle.txs_audit_difference.proofs.Tells.{sizes_off}
 use Rattle.txs_audit_difference.proofs.telling.difference.Goals as goal
 

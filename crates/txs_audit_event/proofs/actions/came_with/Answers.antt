@@ -3,7 +3,7 @@ use Rattle.txs_world_book.specs.Served.{cells_of}
 use Rattle.txs_tree_eval_node.specs.Events.{seen_events}
 use Rattle.txs_tree_meaning.specs.Sound.{Sound}
 use Rattle.txs_tree_meaning.specs.View.{Parts, program_of}
-use Rattle.txs_audit_piece.specs.Judged.{EndsBy, as_end}
+use Rattle.txs_audit_book.specs.Judged.{EndsBy, as_end}
 use Rattle.txs_audit_event.specs.Given.{gave_by}
 use Rattle.txs_audit_event.proofs.Given.{gave_told, open_told}
 use Rattle.txs_audit_event.proofs.actions.came_with.Goals as goal

@@ -1,5 +1,5 @@
 use Rattle.std.proofs.Common.{◌∙◌, ℕ, ap, sym, take}
-use Rattle.txs_value_base.specs.Places.{nth}
+use Rattle.txs_value_data.specs.Places.{nth}
 use Rattle.txs_world_book.specs.Served.{cells_of}
 use Rattle.txs_theorem_audit.specs.Audited.{books_of}
 use Rattle.txs_audit_evidence.proofs.ThreadFound.{so}

@@ -5,7 +5,7 @@ use Rattle.txs_world_protocol.specs.SeenEvent.{SeenEvent}
 use Rattle.txs_tree_meaning.specs.View.{program_of}
 use Rattle.txs_theorem_audit.specs.Audited.{books_of, place_of}
 use Rattle.txs_theorem_audit.specs.Verdict.{act_ends, rest_ends}
-use Rattle.txs_theorem_audit_eval.specs.Evaluated.{means_on}
+use Rattle.txs_theorem_audit.specs.Evaluated.{means_on}
 use Rattle.txs_audit_evidence.specs.Acted.{end_by}
 use Rattle.txs_audit_evidence.specs.Named.{plain_trace}
 use Rattle.txs_audit_evidence.proofs.ActionFound.{seen_few}

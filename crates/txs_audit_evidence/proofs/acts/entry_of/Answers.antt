@@ -1,5 +1,5 @@
 use Rattle.std.proofs.Common.{◌≡◌, ◌∙◌, ap, option_copied, sym}
-use Rattle.txs_value_base.specs.Places.{nth}
+use Rattle.txs_value_data.specs.Places.{nth}
 use Rattle.txs_audit_evidence.specs.Named.{plain_entry}
 use Rattle.txs_audit_evidence.proofs.Locating.{entry_nth}
 use Rattle.txs_audit_evidence.proofs.Sized.{got}

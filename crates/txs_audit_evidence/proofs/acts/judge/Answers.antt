@@ -5,8 +5,8 @@ use Rattle.txs_tree_eval.specs.ActionTold.{TellsAction}
 use Rattle.txs_tree_meaning.specs.Sound.{Sound}
 use Rattle.txs_tree_meaning.specs.View.{Parts, program_of}
 use Rattle.txs_theorem_audit.specs.Audited.{books_of}
-use Rattle.txs_theorem_audit_eval.specs.Evaluated.{calm_found_by, covered_all_by}
-use Rattle.txs_audit_piece.specs.Judged.{as_found, is_fine}
+use Rattle.txs_theorem_audit.specs.Evaluated.{calm_found_by, covered_all_by}
+use Rattle.txs_audit_book.specs.Judged.{as_found, is_fine}
 use Rattle.txs_audit_evidence.specs.Acted.{end_by}
 use Rattle.txs_audit_evidence.specs.Named.{plain_trace}
 use Rattle.txs_audit_evidence.proofs.ActionFound.{end_covered, end_last, off_first}

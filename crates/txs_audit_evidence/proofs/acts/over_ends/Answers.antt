@@ -4,7 +4,7 @@ use Rattle.txs_world_book.specs.Served.{cells_of}
 use Rattle.txs_tree_eval_node.specs.Events.{seen_events}
 use Rattle.txs_tree_meaning.specs.Sound.{Sound}
 use Rattle.txs_tree_meaning.specs.View.{Parts, program_of}
-use Rattle.txs_audit_piece.specs.Judged.{EndsBy, as_end, as_found}
+use Rattle.txs_audit_book.specs.Judged.{EndsBy, as_end, as_found}
 use Rattle.txs_audit_evidence.proofs.ActionFound.{eaten_few, over_is}
 use Rattle.txs_audit_evidence.proofs.ThreadFound.{many_seen}
 use Rattle.txs_audit_evidence.proofs.acts.over_ends.Goals as goal

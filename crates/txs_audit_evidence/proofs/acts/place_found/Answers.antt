@@ -1,10 +1,10 @@
 use Rattle.std.proofs.Common.{◌∙◌, arith, subst, sym}
 use Rattle.std.proofs.lemmas.List.{length-map}
 use Rattle.txs_tree_meaning.specs.View.{program_of}
-use Rattle.txs_value_base.specs.Places.{nth}
+use Rattle.txs_value_data.specs.Places.{nth}
 use Rattle.txs_theorem_audit.specs.Audited.{books_of, place_of}
 use Rattle.txs_theorem_audit.specs.Pieces.{part_of}
-use Rattle.txs_audit_piece.specs.Judged.{as_found}
+use Rattle.txs_audit_book.specs.Judged.{as_found}
 use Rattle.txs_audit_evidence.specs.Acted.{NamesAct}
 use Rattle.txs_audit_evidence.specs.Named.{plain_trace}
 use Rattle.txs_audit_evidence.proofs.Printing.{act_here, begins_at, covered_here, no_later, nothing_found, part_least, there_below}

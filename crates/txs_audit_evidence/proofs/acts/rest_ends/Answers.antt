@@ -4,8 +4,8 @@ use Rattle.txs_tree_meaning.specs.Sound.{Sound}
 use Rattle.txs_tree_meaning.specs.View.{Parts, program_of}
 use Rattle.txs_theorem_audit.specs.Audited.{books_of}
 use Rattle.txs_theorem_audit.specs.Verdict.{full_ends, part_printed, still_ends}
-use Rattle.txs_theorem_audit_eval.specs.Evaluated.{means_on}
-use Rattle.txs_audit_piece.specs.Judged.{EndsBy, as_end, as_found}
+use Rattle.txs_theorem_audit.specs.Evaluated.{means_on}
+use Rattle.txs_audit_book.specs.Judged.{EndsBy, as_end, as_found}
 use Rattle.txs_audit_evidence.proofs.ActionFound.{eaten_few, full_is, still_is}
 use Rattle.txs_audit_evidence.proofs.ThreadFound.{many_seen}
 use Rattle.txs_audit_evidence.proofs.acts.rest_ends.Goals as goal

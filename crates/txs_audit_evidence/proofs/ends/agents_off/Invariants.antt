@@ -4,7 +4,7 @@ use Rattle.txs_tree_meaning.specs.View.{program_of}
 use Rattle.txs_world_book.specs.Served.{cells_of}
 use Rattle.txs_theorem_audit.specs.Audited.{ran_as}
 use Rattle.txs_theorem_audit.specs.Verdict.{agents_over}
-use Rattle.txs_audit_answer.specs.Answered.{terms_as}
+use Rattle.txs_audit_book.specs.Answered.{terms_as}
 use Rattle.txs_audit_evidence.proofs.ends.agents_off.Given as goal
 
 -- what is found is what the other agents give

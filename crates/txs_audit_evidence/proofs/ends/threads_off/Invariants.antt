@@ -2,7 +2,7 @@ use Rattle.std.proofs.Common.{◌≡◌, drop}
 use Rattle.std.specs.Prelude.{map}
 use Rattle.txs_theorem_audit.specs.Audited.{ran_as}
 use Rattle.txs_theorem_audit.specs.Verdict.{threads_over}
-use Rattle.txs_audit_answer.specs.Answered.{terms_as}
+use Rattle.txs_audit_book.specs.Answered.{terms_as}
 use Rattle.txs_audit_evidence.proofs.ends.threads_off.Given as goal
 
 -- what is found is what the other threads give

@@ -1,5 +1,5 @@
 use Rattle.std.proofs.Common.{◌≡◌, ◌<◌, ◌+◌, ◌-◌, ◌∙◌, ap, arith, length, option_copied}
-use Rattle.txs_value_base.specs.Places.{nth}
+use Rattle.txs_value_data.specs.Places.{nth}
 use Rattle.txs_audit_evidence.proofs.Locating.{entry_agent, entry_thread}
 use Rattle.txs_audit_evidence.proofs.Sized.{got}
 use Rattle.txs_audit_evidence.proofs.naming.entry_of.Goals as goal

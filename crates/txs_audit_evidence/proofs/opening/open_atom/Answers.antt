@@ -6,7 +6,7 @@ use Rattle.txs_theorem_audit.specs.Audited.{Off, books_of, entry_of, report_as}
 use Rattle.txs_theorem_audit.specs.Verdict.{index_if}
 use Rattle.txs_audit_book.specs.Replayed.{actor_in}
 use Rattle.txs_audit_book.specs.Swapped.{atom_test}
-use Rattle.txs_audit_piece.specs.Judged.{as_found, is_fine}
+use Rattle.txs_audit_book.specs.Judged.{as_found, is_fine}
 use Rattle.txs_theorem_audit.proofs.Listing.{within}
 use Rattle.txs_audit_evidence.proofs.Bookwise.{atom_off, atom_through, fine_is, legal_few}
 use Rattle.txs_audit_evidence.proofs.Numbering.{agents_few, atoms_few}

@@ -1,12 +1,12 @@
 use Rattle.std.proofs.Common.{◌≡◌, ◌+◌, ◌∙◌, List, ap, arith, get_or, length, refl, subst, sym}
 use Rattle.std.proofs.lemmas.List.{get_or_default, length_push}
-use Rattle.txs_value_base.specs.Places.{nth}
+use Rattle.txs_value_data.specs.Places.{nth}
 use Rattle.txs_value_data.specs.declared.value.CellId.{CellId}
 use Rattle.txs_value_data.specs.declared.value.CellKind.TheVariants.{Ref}
 use Rattle.txs_tree_meaning.specs.View.{program_of}
 use Rattle.txs_theorem_audit.specs.Audited.{report_as}
 use Rattle.txs_theorem_audit.specs.Verdict.{atoms_found}
-use Rattle.txs_audit_piece.specs.Judged.{as_found}
+use Rattle.txs_audit_book.specs.Judged.{as_found}
 use Rattle.txs_audit_evidence.specs.Evidence.{AreSwaps, AtomOpened}
 use Rattle.txs_audit_evidence.proofs.Bookwise.{atoms_end, atoms_next, atoms_off, no_swaps, swaps_more}
 use Rattle.txs_audit_evidence.proofs.Sized.{nth_at}

@@ -1,6 +1,6 @@
 use Rattle.std.proofs.Common.{◌∙◌, ap, arith, get_or, length, sym}
 use Rattle.txs_audit_book.specs.Replayed.{actor_in}
-use Rattle.txs_audit_piece.specs.Judged.{as_found, is_fine}
+use Rattle.txs_audit_book.specs.Judged.{as_found, is_fine}
 use Rattle.txs_audit_evidence.proofs.Bookwise.{fine_is, store_off, store_through}
 use Rattle.txs_audit_evidence.proofs.Opened.{store_gone, store_up_to}
 use Rattle.txs_audit_evidence.proofs.Sized.{nth_at, threads_many}

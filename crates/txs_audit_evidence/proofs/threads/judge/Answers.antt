@@ -5,7 +5,7 @@ use Rattle.txs_tree_eval.specs.Told.{Tells}
 use Rattle.txs_tree_meaning.specs.View.{program_of}
 use Rattle.txs_theorem_threads.specs.FollowsAll.{source_of}
 use Rattle.txs_theorem_audit.specs.Audited.{books_of, ran_as}
-use Rattle.txs_audit_piece.specs.Judged.{as_found, is_fine}
+use Rattle.txs_audit_book.specs.Judged.{as_found, is_fine}
 use Rattle.txs_audit_evidence.proofs.ThreadFound.{covered_found, end_found_last, end_so, fine_is, no_fine, off_found, told_covered, told_found}
 use Rattle.txs_audit_evidence.proofs.threads.judge.Goals as goal
 

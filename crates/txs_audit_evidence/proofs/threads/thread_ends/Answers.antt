@@ -3,7 +3,7 @@ use Rattle.txs_tree_eval_node.specs.Events.{seen_events}
 use Rattle.txs_tree_meaning.specs.Sound.{Sound}
 use Rattle.txs_tree_meaning.specs.View.{Parts, program_of}
 use Rattle.txs_theorem_audit.specs.Audited.{books_of, ran_as}
-use Rattle.txs_audit_piece.specs.Judged.{as_found}
+use Rattle.txs_audit_book.specs.Judged.{as_found}
 use Rattle.txs_audit_evidence.proofs.ThreadFound.{full_end_is, other_end, so}
 use Rattle.txs_audit_evidence.proofs.threads.thread_ends.Goals as goal
 

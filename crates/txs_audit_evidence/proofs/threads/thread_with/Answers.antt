@@ -2,7 +2,7 @@ use Rattle.std.proofs.Common.{◌<◌, length, subst, sym}
 use Rattle.txs_tree_eval_node.specs.Events.{seen_events}
 use Rattle.txs_tree_meaning.specs.View.{Parts}
 use Rattle.txs_theorem_audit.specs.Audited.{ran_as}
-use Rattle.txs_audit_piece.specs.Judged.{as_found}
+use Rattle.txs_audit_book.specs.Judged.{as_found}
 use Rattle.txs_audit_evidence.specs.declared.transactions.Found.{Found}
 use Rattle.txs_audit_evidence.proofs.ThreadFound.{finding_so, serial_so, tells_so, thread_below}
 use Rattle.txs_audit_evidence.proofs.threads.thread_with.Goals as goal

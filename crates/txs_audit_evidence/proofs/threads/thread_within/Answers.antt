@@ -2,7 +2,7 @@ use Rattle.std.proofs.Common.{ℕ, refl, subst}
 use Rattle.txs_tree_meaning.specs.Sound.{Sound}
 use Rattle.txs_tree_meaning.specs.View.{Parts, program_of}
 use Rattle.txs_theorem_audit.specs.Pieces.{OfThread, piece_finding, piece_serial}
-use Rattle.txs_audit_piece.specs.Judged.{as_found}
+use Rattle.txs_audit_book.specs.Judged.{as_found}
 use Rattle.txs_audit_evidence.proofs.Bounded.{bounded_finding, bounded_serial, piece_stays}
 use Rattle.txs_audit_evidence.proofs.threads.thread_within.Goals as goal
 

@@ -3,7 +3,7 @@ use Rattle.std.specs.Prelude.{option_copied}
 use Rattle.txs_world_book.specs.Served.{cells_of}
 use Rattle.txs_world_protocol.specs.declared.event.Place.{Place}
 use Rattle.txs_theorem_audit.specs.Audited.{books_of}
-use Rattle.txs_theorem_audit_eval.specs.Evaluated.{calm_by}
+use Rattle.txs_theorem_audit.specs.Evaluated.{calm_by}
 use Rattle.txs_audit_evidence.proofs.Judging.{Left, left_covered, left_first, left_found, left_beside, left_here, not_false, not_true, off_here, there_is}
 use Rattle.txs_audit_evidence.proofs.transactions.transactions_found.Goals.{in-Some+in_ok-judged+else-not-judged, in_default}
 use Rattle.txs_audit_evidence.proofs.transactions.transactions_found.Goals as goal

@@ -1,6 +1,6 @@
 use Rattle.std.proofs.Common.{◌≡◌, Option, arith, length, subst, suc, sym}
 use Rattle.std.proofs.lemmas.Result.{IfOk-weaker}
-use Rattle.txs_theorem_order.specs.Taken.{AreWithin, LinksAreWithin, OneLastCut}
+use Rattle.txs_theorem_serial.specs.Taken.{AreWithin, LinksAreWithin, OneLastCut}
 use Rattle.txs_value_cell.specs.Agents.{agents_from}
 use Rattle.txs_world_protocol.specs.declared.event.Place.{Place}
 use Rattle.txs_audit_order.specs.Going.{AreReady}

@@ -1,5 +1,5 @@
 use Rattle.std.proofs.Common.{◌∙◌, [], List, ap, replicate}
-use Rattle.txs_theorem_order.specs.Order.{agent_links, thread_links}
+use Rattle.txs_theorem_serial.specs.Order.{agent_links, thread_links}
 use Rattle.txs_value_cell.specs.Agents.{agents_from}
 use Rattle.txs_audit_order.specs.Linked.{with_links}
 use Rattle.txs_audit_order.specs.Ordered.{books_as, traces_in}

@@ -1,6 +1,6 @@
 use Rattle.std.proofs.Common.{◌≡◌, ◌≤◌, drop}
 use Rattle.txs_value_cell.specs.Agents.{agents_from}
-use Rattle.txs_theorem_order.specs.Order.{agent_links}
+use Rattle.txs_theorem_serial.specs.Order.{agent_links}
 use Rattle.txs_audit_order.specs.Ordered.{books_as, traces_in}
 use Rattle.txs_audit_order.specs.Linked.{with_links}
 use Rattle.txs_audit_order.proofs.traces.link_agents.Given as goal

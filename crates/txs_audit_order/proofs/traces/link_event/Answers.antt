@@ -1,6 +1,6 @@
 use Rattle.std.proofs.Common.{◌∙◌, ap}
 use Rattle.std.proofs.lemmas.Result.{on_ok_weaker}
-use Rattle.txs_theorem_order.specs.Order.{links_between, links_to, point_of}
+use Rattle.txs_theorem_serial.specs.Order.{links_between, links_to, point_of}
 use Rattle.txs_audit_order.specs.Linked.{behind_as, next_of, spots_as, with_links}
 use Rattle.txs_audit_order.specs.Ordered.{place_as}
 use Rattle.txs_audit_order.proofs.Linking.{three_join}

@@ -1,5 +1,5 @@
 use Rattle.std.proofs.Common.{◌≡◌, drop}
-use Rattle.txs_theorem_order.specs.Order.{thread_links}
+use Rattle.txs_theorem_serial.specs.Order.{thread_links}
 use Rattle.txs_audit_order.specs.Ordered.{books_as, traces_in}
 use Rattle.txs_audit_order.specs.Linked.{with_links}
 use Rattle.txs_audit_order.proofs.traces.link_threads.Given as goal

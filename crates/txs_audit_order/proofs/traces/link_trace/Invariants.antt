@@ -1,5 +1,5 @@
 use Rattle.std.proofs.Common.{◌≡◌, ◌≤◌, drop, map}
-use Rattle.txs_theorem_order.specs.Order.{actor_links, trace_links}
+use Rattle.txs_theorem_serial.specs.Order.{actor_links, trace_links}
 use Rattle.txs_audit_order.specs.Ordered.{books_as, place_as}
 use Rattle.txs_audit_order.specs.Linked.{behind_as, sender_in, spots_as, with_links}
 use Rattle.txs_audit_order.proofs.traces.link_trace.Given as goal

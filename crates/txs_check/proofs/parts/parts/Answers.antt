@@ -1,7 +1,7 @@
 use Rattle.std.proofs.Common.{◌≡◌, ◌⊎◌, ℕ, List, inl, inr, sym, ap, ◌∙◌, Vec, Global, Box}
 use Rattle.txs_value_cell.specs.declared.form.UpdateForm.{UpdateForm}
-use Rattle.txs_value_base.specs.declared.op.Callee.{Callee}
-use Rattle.txs_value_base.specs.declared.op.Op.{Op}
+use Rattle.txs_value_data.specs.declared.op.Callee.{Callee}
+use Rattle.txs_value_data.specs.declared.op.Op.{Op}
 use Rattle.txs_tree_meaning.specs.declared.node.Node.{Node}
 use Rattle.txs_tree_meaning.specs.declared.node.NodeKind.TheVariants.{Do, Let, Loop, Recur, Core, Call, Vector, Println, Update, Send}
 use Rattle.txs_tree_meaning.specs.Tree.{none}

@@ -1,7 +1,7 @@
 use Rattle.std.proofs.Common.{arith, ◌≡◌, ◌≤◌, ◌++◌, ◌∙◌, ℕ, List, ap, length, subst, sym}
-use Rattle.txs_code_load.proofs.Formed.{few_cells, few_threads}
+use Rattle.txs_verify.proofs.Formed.{few_cells, few_threads}
 use Rattle.txs_cli_audit.specs.Audit.{HasNoAnswer}
-use Rattle.txs_audit_answer.specs.declared.verdict.AuditError.{AuditError}
+use Rattle.txs_audit_book.specs.declared.verdict.AuditError.{AuditError}
 use Rattle.txs_cli_report.specs.Lent.{lines_of, script_of}
 use Rattle.txs_cli_report.specs.Lines.{all_printed}
 use Rattle.txs_cli_report.specs.Told.{ReportTells, behind_bytes}
@@ -16,7 +16,7 @@ use Rattle.txs_world_protocol.specs.declared.report.Report.{Report}
 use Rattle.txs_cli.proofs.Audits.{audit_behind}
 use Rattle.txs_cli.proofs.audited.audit_run.Goals as goal
 use Rattle.txs_cli.specs.Audited.{AuditedRunTells}
-use Rattle.txs_audit_answer.specs.Answered.{audit_turns, finishing, terms_as}
+use Rattle.txs_audit_book.specs.Answered.{audit_turns, finishing, terms_as}
 
 -- code that has a form has no more threads and cells than the limits allow
 pub report_lines-requires-clause-few_threads : goal.report_lines-requires-clause-few_threads

@@ -4,9 +4,9 @@ use Rattle.txs_cli_report.specs.Told.{ScriptTells, Told, Wanted}
 use Rattle.txs_machine.specs.Schedule.{spread}
 use Rattle.txs_cli.proofs.audited.play_audited.Goals as goal
 use Rattle.txs_cli.specs.Audited.{AuditedTells, Way, by_plays, of_refused}
-use Rattle.txs_audit_answer.specs.Answered.{finishing}
+use Rattle.txs_audit_book.specs.Answered.{finishing}
 use Rattle.txs_cli_audit.specs.Audit.{HasNoAnswer}
-use Rattle.txs_audit_answer.specs.declared.verdict.AuditError.{AuditError}
+use Rattle.txs_audit_book.specs.declared.verdict.AuditError.{AuditError}
 use Rattle.txs_code_meaning.specs.PlainCode.{PlainCode}
 use Rattle.txs_tree_meaning.specs.View.{Parts}
 use Rattle.txs_world_protocol.specs.declared.report.Report.{Report}

@@ -9,9 +9,9 @@ use Rattle.txs_machine.specs.declared.schedule.ScheduleError.TheVariants.{NoActo
 use Rattle.txs_cli.proofs.Audits.{of_audited}
 use Rattle.txs_cli.proofs.audited.play_compiled.Goals as goal
 use Rattle.txs_cli.specs.Audited.{AuditedRunTells, AuditedTells, IsPlayed, by_plays, of_unrun}
-use Rattle.txs_audit_answer.specs.Answered.{finishing}
+use Rattle.txs_audit_book.specs.Answered.{finishing}
 use Rattle.txs_cli_audit.specs.Audit.{HasNoAnswer}
-use Rattle.txs_audit_answer.specs.declared.verdict.AuditError.{AuditError}
+use Rattle.txs_audit_book.specs.declared.verdict.AuditError.{AuditError}
 use Rattle.txs_tree_meaning.specs.View.{Parts}
 use Rattle.txs_world_protocol.specs.declared.report.Report.{Report}
 

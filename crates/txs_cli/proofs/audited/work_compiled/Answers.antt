@@ -6,10 +6,10 @@ use Rattle.txs_cli.proofs.Failing.{failed_so}
 use Rattle.txs_cli.proofs.audited.work_compiled.Goals as goal
 use Rattle.txs_cli.specs.RunTold.{FailureTells}
 use Rattle.txs_cli.specs.Audited.{AuditedRunTells, AuditedTells, by_workers, of_unrun}
-use Rattle.txs_audit_answer.specs.Answered.{finishing}
+use Rattle.txs_audit_book.specs.Answered.{finishing}
 use Rattle.txs_cli.specs.Runner.{FailsAs, HasFailed}
 use Rattle.txs_cli_audit.specs.Audit.{HasNoAnswer}
-use Rattle.txs_audit_answer.specs.declared.verdict.AuditError.{AuditError}
+use Rattle.txs_audit_book.specs.declared.verdict.AuditError.{AuditError}
 use Rattle.txs_code_meaning.specs.PlainCode.{PlainCode}
 use Rattle.txs_machine.specs.declared.run_error.RunError.{RunError}
 use Rattle.txs_tree_meaning.specs.View.{Parts}

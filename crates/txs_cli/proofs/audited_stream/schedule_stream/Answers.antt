@@ -1,8 +1,8 @@
 use Rattle.std.proofs.Common.{◌≡◌, ℕ, List, [], codes, refl, Result, Ok, sym, ap, ◌∙◌}
 use Rattle.txs_machine.specs.Schedule.{spread}
 use Rattle.txs_machine.specs.declared.schedule.Play.{Play}
-use Rattle.txs_cli_plays.specs.Plays.{plays_in}
-use Rattle.txs_cli_plays.specs.declared.plays.WrongPlay.{WrongPlay}
+use Rattle.txs_cli_report.specs.Plays.{plays_in}
+use Rattle.txs_cli_report.specs.declared.plays.WrongPlay.{WrongPlay}
 use Rattle.txs_cli_report.specs.Lent.{text_in}
 use Rattle.txs_cli_report.specs.Lines.{Script}
 use Rattle.txs_cli_report.specs.Told as list
@@ -10,9 +10,9 @@ use Rattle.txs_cli_report.specs.Told.{Told, Written, front}
 use Rattle.txs_cli_report.proofs.Fronts.{some_maps, some_always}
 use Rattle.txs_cli.proofs.audited_stream.schedule_stream.Goals as goal
 use Rattle.txs_cli.specs.Audited.{by_plays, ScheduleAuditedTells, StreamAuditedTells, of_list, of_plays}
-use Rattle.txs_audit_answer.specs.Answered.{finishing}
+use Rattle.txs_audit_book.specs.Answered.{finishing}
 use Rattle.txs_cli_audit.specs.Audit.{HasNoAnswer}
-use Rattle.txs_audit_answer.specs.declared.verdict.AuditError.{AuditError}
+use Rattle.txs_audit_book.specs.declared.verdict.AuditError.{AuditError}
 use Rattle.txs_tree_meaning.specs.View.{Parts}
 use Rattle.txs_world_protocol.specs.declared.report.Report.{Report}
 

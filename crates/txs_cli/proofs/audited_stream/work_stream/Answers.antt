@@ -6,10 +6,10 @@ use Rattle.txs_cli_report.specs.Told.{Told, Written, front}
 use Rattle.txs_cli.proofs.Answered.{stream_written, unread_told}
 use Rattle.txs_cli.proofs.audited_stream.work_stream.Goals as goal
 use Rattle.txs_cli.specs.Audited.{AuditedTells, StreamAuditedTells, Way, by_workers, of_memory, of_script, of_unread}
-use Rattle.txs_audit_answer.specs.Answered.{finishing}
+use Rattle.txs_audit_book.specs.Answered.{finishing}
 use Rattle.txs_cli.specs.Runner.{HasFailed}
 use Rattle.txs_cli_audit.specs.Audit.{HasNoAnswer}
-use Rattle.txs_audit_answer.specs.declared.verdict.AuditError.{AuditError}
+use Rattle.txs_audit_book.specs.declared.verdict.AuditError.{AuditError}
 use Rattle.txs_code_meaning.specs.PlainCode.{PlainCode}
 use Rattle.txs_machine.specs.declared.run_error.RunError.{RunError}
 use Rattle.txs_tree_meaning.specs.View.{Parts}

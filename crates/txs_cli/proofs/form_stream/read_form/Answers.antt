@@ -1,5 +1,5 @@
 use Rattle.std.proofs.Common.{◌∙◌, ap, rules, sym, subst}
-use Rattle.txs_code_load.specs.Load.{is_settled}
+use Rattle.txs_verify.specs.Load.{is_settled}
 use Rattle.std.specs.Io.KnownBytes.{Consumes}
 use Rattle.std.proofs.KnownBytes.{Consumes-nil, Consumes-trans}
 use Rattle.txs_cli.proofs.FormStream.{none_settled}

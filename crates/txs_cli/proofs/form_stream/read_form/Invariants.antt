@@ -1,6 +1,6 @@
 use Rattle.std.proofs.Common.{◌≡◌, ◌⊎◌, true, false, length}
 use Rattle.std.specs.Io.KnownBytes.{Consumes, IsAtEnd}
-use Rattle.txs_code_load.specs.Load.{is_settled}
+use Rattle.txs_verify.specs.Load.{is_settled}
 use Rattle.txs_cli.specs.CodeStream.{IsNoFurther}
 use Rattle.txs_cli.proofs.FormStream.{left_to_read}
 use Rattle.txs_cli.proofs.form_stream.read_form.Given as goal

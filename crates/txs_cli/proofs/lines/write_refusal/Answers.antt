@@ -1,5 +1,5 @@
 use Rattle.std.proofs.Common.{◌≡◌, ◌++◌, ℕ, List, OnOk, codes, sym, subst, subst₂}
-use Rattle.txs_code_load.specs.declared.error.LoadError.{LoadError}
+use Rattle.txs_verify.specs.declared.load_error.LoadError.{LoadError}
 use Rattle.txs_cli.specs.CodeTold.{at_number, in_body, load_line, refused_front}
 use Rattle.txs_cli.proofs.lines.write_refusal.Goals as goal
 

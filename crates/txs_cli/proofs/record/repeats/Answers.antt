@@ -1,10 +1,10 @@
 use Rattle.std.proofs.Common.{◌≡◌, ◌++◌, ◌∙◌, List, Ok, Result, ap, sym}
-use Rattle.txs_cli_plays.specs.Plays.{plays_in}
-use Rattle.txs_cli_plays.specs.declared.plays.WrongPlay.{WrongPlay}
+use Rattle.txs_cli_report.specs.Plays.{plays_in}
+use Rattle.txs_cli_report.specs.declared.plays.WrongPlay.{WrongPlay}
 use Rattle.txs_cli_report.specs.Lent.{lines_of, script_of, told_of}
 use Rattle.txs_cli_report.specs.Lines.{all_printed}
 use Rattle.txs_cli_report.specs.Told.{behind_bytes}
-use Rattle.txs_code_load.proofs.Formed.{few_cells, few_threads}
+use Rattle.txs_verify.proofs.Formed.{few_cells, few_threads}
 use Rattle.txs_machine.specs.Schedule.{spread}
 use Rattle.txs_machine.specs.declared.schedule.Play.{Play}
 use Rattle.txs_cli.proofs.Recording.{scheduled_so}

@@ -1,8 +1,8 @@
 use Rattle.std.proofs.Common.{◌≡◌, List, [], Result, Ok, ap, codes, refl, sym, ◌∙◌}
 use Rattle.txs_machine.specs.Schedule.{spread}
 use Rattle.txs_machine.specs.declared.schedule.Play.{Play}
-use Rattle.txs_cli_plays.specs.Plays.{plays_in}
-use Rattle.txs_cli_plays.specs.declared.plays.WrongPlay.{WrongPlay}
+use Rattle.txs_cli_report.specs.Plays.{plays_in}
+use Rattle.txs_cli_report.specs.declared.plays.WrongPlay.{WrongPlay}
 use Rattle.txs_cli_report.specs.Told.{Told, Written, of_memory}
 use Rattle.txs_cli_report.proofs.Fronts.{kept, some_maps, some_always}
 use Rattle.txs_cli.specs.CodeTold.{Ran, BytesTell, BytesScheduleTell, of_plays, of_list}

@@ -1,4 +1,4 @@
-use Rattle.txs_code_load.proofs.Formed.{few_cells, few_threads}
+use Rattle.txs_verify.proofs.Formed.{few_cells, few_threads}
 use Rattle.txs_cli_report.specs.Lent.{script_of, told_of}
 use Rattle.txs_cli_report.specs.Told.{TurnsTell}
 use Rattle.txs_cli_report.proofs.Fronts.{ok_maps}

@@ -3,9 +3,9 @@ use Rattle.txs_cli.proofs.Commands.{where_asked, where_unasked}
 use Rattle.txs_cli.proofs.workers.schedule_all.Goals as goal
 use Rattle.txs_cli.specs.Telling.{PlaysTell, audit_workers}
 use Rattle.txs_cli_report.specs.Told.{Told, Written}
-use Rattle.txs_audit_answer.specs.Answered.{finishing}
+use Rattle.txs_audit_book.specs.Answered.{finishing}
 use Rattle.txs_cli_audit.specs.Audit.{HasNoAnswer}
-use Rattle.txs_audit_answer.specs.declared.verdict.AuditError.{AuditError}
+use Rattle.txs_audit_book.specs.declared.verdict.AuditError.{AuditError}
 use Rattle.txs_tree_meaning.specs.View.{Parts}
 use Rattle.txs_world_protocol.specs.declared.report.Report.{Report}
 

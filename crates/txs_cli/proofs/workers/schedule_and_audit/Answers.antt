@@ -6,9 +6,9 @@ use Rattle.txs_cli_report.specs.Lines.{Script}
 use Rattle.txs_cli_report.specs.Told.{Told, Written, front}
 use Rattle.std.specs.Option.{IfSome}
 use Rattle.txs_cli.specs.Audited.{ScheduleAuditedTells}
-use Rattle.txs_audit_answer.specs.Answered.{finishing}
+use Rattle.txs_audit_book.specs.Answered.{finishing}
 use Rattle.txs_cli_audit.specs.Audit.{HasNoAnswer}
-use Rattle.txs_audit_answer.specs.declared.verdict.AuditError.{AuditError}
+use Rattle.txs_audit_book.specs.declared.verdict.AuditError.{AuditError}
 use Rattle.txs_tree_meaning.specs.View.{Parts}
 use Rattle.txs_world_protocol.specs.declared.report.Report.{Report}
 

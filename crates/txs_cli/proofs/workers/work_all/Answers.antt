@@ -3,10 +3,10 @@ use Rattle.txs_cli.proofs.Commands.{where_asked, where_unasked}
 use Rattle.txs_cli.proofs.workers.work_all.Goals as goal
 use Rattle.txs_cli.specs.Telling.{WorkTells}
 use Rattle.txs_cli_report.specs.Told.{Told, Written}
-use Rattle.txs_audit_answer.specs.Answered.{finishing}
+use Rattle.txs_audit_book.specs.Answered.{finishing}
 use Rattle.txs_cli.specs.Runner.{HasFailed}
 use Rattle.txs_cli_audit.specs.Audit.{HasNoAnswer}
-use Rattle.txs_audit_answer.specs.declared.verdict.AuditError.{AuditError}
+use Rattle.txs_audit_book.specs.declared.verdict.AuditError.{AuditError}
 use Rattle.txs_code_meaning.specs.PlainCode.{PlainCode}
 use Rattle.txs_machine.specs.declared.run_error.RunError.{RunError}
 use Rattle.txs_tree_meaning.specs.View.{Parts}

@@ -1,5 +1,5 @@
 use Rattle.txs_reader.specs.Tree.{trees}
-use Rattle.txs_cli_names.specs.Nears.{Nearest}
+use Rattle.txs_cli_advice_script.specs.Nears.{Nearest}
 use Rattle.txs_cli_advice_script.specs.Surroundings.{names_of}
 use Rattle.txs_cli_advice_script.proofs.around.nearest_of.Given as goal
 

@@ -1,5 +1,5 @@
 use Rattle.std.proofs.Common.{sym, ◌∙◌, subst}
-use Rattle.txs_reader_lines.specs.Safe.{Safe}
+use Rattle.txs_reader.specs.Safe.{Safe}
 use Rattle.txs_cli_advice_script.proofs.Shows.{Safe-from_is_safe}
 use Rattle.txs_cli_advice_script.proofs.sentence.if_safe.Goals as goal
 

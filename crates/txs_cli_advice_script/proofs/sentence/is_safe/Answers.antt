@@ -1,7 +1,7 @@
 use Rattle.std.proofs.Common.{rules, tests, not}
 use Rattle.std.proofs.lemmas.Iterator.{YieldsList-from_chars}
 use Rattle.std.proofs.lemmas.Iterator.Search.{all_from_yields_List}
-use Rattle.txs_reader_lines.specs.Sign.{is_escaped}
+use Rattle.txs_reader.specs.Sign.{is_escaped}
 use Rattle.txs_cli_advice_script.specs.Sentences.{is_safe}
 use Rattle.txs_cli_advice_script.proofs.sentence.is_safe.Goals as goal
 

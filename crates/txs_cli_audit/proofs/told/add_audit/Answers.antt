@@ -1,5 +1,5 @@
 use Rattle.std.proofs.Common.{refl, subst}
-use Rattle.txs_audit_answer.specs.Answered.{audit_turns, terms_as}
+use Rattle.txs_audit_book.specs.Answered.{audit_turns, terms_as}
 use Rattle.txs_cli_audit.specs.Audit.{AuditTells, HasNoAnswer, NoAnswerTells, of_none}
 use Rattle.txs_cli_report.proofs.Fronts.{on_ok}
 use Rattle.txs_cli_report.specs.Lent.{lines_of, script_of}

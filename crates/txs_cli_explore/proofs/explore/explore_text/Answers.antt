@@ -1,6 +1,6 @@
 use Rattle.std.proofs.Common.{ℕ, [], ap, codes, refl}
-use Rattle.txs_audit_answer.specs.Answered.{finishing}
-use Rattle.txs_audit_answer.specs.declared.verdict.AuditError.{AuditError}
+use Rattle.txs_audit_book.specs.Answered.{finishing}
+use Rattle.txs_audit_book.specs.declared.verdict.AuditError.{AuditError}
 use Rattle.txs_cli_audit.specs.Audit.{HasNoAnswer}
 use Rattle.txs_cli_report.specs.Lent.{script_of, told_of}
 use Rattle.txs_tree_meaning.specs.View.{Parts}

@@ -1,8 +1,8 @@
 use Rattle.std.proofs.Common.{◌≡◌, ◌∙◌, List, Ok, Result, ap, refl}
-use Rattle.txs_audit_answer.specs.Answered.{finishing}
+use Rattle.txs_audit_book.specs.Answered.{finishing}
 use Rattle.txs_cli_audit.specs.Audit.{HasNoAnswer}
-use Rattle.txs_cli_plays.specs.Plays.{plays_in}
-use Rattle.txs_cli_plays.specs.declared.plays.WrongPlay.{WrongPlay}
+use Rattle.txs_cli_report.specs.Plays.{plays_in}
+use Rattle.txs_cli_report.specs.declared.plays.WrongPlay.{WrongPlay}
 use Rattle.txs_cli_report.specs.Lent.{script_of, told_of}
 use Rattle.txs_cli_report.specs.Told.{Told}
 use Rattle.txs_explore.specs.Reported.{plays_of}

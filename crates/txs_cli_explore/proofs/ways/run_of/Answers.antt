@@ -1,5 +1,5 @@
 use Rattle.std.proofs.Common.{◌≤◌, List, length, subst, sym}
-use Rattle.txs_code_load.proofs.Formed.{few_threads}
+use Rattle.txs_verify.proofs.Formed.{few_threads}
 use Rattle.txs_value_cell.specs.declared.cell.CellDefinition.{CellDefinition}
 use Rattle.txs_cli.specs.Runner.{IsWorked}
 use Rattle.txs_cli_explore.proofs.LastLine.{has_few_cells, is_runnable}

@@ -1,7 +1,7 @@
 use Rattle.std.proofs.Common.{◌≡◌, ◌++◌, ◌∙◌, [], ℕ, List, Option, OnOk, ap, codes, decimal, subst, sym}
 use Rattle.std.proofs.lemmas.List.{append-nil}
-use Rattle.txs_reader_lines.specs.Place.{line_number, column_number}
-use Rattle.txs_value_base.specs.declared.fault.Span.{Span}
+use Rattle.txs_reader.specs.Place.{line_number, column_number}
+use Rattle.txs_value_data.specs.declared.fault.Span.{Span}
 use Rattle.txs_value_data.proofs.PrintedLemmas.{Extends-after}
 use Rattle.txs_cli_report.specs.Explained.{place_in, place_where}
 use Rattle.txs_cli_report.proofs.Fronts.{on_ok}

@@ -1,7 +1,7 @@
 use Rattle.std.proofs.Common.{◌≡◌, ◌++◌, ◌∙◌, [], ℕ, List, Option, Result, Ok, Err, OnOk, OnErr, subst, sym}
 use Rattle.std.proofs.lemmas.List.{append-nil}
 use Rattle.txs_cli_report.specs.Explained.{shown_where}
-use Rattle.txs_value_base.specs.declared.fault.Span.{Span}
+use Rattle.txs_value_data.specs.declared.fault.Span.{Span}
 use Rattle.txs_value_data.specs.Printed.{Extends}
 use Rattle.txs_cli_report.proofs.explain.write_shown.Goals as goal
 

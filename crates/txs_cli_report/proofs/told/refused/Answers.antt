@@ -2,7 +2,7 @@ use Rattle.std.proofs.Common.{◌≡◌, ◌++◌, ◌∙◌, ℕ, List, [], Opt
 use Rattle.txs_cli_report.specs.Lent.{script_of}
 use Rattle.txs_cli_report.specs.Lines.{IsLesson, refusal_line, refused_line, refused_place}
 use Rattle.txs_cli_report.specs.Told.{of_refused}
-use Rattle.txs_value_base.specs.declared.fault.Span.{Span}
+use Rattle.txs_value_data.specs.declared.fault.Span.{Span}
 use Rattle.txs_cli_report.proofs.Lessons.{is_refusal_line, line_behind}
 use Rattle.txs_cli_report.proofs.Threads.{none_printed}
 use Rattle.txs_cli_report.proofs.told.refused.Goals as goal

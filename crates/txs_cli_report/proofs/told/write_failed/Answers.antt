@@ -1,7 +1,7 @@
 use Rattle.std.proofs.Common.{◌≡◌, ◌++◌, ◌∙◌, ℕ, List, Some, ap, append_assoc, codes, sym}
 use Rattle.txs_cli_report.specs.Lent.{front_of, script_of}
 use Rattle.txs_cli_report.specs.Lines.{IsLesson, at_place, failed_line, lesson_of}
-use Rattle.txs_value_base.specs.Faults.{fault_name}
+use Rattle.txs_value_data.specs.Faults.{fault_name}
 use Rattle.txs_cli_report.proofs.Fronts.{on_ok}
 use Rattle.txs_cli_report.proofs.Lessons.{failed_behind}
 use Rattle.txs_cli_report.proofs.told.write_failed.Goals as goal

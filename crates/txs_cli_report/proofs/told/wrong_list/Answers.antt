@@ -1,7 +1,7 @@
 use Rattle.std.proofs.Common.{Option, codes, subst}
 use Rattle.txs_cli_report.specs.Lent.{script_of}
 use Rattle.txs_cli_report.specs.Lines.{IsLesson}
-use Rattle.txs_value_base.specs.declared.fault.Span.{Span}
+use Rattle.txs_value_data.specs.declared.fault.Span.{Span}
 use Rattle.txs_cli_report.proofs.Lessons.{begun_told}
 use Rattle.txs_cli_report.proofs.told.wrong_list.Goals as goal
 

@@ -1,5 +1,5 @@
 use Rattle.std.proofs.Common.{◌≡◌, ◌≤◌, IfOk, List, length, subst, sym, true}
-use Rattle.txs_code_load.proofs.Formed.{few_threads}
+use Rattle.txs_verify.proofs.Formed.{few_threads}
 use Rattle.txs_cli.specs.Audited.{IsPlayed}
 use Rattle.txs_cli.specs.Runner.{IsWorked}
 use Rattle.txs_machine.specs.Agents.{actors_of}

@@ -1,7 +1,7 @@
 use Rattle.std.proofs.Common.{◌≡◌, Bool, false, true, refl, subst, sym}
 use Rattle.std.specs.Prelude.{OnOk}
-use Rattle.txs_audit_answer.specs.Answered.{audit_turns, finishing, terms_as}
-use Rattle.txs_audit_answer.specs.declared.verdict.Terms.{Terms}
+use Rattle.txs_audit_book.specs.Answered.{audit_turns, finishing, terms_as}
+use Rattle.txs_audit_book.specs.declared.verdict.Terms.{Terms}
 use Rattle.txs_cli_audit.specs.Audit.{HasNoAnswer}
 use Rattle.txs_cli_report.specs.Lent.{lines_of, script_of}
 use Rattle.txs_theorem_audit.specs.Audited.{report_as}

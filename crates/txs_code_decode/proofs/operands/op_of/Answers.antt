@@ -1,5 +1,5 @@
 use Rattle.std.proofs.Common.{sym, arith}
-use Rattle.txs_value_base.specs.Operations.{operations}
+use Rattle.txs_value_data.specs.Operations.{operations}
 use Rattle.txs_code_decode.proofs.Lists.{nth_past, op_answer}
 use Rattle.txs_code_decode.proofs.operands.op_of.Goals as goal
 

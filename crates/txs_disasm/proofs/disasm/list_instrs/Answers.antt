@@ -1,6 +1,6 @@
 use Rattle.std.proofs.Common.{◌++◌, ◌<◌, ◌≤◌, ◌+◌, length, drop, rules, arith}
 use Rattle.std.specs.Prelude.{slice_index_or}
-use Rattle.txs_value_base.specs.declared.fault.Span.{Span}
+use Rattle.txs_value_data.specs.declared.fault.Span.{Span}
 use Rattle.txs_code_meaning.specs.declared.instr.Instr.TheVariants.{Const}
 use Rattle.txs_disasm.specs.Listing.{instr_line, instr_lines}
 use Rattle.txs_disasm.proofs.LineLemmas.{instr_lines-at, IsCut-line, Sent-line, Sent-instrs_end}

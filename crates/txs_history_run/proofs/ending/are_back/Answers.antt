@@ -1,6 +1,6 @@
 use Rattle.std.proofs.Common.{◌≡◌, length, arith, sym, subst}
 use Rattle.std.proofs.lemmas.Bool.Decides.{nat_tests}
-use Rattle.txs_theorem_history.specs.History.{History, sum_to}
+use Rattle.txs_history.specs.Asked.{History, sum_to}
 use Rattle.txs_history_run.specs.Back.{AreBack, asked_at}
 use Rattle.txs_history_run.proofs.Back.{atoms_later, back_so}
 use Rattle.txs_history_run.proofs.ending.are_back.Goals as goal

@@ -1,6 +1,6 @@
 use Rattle.std.proofs.Common.{◌≡◌, ◌+◌, ◌≤◌, ◌^◌, length, arith, refl, sym, subst, ◌∙◌}
 use mathlib.Core.List.{IsPrefix}
-use Rattle.txs_theorem_history.specs.History.{History}
+use Rattle.txs_history.specs.Asked.{History}
 use Rattle.txs_history_run.specs.Back.{AreWhole, AtomsLeft}
 use Rattle.txs_history_run.proofs.Back.{atom_lacks, atoms_over, left_next, read_nth}
 use Rattle.txs_history_run.proofs.ending.count_atoms.Goals as goal

@@ -1,6 +1,6 @@
 use Rattle.std.proofs.Common.{◌≡◌, ◌<◌, ◌+◌, ◌-◌, ℕ, length, get_or, Some, rules, refl, sym, subst, arith}
 use Rattle.std.specs.Vec.{with_item}
-use Rattle.txs_value_base.specs.Places.{nth}
+use Rattle.txs_value_data.specs.Places.{nth}
 use Rattle.txs_machine.specs.Agents.{agents_of}
 use Rattle.txs_machine.specs.RunOver.{books_of}
 use Rattle.txs_machine.specs.Running.{IsAttending}

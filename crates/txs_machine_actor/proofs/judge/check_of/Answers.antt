@@ -1,5 +1,5 @@
 use Rattle.std.proofs.Common.{Option, ◌∙◌, sym, ap}
-use Rattle.txs_value_base.specs.declared.op.Callee.{Callee}
+use Rattle.txs_value_data.specs.declared.op.Callee.{Callee}
 use Rattle.txs_machine_actor.specs.Turns.{check_of}
 use Rattle.txs_machine_actor.proofs.judge.check_of.Goals as goal
 

@@ -4,7 +4,7 @@ use Rattle.txs_value_cell.specs.Forms.{rule, cell_of}
 use Rattle.txs_frame.specs.Frame.{PlainTxFrame, SetAnswers, set_ref}
 use Rattle.txs_frame.specs.declared.frame.Commute.{Commute}
 use Rattle.txs_machine_stack.specs.PlainFrame.{PlainStack}
-use Rattle.txs_value_base.specs.declared.fault.FaultKind.{FaultKind}
+use Rattle.txs_value_data.specs.declared.fault.FaultKind.{FaultKind}
 use Rattle.txs_machine_transaction.specs.Effect.{moves, sets_as, sets_cell}
 use Rattle.txs_machine_transaction.specs.declared.state.Transaction.{Transaction}
 use Rattle.txs_value_data.specs.declared.value.Value.{Value}

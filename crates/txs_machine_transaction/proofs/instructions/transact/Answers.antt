@@ -6,7 +6,7 @@ use Rattle.txs_frame.specs.Frame.{PlainTxFrame}
 use Rattle.txs_frame.specs.declared.frame.Commute.{Commute}
 use Rattle.txs_value_cell.specs.Cells.{Validators}
 use Rattle.txs_machine_stack.specs.PlainFrame.{PlainStack}
-use Rattle.txs_value_base.specs.declared.fault.Span.{Span}
+use Rattle.txs_value_data.specs.declared.fault.Span.{Span}
 use Rattle.txs_machine_transaction.specs.Effect.{ComesQuickly, effect}
 use Rattle.txs_machine_transaction.specs.declared.moved.Quick.{Quick}
 use Rattle.txs_machine_transaction.specs.declared.state.Transaction.{Transaction}

@@ -3,8 +3,8 @@ use Rattle.txs_value_data.specs.Limits.{most_locals}
 use Rattle.txs_tree_meaning.proofs.Soundness.{count-trees_of}
 use Rattle.txs_tree_meaning.specs.Tree.{count}
 use Rattle.txs_tree_meaning.specs.View.{tree_of, trees_of}
-use Rattle.txs_tree_build.specs.Locals.{reach, reach_let}
-use Rattle.txs_tree_build.specs.Shift.{shifted}
+use Rattle.txs_tree_meaning.specs.Locals.{reach, reach_let}
+use Rattle.txs_tree_meaning.specs.Shift.{shifted}
 use Rattle.txs_opt.specs.Inline.{bound}
 use Rattle.txs_opt.proofs.Calls.{true_le, few_args, body_reach}
 use Rattle.txs_opt.proofs.Reach.{within_max}

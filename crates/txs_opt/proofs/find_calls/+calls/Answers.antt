@@ -1,5 +1,5 @@
 use Rattle.std.proofs.Common.{arith}
-use Rattle.txs_tree_build.proofs.Rows.{nodes_at}
+use Rattle.txs_tree_meaning.proofs.Rows.{nodes_at}
 use Rattle.txs_opt.proofs.find_calls.+calls.Goals as goal
 
 pub some_has_call-has_call-requires : goal.some_has_call-has_call-requires

@@ -3,7 +3,7 @@ use Rattle.std.proofs.lemmas.List.{drop_all}
 use Rattle.txs_tree_meaning.specs.View.{tree_of, trees_of}
 use Rattle.txs_opt.specs.Fold.{folded_all, seen_items}
 use Rattle.txs_opt.proofs.Items.{pushed_folded, items_more, items_end}
-use Rattle.txs_tree_build.proofs.Rows.{nodes_at}
+use Rattle.txs_tree_meaning.proofs.Rows.{nodes_at}
 use Rattle.txs_opt.proofs.fold_nodes.+fold.Goals as goal
 
 pub fold_all-fold_node-requires : goal.fold_all-fold_node-requires

@@ -1,7 +1,7 @@
 use Rattle.std.proofs.Common.{◌+◌, refl, arith}
 use Rattle.txs_tree_meaning.proofs.Soundness.{count-trees_of}
 use Rattle.txs_tree_meaning.specs.View.{functions_of, trees_of}
-use Rattle.txs_tree_build.proofs.Rows.{nodes_at}
+use Rattle.txs_tree_meaning.proofs.Rows.{nodes_at}
 use Rattle.txs_opt.proofs.InlinedRows.{all_more, let_more, reach_at, let_reach_at}
 use Rattle.txs_opt.proofs.Reach.{all_above, let_above}
 use Rattle.txs_opt.proofs.inline_nodes.+inline.Goals as goal

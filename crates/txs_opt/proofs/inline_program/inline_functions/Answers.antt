@@ -2,7 +2,7 @@ use Rattle.std.proofs.Common.{List, [], sym, subst}
 use Rattle.txs_tree_meaning.specs.Scoped.{ScopedFunctions}
 use Rattle.txs_tree_meaning.specs.View.{functions_of}
 use Rattle.txs_tree_meaning.specs.declared.node.Function.{Function}
-use Rattle.txs_tree_build.proofs.Copies.{function_reach}
+use Rattle.txs_tree_meaning.proofs.Copies.{function_reach}
 use Rattle.txs_opt.specs.Inline.{functions_inlined}
 use Rattle.txs_opt.proofs.InlinedRows.{functions_step}
 use Rattle.txs_opt.proofs.inline_program.inline_functions.Goals as goal

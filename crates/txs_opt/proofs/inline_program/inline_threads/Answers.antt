@@ -3,7 +3,7 @@ use Rattle.txs_tree_meaning.specs.Known.{known}
 use Rattle.txs_tree_meaning.specs.Scoped.{ScopedThreads}
 use Rattle.txs_tree_meaning.specs.View.{functions_of, threads_of}
 use Rattle.txs_tree_meaning.specs.declared.node.Thread.{Thread}
-use Rattle.txs_tree_build.proofs.Copies.{thread_reach}
+use Rattle.txs_tree_meaning.proofs.Copies.{thread_reach}
 use Rattle.txs_opt.specs.Inline.{threads_inlined}
 use Rattle.txs_opt.proofs.InlinedRows.{threads_step}
 use Rattle.txs_opt.proofs.inline_program.inline_threads.Goals as goal

@@ -1,8 +1,8 @@
 use Rattle.std.proofs.Common.{◌+◌, drop, ap, arith}
 use Rattle.txs_tree_meaning.specs.View.{trees_of}
 use Rattle.txs_tree_meaning.proofs.Soundness.{trees_from}
-use Rattle.txs_tree_build.proofs.Rows.{nodes_at}
-use Rattle.txs_tree_build.specs.Locals.{reach_let}
+use Rattle.txs_tree_meaning.proofs.Rows.{nodes_at}
+use Rattle.txs_tree_meaning.specs.Locals.{reach_let}
 use Rattle.txs_opt.proofs.Reach.{let_above}
 use Rattle.txs_opt.proofs.locals.+reach.Goals as goal
 

@@ -2,7 +2,7 @@ use Rattle.std.proofs.Common.{◌≡◌, ◌≤◌, ◌+◌, ◌*◌, max, drop}
 use Rattle.txs_value_data.specs.Limits.{most_locals}
 use Rattle.txs_tree_meaning.specs.Sound.{nodes, nodes_in}
 use Rattle.txs_tree_meaning.specs.View.{tree_of, trees_of}
-use Rattle.txs_tree_build.specs.Locals.{reach_all, reach_let}
+use Rattle.txs_tree_meaning.specs.Locals.{reach_all, reach_let}
 use Rattle.txs_opt.proofs.locals.+reach.Given as goal
 
 abbrev pub invariant-reach_of_all-loop-node : goal.invariant-reach_of_all-loop-node

@@ -3,7 +3,7 @@ use Rattle.std.proofs.lemmas.List.{drop_all}
 use Rattle.txs_value_data.specs.Limits.{most_locals}
 use Rattle.txs_tree_meaning.proofs.Soundness.{trees_from, count-trees_of}
 use Rattle.txs_tree_meaning.specs.View.{tree_of, trees_of}
-use Rattle.txs_tree_build.specs.Locals.{reach, reach_let}
+use Rattle.txs_tree_meaning.specs.Locals.{reach, reach_let}
 use Rattle.txs_opt.specs.Inline.{bound}
 use Rattle.txs_opt.proofs.Calls.{le_true, le_false}
 use Rattle.txs_opt.proofs.Reach.{bound_reach, args_reach, args_above, over_max}

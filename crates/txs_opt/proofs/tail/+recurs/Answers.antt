@@ -1,7 +1,7 @@
 use Rattle.std.proofs.Common.{◌≡◌, ℕ, zero, suc, ◌-◌, List, [], ◌∷◌, length, get_or, ap, ◌∙◌, arith}
 use Rattle.txs_tree_meaning.specs.View.{tree_of, trees_of}
 use Rattle.txs_tree_meaning.specs.declared.node.Node.{Node}
-use Rattle.txs_tree_build.proofs.Rows.{nodes_at}
+use Rattle.txs_tree_meaning.proofs.Rows.{nodes_at}
 use Rattle.txs_opt.specs.Inline.{recurs, last_recurs}
 use Rattle.txs_opt.proofs.tail.+recurs.Goals as goal
 

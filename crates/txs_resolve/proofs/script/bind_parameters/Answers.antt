@@ -3,7 +3,7 @@ use Rattle.txs_reader.specs.Tree.{tree}
 use Rattle.txs_resolve_expand.specs.Expressions.{Answer}
 use Rattle.txs_resolve.specs.Names.{parameter, parameters}
 use Rattle.txs_resolve_expand.specs.Answers.{◌>>=◌}
-use Rattle.txs_resolve_scope.specs.Scope.{Scope, with_local, with_locals}
+use Rattle.txs_resolve_expand.specs.Scope.{Scope, with_local, with_locals}
 use Rattle.std.proofs.lemmas.Result.{err_from_is_err_and}
 use Rattle.txs_resolve_expand.specs.Parts.{plain}
 use Rattle.txs_resolve_expand.proofs.Rows.{plain_at, drop_all}

@@ -1,7 +1,7 @@
 use Rattle.std.proofs.Common.{◌≡◌, ◌≤◌, [], length, drop}
 use Rattle.txs_reader.specs.Tree.{trees, trees_of}
 use Rattle.txs_resolve.specs.Names.{parameters}
-use Rattle.txs_resolve_scope.specs.Scope.{with_locals}
+use Rattle.txs_resolve_expand.specs.Scope.{with_locals}
 use Rattle.txs_resolve.proofs.script.bind_parameters.Given as goal
 
 abbrev pub invariant-loop-form : goal.invariant-loop-form

@@ -1,14 +1,14 @@
 use Rattle.std.proofs.Common.{◌≡◌, ℕ, List, Option, None, Some, Ok, Err, sym, ap, ◌∙◌, subst}
-use Rattle.txs_value_base.specs.declared.fault.Span.{Span}
-use Rattle.txs_value_base.specs.declared.op.Callee.{Callee}
+use Rattle.txs_value_data.specs.declared.fault.Span.{Span}
+use Rattle.txs_value_data.specs.declared.op.Callee.{Callee}
 use Rattle.txs_value_data.specs.declared.value.Value.{Value}
-use Rattle.txs_resolve_body.specs.Given.{Gives, refusal_of}
+use Rattle.txs_resolve.specs.BodyGiven.{Gives, refusal_of}
 use Rattle.std.proofs.lemmas.Result.{err_from_is_err_and}
 use Rattle.txs_reader.specs.Tree.{tree}
 use Rattle.txs_tree_meaning.specs.Known.{known}
 use Rattle.txs_tree_meaning.specs.Scoped.{ScopedValidator}
 use Rattle.txs_tree_meaning.specs.View.{functions_of}
-use Rattle.txs_resolve_body.specs.Literals.{literal}
+use Rattle.txs_resolve.specs.Literals.{literal}
 use Rattle.txs_resolve.specs.Given.{Leaves}
 use Rattle.txs_resolve.specs.Names.{State, new_name, validator_named, validator_place, with_definition}
 use Rattle.txs_resolve.specs.Scripts.{form_in, state_of}

@@ -2,10 +2,10 @@ use Rattle.std.proofs.Common.{sym, ap, subst, arith, Some, Ok, Err, ◌∙◌}
 use Rattle.std.proofs.lemmas.Result.{err_from_is_err_and}
 use Rattle.txs_resolve.specs.Given.{Leaves}
 use Rattle.txs_resolve.specs.Names.{State, Written, function}
-use Rattle.txs_resolve_scope.specs.Scope.{Scope}
+use Rattle.txs_resolve_expand.specs.Scope.{Scope}
 use Rattle.txs_tree_meaning.specs.View.{functions_of, threads_of}
 use Rattle.txs_resolve.specs.Scripts.{function_with, state_of}
-use Rattle.txs_resolve_body.specs.declared.stop.Stop.{Stop}
+use Rattle.txs_resolve.specs.declared.stop.Stop.{Stop}
 use Rattle.txs_resolve_expand.specs.Parts.{plain}
 use Rattle.txs_resolve.proofs.Tops.{function_full, function_named, function_bound}
 use Rattle.txs_resolve.proofs.script.function_as.Goals as goal

@@ -7,7 +7,7 @@ use Rattle.txs_resolve_expand.specs.Expressions.{Answer, named}
 use Rattle.txs_resolve.specs.Given.{Leaves}
 use Rattle.txs_resolve.specs.Names.{State, future, with_thread}
 use Rattle.txs_resolve.specs.Scripts.{ScopedState, state_of}
-use Rattle.txs_resolve_body.specs.declared.stop.Stop.{Stop}
+use Rattle.txs_resolve.specs.declared.stop.Stop.{Stop}
 use Rattle.txs_resolve_expand.specs.Parts.{plain}
 use Rattle.txs_resolve.proofs.TopLevel.{failed_body}
 use Rattle.txs_resolve.proofs.Scoping.{Every}

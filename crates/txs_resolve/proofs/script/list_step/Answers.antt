@@ -2,7 +2,7 @@ use Rattle.std.proofs.Common.{Some, sym, ap, ◌∙◌, subst}
 use Rattle.txs_resolve.specs.Given.{Leaves}
 use Rattle.txs_resolve.specs.Scripts.{state_of}
 use Rattle.txs_resolve.proofs.Openings.{listed}
-use Rattle.txs_resolve_scope.specs.declared.names.FormName.TheVariants as kind
+use Rattle.txs_resolve_expand.specs.declared.names.FormName.TheVariants as kind
 use Rattle.txs_resolve.proofs.script.list_step.Goals as goal
 
 pub returns-in-Some-Def-clause-state : goal.returns-in-Some-Def-clause-state

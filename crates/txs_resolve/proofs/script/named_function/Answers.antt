@@ -8,7 +8,7 @@ use Rattle.txs_resolve_expand.specs.Answers.{◌>>=◌}
 use Rattle.txs_resolve_expand.specs.Expansions.{body}
 use Rattle.txs_resolve_expand.specs.Expressions.{named}
 use Rattle.txs_resolve.specs.Names.{Written, with_function}
-use Rattle.txs_resolve_scope.specs.Scope.{Scope}
+use Rattle.txs_resolve_expand.specs.Scope.{Scope}
 use Rattle.txs_resolve.specs.Scripts.{at_top, function_with, state_of}
 use Rattle.txs_resolve_expand.specs.Parts.{plain}
 use Rattle.txs_resolve.proofs.TopLevel.{failed_body}

@@ -4,7 +4,7 @@ use Rattle.txs_tree_meaning.specs.Scoped.{ScopedCells, ScopedValidator}
 use Rattle.txs_tree_meaning.specs.View.{functions_of, threads_of}
 use Rattle.txs_value_cell.specs.declared.cell.CellDefinition.{CellDefinition}
 use Rattle.txs_resolve.specs.Names.{State}
-use Rattle.txs_resolve_scope.specs.Scope.{Scope}
+use Rattle.txs_resolve_expand.specs.Scope.{Scope}
 use Rattle.txs_resolve.specs.Scripts.{ScopedState, state_of}
 use Rattle.txs_resolve.proofs.Scoping.{one_more}
 use Rattle.txs_resolve.proofs.ScopedScripts.{cell_scoped, cells_more}

@@ -1,7 +1,7 @@
 use Rattle.std.proofs.Common.{ℕ, suc, sym, ap, ◌∙◌, subst}
 use Rattle.txs_tree_meaning.specs.View.{functions_of, threads_of}
 use Rattle.txs_resolve.specs.Names.{State}
-use Rattle.txs_resolve_scope.specs.Scope.{Scope}
+use Rattle.txs_resolve_expand.specs.Scope.{Scope}
 use Rattle.txs_resolve.specs.Scripts.{ScopedState, state_of}
 use Rattle.txs_resolve.proofs.Scoping.{one_more}
 use Rattle.txs_resolve.proofs.ScopedScripts.{constant_scoped}

@@ -1,10 +1,10 @@
 use Rattle.std.proofs.Common.{◌≡◌, ◌++◌, [], ◌∷◌, ℕ, length, ap, ◌∙◌, subst, arith, Ok}
 use Rattle.txs_tree_meaning.specs.View.{tree_of}
-use Rattle.txs_resolve_body.specs.Depths.{depths}
+use Rattle.txs_resolve.specs.Depths.{depths}
 use Rattle.txs_resolve.specs.Names.{State}
-use Rattle.txs_resolve_scope.specs.Scope.{Scope}
+use Rattle.txs_resolve_expand.specs.Scope.{Scope}
 use Rattle.txs_resolve.specs.Scripts.{ScopedState, state_of}
-use Rattle.txs_resolve_scope.specs.declared.scope.Definition.TheVariants.{Function}
+use Rattle.txs_resolve_expand.specs.declared.scope.Definition.TheVariants.{Function}
 use Rattle.txs_resolve.proofs.ScopedScripts.{function_more}
 use Rattle.txs_resolve.proofs.Tops.{same_depths, few_levels, functions_count, state_is, levels_are}
 use Rattle.txs_resolve.proofs.script.with_function.Goals as goal

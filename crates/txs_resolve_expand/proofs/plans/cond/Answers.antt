@@ -1,6 +1,6 @@
 use Rattle.std.proofs.Common.{◌∷◌, List, sym, ap, ◌∙◌}
 use Rattle.txs_reader.specs.declared.form.Form.{Form}
-use Rattle.txs_resolve_scope.specs.declared.names.FormName.TheVariants as kind
+use Rattle.txs_resolve_expand.specs.declared.names.FormName.TheVariants as kind
 use Rattle.txs_resolve_expand.specs.Parts.{plain, table, told}
 use Rattle.txs_resolve_expand.proofs.Tables.{cond_even, cond_odd, cond_one}
 use Rattle.txs_resolve_expand.proofs.plans.cond.Goals as goal

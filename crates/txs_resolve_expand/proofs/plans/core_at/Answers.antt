@@ -1,5 +1,5 @@
 use Rattle.std.proofs.Common.{◌≡◌, true, false, refl, sym, ap, ◌∙◌}
-use Rattle.txs_value_base.specs.declared.fault.Span.{Span}
+use Rattle.txs_value_data.specs.declared.fault.Span.{Span}
 use Rattle.txs_reader.specs.Tree.{PlainForm as FormTree, place}
 use Rattle.txs_resolve_expand.specs.declared.parts.Part.{Part}
 use Rattle.txs_resolve_expand.specs.declared.parts.Part.TheVariants as part

@@ -1,6 +1,6 @@
 use Rattle.std.proofs.Common.{rules, arith, ◌≡◌, ◌≤◌, List, length, ap, sym, subst, ◌∙◌}
 use Rattle.txs_code_meaning.specs.PlainCode.{PlainCode}
-use Rattle.txs_history_store.specs.Logged.{locks_of}
+use Rattle.txs_history.specs.Logged.{locks_of}
 use Rattle.txs_world_book.specs.Atom.{PlainAtom}
 use Rattle.txs_world_shared.specs.Kept.{atoms_of}
 use Rattle.txs_threads.proofs.Opening.{AreNext, all_next, each_lock}

@@ -1,5 +1,5 @@
 use Rattle.std.proofs.Common.{◌≡◌, ◌+◌, length}
-use Rattle.txs_history_store.specs.Logged.{locks_of}
+use Rattle.txs_history.specs.Logged.{locks_of}
 use Rattle.txs_threads.proofs.Opening.{AreNext}
 use Rattle.txs_threads.proofs.atoms.open_logged.Given as goal
 

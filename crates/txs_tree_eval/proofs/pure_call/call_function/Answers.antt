@@ -3,7 +3,7 @@ use Rattle.txs_tree_meaning.specs.Pure.{pure_meaning}
 use Rattle.txs_tree_meaning.specs.Known.{known}
 use Rattle.txs_tree_meaning.specs.Sound.{SoundCells, SoundFunctions}
 use Rattle.txs_tree_meaning.specs.View.{functions_of}
-use Rattle.txs_value_base.specs.declared.op.Callee.TheVariants.{Function}
+use Rattle.txs_value_data.specs.declared.op.Callee.TheVariants.{Function}
 use Rattle.txs_tree_eval.proofs.Ends.{whole_of, waitless}
 use Rattle.txs_tree_eval.proofs.PureEnds.{callable_here, told_pure}
 use Rattle.txs_tree_eval.proofs.pure_call.call_function.Goals as goal

@@ -1,6 +1,6 @@
 use Rattle.std.proofs.Common.{rules, ◌∙◌, sym, ap, get_or, nat_eq}
 use Rattle.txs_code_meaning.specs.PlainCode.{CodeBody, parameters_of}
-use Rattle.txs_value_base.specs.Places.{nth}
+use Rattle.txs_value_data.specs.Places.{nth}
 use Rattle.txs_verify.proofs.Lists.{parameters_nth, parameters_none, both_stand, none_stands}
 use Rattle.txs_verify.proofs.alone.has_parameters.Goals as goal
 

@@ -1,7 +1,7 @@
 use Rattle.std.proofs.Common.{◌≡◌, ◌<◌, ℕ, Some}
 use Rattle.txs_code_meaning.specs.PlainCode.{parameters_of}
 use Rattle.txs_code_meaning.specs.declared.instr.Instr.{Instr}
-use Rattle.txs_value_base.specs.Places.{nth}
+use Rattle.txs_value_data.specs.Places.{nth}
 use Rattle.txs_verify.specs.Alone.{IsRight}
 use Rattle.txs_verify.proofs.alone.look_alone.Given as goal
 

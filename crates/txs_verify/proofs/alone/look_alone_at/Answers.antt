@@ -1,7 +1,7 @@
 use Rattle.std.proofs.Common.{◌≡◌, ◌∙◌, sym, ap, subst, get_or, Some, None}
 use Rattle.txs_code_meaning.specs.PlainCode.{parameters_of}
 use Rattle.txs_code_meaning.specs.declared.instr.Instr.TheVariants.{Const}
-use Rattle.txs_value_base.specs.Places.{nth}
+use Rattle.txs_value_data.specs.Places.{nth}
 use Rattle.txs_verify.specs.Alone.{fault, IsRight}
 use Rattle.txs_verify.proofs.Lawfulness.{right_of, wrong_of}
 use Rattle.txs_verify.proofs.Lists.{nth_is, both_stand}

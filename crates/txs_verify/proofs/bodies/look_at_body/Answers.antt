@@ -1,5 +1,5 @@
 use Rattle.std.proofs.Common.{◌≡◌, ◌<◌, Option, Some, None, sym, ap, subst, ◌∙◌}
-use Rattle.txs_value_base.specs.Places.{nth}
+use Rattle.txs_value_data.specs.Places.{nth}
 use Rattle.txs_code_meaning.specs.PlainCode.{CodeBody, parameters_of}
 use Rattle.txs_verify.specs.Alone.{IsRight, IsRightBody, IsWrongAlone}
 use Rattle.txs_verify.proofs.Lists.{nth_is}

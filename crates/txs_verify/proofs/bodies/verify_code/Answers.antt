@@ -1,7 +1,7 @@
 use Rattle.std.proofs.Common.{◌≡◌, List, Some, subst}
 use Rattle.std.proofs.lemmas.Result.{err_from_is_err_and}
 use Rattle.txs_code_meaning.specs.PlainCode.{CodeBody}
-use Rattle.txs_value_base.specs.Places.{nth}
+use Rattle.txs_value_data.specs.Places.{nth}
 use Rattle.txs_verify.proofs.Ends.{walk_refused, thread_refused, all_typed}
 use Rattle.txs_verify.proofs.Fewest.{least_rooms}
 use Rattle.txs_verify.proofs.IllTyped.{ill_typed_or, ill_alone, ill_cell, ill_thread, cell_refused, function_alone, thread_alone}

@@ -1,7 +1,7 @@
 use Rattle.std.proofs.Common.{rules, arith, get_or, length}
 use Rattle.txs_code_meaning.specs.PlainCode.{parameters_of}
 use Rattle.txs_code_meaning.specs.declared.instr.Instr.TheVariants.{Const}
-use Rattle.txs_value_base.specs.Places.{nth}
+use Rattle.txs_value_data.specs.Places.{nth}
 use Rattle.txs_verify.proofs.Going.{jumps_further, may_end}
 use Rattle.txs_verify.proofs.Lists.{nth_is}
 use Rattle.txs_verify.proofs.Reached.{gives_passed, passed_end, passed_low}

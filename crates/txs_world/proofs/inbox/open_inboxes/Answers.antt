@@ -1,6 +1,6 @@
 use Rattle.std.proofs.lemmas.List.{take_all}
 use Rattle.std.proofs.Common.{◌∙◌, None, ap, length, arith}
-use Rattle.txs_mail.specs.Mailbox.{PlainMailbox}
+use Rattle.txs_world.specs.Mailbox.{PlainMailbox}
 use Rattle.txs_world.specs.Inboxes.{PlainInbox, empty_inbox, plain_inbox, plain_inboxes, open_inboxes}
 use Rattle.txs_world_book.specs.declared.cell.StoreCell.{StoreCell}
 use Rattle.txs_world.specs.declared.inbox.Inbox.{Inbox}

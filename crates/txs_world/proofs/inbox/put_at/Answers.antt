@@ -1,6 +1,6 @@
 use Rattle.std.proofs.Common.{◌<◌, subst, sym}
 use Rattle.std.proofs.lemmas.List.{length-set}
-use Rattle.txs_mail.specs.Mailbox.{put}
+use Rattle.txs_world.specs.Mailbox.{put}
 use Rattle.txs_world.specs.Inboxes.{with_action}
 use Rattle.txs_world.proofs.Mailing.{new_plain, put_room, old_room, with_mailbox, plain_mailbox}
 use Rattle.txs_world.proofs.inbox.put_at.Goals as goal

@@ -1,6 +1,6 @@
 use Rattle.std.proofs.Common.{◌≡◌, ap, subst, Some, ◌∙◌}
 use Rattle.std.specs.Prelude.{is_some, IfOk}
-use Rattle.txs_mail.specs.Mailbox.{next}
+use Rattle.txs_world.specs.Mailbox.{next}
 use Rattle.txs_world.specs.Inboxes.{PlainInbox, taken_up}
 use Rattle.txs_world_book.proofs.Outcomes.{if_err, on_ok}
 use Rattle.txs_world.proofs.Mailing.{new_plain, same_plain, old_plain}

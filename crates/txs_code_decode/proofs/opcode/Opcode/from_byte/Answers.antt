@@ -1,5 +1,5 @@
 use Rattle.std.proofs.Common.{◌≡◌, ◌<◌, ◌∙◌, ap, sym, rules, arith}
-use Rattle.txs_value_base.specs.Places.{nth}
+use Rattle.txs_value_data.specs.Places.{nth}
 use Rattle.txs_code_decode.specs.InstrForm.{opcodes}
 use Rattle.txs_code_decode.specs.declared.opcode.Opcode.TheVariants.{Const}
 use Rattle.txs_code_decode.proofs.Lists.{nth_is, nth_past}

@@ -1,4 +1,4 @@
-use Rattle.txs_value_base.specs.declared.fault.Fault.{Fault}
+use Rattle.txs_value_data.specs.declared.fault.Fault.{Fault}
 use Rattle.txs_machine_actor.specs.PlainActor.{PlainActor}
 use Rattle.txs_machine_actor.proofs.Trying.{failed_in}
 use Rattle.txs_machine_actor.proofs.actor.Actor.fail_in.Goals as goal

@@ -1,7 +1,7 @@
 use Rattle.std.proofs.Common.{◌≡◌, ◌<◌, Bool, true, false, length, Option, Some, None, sym, subst, rules}
 use Rattle.txs_machine_actor.specs.PlainActor.{PlainActor}
-use Rattle.txs_value_base.specs.Places.{fault_at}
-use Rattle.txs_value_base.specs.declared.fault.FaultKind.TheVariants.{InvalidState}
+use Rattle.txs_value_data.specs.Places.{fault_at}
+use Rattle.txs_value_data.specs.declared.fault.FaultKind.TheVariants.{InvalidState}
 use Rattle.txs_value_data.specs.declared.value.CellId.{CellId}
 use Rattle.txs_machine_loop.specs.Values.{last_of}
 use Rattle.txs_machine_actor.specs.Turns.{Check, GivesFor, HandedBy, Raises, agent_in, unjudged, without_last}

@@ -1,5 +1,5 @@
 use Rattle.std.proofs.Common.{◌≡◌, ℕ, true, sym, subst}
-use Rattle.txs_value_base.specs.declared.op.Callee.{Callee}
+use Rattle.txs_value_data.specs.declared.op.Callee.{Callee}
 use Rattle.txs_value_apply.specs.Core.{takes}
 use Rattle.txs_machine_actor.specs.Turns.{CanBegin, CanJudge, Judges}
 use Rattle.txs_machine_actor.proofs.actor.Actor.judge.Goals as goal

@@ -1,7 +1,7 @@
 use Rattle.std.proofs.Common.{◌≡◌, ℕ, true, List, [], ◌∷◌, length, ◌∙◌, ap, sym, subst}
 use Rattle.txs_machine_actor.specs.PlainActor.{PlainActor}
 use Rattle.txs_value_data.specs.declared.value.Value.{Value}
-use Rattle.txs_value_base.specs.declared.op.Callee.{Callee}
+use Rattle.txs_value_data.specs.declared.op.Callee.{Callee}
 use Rattle.txs_value_apply.specs.Core.{core, takes}
 use Rattle.txs_machine_loop.specs.Values.{last_of}
 use Rattle.txs_machine_actor.specs.Turns.{AnswersForAtOnce, CanBegin, CanJudge, JudgesFor}

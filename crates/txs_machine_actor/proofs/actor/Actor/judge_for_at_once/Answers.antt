@@ -1,7 +1,7 @@
 use Rattle.std.proofs.Common.{Some, Err, ap, sym, subst, inl, inr}
 use Rattle.txs_machine_actor.specs.PlainActor.{PlainActor}
 use Rattle.txs_value_apply.specs.Core.{Answer, Answers as ApplyAnswers, core}
-use Rattle.txs_value_base.specs.declared.fault.Stop.{Stop}
+use Rattle.txs_value_data.specs.declared.fault.Stop.{Stop}
 use Rattle.txs_machine_actor.specs.Turns.{AnsweredFor, AnswersForAtOnce}
 use Rattle.txs_machine_actor.proofs.Looking.{at_once_for}
 use Rattle.txs_machine_actor.proofs.actor.Actor.judge_for_at_once.Goals as goal

@@ -1,7 +1,7 @@
 use Rattle.std.proofs.Common.{subst}
 use Rattle.txs_machine_actor.specs.PlainActor.{PlainActor}
-use Rattle.txs_value_base.specs.Places.{fault_at}
-use Rattle.txs_value_base.specs.declared.fault.FaultKind.TheVariants.{InvalidState}
+use Rattle.txs_value_data.specs.Places.{fault_at}
+use Rattle.txs_value_data.specs.declared.fault.FaultKind.TheVariants.{InvalidState}
 use Rattle.txs_machine_actor.specs.Turns.{Raises, unjudged}
 use Rattle.txs_machine_actor.proofs.actor.Actor.refuse.Goals as goal
 

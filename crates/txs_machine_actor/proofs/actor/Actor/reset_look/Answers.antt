@@ -3,7 +3,7 @@ use Rattle.txs_value_cell.specs.Cells.{validators_of}
 use Rattle.txs_value_cell.specs.Forms.{rule, cell_of}
 use Rattle.txs_value_cell.specs.declared.form.CellForm.TheVariants as form
 use Rattle.txs_value_cell.specs.declared.form.PutForm.TheVariants as put
-use Rattle.txs_value_base.specs.declared.fault.FaultKind.{FaultKind}
+use Rattle.txs_value_data.specs.declared.fault.FaultKind.{FaultKind}
 use Rattle.txs_value_data.specs.declared.value.CellId.{CellId}
 use Rattle.txs_machine_loop.specs.Values.{under}
 use Rattle.txs_machine_actor.specs.Turns.{IsLook, reset_check}

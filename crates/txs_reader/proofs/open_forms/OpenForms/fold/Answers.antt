@@ -1,6 +1,6 @@
 use Rattle.std.proofs.Common.{◌∷◌, ◌+◌, [], ℕ, List, take, drop, refl, ap, ◌∙◌, arith}
 use Rattle.txs_value_data.specs.Names.{is_symbol_byte}
-use Rattle.txs_value_base.specs.declared.fault.Span.{Span}
+use Rattle.txs_value_data.specs.declared.fault.Span.{Span}
 use Rattle.txs_reader.specs.declared.form.Bracket.TheVariants.{Round}
 use Rattle.txs_reader.specs.OpenForms.{opens}
 use Rattle.txs_reader.specs.Rows.{before_all, divided}

@@ -1,7 +1,7 @@
 use Rattle.std.proofs.Common.{sym, subst}
 use Rattle.txs_reader.specs.Tree.{trees}
 use Rattle.txs_resolve.specs.Names.{Resolves}
-use Rattle.txs_tree.specs.View.{program_of}
+use Rattle.txs_tree_meaning.specs.View.{program_of}
 use Rattle.txs_compile.proofs.OwnCells.{names_own_cells}
 use Rattle.txs_test_program.proofs.fronts.code.is_generated.Goals as goal
 

@@ -1,6 +1,6 @@
 use Rattle.std.proofs.Common.{◌≡◌, ◌∙◌, Err, None, ap, refl, subst, sym, true}
-use Rattle.txs_value_base.specs.Places.{fault_at}
-use Rattle.txs_value_base.specs.declared.fault.FaultKind.TheVariants.{AgentFailed}
+use Rattle.txs_value_data.specs.Places.{fault_at}
+use Rattle.txs_value_data.specs.declared.fault.FaultKind.TheVariants.{AgentFailed}
 use Rattle.txs_world_book.specs.Book.{are_sends, first_failed, may_send}
 use Rattle.txs_world.proofs.Answering.{finishes_failed, finishes_so}
 use Rattle.txs_world.proofs.store.Store.finish.Goals as goal

@@ -1,6 +1,0 @@
-use Rattle.std.proofs.Common.{◌≡◌, drop}
-use Rattle.txs_audit_event.specs.Asking.{is_buffered}
-use Rattle.txs_audit_event.proofs.disturbing.is_written_by.Given as goal
-
-abbrev pub invariant-loop-write : goal.invariant-loop-write
-invariant-loop-write l = is_buffered (drop l.write-index l.writes) l.number ≡ is_buffered l.writes l.number

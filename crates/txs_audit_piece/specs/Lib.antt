@@ -1,2 +1,0 @@
-pub mod Ended
-pub mod Judged

@@ -1,3 +1,0 @@
-pub mod Many
-pub mod Named
-pub mod Rows

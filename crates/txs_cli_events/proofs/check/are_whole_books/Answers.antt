@@ -1,0 +1,6 @@
+use Rattle.std.proofs.Common.{arith}
+use Rattle.txs_cli_events.proofs.Counting.{book_over}
+use Rattle.txs_cli_events.proofs.check.are_whole_books.Goals as goal
+
+pub returns : goal.returns
+returns c = λ t. book_over c.args.report.now c.args.counts.now c.requires.one_each (λ j l. c.loop-book.invariant j (omega (arith, l)))

@@ -1,5 +1,0 @@
-use Rattle.txs_cli_names.proofs.Tables.{said_in-seen}
-use Rattle.txs_cli_names.proofs.clojure.instead_of_call.Goals as goal
-
-pub returns : goal.returns
-returns c = said_in-seen (λ said. said.now) _ _ _ _ c.in_rows.ensures

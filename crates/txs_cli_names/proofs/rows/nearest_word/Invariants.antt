@@ -1,6 +1,0 @@
-use Rattle.std.proofs.Common.{map}
-use Rattle.txs_cli_names.specs.Nears.{Nearest}
-use Rattle.txs_cli_names.proofs.rows.nearest_word.Given as goal
-
-abbrev pub invariant-loop-it : goal.invariant-loop-it
-invariant-loop-it l = Nearest (map (λ it. it.now) l.yielded) l.initial.best l.best

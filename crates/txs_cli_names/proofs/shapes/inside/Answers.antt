@@ -1,7 +1,0 @@
-use Rattle.txs_cli_names.specs.Language.{form_shape}
-use Rattle.txs_cli_names.proofs.Tables.{said_in-seen}
-use Rattle.txs_cli_names.proofs.shapes.inside.Goals as goal
-
-pub returns : goal.returns
-unfolding form_shape
-returns c = said_in-seen (λ said. said.now) _ _ _ _ c.in_rows.ensures

@@ -1,2 +1,0 @@
-pub mod EventLines
-pub mod Plays

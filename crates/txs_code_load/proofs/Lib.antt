@@ -1,4 +1,0 @@
-pub mod Formed
-pub mod Kept
-pub mod Refusals
-pub mod NoForm

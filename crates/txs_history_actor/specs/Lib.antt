@@ -1,2 +1,0 @@
-pub mod Actor
-pub mod Callees

@@ -1,0 +1,419 @@
+//! An actor with what it has seen of the history.
+
+ghost use Rattle.std.specs.Prelude.{◌≡◌, ◌<◌, ◌≤◌, ℕ, length, true, false, ◌++◌, ◌∷◌, [], None, Some, IfSome, IsTrue, IsFalse, vec_capacity, vec_len};
+ghost use mathlib.Core.List.{IsPrefix};
+ghost use Rattle.txs_world_protocol.specs.Ask.{may_add_event};
+ghost use Rattle.txs_machine_actor.specs.PlainActor.{Lives};
+ghost use Rattle.txs_machine_actor.specs.Turns.{IsNew};
+ghost use Rattle.txs_history_run.specs.Actor.{IsFollowing, made_with, noted};
+ghost use Rattle.txs_history_run.specs.Callees.{AreCallees, HandsOutSent};
+ghost use Rattle.txs_history_run.specs.declared.actor.AfterReply.TheVariants as after;
+ghost use Rattle.txs_history_run.specs.declared.actor.Next.TheVariants as next;
+ghost use Rattle.txs_history_run.specs.declared.step.Step.TheVariants as step;
+ghost use Rattle.txs_history.specs.History.{HasOthers};
+ghost use Rattle.txs_history.specs.Logged.{is_memory, MayNot};
+ghost use Rattle.txs_history.specs.declared.serve.Served.{Served};
+ghost use Rattle.txs_world_protocol.specs.SeenEvent.{home};
+ghost use Rattle.txs_world_protocol.specs.declared.ask.Ask.{Ask};
+ghost use Rattle.txs_world_protocol.specs.declared.event.Outcome.{Outcome};
+
+use crate::callees::hands_out;
+use crate::step::Step;
+use std::alloc::Global;
+use std::marker::Model;
+use std::mem;
+use txs_code_meaning::Verified;
+use txs_gate::Made;
+use txs_history::{Asked, LoggedAtom, LoggedStore, Past, Run, Served, StandsFor};
+use txs_machine::Player;
+use txs_machine_actor::{Actor, Turn, actors_run};
+use txs_theorem_runs::law::typed_stands;
+use txs_value_data::{CellId, CellKind};
+use txs_world_protocol::{Ask, Outcome, Place, Reply};
+
+/// What an actor's turns came to.
+#[derive(Clone, Copy)]
+pub enum Next {
+    /// It goes on.
+    Went,
+    /// It waits with an ask.
+    Asks,
+    /// It has ended.
+    Ended,
+    /// It made no turn, since it waits with an ask or an answer, or met what no run gives.
+    Waits,
+}
+
+/// What an actor that took an answer is to do next.
+#[derive(Clone, Copy)]
+pub enum AfterReply {
+    /// It goes on.
+    GoesOn,
+    /// It goes on within its transaction, whose commutes are made again.
+    Redoes,
+    /// Its transaction runs again.
+    Again,
+    /// Nothing waits for its agent.
+    Idle,
+    /// It had no answer to take, or was handed an action that no code sends: it does no more.
+    Broken,
+}
+
+/// For what an actor stands: for the ask that it waits with.
+pub struct Waiting;
+
+impl StandsFor<Actor, Asked> for Waiting {
+    ghost use Rattle.txs_history_run.specs.Actor.{asked_of};
+
+    ghost event = { λ a. asked_of a };
+}
+
+/// An actor, of a thread or of an agent, with a reference to its code, the places of its events, how many asks it made, and what it has seen of the history.
+pub struct LoggedActor<'a, J: Run> {
+    code: &'a Verified,
+    /// Of each function, whether it is the callee of a send to which a path of the code comes.
+    callees: &'a [bool],
+    player: Player,
+    asks: u64,
+    past: Past<Asked, J>,
+    step: Step,
+}
+
+// Dropped by a call that is proved here, so that no crate above proves it again.
+impl<'a, J: Run> Drop for LoggedActor<'a, J> {
+    fn drop(self) {
+        let LoggedActor {
+            code: _,
+            callees: _,
+            player,
+            asks: _,
+            past,
+            step,
+        } = self;
+        drop(player);
+        drop(past);
+        drop(step);
+    }
+}
+
+impl<'a, J: Run> Model for LoggedActor<'a, J> {
+    ghost use Rattle.std.specs.Prelude.{◌≡◌};
+    ghost use Rattle.txs_history_run.specs.Actor.{PlainLogged, IsLogged};
+    ghost use Rattle.txs_history_run.specs.Callees.{AreCallees};
+    ghost use Rattle.std.specs.Coded.{codes};
+    ghost use Rattle.txs_value_data.specs.contracts.value.Value as value;
+
+    ghost Value = { PlainLogged };
+
+    ghost coded = { Prim.hlevel (codes, value.the_row.coded) };
+
+    ghost view = { λ p. record { player = p.player; asks = p.asks; past = p.past; step = p.step } };
+
+    ghost invariant = { λ p. (p.code.now ≡ J.code) × AreCallees p.code.now p.callees.now × IsLogged J.code J.limit (record { player = p.player; asks = p.asks; past = p.past; step = p.step }) };
+}
+
+/// What an actor is to do next, by the reply that it takes.
+fn after_reply(reply: &Reply) -> AfterReply
+    ensures { result ≡ after.Broken → ⊥ }
+{
+    match reply {
+        Reply::Retry(_) => AfterReply::Again,
+        Reply::Changed(cell) => redone(*cell),
+        Reply::Idle => AfterReply::Idle,
+        _ => AfterReply::GoesOn,
+    }
+}
+
+/// What an actor does whose commit or swap found this cell changed.
+fn redone(cell: CellId) -> AfterReply
+    ensures { result ≡ after.Broken → ⊥ }
+{
+    match cell.kind {
+        CellKind::Ref => AfterReply::Redoes,
+        _ => AfterReply::GoesOn,
+    }
+}
+
+impl<'a, J: Run> LoggedActor<'a, J> {
+    /// An actor before its first turn, which has seen a beginning of the history. The callees are the functions that the code sends, as `sent_functions` lists them.
+    pub fn new(
+        alloc: Global,
+        code: &'a Verified,
+        callees: &'a [bool],
+        actor: Actor,
+        past: Past<Asked, J>,
+    ) -> LoggedActor<'a, J>
+        requires code { code.now ≡ J.code }
+        requires callees { AreCallees code.now callees.now }
+        requires lives { Lives code.now actor }
+        requires new { IsNew code.now actor.number J.limit actor }
+        ensures actor { result.player.actor ≡ actor }
+        ensures asks { result.asks ≡ 0 }
+        ensures step { result.step ≡ step.Runs }
+    {
+        // Laws that the proof uses; they do nothing when they run.
+        actors_run();
+        typed_stands();
+        let (_functions, _threads) = code.rooms();
+        LoggedActor {
+            code,
+            callees,
+            player: Player {
+                actor,
+                trace: Vec::new(alloc),
+            },
+            asks: 0,
+            past,
+            step: Step::Runs,
+        }
+    }
+}
+
+/// Makes room for the place of an event that an ask may add: whether there is.
+fn has_room(trace: &mut Vec<Place>, ask: &Ask) -> bool
+    ensures same { trace.new.items ≡ trace.old.items }
+    ensures adds { result ≡ false → may_add_event ask.now ≡ true }
+    ensures room { IsTrue result → may_add_event ask.now ≡ true → vec_len trace.new < vec_capacity trace.new }
+{
+    if !ask.may_add_event() {
+        return true;
+    }
+    trace.reserve(1).is_ok()
+}
+
+impl<'a, J: Run> LoggedActor<'a, J> {
+    /// Up to so many turns: an ask or an end is the last. Where it asks, and there is no memory for the place of the event that the ask may add, it has ended so.
+    pub fn run(&mut self, budget: u64) -> Next
+        ensures number { self.new.player.actor.number ≡ self.old.player.actor.number }
+        ensures past { self.new.past ≡ self.old.past }
+        ensures asks { self.new.asks ≡ self.old.asks }
+        ensures went { result ≡ next.Went → self.new.step ≡ step.Runs }
+        ensures waits { result ≡ next.Waits → self.old.step ≡ step.Runs → ⊥ }
+        ensures asked { result ≡ next.Asks → (q : Ask) × (self.new.step ≡ step.Asks q) }
+        ensures ended { result ≡ next.Ended → (self.new.step ≡ step.Runs) × ((o : Outcome) × (self.new.player.actor.outcome ≡ Some o)) }
+    {
+        // A law that the proof uses; it does nothing when it runs.
+        actors_run();
+        let Step::Runs = &self.step else {
+            return Next::Waits;
+        };
+        let mut turn = Turn::Went;
+        self.player.actor.run(self.code, budget, &mut turn);
+        match turn {
+            Turn::Went => Next::Went,
+            Turn::Ended(_) => Next::Ended,
+            Turn::Asks(ask) => {
+                if has_room(&mut self.player.trace, &ask) {
+                    self.step = Step::Asks(ask);
+                    return Next::Asks;
+                }
+                drop(ask);
+                self.player.actor.answer(self.code, Reply::Memory);
+                Next::Ended
+            }
+        }
+    }
+}
+
+/// How many asks were made, with one that was answered so: where there was no memory for it nothing was served.
+fn made_with(asks: u64, reply: &Reply) -> u64
+    requires { asks < 18446744073709551615 }
+    ensures { result ≡ made_with (is_memory reply.now) asks }
+{
+    match reply {
+        Reply::Memory => asks,
+        _ => asks + 1,
+    }
+}
+
+impl<'a, J: Run> LoggedActor<'a, J> {
+    /// Its ask is served by the store, behind all that it has seen: whether it was. One whose ask isn't served does no more: it has made 2^64 - 1 asks,
+    /// may not ask this, or the store is broken.
+    pub fn ask_store(&mut self, store: &mut LoggedStore<J>) -> bool
+        ensures number { self.new.player.actor.number ≡ self.old.player.actor.number }
+        ensures served { IsTrue result → (v : Served) × (self.new.step ≡ step.Answered 0 v) }
+        ensures unserved { IsFalse result → store.new.broken ≡ false → (q : Ask) → self.old.step ≡ step.Asks q → self.old.asks < 18446744073709551615 → MayNot J.code.cells (length J.code.threads) 0 self.old.player.actor.number q store.old.log.log }
+        ensures breaks { store.new.broken ≡ true → store.old.broken ≡ false → HasOthers 0 store.old.log.log self.old.past self.new.past }
+    {
+        let Step::Asks(ask) = mem::replace(&mut self.step, Step::Broken) else {
+            return false;
+        };
+        if self.asks == u64::MAX {
+            drop(ask);
+            return false;
+        }
+        let number = self.player.actor.number();
+        let Some(served) = store.serve::<Actor, Waiting>(
+            &mut self.past,
+            &self.player.actor,
+            number,
+            ask,
+        ) else {
+            return false;
+        };
+        self.asks = made_with(self.asks, &served.reply);
+        self.step = Step::Answered(0, served);
+        true
+    }
+}
+
+impl<'a, J: Run> LoggedActor<'a, J> {
+    /// Its ask is served by an atom, behind all that it has seen: whether it was. One whose ask isn't served does no more: it has made 2^64 - 1 asks,
+    /// may not ask this, or the atom is broken.
+    pub fn ask_atom(&mut self, atom: &mut LoggedAtom<J>) -> bool
+        ensures number { self.new.player.actor.number ≡ self.old.player.actor.number }
+        ensures served { IsTrue result → (v : Served) × (self.new.step ≡ step.Answered (home J.code.cells atom.old.atom.cell) v) }
+        ensures unserved { IsFalse result → atom.new.broken ≡ false → (q : Ask) → self.old.step ≡ step.Asks q → self.old.asks < 18446744073709551615 → MayNot J.code.cells (length J.code.threads) (home J.code.cells atom.old.atom.cell) self.old.player.actor.number q atom.old.log.log }
+        ensures breaks { atom.new.broken ≡ true → atom.old.broken ≡ false → HasOthers (home J.code.cells atom.old.atom.cell) atom.old.log.log self.old.past self.new.past }
+    {
+        let Step::Asks(ask) = mem::replace(&mut self.step, Step::Broken) else {
+            return false;
+        };
+        if self.asks == u64::MAX {
+            drop(ask);
+            return false;
+        }
+        let number = self.player.actor.number();
+        let lock = atom.lock();
+        let Some(served) = atom.serve::<Actor, Waiting>(
+            &mut self.past,
+            &self.player.actor,
+            number,
+            ask,
+        ) else {
+            return false;
+        };
+        self.asks = made_with(self.asks, &served.reply);
+        self.step = Step::Answered(lock, served);
+        true
+    }
+}
+
+/// Notes the place of an event, if one was added.
+fn note(trace: &mut Vec<Place>, lock: u64, at: u32, added: bool)
+    requires room { added ≡ true → vec_len trace.old < vec_capacity trace.old }
+    requires few { lock ≤ 65536 }
+    ensures { trace.new.items ≡ noted added lock at trace.old.items }
+{
+    if added {
+        trace.push_reserved(Place {
+            book: lock as u32,
+            at,
+        });
+    }
+}
+
+impl<'a, J: Run> LoggedActor<'a, J> {
+    /// It takes the answer to its ask, and notes the place of the event that was added. One that has no answer, or is handed an action that
+    /// no code sends, does no more.
+    pub fn go_on(&mut self) -> AfterReply
+        ensures number { self.new.player.actor.number ≡ self.old.player.actor.number }
+        ensures past { self.new.past ≡ self.old.past }
+        ensures asks { self.new.asks ≡ self.old.asks }
+        ensures goes { (result ≡ after.Broken → ⊥) → self.new.step ≡ step.Runs }
+        ensures broken { result ≡ after.Broken → (lock : ℕ) (v : Served) → self.old.step ≡ step.Answered lock v → HandsOutSent J.code v.reply → ⊥ }
+    {
+        // A law that the proof uses; it does nothing when it runs.
+        actors_run();
+        let Step::Answered(lock, served) = mem::replace(&mut self.step, Step::Broken) else {
+            return AfterReply::Broken;
+        };
+        let Served { reply, at, added } = served;
+        if !hands_out(self.code, self.callees, &reply) {
+            drop(reply);
+            return AfterReply::Broken;
+        }
+        note(&mut self.player.trace, lock, at, added);
+        let next = after_reply(&reply);
+        self.player.actor.answer(self.code, reply);
+        self.step = Step::Runs;
+        next
+    }
+}
+
+impl<'a, J: Run> LoggedActor<'a, J> {
+    /// The ask that it waits with, if it waits with one.
+    pub fn asked(&self) -> Option<&Ask>
+        ensures is { IfSome result (λ q. self.now.step ≡ step.Asks q.now) }
+        ensures none { result ≡ None → (q : Ask) → self.now.step ≡ step.Asks q → ⊥ }
+    {
+        match &self.step {
+            Step::Asks(ask) => Some(ask),
+            _ => None,
+        }
+    }
+
+    /// Its ask that was served, where it is to go on with the answer.
+    pub fn served(&self) -> Option<Made>
+        ensures is { IfSome result (λ m. (v : Served) × (self.now.step ≡ step.Answered m.lock v) × (m.at ≡ v.at) × (m.added ≡ v.added)) }
+        ensures none { result ≡ None → (lock : ℕ) (v : Served) → self.now.step ≡ step.Answered lock v → ⊥ }
+    {
+        match &self.step {
+            Step::Answered(lock, served) => Some(Made {
+                lock: *lock,
+                at: served.at,
+                added: served.added,
+            }),
+            _ => None,
+        }
+    }
+
+    /// The number of its actor.
+    pub fn number(&self) -> u16
+        ensures { result ≡ self.now.player.actor.number }
+    {
+        self.player.actor.number()
+    }
+
+    /// How many asks it made that were served.
+    pub fn asks(&self) -> u64
+        ensures { result ≡ self.now.asks }
+    {
+        self.asks
+    }
+
+    /// How it ended, if it has.
+    pub fn outcome(&self) -> Option<Outcome>
+        ensures { result ≡ self.now.player.actor.outcome }
+    {
+        self.player.actor.outcome()
+    }
+
+    /// Whether it is to run, so that no ask of it waits. Then it follows what it has seen.
+    pub fn runs(&self) -> bool
+        ensures runs { IsTrue result → self.now.step ≡ step.Runs }
+        ensures waits { IsFalse result → self.now.step ≡ step.Runs → ⊥ }
+        ensures follows { IsTrue result → IsFollowing J.code self.now.player.actor self.now.player.trace.items self.now.asks self.now.past }
+        ensures limit { self.now.player.actor.limit ≡ J.limit }
+    {
+        match &self.step {
+            Step::Runs => true,
+            _ => false,
+        }
+    }
+
+    /// A past then has seen what the actor has.
+    pub fn show(&self, past: &mut Past<Asked, J>)
+        ensures own { IsPrefix past.old past.new }
+        ensures actor { IsPrefix self.now.past past.new }
+    {
+        past.learn_past(&self.past);
+    }
+
+    /// The actor, with the places of its events.
+    pub fn into_player(self) -> Player
+        ensures { result ≡ self.entry.player }
+    {
+        let LoggedActor {
+            code: _,
+            callees: _,
+            player,
+            asks: _,
+            past,
+            step,
+        } = self;
+        drop(past);
+        drop(step);
+        player
+    }
+}

@@ -1,4 +1,0 @@
-pub mod Asking
-pub mod Locking
-pub mod Noting
-pub mod Serving

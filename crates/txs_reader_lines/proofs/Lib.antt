@@ -1,8 +1,0 @@
-mod Parts
-mod Growing
-mod Steps
-mod Signs
-mod TwoLines
-mod Plain
-mod Held
-mod Safety

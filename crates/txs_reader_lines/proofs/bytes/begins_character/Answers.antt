@@ -1,5 +1,0 @@
-use Rattle.std.proofs.Common.{rules}
-use Rattle.txs_reader_lines.proofs.bytes.begins_character.Goals as goal
-
-pub returns : goal.returns
-returns c = search rules

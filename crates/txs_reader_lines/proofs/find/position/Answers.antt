@@ -1,8 +1,0 @@
-use Rattle.std.proofs.Common.{rules}
-use Rattle.txs_reader_lines.proofs.find.position.Goals as goal
-
-pub returns-clause-line : goal.returns-clause-line
-returns-clause-line c = search rules
-
-pub returns-clause-column : goal.returns-clause-column
-returns-clause-column c = search rules

@@ -1,5 +1,0 @@
-use Rattle.txs_reader_lines.proofs.Plain.{pointed-plain}
-use Rattle.txs_reader_lines.proofs.law.plain_lines_stay.Goals as goal
-
-pub returns : goal.returns
-returns c = pointed-plain

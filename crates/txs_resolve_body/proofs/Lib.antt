@@ -1,9 +1,0 @@
-pub mod Building
-pub mod Fillings
-pub mod Leaves
-pub mod LevelLists
-pub mod Literals
-pub mod Marks
-pub mod NodeTrees
-pub mod Stops
-pub mod TreeRows

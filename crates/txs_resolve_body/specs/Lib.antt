@@ -1,5 +1,0 @@
-pub mod Depths
-pub mod Given
-pub mod Literals
-pub mod Made
-pub mod Walk

@@ -1,4 +1,0 @@
-pub mod Heads
-pub mod Meanings
-pub mod Nearest
-pub mod Scopes

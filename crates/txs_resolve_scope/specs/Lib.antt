@@ -1,3 +1,0 @@
-pub mod Nearest
-pub mod Scope
-pub mod Viewed

@@ -1,5 +1,0 @@
-use Rattle.txs_theorem_audit_eval.proofs.Evaluating.{calm_found_told}
-use Rattle.txs_theorem_audit_eval.proofs.calm_is_answered.Goals as goal
-
-pub returns : goal.returns
-returns c = calm_found_told

@@ -1,5 +1,0 @@
-use Rattle.txs_theorem_audit_eval.proofs.Evaluating.{least_told}
-use Rattle.txs_theorem_audit_eval.proofs.least_is_answered.Goals as goal
-
-pub returns : goal.returns
-returns c = least_told

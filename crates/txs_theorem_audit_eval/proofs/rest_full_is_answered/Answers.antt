@@ -1,5 +1,0 @@
-use Rattle.txs_theorem_audit_eval.proofs.Evaluating.{rest_full_told}
-use Rattle.txs_theorem_audit_eval.proofs.rest_full_is_answered.Goals as goal
-
-pub returns : goal.returns
-returns c = rest_full_told

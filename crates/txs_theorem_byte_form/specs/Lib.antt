@@ -1,3 +1,0 @@
-pub mod Law
-pub mod ReadForms
-pub mod ReadProgram

@@ -1,6 +1,0 @@
-pub mod Cuts
-pub mod Cycle
-pub mod Reached
-pub mod Rounds
-pub mod Timed
-pub mod Within

@@ -1,9 +1,0 @@
-pub mod Comes
-pub mod Keeping
-pub mod Ordered
-pub mod Playing
-pub mod Plays
-pub mod Senders
-pub mod Times
-pub mod Traces
-pub mod Walk

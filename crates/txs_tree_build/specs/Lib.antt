@@ -1,4 +1,0 @@
-pub mod Everywhere
-pub mod Locals
-pub mod Shapes
-pub mod Shift

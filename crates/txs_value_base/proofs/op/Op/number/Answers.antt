@@ -1,5 +1,0 @@
-use Rattle.std.proofs.Common.{rules}
-use Rattle.txs_value_base.proofs.op.Op.number.Goals as goal
-
-pub returns : goal.returns
-returns c = search rules

@@ -1,0 +1,5 @@
+use Rattle.std.proofs.Common.{rules}
+use Rattle.txs_world.proofs.mailbox.Mailbox.give_back.Goals as goal
+
+pub returns : goal.returns
+returns c = search rules
