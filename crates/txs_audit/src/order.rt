@@ -8,8 +8,8 @@ ghost use Rattle.txs_audit_order.specs.Named.{off_in};
 
 use std::alloc::{AllocError, Global};
 use txs_audit_evidence::Books;
-use txs_audit_evidence::naming::index_of;
 use txs_audit_order::out_of_order;
+use txs_audit_order::places::index_of;
 use txs_world_protocol::Place;
 
 /// The actor of the event at a place, and the index at which its trace names it; none where there is no such event.

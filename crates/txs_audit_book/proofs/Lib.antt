@@ -4,6 +4,7 @@ pub mod Earlier
 pub mod Found
 pub mod Histories
 pub mod Mailing
+pub mod Numbering
 pub mod Pasts
 pub mod Reading
 pub mod Sources

@@ -2,7 +2,9 @@ pub mod Answered
 pub mod Ended
 pub mod Gone
 pub mod Judged
+pub mod Leaving
 pub mod Moves
+pub mod Numbered
 pub mod Replayed
 pub mod Swapped
 pub mod Tests

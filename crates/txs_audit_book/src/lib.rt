@@ -7,10 +7,13 @@
 
 pub mod acts;
 pub mod atom;
+pub mod bounds;
 pub mod endings;
 pub mod ends;
 pub mod finding;
 mod inbox;
+pub mod left;
+pub mod numbers;
 mod parts;
 pub mod replay;
 mod stands;

@@ -1,12 +1,11 @@
 -- What differs in an action that is over with an act that an entry names, and at an agent's end.
-use Rattle.std.proofs.Common.{◌≡◌, ◌-◌, ℕ, List, length, take, Option, Some, None, refl, sym, ap, ◌∙◌}
+use Rattle.std.proofs.Common.{◌≡◌, ◌-◌, ℕ, List, length, take, Option, Some, None, refl, sym, ap, ◌∙◌, false}
 use Rattle.txs_value_data.specs.Places.{nth}
 use Rattle.txs_world_protocol.specs.declared.event.Event.{Event}
 use Rattle.txs_world_protocol.specs.declared.event.EventKind.{EventKind}
 use Rattle.txs_world_protocol.specs.declared.event.EventKind.TheVariants.{Read, Commit, Retry, Fail, Refused, Send, SendRefused, Act, Swap, Broke}
 use Rattle.txs_world.specs.Store.{next_action}
 use Rattle.txs_world_book.specs.Served.{cells_of}
-use Rattle.std.proofs.Common.{false}
 use Rattle.std.proofs.lemmas.Bool.{false≢true}
 use Rattle.txs_tree_meaning.specs.Tree.{PlainProgram}
 use Rattle.txs_tree_meaning.specs.View.{program_of}

@@ -10,7 +10,7 @@ use Rattle.txs_tree_meaning.specs.View.{program_of}
 use Rattle.txs_world_protocol.specs.declared.event.Place as event
 use Rattle.txs_world_protocol.specs.declared.report.ActorReport.{ActorReport}
 use Rattle.txs_audit_evidence.specs.Evidence.{AreLegal, PlainBooks}
-use Rattle.txs_audit_evidence.proofs.Numbering.{agents_few}
+use Rattle.txs_audit_book.proofs.Numbering.{agents_few}
 use Rattle.txs_theorem_audit.specs.Audited.{Finding, Fine, Off, Short, PlainActorReport, PlainReport, books_of, place_of, ran_as}
 use Rattle.txs_theorem_audit.proofs.Agreeing.{sized_of}
 use Rattle.txs_theorem_audit.proofs.Findings.{not_there}

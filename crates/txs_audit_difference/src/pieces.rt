@@ -14,7 +14,7 @@ ghost use Rattle.txs_theorem_audit.specs.Pieces.{acts_print};
 ghost use Rattle.txs_theorem_audit.specs.Verdict.{is_sent_call, least_of, printed_by};
 ghost use Rattle.txs_theorem_audit.specs.Evaluated.{means_on};
 ghost use Rattle.txs_audit_evidence.specs.Acted.{HasAct};
-ghost use Rattle.txs_audit_evidence.specs.Named.{plain_trace};
+ghost use Rattle.txs_audit_order.specs.Named.{plain_trace};
 ghost use Rattle.txs_audit_event.specs.Meant.{MayDo, doer_means, held_by, thread_means};
 ghost use Rattle.txs_audit_difference.specs.Pieces.{act_what_in, acted_what, at_event, at_or_behind, end_of_agent, end_what_in, in_action, needed_by, needed_of, over_what, still_behind, still_what, thread_end, thread_what, waiting_what};
 ghost use Rattle.txs_audit_event.specs.Transactions.{or_what};

@@ -16,10 +16,10 @@ ghost use Rattle.txs_audit_event.specs.Transactions.{booked_what, gave_what, or_
 use crate::commits::sent_what;
 use crate::what::What;
 use std::alloc::{AllocError, Global};
+use txs_audit_book::bounds::{first_bound, next_bound};
 use txs_audit_book::{ActionEnd, action_end};
 use txs_audit_evidence::Books;
 use txs_audit_evidence::acts::{Act, answered};
-use txs_audit_evidence::bounds::{first_bound, next_bound};
 use txs_audit_evidence::transactions::first_failed;
 use txs_tree_eval::Seen;
 use txs_value_cell::Action;

@@ -10,9 +10,9 @@ ghost use Rattle.txs_theorem_audit.specs.Evaluated.{prints_by};
 ghost use Rattle.txs_audit_event.specs.Meant.{Known, is_right, MayDo, TellsMeant, doer_means, ended_by, of_action, of_thread};
 
 use std::alloc::{AllocError, Global};
+use txs_audit_book::bounds::{first_bound, next_bound, wants_turns};
 use txs_audit_evidence::Books;
 use txs_audit_evidence::acts::answered;
-use txs_audit_evidence::bounds::{first_bound, next_bound, wants_turns};
 use txs_tree_eval::{ActionMeaning, Needs, Seen, ThreadMeaning, TxMeaning, eval_thread};
 use txs_value_cell::Action;
 use txs_value_data::{Fault, Listed, Value};

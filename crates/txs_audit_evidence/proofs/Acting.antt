@@ -40,7 +40,7 @@ use Rattle.txs_audit_evidence.specs.Acted.{HasAct, IsAct, NamesAct}
 use Rattle.txs_audit_evidence.specs.Evidence.{AreLegal, PlainBooks, replay_in}
 use Rattle.txs_audit_evidence.specs.declared.acts.Act as act
 use Rattle.txs_audit_evidence.proofs.Looking.{cells_many}
-use Rattle.txs_audit_evidence.proofs.Numbering.{agents_few}
+use Rattle.txs_audit_book.proofs.Numbering.{agents_few}
 
 -- ---- legal books
 

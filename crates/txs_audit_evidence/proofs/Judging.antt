@@ -6,8 +6,6 @@ use Rattle.std.proofs.lemmas.Bool.{eqb-true}
 use Rattle.std.proofs.lemmas.List.{drop_all, drop_more}
 use Rattle.txs_value_data.specs.Places.{nth}
 use Rattle.txs_value_cell.specs.Agents.{agents_from}
-use Rattle.txs_value_data.specs.declared.value.CellId.{CellId}
-use Rattle.txs_frame.specs.Frame.{has_number}
 use Rattle.txs_world_book.specs.Book.{actors}
 use Rattle.txs_world_book.specs.Served.{cells_of}
 use Rattle.txs_world_book.specs.declared.cell.StoreCell.{StoreCell}
@@ -24,8 +22,9 @@ use Rattle.txs_theorem_audit.specs.Verdict.{atoms_from, is_commit, is_end}
 use Rattle.txs_theorem_audit.specs.Evaluated.{calm_at_by, calm_by, calm_found_by, covered_all_by, covered_if_by, state_of, with_first}
 use Rattle.txs_theorem_serial.specs.Serial.{is_covered}
 use Rattle.txs_audit_evidence.specs.Evidence.{AreLegal, PlainBooks, atoms_in}
-use Rattle.txs_audit_evidence.specs.Named.{plain_trace}
-use Rattle.txs_audit_evidence.specs.Transacted.{covered_by, end_in, end_of}
+use Rattle.txs_audit_order.specs.Named.{plain_trace}
+use Rattle.txs_audit_evidence.specs.Transacted.{covered_by, end_in}
+use Rattle.txs_audit_order.specs.Kinds.{end_of}
 use Rattle.txs_audit_evidence.proofs.Unwritten.{no_end}
 
 -- ---- tests
@@ -89,18 +88,6 @@ end_is_home b legal (suc n) at d is = go (nth b.report.atom_books n) refl
 pub home_of : (b : PlainBooks) → AreLegal b → (book at : ℕ) (o : Option (Bor EventKind)) → option_copied o ≡ end_in (nth (books_of b.report book) at) → IfSome o (λ k. book ≡ 0)
 home_of b legal book at None is = tt
 home_of b legal book at (Some k) is = end_is_home b legal book at k.now (sym is)
-
--- ---- refs by number
-
-or_else : (a b : Bool) → b ≡ true → (a || b) ≡ true
-or_else true b e = refl
-or_else false b e = e
-
--- a ref at an index
-pub number_at : (cs : List CellId) (i k : ℕ) (d : CellId) → i < length cs → ((get_or cs i d).number == k) ≡ true → has_number cs k ≡ true
-number_at [] i k d lt e = absurd (omega (arith, lt))
-number_at (c ∷ cs) zero k d lt e = ap (λ b. b || has_number cs k) e
-number_at (c ∷ cs) (suc i) k d lt e = or_else (c.number == k) (has_number cs k) (number_at cs i k d (omega (arith, lt)) e)
 
 -- ---- what is found
 

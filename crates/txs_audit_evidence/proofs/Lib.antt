@@ -4,9 +4,7 @@ pub mod Bookwise
 pub mod Bounded
 pub mod Ending
 pub mod Judging
-pub mod Locating
 pub mod Looking
-pub mod Numbering
 pub mod Opened
 pub mod Printing
 pub mod SeenWorlds

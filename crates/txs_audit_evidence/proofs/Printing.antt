@@ -22,7 +22,7 @@ use Rattle.txs_theorem_audit.specs.Verdict.{action_covered, action_found, action
 use Rattle.txs_theorem_audit.proofs.Findings.{not_there}
 use Rattle.txs_audit_evidence.specs.Acted.{NamesAct, PrintsOn}
 use Rattle.txs_audit_evidence.specs.Evidence.{PlainBooks}
-use Rattle.txs_audit_evidence.specs.Named.{plain_trace}
+use Rattle.txs_audit_order.specs.Named.{plain_trace}
 use Rattle.txs_audit_evidence.specs.declared.acts.Act as act
 
 -- ---- parts of a trace

@@ -18,7 +18,8 @@ use Rattle.txs_audit_book.specs.Replayed.{IsLegalBook}
 use Rattle.txs_audit_book.specs.Swapped.{atom_test}
 use Rattle.txs_audit_book.specs.Tests.{store_test}
 use Rattle.txs_audit_book.proofs.Mailing.{act_stands, equal}
-use Rattle.txs_audit_book.proofs.Stepping.{agent_in, legal_below}
+use Rattle.txs_audit_book.proofs.Stepping.{legal_below}
+use Rattle.txs_world.proofs.Kept.{agent_in}
 
 -- ---- one event of a legal book
 

@@ -17,14 +17,14 @@ ghost use Rattle.txs_theorem_audit.specs.Verdict.{act_ends, action_covered, acti
 ghost use Rattle.txs_theorem_audit.specs.Evaluated.{means_on, prints_by};
 ghost use Rattle.txs_audit_book.specs.Judged.{as_found};
 ghost use Rattle.txs_audit_evidence.specs.Acted.{HasAct, IsAct, NamesAct, PrintsOn, covered_since, end_by, judged};
-ghost use Rattle.txs_audit_evidence.specs.Named.{plain_entry, plain_trace};
+ghost use Rattle.txs_audit_order.specs.Named.{plain_entry, plain_trace};
 
 use crate::books::Books;
-use crate::bounds::{first_bound, is_short, next_bound, wants_turns};
-use crate::numbers::agents_of;
 use crate::transactions::{Found, first_failed, transactions_found};
 use std::alloc::{AllocError, Global};
+use txs_audit_book::bounds::{first_bound, is_short, next_bound, wants_turns};
 use txs_audit_book::ends::{begins, is_full_stop, is_stopped};
+use txs_audit_book::numbers::agents_of;
 use txs_audit_book::{Finding, Stretch, act_ends, action_end, full_ends, still_ends};
 use txs_theorem_audit::{
     act_is_answered, action_is_answered, action_stays, calm_is_answered, covered_is_answered,

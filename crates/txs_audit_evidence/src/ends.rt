@@ -14,9 +14,9 @@ ghost use Rattle.txs_audit_order.specs.Named.{off_in};
 
 use crate::acts::actor_of;
 use crate::books::Books;
-use crate::numbers::agents_of;
 use std::alloc::{AllocError, Global};
 use txs_audit_book::Terms;
+use txs_audit_book::numbers::agents_of;
 use txs_value_data::CellId;
 use txs_world_protocol::{ActorReport, Outcome};
 

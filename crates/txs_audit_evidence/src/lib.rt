@@ -6,11 +6,7 @@
 
 pub mod acts;
 pub mod books;
-pub mod bounds;
 pub mod ends;
-mod left;
-pub mod naming;
-pub mod numbers;
 pub mod opening;
 pub mod seeing;
 pub mod threads;

@@ -4,24 +4,32 @@ ghost use Rattle.std.specs.Prelude.{◌≡◌, ◌≤◌, ◌&&◌, suc, length,
 ghost use Rattle.txs_value_data.specs.Places.{nth};
 ghost use Rattle.txs_tree_meaning.specs.View.{program_of};
 ghost use Rattle.txs_value_data.specs.Limits.{most_events};
-ghost use Rattle.txs_theorem_audit.specs.Audited.{books_of, report_as};
-ghost use Rattle.txs_theorem_audit.specs.Verdict.{atoms_from, fits_sizes};
+ghost use Rattle.txs_theorem_audit.specs.Audited.{Off, books_of, entry_of, report_as};
+ghost use Rattle.txs_theorem_audit.specs.Verdict.{atoms_from, fits_sizes, index_if};
+ghost use Rattle.txs_audit_book.specs.Judged.{as_found};
 ghost use Rattle.txs_audit_book.specs.Swapped.{SwapsAre};
 ghost use Rattle.txs_audit_evidence.specs.Evidence.{AtomLeft, AtomOpened, AtomsOpened, Opened, StoreLeft, StoreOpened, plain_books, replay_in};
 
 use crate::books::Books;
-use crate::left::{has_failed, has_swapped, has_values};
-use crate::naming::{first_length, off_at};
-use crate::numbers::{agents_of, atoms_of};
 use std::alloc::{AllocError, Global};
 use txs_audit_book::finding::check;
+use txs_audit_book::left::{has_failed, has_swapped, has_values};
+use txs_audit_book::numbers::{agents_of, atoms_of};
 use txs_audit_book::{Finding, Gone, Replay, go_through, go_through_atom};
+use txs_audit_order::places::{first_length, index_of};
 use txs_check::function_table;
 use txs_tree_eval::History;
 use txs_tree_meaning::Program;
 use txs_value_cell::count_agents;
 use txs_value_data::CellId;
 use txs_world_protocol::Report;
+
+/// Off at the event at this index of a book.
+fn off_at(report: &Report, book: u32, actor: u16, at: usize) -> Finding
+    ensures { as_found result ≡ Off actor (index_if book at (entry_of (report_as report.now) actor)) }
+{
+    Finding::Off(actor, index_of(report, book, actor, at))
+}
 
 /// Whether both hold.
 fn both(a: bool, b: bool) -> bool

@@ -1,54 +1,18 @@
 //! The events of a trace with their worlds.
 
 ghost use Rattle.std.specs.Prelude.{◌≡◌, ◌<◌, ◌++◌, ◌∷◌, [], length, IfOk, OnOk};
-ghost use Rattle.txs_world_book.specs.History.{at_of, began_at, view_of};
 ghost use Rattle.txs_tree_eval_transaction.specs.Views.{plain_view, world_of as view_world};
 ghost use Rattle.txs_tree_eval_node.specs.Events.{seen_event, seen_events};
 ghost use Rattle.txs_theorem_runs.specs.Shared.{seen_in, world_of};
 ghost use Rattle.txs_theorem_runs.specs.Told.{seen_of};
 ghost use Rattle.txs_theorem_audit.specs.Audited.{books_of, place_of};
-ghost use Rattle.txs_audit_evidence.specs.Named.{plain_trace};
+ghost use Rattle.txs_audit_order.specs.Named.{plain_trace};
 
 use crate::books::Books;
 use std::alloc::{AllocError, Global};
+use txs_audit_order::kinds::{at_of, view_of};
 use txs_tree_eval::{RefView, Seen};
-use txs_world_protocol::{Cause, EventKind, Place};
-
-/// The index of an event's read point: its own where it has none.
-fn at_of(kind: &EventKind, own: u32) -> u32
-    ensures { result ≡ at_of kind.now own }
-{
-    match kind {
-        EventKind::Commit { at, .. }
-        | EventKind::Fail { at, .. }
-        | EventKind::Refused { at, .. }
-        | EventKind::Broke { at } => *at,
-        EventKind::Retry { since, cause, .. } => began_at(*cause, *since),
-        _ => own,
-    }
-}
-
-/// The index at which a transaction began that had to run again.
-fn began_at(cause: Cause, since: u32) -> u32
-    ensures { result ≡ began_at cause since }
-{
-    match cause {
-        Cause::Outdated | Cause::Held => since,
-        Cause::Commuted { at } => at,
-    }
-}
-
-/// The index of an event's view: its own where it has none.
-fn view_of(kind: &EventKind, own: u32) -> u32
-    ensures { result ≡ view_of kind.now own }
-{
-    match kind {
-        EventKind::Commit { view, .. }
-        | EventKind::Fail { view, .. }
-        | EventKind::Refused { view, .. } => *view,
-        _ => own,
-    }
-}
+use txs_world_protocol::{EventKind, Place};
 
 impl<'a> Books<'a> {
     /// The values of cells behind so many events of a book that has events.

@@ -15,9 +15,9 @@ ghost use Rattle.txs_theorem_audit.specs.Verdict.{thread_ends, thread_found};
 ghost use Rattle.txs_audit_book.specs.Judged.{as_found};
 
 use crate::books::Books;
-use crate::bounds::{first_bound, is_short, next_bound};
 use crate::transactions::{Found, transactions_found};
 use std::alloc::{AllocError, Global};
+use txs_audit_book::bounds::{first_bound, is_short, next_bound};
 use txs_audit_book::ends::is_full_stop;
 use txs_audit_book::{Finding, end_found, full_end};
 use txs_theorem_audit::{

@@ -1,64 +1,33 @@
 //! The transactions of a thread, at the events that ended them.
 
 ghost use Rattle.std.specs.Prelude.{◌≡◌, ◌+◌, ◌^◌, ◌<◌, ◌&&◌, length, true, take, IfOk, IfSome, option_copied};
-ghost use Rattle.txs_frame.specs.Frame.{has_number};
 ghost use Rattle.txs_value_data.specs.Places.{nth};
 ghost use Rattle.txs_world_book.specs.Book.{first_failed};
 ghost use Rattle.txs_world_book.specs.Served.{cells_of};
 ghost use Rattle.txs_theorem_audit.specs.Audited.{Fine, books_of};
-ghost use Rattle.txs_theorem_audit.specs.Verdict.{is_commit, is_end, is_first_failed, is_untouched};
+ghost use Rattle.txs_theorem_audit.specs.Verdict.{is_first_failed, is_untouched};
 ghost use Rattle.txs_theorem_audit.specs.Evaluated.{calm_by, calm_found_by, covered_all_by, state_of};
-ghost use Rattle.txs_theorem_serial.specs.Serial.{are_held, is_covered};
+ghost use Rattle.txs_theorem_serial.specs.Serial.{is_covered};
 ghost use Rattle.txs_audit_book.specs.Judged.{as_found};
-ghost use Rattle.txs_audit_evidence.specs.Named.{plain_trace};
-ghost use Rattle.txs_audit_evidence.specs.Transacted.{covered_by, end_in, end_of, is_among};
+ghost use Rattle.txs_audit_order.specs.Named.{plain_trace};
+ghost use Rattle.txs_audit_evidence.specs.Transacted.{covered_by, end_in};
 
 use crate::books::Books;
 use std::alloc::AllocError;
 use txs_audit_book::Finding;
+use txs_audit_order::held::are_held;
+use txs_audit_order::kinds::{end_of, is_commit};
 use txs_frame::TxFrame;
 use txs_tree_eval::TxMeaning;
 use txs_value_cell::Action;
 use txs_value_data::CellId;
-use txs_world_protocol::{Event, EventKind, Place, same_cell};
+use txs_world_protocol::{EventKind, Place, same_cell};
 
 /// What is found of a piece, and, where that is nothing, whether each of its commits is covered.
 #[derive(Clone, Copy)]
 pub struct Found {
     pub finding: Finding,
     pub serial: bool,
-}
-
-// ---- the events that end transactions
-
-/// Whether an event ends a transaction.
-fn is_end(kind: &EventKind) -> bool
-    ensures { result ≡ is_end kind.now }
-{
-    match kind {
-        EventKind::Commit { .. } | EventKind::Refused { .. } => true,
-        _ => false,
-    }
-}
-
-/// Whether an event is a commit.
-fn is_commit(kind: &EventKind) -> bool
-    ensures { result ≡ is_commit kind.now }
-{
-    match kind {
-        EventKind::Commit { .. } => true,
-        _ => false,
-    }
-}
-
-/// What an event is, where it ends a transaction.
-fn end_of(event: &Event) -> Option<&EventKind>
-    ensures { option_copied result ≡ end_of event.now }
-{
-    if is_end(&event.kind) {
-        return Some(&event.kind);
-    }
-    None
 }
 
 /// What the event at a place is, where it ends a transaction. Then it is one of the store's book.
@@ -144,73 +113,6 @@ fn is_calm(
 }
 
 // ---- whether a transaction is covered
-
-/// Whether the ref with this number is among these.
-fn has_number(refs: &[CellId], number: u16) -> bool
-    ensures { result ≡ has_number refs.now number }
-{
-    for cell in refs {
-        if cell.number == number {
-            return true;
-        }
-    }
-    false
-}
-
-/// The index of the first of these refs, from this one on, whose number is no less.
-fn seek(refs: &[CellId], from: usize, number: u16) -> usize {
-    for at in from..refs.len() {
-        if refs[at].number >= number {
-            return at;
-        }
-    }
-    refs.len()
-}
-
-/// Whether the ref at this index has this number.
-fn is_at(refs: &[CellId], at: usize, number: u16) -> bool
-    ensures { result ≡ true → has_number refs.now number ≡ true }
-{
-    if at >= refs.len() {
-        return false;
-    }
-    refs[at].number == number
-}
-
-/// Whether the ref with this number is among those that were set or those that were ensured, where it is at these indexes if
-/// it is there and their numbers ascend.
-fn is_held(sets: &[CellId], set: usize, ensured: &[CellId], ensure: usize, number: u16) -> bool
-    ensures { result ≡ is_among sets.now ensured.now number }
-{
-    if is_at(sets, set, number) {
-        return true;
-    }
-    if is_at(ensured, ensure, number) {
-        return true;
-    }
-    if has_number(sets, number) {
-        return true;
-    }
-    has_number(ensured, number)
-}
-
-/// Whether each of these refs was set or ensured. All three lists have ascending numbers, so that one pass finds it.
-fn are_held(done: &TxFrame, sets: &[CellId], reads: &[CellId]) -> bool
-    requires { sets.now ≡ done.now.sets }
-    ensures { result ≡ are_held done.now reads.now }
-{
-    let ensured = done.ensured();
-    let mut set = 0;
-    let mut ensure = 0;
-    for read in reads {
-        set = seek(sets, set, read.number);
-        ensure = seek(ensured, ensure, read.number);
-        if !is_held(sets, set, ensured, ensure, read.number) {
-            return false;
-        }
-    }
-    true
-}
 
 /// Whether a transaction set or ensured every ref that it read, and used the result of no commute. It set these refs.
 fn is_covered(meaning: &TxMeaning, sets: &[CellId]) -> bool

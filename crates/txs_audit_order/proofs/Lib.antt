@@ -1,8 +1,11 @@
 pub mod Agreeing
 pub mod Ending
+pub mod Lending
 pub mod Linking
+pub mod Locating
 pub mod Naming
 pub mod Nearing
+pub mod Numbers
 pub mod Passing
 pub mod Sending
 pub mod Sizing

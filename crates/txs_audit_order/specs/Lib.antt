@@ -1,4 +1,6 @@
 pub mod Going
+pub mod Held
+pub mod Kinds
 pub mod Linked
 pub mod Many
 pub mod Named

@@ -1,7 +1,7 @@
 -- How far a trace names an actor's events.
 use Rattle.std.specs.Prelude.{◌≡◌, ◌≤◌, ◌<◌, ℕ, Bool, true, false, ◌&&◌, ◌==◌, ◌+◌, List, [], ◌∷◌, length, map, Option, Some, None}
 use Rattle.std.proofs.Common.{get_or}
-use Rattle.txs_theorem_audit.specs.Audited.{Finding, Fine, Off, place_of, ran_as}
+use Rattle.txs_theorem_audit.specs.Audited.{Finding, Fine, Off, PlainActorReport, place_of, ran_as}
 use Rattle.txs_theorem_audit.specs.Verdict.{begins, in_books, runs_right, trace_found, traces_found}
 use Rattle.txs_theorem_runs.specs.Told.{Place, places_in, places_by}
 use Rattle.txs_world_protocol.specs.declared.event.Event.{Event}
@@ -17,6 +17,11 @@ is_this p (Some q) = q == p
 -- the places of a trace as the laws of runs speak of them
 abbrev pub plain_trace : List event.Place → List Place
 plain_trace ps = map place_of ps
+
+-- an entry that may not be there
+abbrev pub plain_entry : Option ActorReport → Option PlainActorReport
+plain_entry None = None
+plain_entry (Some ran) = Some (ran_as ran)
 
 -- there is a row of this actor in each book
 abbrev pub HasActor : ℕ → List (List (List ℕ)) → Type 0

@@ -3,9 +3,12 @@
 //! when all that came before it is taken.
 #![tactic(auto)]
 
+pub mod held;
+pub mod kinds;
 mod left;
 mod links;
 mod order;
+pub mod places;
 mod rows;
 mod senders;
 mod sizes;

@@ -10,10 +10,10 @@ use Rattle.txs_explore.specs.Told.{explored}
 use Rattle.txs_explore.specs.Ways.{as_way, as_ways}
 use Rattle.txs_explore.specs.declared.ways.Way.{Way}
 use Rattle.txs_machine.specs.declared.schedule.Entries.{Entries}
-use Rattle.txs_theorem_explore.specs.Runners as runs
-use Rattle.txs_theorem_explore.specs.Runners.{asking}
-use Rattle.txs_theorem_explore.specs.Search as searched
-use Rattle.txs_theorem_explore.specs.System.{IsIn}
+use Rattle.txs_explore.specs.Runners as runs
+use Rattle.txs_explore.specs.Runners.{asking}
+use Rattle.txs_explore.specs.Search as searched
+use Rattle.txs_explore.specs.System.{IsIn}
 use Rattle.txs_value_cell.specs.declared.cell.CellDefinition.{CellDefinition}
 use Rattle.txs_value_data.specs.declared.value.CellId.{CellId}
 use Rattle.txs_value_data.specs.declared.value.Value.{Value}

@@ -1,7 +1,7 @@
 -- Outcomes that are listed, one after another.
 use Rattle.std.proofs.Common.{◌≡◌, ◌⊎◌, inl, inr, ◌<◌, ◌≤◌, ◌+◌, ◌++◌, ◌∙◌, ℕ, zero, suc, max, List, [], ◌∷◌, length, take, drop, get_or, refl, sym, ap, subst, arith}
 use Rattle.std.proofs.lemmas.List.{drop_all, take_all}
-use Rattle.txs_theorem_explore.specs.System.{IsIn}
+use Rattle.txs_explore.specs.System.{IsIn}
 use Rattle.txs_cli_explore.specs.Outcomes.{Adds, AreDistinct, AreOutcomes, AreSame, IsNew, highest}
 use Rattle.txs_cli_explore.specs.declared.outcomes.Outcome.{Outcome}
 use Rattle.txs_cli_explore.proofs.Lines.{dropped, taken}

@@ -9,7 +9,7 @@ use Rattle.txs_machine.proofs.Attending.{agent_names}
 use Rattle.txs_machine.proofs.OwnCells.{code_known, openings_known}
 use Rattle.txs_machine.proofs.Together.{agent_acts, agent_at}
 use Rattle.txs_machine_actor.specs.PlainActor.{code_of}
-use Rattle.txs_theorem_explore.specs.Ends.{IsScript}
+use Rattle.txs_explore.specs.Ends.{IsScript}
 use Rattle.txs_theorem_runs.proofs.Typed.{typed_agents_stand}
 use Rattle.txs_theorem_runs.specs.Lawful.{NamesOwn}
 use Rattle.txs_theorem_runs.specs.Standing.{StandingActor}

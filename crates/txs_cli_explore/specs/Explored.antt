@@ -16,7 +16,7 @@ use Rattle.txs_explore.specs.Ways.{AreAll, AreAllOfFew, AreRuns, as_ending}
 use Rattle.txs_explore.specs.declared.ways.Way.{Way}
 use Rattle.txs_machine.specs.Scheduled.{IsScheduledRun}
 use Rattle.txs_machine.specs.declared.schedule.Entries.{Entries}
-use Rattle.txs_theorem_explore.specs.Ends.{IsScript}
+use Rattle.txs_explore.specs.Ends.{IsScript}
 use Rattle.txs_tree_meaning.specs.View.{Parts, program_of}
 use Rattle.txs_world_protocol.specs.declared.report.Report.{Report}
 use Rattle.txs_world_shared.specs.SharedState.{PlainShared}

@@ -7,7 +7,7 @@ use Rattle.txs_explore.specs.Laws.{HasWorked}
 use Rattle.txs_explore.specs.Reported.{reported}
 use Rattle.txs_explore.specs.declared.ways.Way.{Way}
 use Rattle.txs_machine.specs.declared.schedule.Entries.{Entries}
-use Rattle.txs_theorem_explore.specs.System.{IsIn}
+use Rattle.txs_explore.specs.System.{IsIn}
 use Rattle.txs_world_shared.specs.SharedState.{PlainShared}
 use Rattle.txs_cli_explore.specs.Explored.{IsExplored, WayHas}
 use Rattle.txs_cli_explore.specs.declared.outcomes.Outcome.{Outcome}

@@ -1,6 +1,6 @@
 -- The outcomes that an exploration lists: what ways come to, their text, and their status.
 use Rattle.std.specs.Prelude.{◌≡◌, ◌⊎◌, ◌&&◌, ℕ, suc, max, nat_lt, Bool, true, false, List, [], ◌∷◌, ◌++◌, length, codes, decimal}
-use Rattle.txs_theorem_explore.specs.System.{IsIn}
+use Rattle.txs_explore.specs.System.{IsIn}
 use Rattle.txs_cli_explore.specs.Changes.{IsChange, lines_in}
 use Rattle.txs_cli_explore.specs.declared.outcomes.Outcome.{Outcome}
 

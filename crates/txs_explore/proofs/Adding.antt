@@ -2,13 +2,13 @@
 use Rattle.std.proofs.Common.{◌≡◌, ◌⊎◌, inl, inr, ◌<◌, ◌≤◌, ◌+◌, ◌-◌, ℕ, zero, suc, Bool, true, false, nat_le, List, [], ◌∷◌, ◌++◌, map, Option, Some, None, if◌then◌else◌, refl, sym, ap, subst, ◌∙◌, arith}
 use Rattle.std.proofs.lemmas.Bool.{false≢true}
 use Rattle.txs_code_meaning.specs.PlainCode.{PlainCode}
-use Rattle.txs_theorem_explore.specs.System.{System, has, IsIn, MayGo, turns}
-use Rattle.txs_theorem_explore.specs.Search as searched
-use Rattle.txs_theorem_explore.specs.Search.{Found, IsWay, Tells, apart_from, branches, search}
-use Rattle.txs_theorem_explore.specs.Switches.{switched, search_few}
-use Rattle.txs_theorem_explore.specs.Runners as runs
-use Rattle.txs_theorem_explore.specs.Runners.{asking, seen}
-use Rattle.txs_theorem_explore.proofs.Sound.{in_cases}
+use Rattle.txs_explore.specs.System.{System, has, IsIn, MayGo, turns}
+use Rattle.txs_explore.specs.Search as searched
+use Rattle.txs_explore.specs.Search.{Found, IsWay, Tells, apart_from, branches, search}
+use Rattle.txs_explore.specs.Switches.{switched, search_few}
+use Rattle.txs_explore.specs.Runners as runs
+use Rattle.txs_explore.specs.Runners.{asking, seen}
+use Rattle.txs_explore.proofs.Sound.{in_cases}
 use Rattle.txs_explore.specs.declared.ending.Ending.{Ending}
 use Rattle.txs_explore.specs.declared.look.Node.{Node}
 use Rattle.txs_explore.specs.declared.ways.Way.{Way}

@@ -1,8 +1,8 @@
 -- What is listed covers what a search finds: at an end, behind a turn, and where an actor sleeps.
 use Rattle.std.proofs.Common.{◌≡◌, ◌⊎◌, inl, inr, ◌-◌, ℕ, zero, suc, Bool, true, false, ◌&&◌, nat_le, List, [], ◌∷◌, ◌++◌, Option, Some, if◌then◌else◌, refl, sym, ap, subst, ◌∙◌}
-use Rattle.txs_theorem_explore.specs.System.{System, has, IsIn}
-use Rattle.txs_theorem_explore.specs.Search.{Way, Found, Tells, behind, apart_from, joined, branches, ended, cut, among, search}
-use Rattle.txs_theorem_explore.specs.Switches.{switched, affordable, among_few, search_few}
+use Rattle.txs_explore.specs.System.{System, has, IsIn}
+use Rattle.txs_explore.specs.Search.{Way, Found, Tells, behind, apart_from, joined, branches, ended, cut, among, search}
+use Rattle.txs_explore.specs.Switches.{switched, affordable, among_few, search_few}
 
 module _ (y : System) (Has : y.Outcome → Type 0) where
   -- a search went everywhere, and this holds of all outcomes that it finds

@@ -4,9 +4,9 @@ use Rattle.std.proofs.lemmas.Bool.{false≢true}
 use Rattle.std.proofs.lemmas.List.{drop_more, drop_all}
 use Rattle.txs_value_data.proofs.SameLemmas.{and_both}
 use Rattle.txs_code_meaning.specs.PlainCode.{PlainCode}
-use Rattle.txs_theorem_explore.specs.Search.{branches}
-use Rattle.txs_theorem_explore.specs.Switches.{affordable}
-use Rattle.txs_theorem_explore.specs.Runners.{asking}
+use Rattle.txs_explore.specs.Search.{branches}
+use Rattle.txs_explore.specs.Switches.{affordable}
+use Rattle.txs_explore.specs.Runners.{asking}
 use Rattle.txs_explore.specs.declared.ways.Way.{Way}
 use Rattle.txs_explore.specs.Told.{explored}
 use Rattle.txs_explore.specs.Looked.{state_at}

@@ -6,10 +6,10 @@ use Rattle.txs_value_cell.specs.declared.cell.CellDefinition.{CellDefinition}
 use Rattle.txs_code_meaning.specs.PlainCode.{PlainCode}
 use Rattle.txs_machine_actor.specs.PlainActor.{code_of}
 use Rattle.txs_theorem_runs.specs.Shared.{Shared}
-use Rattle.txs_theorem_explore.specs.Search.{apart_from}
-use Rattle.txs_theorem_explore.specs.Actors.{All, settled}
-use Rattle.txs_theorem_explore.specs.Runners as runs
-use Rattle.txs_theorem_explore.specs.Runners.{Runner, are_apart, is_due, those, many, next_ask, runner_of, runners, asking}
+use Rattle.txs_explore.specs.Search.{apart_from}
+use Rattle.txs_explore.specs.Actors.{All, settled}
+use Rattle.txs_explore.specs.Runners as runs
+use Rattle.txs_explore.specs.Runners.{Runner, are_apart, is_due, those, many, next_ask, runner_of, runners, asking}
 use Rattle.txs_world_shared.specs.Parts.{values_from, faults_from}
 use Rattle.txs_world_shared.specs.SharedState.{PlainShared, shared_of}
 use Rattle.txs_machine.specs.Running.{attendants}

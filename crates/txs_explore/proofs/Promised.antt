@@ -1,12 +1,12 @@
 -- What searches found is what an exploration promises.
 use Rattle.std.proofs.Common.{◌≡◌, ◌⊎◌, inl, inr, ◌<◌, ◌≤◌, ◌+◌, ℕ, List, [], ◌∷◌, map, None, refl, sym, ap, subst, ◌∙◌}
 use Rattle.txs_code_meaning.specs.PlainCode.{PlainCode}
-use Rattle.txs_theorem_explore.specs.System.{IsIn, turns}
-use Rattle.txs_theorem_explore.specs.Search as searched
-use Rattle.txs_theorem_explore.specs.Search.{IsWay, Tells}
-use Rattle.txs_theorem_explore.specs.Runners as runs
-use Rattle.txs_theorem_explore.specs.Runners.{asking, seen, played, told_of}
-use Rattle.txs_theorem_explore.proofs.Runs.{runs_are_found, few_are_found, way_is_run}
+use Rattle.txs_explore.specs.System.{IsIn, turns}
+use Rattle.txs_explore.specs.Search as searched
+use Rattle.txs_explore.specs.Search.{IsWay, Tells}
+use Rattle.txs_explore.specs.Runners as runs
+use Rattle.txs_explore.specs.Runners.{asking, seen, played, told_of}
+use Rattle.txs_explore.proofs.Runs.{runs_are_found, few_are_found, way_is_run}
 use Rattle.txs_explore.specs.declared.ways.Way.{Way}
 use Rattle.txs_explore.specs.Told.{explored, begins}
 use Rattle.txs_explore.specs.Ways.{AreAll, AreAllOfFew, AreRuns, IsListed, as_ending, as_way, as_ways}

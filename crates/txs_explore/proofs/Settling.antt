@@ -13,10 +13,10 @@ use Rattle.txs_machine_actor.specs.Turns.{Answers, Moves, TurnsFrom, GoesOnAfter
 use Rattle.txs_machine_actor.specs.declared.outcome.Turn.{Turn}
 use Rattle.txs_machine_actor.specs.declared.outcome.Turn.TheVariants as turned
 use Rattle.txs_theorem_runs.specs.Run.{Stop, JournalFull, TurnsSpent}
-use Rattle.txs_theorem_explore.specs.Actors.{Quiet, Rests, settled}
-use Rattle.txs_theorem_explore.specs.Runners.{Runner, comes_to, next_from, next_turned, next_ask, End, many, runners, wanted}
-use Rattle.txs_theorem_explore.proofs.Calming.{IsCalm, settled_there, settled_next}
-use Rattle.txs_theorem_explore.proofs.Running.{falls}
+use Rattle.txs_explore.specs.Actors.{Quiet, Rests, settled}
+use Rattle.txs_explore.specs.Runners.{Runner, comes_to, next_from, next_turned, next_ask, End, many, runners, wanted}
+use Rattle.txs_explore.proofs.Calming.{IsCalm, settled_there, settled_next}
+use Rattle.txs_explore.proofs.Running.{falls}
 use Rattle.txs_machine.specs.Running.{IsPlacedAs}
 use Rattle.txs_machine.specs.Scheduled.{outcome_of, printed_at, steps_by}
 use Rattle.txs_explore.specs.Told.{end_of, explored}

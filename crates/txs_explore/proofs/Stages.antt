@@ -15,9 +15,9 @@ use Rattle.txs_theorem_runs.specs.Run as run
 use Rattle.txs_theorem_runs.specs.Run.{Stop, JournalFull, Memory, TurnsSpent, State}
 use Rattle.txs_theorem_runs.specs.Shared.{untouched}
 use Rattle.txs_theorem_serial.proofs.Together.{agents_many}
-use Rattle.txs_theorem_explore.specs.System.{System, has, turns, MayGo}
-use Rattle.txs_theorem_explore.specs.Runners.{many, asking, seen, runner_of, next_plays, played}
-use Rattle.txs_theorem_explore.proofs.Playing.{one_turn, enough, those_below}
+use Rattle.txs_explore.specs.System.{System, has, turns, MayGo}
+use Rattle.txs_explore.specs.Runners.{many, asking, seen, runner_of, next_plays, played}
+use Rattle.txs_explore.proofs.Playing.{one_turn, enough, those_below}
 use Rattle.txs_world_shared.specs.SharedState.{PlainShared, shared_of}
 use Rattle.txs_machine.specs.Agents.{agents_of}
 use Rattle.txs_machine.specs.Plays.{AreReady, IsPlayAt}

@@ -7,7 +7,7 @@ use Rattle.txs_machine.specs.Schedule.{spread}
 use Rattle.txs_machine.specs.declared.schedule.Play.TheVariants as play
 use Rattle.txs_machine.specs.declared.schedule.Repeated.{Repeated}
 use Rattle.txs_machine.proofs.Repeats.{spread_last}
-use Rattle.txs_theorem_explore.specs.Runners as runs
+use Rattle.txs_explore.specs.Runners as runs
 use Rattle.txs_explore.specs.declared.ending.End.{End}
 use Rattle.txs_explore.specs.declared.ending.Ending.{Ending}
 use Rattle.txs_explore.specs.Reported.{entry_end, plays_of}

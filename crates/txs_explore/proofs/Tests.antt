@@ -10,8 +10,8 @@ use Rattle.txs_value_data.proofs.SameLemmas.{number-itself, numbers}
 use Rattle.txs_value_cell.specs.declared.action.Action.{Action}
 use Rattle.txs_world_book.specs.Book.{is_there, times_written, writes_to}
 use Rattle.txs_world.specs.Store.{first_action}
-use Rattle.txs_theorem_explore.specs.System.{IsIn, has}
-use Rattle.txs_theorem_explore.specs.Runners.{are_apart, those}
+use Rattle.txs_explore.specs.System.{IsIn, has}
+use Rattle.txs_explore.specs.Runners.{are_apart, those}
 use Rattle.txs_world_shared.specs.SharedState.{shared_of}
 use Rattle.txs_explore.specs.declared.ending.Ending.{Ending}
 use Rattle.txs_explore.specs.declared.look.Look.{Look}

@@ -4,7 +4,7 @@ use Rattle.txs_code_meaning.specs.Machine.{ThreadCode, Configuration, Turned, En
 use Rattle.txs_code_meaning.specs.PlainCode.{PlainCode}
 use Rattle.txs_machine_actor.specs.PlainActor.{code_of}
 use Rattle.txs_theorem_runs.specs.Run.{Stop, Play, State, TakesTurn}
-use Rattle.txs_theorem_explore.specs.Runners.{goes_alone, plays_from_here, plays_at, next_plays}
+use Rattle.txs_explore.specs.Runners.{goes_alone, plays_from_here, plays_at, next_plays}
 use Rattle.txs_machine.specs.Scheduled.{after_turns, is_quiet, turns_next, turns_at, own_turns}
 use Rattle.txs_explore.specs.Told.{explored}
 

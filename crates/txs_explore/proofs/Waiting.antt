@@ -20,8 +20,8 @@ use Rattle.txs_theorem_runs.specs.Told.{exchange_of}
 use Rattle.txs_theorem_runs.proofs.Known.{standing_staged}
 use Rattle.txs_theorem_runs.proofs.Taken.{is_busy, stage_is, taken_so}
 use Rattle.txs_theorem_runs.proofs.Told.{fresh_stands}
-use Rattle.txs_theorem_explore.specs.Ends.{IsScript}
-use Rattle.txs_theorem_explore.specs.Runners.{Explored, played}
+use Rattle.txs_explore.specs.Ends.{IsScript}
+use Rattle.txs_explore.specs.Runners.{Explored, played}
 
 abbrev is_some : {A : Type 0} → Option A → Type 0
 is_some None = ⊥

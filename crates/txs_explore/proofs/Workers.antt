@@ -23,13 +23,13 @@ use Rattle.txs_theorem_runs.specs.Invariant.{OpeningHolds, PlayHolds}
 use Rattle.txs_theorem_runs.specs.Run.{Stop, JournalFull, Memory, TurnsSpent, Unlawful, Actor, State, Play, TakesTurn, IsStopped, actor_of, moved, moves, placed, play, stops_from, turns_from}
 use Rattle.txs_theorem_runs.specs.Shared.{Shared}
 use Rattle.txs_theorem_serial.proofs.Together.{agents_many}
-use Rattle.txs_theorem_explore.specs.Actors.{Rests, settled}
-use Rattle.txs_theorem_explore.specs.Ends.{IsScript, HasEnded}
-use Rattle.txs_theorem_explore.specs.Laws.{BelowIsWithin, EndsAreOver}
-use Rattle.txs_theorem_explore.specs.Runners as runs
-use Rattle.txs_theorem_explore.specs.Runners.{Explored, Runner, runner_of, AreTurns, goes_on, many, next_from, next_turned, played, runners, told_of}
-use Rattle.txs_theorem_explore.proofs.Calming.{IsCalm, settled_there}
-use Rattle.txs_theorem_explore.proofs.Running.{falls}
+use Rattle.txs_explore.specs.Actors.{Rests, settled}
+use Rattle.txs_explore.specs.Ends.{IsScript, HasEnded}
+use Rattle.txs_explore.specs.SearchLaws.{BelowIsWithin, EndsAreOver}
+use Rattle.txs_explore.specs.Runners as runs
+use Rattle.txs_explore.specs.Runners.{Explored, Runner, runner_of, AreTurns, goes_on, many, next_from, next_turned, played, runners, told_of}
+use Rattle.txs_explore.proofs.Calming.{IsCalm, settled_there}
+use Rattle.txs_explore.proofs.Running.{falls}
 use Rattle.txs_world_shared.specs.Parts.{values_from, faults_from, values_of, faults_of}
 use Rattle.txs_world_shared.specs.SharedState.{PlainShared, shared_of}
 use Rattle.txs_machine.specs.Agents.{agents_of, actors_of}

@@ -2,12 +2,12 @@
 use Rattle.std.proofs.Common.{◌⊎◌}
 use Rattle.std.specs.Prelude.{◌≡◌, ℕ, Bool, true, not, ◌&&◌, ◌==◌, List, [], ◌∷◌, ◌++◌, Option, Some, None, if◌then◌else◌}
 use Rattle.txs_code_meaning.specs.PlainCode.{PlainCode}
-use Rattle.txs_theorem_explore.specs.System.{has, IsIn, MayGo}
-use Rattle.txs_theorem_explore.specs.Search as searched
-use Rattle.txs_theorem_explore.specs.Search.{Tells, IsWay, branches, search}
-use Rattle.txs_theorem_explore.specs.Switches.{affordable, search_few}
-use Rattle.txs_theorem_explore.specs.Runners as runs
-use Rattle.txs_theorem_explore.specs.Runners.{asking, seen}
+use Rattle.txs_explore.specs.System.{has, IsIn, MayGo}
+use Rattle.txs_explore.specs.Search as searched
+use Rattle.txs_explore.specs.Search.{Tells, IsWay, branches, search}
+use Rattle.txs_explore.specs.Switches.{affordable, search_few}
+use Rattle.txs_explore.specs.Runners as runs
+use Rattle.txs_explore.specs.Runners.{asking, seen}
 use Rattle.txs_explore.specs.declared.ending.Ending.{Ending}
 use Rattle.txs_explore.specs.declared.ways.Way.{Way}
 use Rattle.txs_explore.specs.Told.{explored, begins}

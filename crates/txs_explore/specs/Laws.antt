@@ -5,7 +5,7 @@ use Rattle.txs_world_protocol.specs.declared.event.Outcome.TheVariants as outcom
 use Rattle.txs_world_protocol.specs.declared.report.ActorReport.{ActorReport}
 use Rattle.txs_value_data.specs.Places.{nth}
 use Rattle.txs_code_meaning.specs.PlainCode.{PlainCode}
-use Rattle.txs_theorem_explore.specs.Ends.{IsScript}
+use Rattle.txs_explore.specs.Ends.{IsScript}
 use Rattle.txs_world_shared.specs.SharedState.{PlainShared, shared_of}
 use Rattle.txs_machine.specs.Agents.{agents_of, AreDrained}
 use Rattle.txs_machine.specs.RunOver.{IsStateOf}

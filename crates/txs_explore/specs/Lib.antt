@@ -1,7 +1,14 @@
+pub mod Actors
+pub mod Ends
 pub mod Found
 pub mod Laws
 pub mod Looked
 pub mod Node
 pub mod Reported
+pub mod Runners
+pub mod Search
+pub mod SearchLaws
+pub mod Switches
+pub mod System
 pub mod Told
 pub mod Ways

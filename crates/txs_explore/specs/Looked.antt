@@ -10,9 +10,9 @@ use Rattle.txs_machine_actor.specs.Turns.{TurnsOf}
 use Rattle.txs_machine_actor.specs.declared.outcome.Turn.{Turn}
 use Rattle.txs_machine_actor.specs.declared.outcome.Turn.TheVariants as turned
 use Rattle.txs_theorem_runs.specs.Run as run
-use Rattle.txs_theorem_explore.specs.System.{turns}
-use Rattle.txs_theorem_explore.specs.Actors.{All, calm}
-use Rattle.txs_theorem_explore.specs.Runners.{Runner, many, runners, asking, seen, next_ask}
+use Rattle.txs_explore.specs.System.{turns}
+use Rattle.txs_explore.specs.Actors.{All, calm}
+use Rattle.txs_explore.specs.Runners.{Runner, many, runners, asking, seen, next_ask}
 use Rattle.txs_world_shared.specs.SharedState.{PlainShared, shared_of}
 use Rattle.txs_machine.specs.RunOver.{IsStateOf}
 use Rattle.txs_machine.specs.Running.{ArePlayingBy}

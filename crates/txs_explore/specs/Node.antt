@@ -1,7 +1,7 @@
 -- A place of the search in terms of what was seen there: who may go on, whose asks may be exchanged, and what is told of an end.
 use Rattle.std.specs.Prelude.{◌≡◌, ◌<◌, ℕ, zero, suc, Bool, not, ◌&&◌, ◌==◌, List, [], ◌∷◌, length, map, Option, None, if◌then◌else◌}
 use Rattle.txs_world_protocol.specs.declared.ask.Ask.{Ask}
-use Rattle.txs_theorem_explore.specs.Runners.{are_apart, is_due, those}
+use Rattle.txs_explore.specs.Runners.{are_apart, is_due, those}
 use Rattle.txs_world_shared.specs.Parts.{values_of, faults_of}
 use Rattle.txs_world_shared.specs.SharedState.{shared_of}
 use Rattle.txs_explore.specs.declared.ending.End.{End}

@@ -6,7 +6,7 @@ use Rattle.txs_world_shared.specs.SharedState.{PlainShared}
 use Rattle.txs_machine.specs.declared.schedule.Entries.{Entries}
 use Rattle.txs_machine.specs.declared.schedule.Play.{Play}
 use Rattle.txs_machine.specs.declared.schedule.Play.TheVariants as play
-use Rattle.txs_theorem_explore.specs.Runners as runs
+use Rattle.txs_explore.specs.Runners as runs
 
 -- of all actors, those of the threads first
 abbrev pub entries_of : Entries → List ActorReport

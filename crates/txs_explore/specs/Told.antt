@@ -11,7 +11,7 @@ use Rattle.txs_world_book.specs.Book.{actors, mail_after}
 use Rattle.txs_world_book.specs.Served.{cells_of}
 use Rattle.txs_theorem_runs.specs.Run.{State, opens}
 use Rattle.txs_theorem_runs.specs.Shared.{Shared, world_of}
-use Rattle.txs_theorem_explore.specs.Runners.{Runner, End, Ending, Explored}
+use Rattle.txs_explore.specs.Runners.{Runner, End, Ending, Explored}
 use Rattle.txs_world_shared.specs.Parts.{values_from, faults_from}
 use Rattle.txs_machine.specs.Scheduled.{outcome_of, printed_at}
 

@@ -2,13 +2,13 @@
 use Rattle.std.specs.Prelude.{◌≡◌, ◌<◌, ◌≤◌, ◌+◌, ℕ, List, [], map, Option, None}
 use Rattle.txs_code_meaning.specs.PlainCode.{PlainCode}
 use Rattle.txs_theorem_runs.specs.Run.{Play}
-use Rattle.txs_theorem_explore.specs.System.{IsIn, turns}
-use Rattle.txs_theorem_explore.specs.Search as searched
-use Rattle.txs_theorem_explore.specs.Search.{Tells}
-use Rattle.txs_theorem_explore.specs.Switches.{switches}
-use Rattle.txs_theorem_explore.specs.Runners as runs
-use Rattle.txs_theorem_explore.specs.Runners.{asking, seen, played, AreWithin, IsOver, told_of}
-use Rattle.txs_theorem_explore.specs.Laws.{IsRunBy}
+use Rattle.txs_explore.specs.System.{IsIn, turns}
+use Rattle.txs_explore.specs.Search as searched
+use Rattle.txs_explore.specs.Search.{Tells}
+use Rattle.txs_explore.specs.Switches.{switches}
+use Rattle.txs_explore.specs.Runners as runs
+use Rattle.txs_explore.specs.Runners.{asking, seen, played, AreWithin, IsOver, told_of}
+use Rattle.txs_explore.specs.SearchLaws.{IsRunBy}
 use Rattle.txs_explore.specs.declared.ending.End.{End}
 use Rattle.txs_explore.specs.declared.ending.Ending.{Ending}
 use Rattle.txs_explore.specs.declared.ways.Way.{Way}

@@ -5,8 +5,8 @@ ghost use Rattle.txs_world_book.specs.Book.{has_agent, is_there, times_written, 
 ghost use Rattle.txs_world_book.specs.Served.{cells_of};
 ghost use Rattle.txs_world.specs.Store.{next_action};
 ghost use Rattle.txs_world_shared.specs.SharedState.{numbered_book, shared_of};
-ghost use Rattle.txs_theorem_explore.specs.Runners.{are_apart, is_due, is_idle, is_steady, may_exchange};
-ghost use Rattle.txs_theorem_explore.specs.System.{has};
+ghost use Rattle.txs_explore.specs.Runners.{are_apart, is_due, is_idle, is_steady, may_exchange};
+ghost use Rattle.txs_explore.specs.System.{has};
 ghost use Rattle.txs_explore.specs.Node.{AreBelow, apart_in, due_in, kept_by};
 
 use crate::look::Node;

@@ -1,8 +1,8 @@
 //! The search through the schedules with few switches.
 
 ghost use Rattle.std.specs.Prelude.{◌≡◌, ◌≤◌, ◌<◌, ◌+◌, ◌-◌, ◌^◌, length, true, IfOk};
-ghost use Rattle.txs_theorem_explore.specs.System.{has};
-ghost use Rattle.txs_theorem_explore.specs.Runners.{asking};
+ghost use Rattle.txs_explore.specs.System.{has};
+ghost use Rattle.txs_explore.specs.Runners.{asking};
 ghost use Rattle.txs_explore.specs.Told.{explored};
 ghost use Rattle.txs_explore.specs.Looked.{state_at};
 ghost use Rattle.txs_explore.specs.Found.{IsSearched, HasSearchedFew, HasAfforded, HasTurnedFew, MayGoTo, switched_in};

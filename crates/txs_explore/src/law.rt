@@ -2,7 +2,7 @@
 
 ghost use Rattle.txs_explore.specs.Laws.{WorkersAreListed};
 
-use txs_theorem_explore::{below_is_within, ends_are_over};
+use crate::{below_is_within, ends_are_over};
 use txs_theorem_runs::law::{opening_holds, play_holds};
 use txs_world::law::serve_keeps;
 

@@ -2,7 +2,7 @@
 
 ghost use Rattle.std.specs.Prelude.{◌≡◌, ◌≤◌, ◌<◌, ◌+◌, ◌-◌, ◌^◌, length, IfOk};
 ghost use Rattle.txs_machine_actor.specs.declared.outcome.Turn.TheVariants as turned;
-ghost use Rattle.txs_theorem_explore.specs.Runners.{many};
+ghost use Rattle.txs_explore.specs.Runners.{many};
 ghost use Rattle.txs_world_shared.specs.Parts.{values_of, faults_of};
 ghost use Rattle.txs_explore.specs.Told.{explored};
 ghost use Rattle.txs_explore.specs.Looked.{IsAskOf, IsFresh, AreFresh, IsLook, AreLooks, IsNode};
@@ -13,6 +13,7 @@ use crate::replay::{Stage, all_players, replay};
 use std::alloc::{AllocError, Global};
 use txs_code_meaning::Verified;
 use txs_machine::{Actor, Outcome, Player, SharedState, Turn};
+use txs_machine_turn::run;
 use txs_value_data::Listed;
 use txs_world_protocol::Ask;
 
@@ -51,7 +52,7 @@ fn look_at(code: &Verified, actor: Actor, max_steps: u64) -> Result<Look, AllocE
 {
     let mut actor = actor;
     let mut turn = Turn::Went;
-    actor.run(code, u64::MAX, &mut turn);
+    run(&mut actor, code, u64::MAX, &mut turn);
     let outcome = actor.outcome();
     let printed = Listed::from_vec(actor.into_printed());
     let ask = ask_of(turn)?;

@@ -3,7 +3,7 @@
 ghost use Rattle.std.specs.Prelude.{◌≡◌, ◌≤◌, ◌<◌, ◌+◌, ◌-◌, ◌^◌, ◌++◌, ◌∷◌, ℕ, List, [], length, false, IfOk, OnOk, Some, None};
 ghost use Rattle.txs_value_data.specs.Places.{nth};
 ghost use Rattle.txs_world_protocol.specs.declared.event.Outcome.TheVariants.{Memory};
-ghost use Rattle.txs_theorem_explore.specs.Runners.{many};
+ghost use Rattle.txs_explore.specs.Runners.{many};
 ghost use Rattle.txs_machine.specs.Running.{attendants};
 ghost use Rattle.txs_machine.specs.declared.player.Player.{Player as APlayer};
 ghost use Rattle.txs_explore.specs.Told.{explored};

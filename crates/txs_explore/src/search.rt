@@ -1,8 +1,8 @@
 //! The search through all schedules, with sleep sets.
 
 ghost use Rattle.std.specs.Prelude.{◌≡◌, ◌≤◌, ◌<◌, ◌+◌, ◌-◌, ◌^◌, length, true, IfOk, OnOk};
-ghost use Rattle.txs_theorem_explore.specs.System.{has};
-ghost use Rattle.txs_theorem_explore.specs.Runners.{asking, many};
+ghost use Rattle.txs_explore.specs.System.{has};
+ghost use Rattle.txs_explore.specs.Runners.{asking, many};
 ghost use Rattle.txs_explore.specs.Told.{explored};
 ghost use Rattle.txs_explore.specs.Looked.{IsNode, state_at};
 ghost use Rattle.txs_explore.specs.Node.{AreBelow};

@@ -27,6 +27,7 @@ use txs_gate::Made;
 use txs_history::{Asked, LoggedAtom, LoggedStore, Past, Run, Served, StandsFor};
 use txs_machine::Player;
 use txs_machine_actor::{Actor, Turn, actors_run};
+use txs_machine_turn::run;
 use txs_theorem_runs::law::typed_stands;
 use txs_value_data::{CellId, CellKind};
 use txs_world_protocol::{Ask, Outcome, Place, Reply};
@@ -198,7 +199,7 @@ impl<'a, J: Run> LoggedActor<'a, J> {
             return Next::Waits;
         };
         let mut turn = Turn::Went;
-        self.player.actor.run(self.code, budget, &mut turn);
+        run(&mut self.player.actor, self.code, budget, &mut turn);
         match turn {
             Turn::Went => Next::Went,
             Turn::Ended(_) => Next::Ended,

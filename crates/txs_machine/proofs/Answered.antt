@@ -16,8 +16,8 @@ use Rattle.txs_machine_transaction.specs.declared.state.Pending.{Pending}
 use Rattle.txs_machine_transaction.specs.declared.state.Pending.TheVariants.{Begin, Read, Ensure, Open, View, Reset, Send, Swap, Close, Commit, Hold, Fail, Broke, Take, Finish}
 use Rattle.txs_machine_transaction.specs.declared.state.Transaction.{Transaction}
 use Rattle.txs_machine_transaction.specs.declared.state.Transaction.TheVariants.{Outside, Restarting, Running, Applying, Evaluating, Swapping, Judging, Weighing}
-use Rattle.txs_machine_actor.specs.declared.role.Role.{Role}
-use Rattle.txs_machine_actor.specs.declared.role.Role.TheVariants.{Thread, Attending, Acting}
+use Rattle.txs_machine_transaction.specs.declared.role.Role.{Role}
+use Rattle.txs_machine_transaction.specs.declared.role.Role.TheVariants.{Thread, Attending, Acting}
 use Rattle.txs_machine_actor.proofs.Replies.{by_reply}
 
 -- an outcome that isn't want of steps

@@ -15,6 +15,7 @@ use crate::player::Player;
 use std::mem;
 use txs_code_meaning::Verified;
 use txs_machine_actor::Turn;
+use txs_machine_turn::run;
 use txs_value_data::CellId;
 use txs_world_protocol::{Ask, Outcome, Place, Reply};
 use txs_world_shared::SharedState;
@@ -173,7 +174,7 @@ pub(crate) fn go_on(
     ensures { HasGoneOn code.now budget shared.old player.old.actor player.old.trace.items result shared.new player.new.actor player.new.trace.items }
 {
     let mut turn = Turn::Went;
-    player.actor.run(code, budget, &mut turn);
+    run(&mut player.actor, code, budget, &mut turn);
     if let Some(brief) = brief_ask(&turn) {
         // It keeps nothing that would have to be dropped.
         mem::forget(turn);

@@ -28,7 +28,8 @@ use Rattle.txs_machine_loop.specs.Ready.{Setting, swaps_of, Ready}
 use Rattle.txs_machine_loop.specs.Values.{last_of, put_under}
 use Rattle.txs_machine_loop.proofs.Lists.{nth_index}
 use Rattle.txs_machine_loop.proofs.Ready.{here_of}
-use Rattle.txs_machine_actor.specs.PlainActor.{PlainActor, home_of, stops_as, asked_for, unanswered, MayAnswer, MayAnswerIf, begins_again, run_again, ends_again, opens_again, end_again, refuse, views, fails_as, holds_all, ServesWell, IsFirst, has_failed, answered_for, answered_if, answered, functions_of, setting_of, Began, BeganAnew, BeganWell, swaps_in, NoneAside, AllApply, AllCanDo, WaitsAs, open_of, GoesOn, AsksWell, CanGoOn, Runs, attends_anew, ActsFor, attending_at, waits, AttendsOn, Attends, Lives, OpenApplies}
+use Rattle.txs_machine_actor.specs.PlainActor.{PlainActor, home_of, stops_as, asked_for, unanswered, MayAnswer, MayAnswerIf, begins_again, run_again, ends_again, opens_again, end_again, refuse, views, fails_as, ServesWell, IsFirst, has_failed, answered_for, answered_if, answered, functions_of, setting_of, Began, BeganAnew, BeganWell, swaps_in, NoneAside, AllApply, AllCanDo, WaitsAs, open_of, GoesOn, AsksWell, CanGoOn, Runs, attends_anew, ActsFor, attending_at, waits, AttendsOn, Attends, Lives, OpenApplies}
+use Rattle.txs_machine_transaction.specs.Roles.{holds_all}
 use Rattle.txs_machine_transaction.specs.Asks.{applied_in, ask_for}
 use Rattle.txs_machine_transaction.specs.Transaction.{is_running, depth_in, IsSwapping}
 use Rattle.txs_code_meaning.specs.Validating.{has_validator}
@@ -39,8 +40,8 @@ use Rattle.txs_machine_transaction.specs.declared.state.Transaction.{Transaction
 use Rattle.txs_machine_transaction.specs.declared.state.Transaction.TheVariants.{Outside, Restarting, Running, Applying, Evaluating, Swapping, Judging, Weighing}
 use Rattle.txs_machine_transaction.specs.declared.state.Pending.{Pending}
 use Rattle.txs_machine_transaction.specs.declared.state.Pending.TheVariants as pending
-use Rattle.txs_machine_actor.specs.declared.role.Role.{Role}
-use Rattle.txs_machine_actor.specs.declared.role.Role.TheVariants.{Thread, Attending, Acting}
+use Rattle.txs_machine_transaction.specs.declared.role.Role.{Role}
+use Rattle.txs_machine_transaction.specs.declared.role.Role.TheVariants.{Thread, Attending, Acting}
 use Rattle.txs_machine_actor.proofs.Applying.{AllLook, tasks_do, typed_look, length_blank, well_behind, callers_none, began_none, swap_none, swapless}
 use Rattle.txs_machine_actor.proofs.Landing.{look_ready, begin_ready, end_ready, no_own_swap, open_stands, open_ready, put_stands, put_ready, send_stands, send_ready, close_stands, close_ready}
 use Rattle.txs_machine_actor.proofs.Effects.{home_all}

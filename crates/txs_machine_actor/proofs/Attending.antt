@@ -35,7 +35,8 @@ use Rattle.txs_machine_loop.specs.Ready.{Ready}
 use Rattle.txs_machine_loop.specs.Values.{stack_in}
 use Rattle.txs_machine_loop.proofs.Lists.{length_nils}
 use Rattle.txs_machine_actor.specs.Paces.{MayStep, IsOver}
-use Rattle.txs_machine_actor.specs.PlainActor.{PlainActor, state_of, configuration_of, code_of, IsActorOf, ServesWell, in_hand, asked_for, unanswered, MayAnswerIf, stops_as, stands_at, answered, answered_if, answered_for, attends_anew, kind_or_pure, owner_of, functions_of, setting_of, CalledIn, CanApply, AllApply, OpenApplies, ActsFor, AsksWell, GoesOn, CanGoOn, Runs, attending_at, MayRun, CanSend, has_failed, HandsOut, MayBreak, BreaksAt, AttendsAt, waits, has_taken, has_value, AttendsFor, AttendsOn, Attends, Lives, Awaits}
+use Rattle.txs_machine_actor.specs.PlainActor.{PlainActor, state_of, configuration_of, code_of, IsActorOf, ServesWell, asked_for, unanswered, MayAnswerIf, stops_as, stands_at, answered, answered_if, answered_for, attends_anew, kind_or_pure, owner_of, functions_of, setting_of, CalledIn, CanApply, AllApply, OpenApplies, ActsFor, AsksWell, GoesOn, CanGoOn, Runs, attending_at, MayRun, CanSend, has_failed, HandsOut, MayBreak, BreaksAt, AttendsAt, waits, has_taken, has_value, AttendsFor, AttendsOn, Attends, Lives, Awaits}
+use Rattle.txs_machine_transaction.specs.Roles.{in_hand}
 use Rattle.txs_machine_transaction.specs.Asks.{ask_for, applied_in}
 use Rattle.txs_machine_transaction.specs.Transaction.{is_running}
 use Rattle.txs_machine_actor.specs.Turns.{IsNew, OneStep, Answers, Moves, TurnsFrom, Turns, AsksFor, TakesAnswer, IsAttending, OperatedAs, Operates, begins_acting, BeginsActing, CanApplyFor, AppliesFor, CanAttend, AttendsSo, CanCheck, CanJudge, check_of, verdict, AnsweredFor, begins_judging, BeginsJudging, JudgesFor, HandedBy, Hands, CanHandIn, HandsInBy, HasJudged}
@@ -44,8 +45,8 @@ use Rattle.txs_machine_actor.specs.declared.outcome.Turn.TheVariants as turned
 use Rattle.txs_machine_transaction.specs.declared.state.Pending.{Pending}
 use Rattle.txs_machine_transaction.specs.declared.state.Pending.TheVariants as pending
 use Rattle.txs_machine_transaction.specs.declared.state.Transaction.TheVariants.{Outside}
-use Rattle.txs_machine_actor.specs.declared.role.Role.{Role}
-use Rattle.txs_machine_actor.specs.declared.role.Role.TheVariants.{Thread, Attending, Acting}
+use Rattle.txs_machine_transaction.specs.declared.role.Role.{Role}
+use Rattle.txs_machine_transaction.specs.declared.role.Role.TheVariants.{Thread, Attending, Acting}
 use Rattle.txs_machine_actor.proofs.Applying.{typed_look}
 use Rattle.txs_machine_actor.proofs.Calling.{parameters_at, parameters_from, function_at, kind_at, table_too}
 use Rattle.txs_machine_actor.proofs.Effects.{finishes, takes as takes_so, it, new_of, sends_of}

@@ -44,15 +44,16 @@ use Rattle.txs_machine_loop.specs.Values.{last_of, below, topmost, but_last, put
 use Rattle.txs_machine_loop.proofs.Lists.{pushed_stack, pushed_locals, popped_stack, popped_locals, below_locals, args_of, length_below, length_but_last, under_is, but_two, put_under_stack, put_under_locals, push_all_is}
 use Rattle.txs_machine_transaction.specs.Asks.{applied_in, ask_for}
 use Rattle.txs_machine_transaction.specs.Effect.{Effect, moves, stays, waits, dispatches, breaks, falls, own_or, reads, reads_cell, ensures, ensures_cell, opens_cell, opens as opens_at, sets, sets_as, sets_cell, resets, resets_cell, action_of, sends, sends_cell, swaps, swaps_cell, swapped, keeps_cell, closes, begins as begins_at, settles as settles_at, applying, applies_as, applies as applies_at, goes_through, ends as ends_at, IsOperation, Operates, LeftApply, effect}
-use Rattle.txs_machine_actor.specs.PlainActor.{PlainActor, savepoint_of, frames_on, frames_in, activity_of, home_of, acting_of, MayAnswer, Stops, WaitsAs, fails_as, attends_anew, commit_in, wanted_in, holds_all, begins_again, run_again, ends_again, answered, stands_at}
+use Rattle.txs_machine_actor.specs.PlainActor.{PlainActor, savepoint_of, frames_on, frames_in, activity_of, home_of, MayAnswer, Stops, WaitsAs, fails_as, attends_anew, wanted_in, begins_again, run_again, ends_again, answered, stands_at}
+use Rattle.txs_machine_transaction.specs.Roles.{acting_of, commit_in, holds_all}
 use Rattle.txs_machine_transaction.specs.Transaction.{is_running, depth_in, IsUnapplied, IsSwapping}
 use Rattle.txs_machine_transaction.specs.declared.state.Savepoint.{Savepoint}
 use Rattle.txs_machine_transaction.specs.declared.state.Pending.{Pending}
 use Rattle.txs_machine_transaction.specs.declared.state.Pending.TheVariants as pending
 use Rattle.txs_machine_transaction.specs.declared.state.Transaction.{Transaction}
 use Rattle.txs_machine_transaction.specs.declared.state.Transaction.TheVariants.{Outside, Restarting, Running, Applying, Evaluating, Swapping, Judging, Weighing}
-use Rattle.txs_machine_actor.specs.declared.role.Role.{Role}
-use Rattle.txs_machine_actor.specs.declared.role.Role.TheVariants.{Thread, Attending, Acting}
+use Rattle.txs_machine_transaction.specs.declared.role.Role.{Role}
+use Rattle.txs_machine_transaction.specs.declared.role.Role.TheVariants.{Thread, Attending, Acting}
 use Rattle.txs_machine_actor.proofs.Meaning.{stated, configuration, same_place}
 use Rattle.txs_machine_actor.proofs.Replies.{begin_replies, view_replies, look_replies, peek_replies, commit_replies, fail_replies, take_replies, finish_replies, reset_replies, send_replies, open_replies, close_replies, broke_replies}
 use Rattle.txs_machine_transaction.proofs.Keeping.{but_one_more}

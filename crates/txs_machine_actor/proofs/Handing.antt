@@ -9,8 +9,8 @@ use Rattle.txs_machine_loop.specs.Values.{but_last, put_under}
 use Rattle.txs_machine_stack.specs.PlainFrame.{PlainStack}
 use Rattle.txs_machine_actor.specs.PlainActor.{PlainActor, values_anew}
 use Rattle.txs_machine_actor.specs.Turns.{HasJudged, IsServing, answer_to, handed_back, verdict, with_stack}
-use Rattle.txs_machine_actor.specs.declared.role.Role.{Role}
-use Rattle.txs_machine_actor.specs.declared.role.Role.TheVariants.{Attending, Acting}
+use Rattle.txs_machine_transaction.specs.declared.role.Role.{Role}
+use Rattle.txs_machine_transaction.specs.declared.role.Role.TheVariants.{Attending, Acting}
 
 -- a validator's value is an answer
 pub answer_is : (xs : List Task) (v : Value) (o : Option Bool) → validates_next xs ≡ true → answer_to xs v o ≡ verdict v

@@ -30,7 +30,7 @@ use Rattle.txs_machine_transaction.specs.declared.state.Transaction.{Transaction
 use Rattle.txs_machine_transaction.specs.declared.state.Transaction.TheVariants.{Outside, Restarting, Running, Applying, Evaluating, Swapping, Judging, Weighing}
 use Rattle.txs_machine_actor.specs.PlainActor.{PlainActor, savepoint_of, activity_of, home_of}
 use Rattle.txs_machine_actor.specs.Turns.{Check, check_of, reset_check, swap_check, task_check, end_check, at_tasks, begun_with, heeded, done_by}
-use Rattle.txs_machine_actor.specs.declared.role.Role.{Role}
+use Rattle.txs_machine_transaction.specs.declared.role.Role.{Role}
 use Rattle.txs_machine_actor.proofs.Effects.{it, here, before, two_tops, IsUnjudged, IsUnweighed}
 
 -- code whose cells have no validators

@@ -15,7 +15,7 @@ use Rattle.txs_machine_stack.specs.PlainFrame.{PlainFrame}
 use Rattle.txs_machine_actor.specs.Turns.{IsNew}
 use Rattle.txs_machine_loop.proofs.Lists.{index_nth, length_nils}
 use Rattle.txs_machine_transaction.specs.declared.state.Transaction.TheVariants as transaction
-use Rattle.txs_machine_actor.specs.declared.role.Role.TheVariants.{Thread}
+use Rattle.txs_machine_transaction.specs.declared.role.Role.TheVariants.{Thread}
 use Rattle.txs_machine_actor.proofs.Effects.{it}
 use Rattle.txs_machine_actor.proofs.Meaning.{configuration, stated, placed}
 use Rattle.txs_value_cell.specs.Cells.{validators_of}

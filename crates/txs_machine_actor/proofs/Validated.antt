@@ -35,10 +35,11 @@ use Rattle.txs_machine_transaction.specs.Transaction.{IsSwapping}
 use Rattle.txs_code_meaning.specs.Validating.{has_validator}
 use Rattle.txs_machine_transaction.specs.declared.state.Transaction.{Transaction}
 use Rattle.txs_machine_transaction.specs.declared.state.Transaction.TheVariants.{Outside, Restarting, Running, Applying, Evaluating, Swapping, Judging, Weighing}
-use Rattle.txs_machine_actor.specs.PlainActor.{PlainActor, home_of, acting_of, frames_in, activity_of, code_of, owner_of, functions_of, setting_of, CanApply, AllCanDo, GoesOn, Runs}
+use Rattle.txs_machine_actor.specs.PlainActor.{PlainActor, home_of, frames_in, activity_of, code_of, owner_of, functions_of, setting_of, CanApply, AllCanDo, GoesOn, Runs}
+use Rattle.txs_machine_transaction.specs.Roles.{acting_of}
 use Rattle.txs_machine_actor.specs.Turns.{Turns, Check, check_of, reset_check, swap_check, task_check, end_check, write_check, CanCheck, Transacts, ByVerdict, WhereValid, CanEnd, EndsAs, CanTask, TasksAs, Validated, CanEndBy, EndsBy, next_function, begun_with, at_tasks, done_by, heeded, at_next_task}
 use Rattle.txs_machine_actor.specs.declared.outcome.Turn.{Turn}
-use Rattle.txs_machine_actor.specs.declared.role.Role.{Role}
+use Rattle.txs_machine_transaction.specs.declared.role.Role.{Role}
 use Rattle.txs_machine_actor.proofs.Applying.{typed_look, tasks_do}
 use Rattle.txs_machine_actor.proofs.Effects.{it, IsUnjudged, IsUnweighed, IsSettled}
 use Rattle.txs_machine_actor.proofs.Judging.{Looks, EndLooks, reset_free, swap_free, reset_looks, swap_looks, begins_tasks, heeds, end_looks}

@@ -6,13 +6,9 @@
 
 pub mod actor;
 pub mod answer;
-mod attend;
-mod judge;
 pub mod law;
 pub mod outcome;
-mod pace;
 mod place;
-pub mod role;
 
 pub use actor::Actor;
 pub use answer::may_answer;

@@ -1,3 +1,4 @@
+pub mod Holding
 pub mod Keeping
 pub mod Tasks
 pub mod Validators

@@ -1,4 +1,5 @@
 pub mod Asks
 pub mod Effect
 pub mod Kept
+pub mod Roles
 pub mod Transaction

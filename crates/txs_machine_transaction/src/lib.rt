@@ -8,10 +8,12 @@ pub mod asks;
 pub mod instructions;
 pub mod kept;
 pub mod moved;
+pub mod role;
 pub mod state;
 
 pub use asks::{ask_for, ask_of_commit, ask_of_read, copy_sends, join_sends};
 pub use instructions::{replace_over, runs, shut, transact, transact_rarely};
 pub use kept::{Ending, KeptPending, KeptTransaction, Standing, Wanted};
 pub use moved::{Moved, Quick};
+pub use role::{InHand, Role};
 pub use state::{Pending, Savepoint, Transaction};

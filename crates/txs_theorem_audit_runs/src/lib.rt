@@ -5,7 +5,6 @@ ghost use Rattle.txs_theorem_audit_runs.specs.Runs.{RunsAreExplained, RunsNeverD
 
 mod order;
 
-use crate::runs_are_ordered;
 pub use order::runs_are_ordered;
 use txs_theorem_audit::differs_is_not_explained;
 

@@ -49,9 +49,9 @@ use Rattle.txs_machine_transaction.specs.contracts.kept.KeptPending as kept_pend
 use Rattle.txs_machine_transaction.specs.contracts.kept.KeptPending.TheInside as kept_pending_in
 use Rattle.txs_machine_transaction.proofs.kept.Standing.TheSendSync as standing_sent
 use Rattle.txs_machine_transaction.proofs.kept.Wanted.TheSendSync as wanted_sent
-use Rattle.txs_machine_actor.specs.contracts.role.InHand as in_hand_is
-use Rattle.txs_machine_actor.specs.contracts.role.InHand.TheInside as in_hand_in
-use Rattle.txs_machine_actor.specs.contracts.role.Role as role_is
+use Rattle.txs_machine_transaction.specs.contracts.role.InHand as in_hand_is
+use Rattle.txs_machine_transaction.specs.contracts.role.InHand.TheInside as in_hand_in
+use Rattle.txs_machine_transaction.specs.contracts.role.Role as role_is
 use Rattle.txs_machine_actor.specs.contracts.actor.Actor as actor_is
 use Rattle.txs_machine_actor.specs.contracts.actor.Actor.TheInside as actor_in
 use Rattle.txs_value_cell.specs.contracts.cell.CellDefinition as cell_definition_is

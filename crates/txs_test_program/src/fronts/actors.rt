@@ -6,6 +6,7 @@ use crate::fronts::runs::code_of;
 use std::alloc::Global;
 use txs_code_meaning::Verified;
 use txs_machine::{Actor, Turn, may_answer};
+use txs_machine_turn::turn;
 use txs_value_cell::CellDefinition;
 use txs_value_data::{CellId, CellKind};
 use txs_world_protocol::{Ask, Reply};
@@ -34,7 +35,7 @@ fn has_begun(alloc: Global, code: &Verified) -> bool {
     let Ok(mut actor) = Actor::thread(alloc, code, 0, 9) else {
         return false;
     };
-    let begun = match actor.turn(code) {
+    let begun = match turn(&mut actor, code) {
         Turn::Asks(ask) => begin(&mut actor, code, ask),
         Turn::Went | Turn::Ended(_) => false,
     };
@@ -78,7 +79,7 @@ fn takes(alloc: Global, code: &Verified) -> bool {
     let Ok(mut actor) = Actor::agent(alloc, code, agent, 0, 9) else {
         return false;
     };
-    let is = match actor.turn(code) {
+    let is = match turn(&mut actor, code) {
         Turn::Asks(Ask::Take { agent: asked }) => asked == agent,
         _ => false,
     };

@@ -2,7 +2,7 @@ use Rattle.std.proofs.Common.{◌∙◌, ap, sym}
 use Rattle.txs_tree_meaning.specs.View.{program_of}
 use Rattle.txs_theorem_audit.specs.Audited.{report_as}
 use Rattle.txs_audit_order.specs.Named.{off_in}
-use Rattle.txs_audit_evidence.proofs.Numbering.{few_off}
+use Rattle.txs_audit_book.proofs.Numbering.{few_off}
 use Rattle.txs_audit.proofs.auditing.first_off.Goals as goal
 
 pub as_actor-requires : goal.as_actor-requires

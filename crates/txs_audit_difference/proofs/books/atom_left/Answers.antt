@@ -2,7 +2,7 @@ use Rattle.std.proofs.Common.{◌≤◌, ◌<◌, ◌∙◌, ap, arith, get_or, 
 use Rattle.txs_tree_meaning.specs.View.{program_of}
 use Rattle.txs_value_data.specs.Limits.{most_events}
 use Rattle.txs_theorem_audit.specs.Audited.{books_of, report_as}
-use Rattle.txs_audit_evidence.proofs.Numbering.{atom_inside}
+use Rattle.txs_audit_book.proofs.Numbering.{atom_inside}
 use Rattle.txs_audit_evidence.proofs.Opened.{book_in, book_read}
 use Rattle.txs_audit_evidence.proofs.Sized.{nth_at, sized}
 use Rattle.txs_audit_difference.specs.Left.{left_told}

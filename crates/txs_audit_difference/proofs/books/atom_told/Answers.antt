@@ -8,7 +8,7 @@ use Rattle.txs_theorem_audit.proofs.Listing.{within}
 use Rattle.txs_audit_book.specs.Replayed.{actor_in}
 use Rattle.txs_audit_book.specs.Swapped.{atom_test}
 use Rattle.txs_audit_evidence.proofs.Bookwise.{legal_few}
-use Rattle.txs_audit_evidence.proofs.Numbering.{agents_few, atoms_few}
+use Rattle.txs_audit_book.proofs.Numbering.{agents_few, atoms_few}
 use Rattle.txs_audit_evidence.proofs.Opened.{actors_many, atom_gone, atom_up_to, book_in, book_read}
 use Rattle.txs_audit_evidence.proofs.Sized.{nth_at, threads_many}
 use Rattle.txs_audit_difference.specs.Left.{illegal_told}

@@ -6,7 +6,7 @@ use Rattle.txs_theorem_audit.specs.Audited.{report_as}
 use Rattle.txs_audit_book.specs.Replayed.{PlainReplay}
 use Rattle.txs_audit_evidence.specs.Evidence.{plain_books}
 use Rattle.txs_audit_evidence.proofs.Looking.{cells_many}
-use Rattle.txs_audit_evidence.proofs.Numbering.{agent_inside}
+use Rattle.txs_audit_book.proofs.Numbering.{agent_inside}
 use Rattle.txs_audit_event.specs.Transactions.{or_else}
 use Rattle.txs_audit_difference.specs.Difference.{failed_what, value_what}
 use Rattle.txs_audit_difference.specs.Left.{left_told}

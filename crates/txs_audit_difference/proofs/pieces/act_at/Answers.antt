@@ -5,9 +5,9 @@ use Rattle.txs_tree_meaning.specs.View.{program_of}
 use Rattle.txs_theorem_audit.specs.Audited.{books_of, place_of, ran_as}
 use Rattle.txs_theorem_audit.specs.Pieces.{part_of}
 use Rattle.txs_audit_evidence.specs.Acted.{NamesAct}
-use Rattle.txs_audit_evidence.specs.Named.{plain_trace}
+use Rattle.txs_audit_order.specs.Named.{plain_trace}
 use Rattle.txs_audit_evidence.proofs.Printing.{got_no_place, got_place, no_later, part_least, there_below}
-use Rattle.txs_audit_evidence.proofs.Sized.{got}
+use Rattle.txs_audit_order.proofs.Lending.{got}
 use Rattle.txs_audit_evidence.proofs.ThreadFound.{so}
 use Rattle.txs_audit_event.specs.declared.what.What.TheVariants as what
 use Rattle.txs_audit_difference.specs.Pieces.{at_event}

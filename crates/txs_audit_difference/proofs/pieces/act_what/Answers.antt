@@ -1,6 +1,6 @@
 use Rattle.std.proofs.Common.{◌∙◌, ap, option_copied, sym}
 use Rattle.txs_tree_meaning.specs.View.{program_of}
-use Rattle.txs_audit_evidence.specs.Named.{plain_entry}
+use Rattle.txs_audit_order.specs.Named.{plain_entry}
 use Rattle.txs_audit_evidence.proofs.ThreadFound.{so}
 use Rattle.txs_audit_difference.specs.Pieces.{act_what_in, at_event}
 use Rattle.txs_audit_difference.proofs.pieces.act_what.Goals as goal

@@ -4,7 +4,7 @@ use Rattle.txs_world_book.specs.Served.{cells_of}
 use Rattle.txs_tree_eval_node.specs.Events.{seen_events}
 use Rattle.txs_tree_meaning.specs.View.{program_of}
 use Rattle.txs_theorem_audit.specs.Evaluated.{means_on}
-use Rattle.txs_audit_evidence.specs.Named.{plain_trace}
+use Rattle.txs_audit_order.specs.Named.{plain_trace}
 use Rattle.txs_audit_evidence.proofs.ThreadFound.{so}
 use Rattle.txs_audit_event.specs.Transactions.{gave_what}
 use Rattle.txs_audit_difference.specs.Pieces.{came_what, unvalidated}

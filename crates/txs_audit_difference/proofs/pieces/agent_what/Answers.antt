@@ -3,8 +3,8 @@ use Rattle.txs_value_data.specs.Places.{nth}
 use Rattle.txs_value_cell.specs.Agents.{agents_from}
 use Rattle.txs_tree_meaning.specs.View.{program_of}
 use Rattle.txs_theorem_audit.specs.Audited.{ran_as}
-use Rattle.txs_audit_evidence.proofs.Numbering.{agent_inside}
-use Rattle.txs_audit_evidence.specs.Named.{plain_entry}
+use Rattle.txs_audit_book.proofs.Numbering.{agent_inside}
+use Rattle.txs_audit_order.specs.Named.{plain_entry}
 use Rattle.txs_audit_evidence.proofs.ThreadFound.{so}
 use Rattle.txs_audit_difference.specs.Pieces.{at_event, end_what_in}
 use Rattle.txs_audit_difference.proofs.Piecing.{no_end}

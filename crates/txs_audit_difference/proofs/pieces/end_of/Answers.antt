@@ -6,7 +6,7 @@ use Rattle.txs_tree_meaning.specs.View.{program_of}
 use Rattle.txs_theorem_audit.specs.Audited.{place_of, ran_as}
 use Rattle.txs_theorem_audit.specs.Pieces.{acts_print}
 use Rattle.txs_theorem_audit.specs.Verdict.{begins, is_full_stop}
-use Rattle.txs_audit_evidence.specs.Named.{plain_trace}
+use Rattle.txs_audit_order.specs.Named.{plain_trace}
 use Rattle.txs_audit_evidence.proofs.Printing.{drop_least, map_drop, no_later}
 use Rattle.txs_audit_evidence.proofs.ThreadFound.{so}
 use Rattle.txs_audit_event.specs.Lines.{printed_what}

@@ -3,7 +3,7 @@ use Rattle.std.specs.Prelude.{option_copied}
 use Rattle.txs_world.specs.Store.{next_action}
 use Rattle.txs_world_book.specs.Served.{cells_of}
 use Rattle.txs_tree_meaning.specs.View.{program_of}
-use Rattle.txs_audit_evidence.specs.Named.{plain_trace}
+use Rattle.txs_audit_order.specs.Named.{plain_trace}
 use Rattle.txs_audit_difference.specs.Pieces.{at_event, in_action}
 use Rattle.txs_audit_difference.proofs.Piecing.{none_over, sent_over, some_state, unsent_over}
 use Rattle.txs_audit_difference.proofs.pieces.over_what.Goals as goal

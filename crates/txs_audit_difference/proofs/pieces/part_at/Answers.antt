@@ -2,9 +2,9 @@ use Rattle.std.proofs.Common.{◌∙◌, ap, arith, option_copied, sym}
 use Rattle.txs_value_data.specs.Places.{nth}
 use Rattle.txs_tree_meaning.specs.View.{program_of}
 use Rattle.txs_theorem_audit.specs.Audited.{place_of}
-use Rattle.txs_audit_evidence.specs.Named.{plain_trace}
+use Rattle.txs_audit_order.specs.Named.{plain_trace}
 use Rattle.txs_audit_evidence.proofs.Printing.{got_place, got_no_place, there_below}
-use Rattle.txs_audit_evidence.proofs.Sized.{got}
+use Rattle.txs_audit_order.proofs.Lending.{got}
 use Rattle.txs_audit_event.specs.Meant.{doer_means, held_by}
 use Rattle.txs_audit_difference.proofs.Piecing.{at_end, at_no_place, at_place}
 use Rattle.txs_audit_difference.proofs.pieces.part_at.Goals as goal

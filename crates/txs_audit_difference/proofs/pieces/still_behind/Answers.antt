@@ -4,7 +4,7 @@ use Rattle.txs_tree_meaning.specs.View.{program_of}
 use Rattle.txs_theorem_audit.specs.Audited.{books_of}
 use Rattle.txs_theorem_audit.specs.Verdict.{least_of, printed_by}
 use Rattle.txs_theorem_audit.specs.Evaluated.{means_on}
-use Rattle.txs_audit_evidence.specs.Named.{plain_trace}
+use Rattle.txs_audit_order.specs.Named.{plain_trace}
 use Rattle.txs_audit_evidence.proofs.ThreadFound.{so}
 use Rattle.txs_audit_event.specs.Lines.{full_what, part_what}
 use Rattle.txs_audit_difference.specs.Pieces.{needed_of, still_full, still_printed, unvalidated}

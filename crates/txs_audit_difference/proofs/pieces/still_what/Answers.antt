@@ -5,7 +5,7 @@ use Rattle.txs_world.specs.Store.{next_action}
 use Rattle.txs_world_book.specs.Served.{cells_of}
 use Rattle.txs_tree_meaning.specs.View.{program_of}
 use Rattle.txs_audit_book.specs.Tests.{store_test}
-use Rattle.txs_audit_evidence.specs.Named.{plain_trace}
+use Rattle.txs_audit_order.specs.Named.{plain_trace}
 use Rattle.txs_audit_evidence.proofs.Acting.{last_state}
 use Rattle.txs_audit_evidence.proofs.Bookwise.{legal_few}
 use Rattle.txs_audit_difference.specs.Pieces.{in_action}

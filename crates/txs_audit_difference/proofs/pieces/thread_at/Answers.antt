@@ -4,7 +4,7 @@ use Rattle.txs_tree_eval_node.specs.Events.{seen_events}
 use Rattle.txs_tree_meaning.specs.View.{program_of}
 use Rattle.txs_theorem_runs.specs.Told.{seen_of}
 use Rattle.txs_theorem_audit.specs.Audited.{books_of, ran_as}
-use Rattle.txs_audit_evidence.specs.Named.{plain_trace}
+use Rattle.txs_audit_order.specs.Named.{plain_trace}
 use Rattle.txs_audit_evidence.proofs.ThreadFound.{so}
 use Rattle.txs_audit_event.specs.Meant.{doer_means}
 use Rattle.txs_audit_event.specs.declared.meant.Doer.TheVariants as doer

@@ -2,9 +2,9 @@ use Rattle.std.proofs.Common.{◌≡◌, ◌∙◌, ap, option_copied, sym}
 use Rattle.txs_value_data.specs.Places.{nth}
 use Rattle.txs_tree_meaning.specs.View.{program_of}
 use Rattle.txs_theorem_audit.specs.Audited.{ran_as}
-use Rattle.txs_audit_evidence.specs.Named.{plain_entry}
-use Rattle.txs_audit_evidence.proofs.Locating.{entry_nth}
-use Rattle.txs_audit_evidence.proofs.Sized.{got}
+use Rattle.txs_audit_order.specs.Named.{plain_entry}
+use Rattle.txs_audit_order.proofs.Locating.{entry_nth}
+use Rattle.txs_audit_order.proofs.Lending.{got}
 use Rattle.txs_audit_evidence.proofs.ThreadFound.{so, thread_below}
 use Rattle.txs_audit_event.specs.Meant.{thread_means}
 use Rattle.txs_audit_difference.specs.Pieces.{thread_what}

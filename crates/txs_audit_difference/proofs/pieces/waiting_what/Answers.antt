@@ -1,7 +1,7 @@
 use Rattle.std.proofs.Common.{◌∙◌, [], Some, ap, refl}
 use Rattle.txs_tree_eval_node.specs.Events.{seen_events}
 use Rattle.txs_tree_meaning.specs.View.{program_of}
-use Rattle.txs_audit_evidence.specs.Named.{plain_trace}
+use Rattle.txs_audit_order.specs.Named.{plain_trace}
 use Rattle.txs_audit_evidence.proofs.ThreadFound.{so}
 use Rattle.txs_audit_difference.specs.Pieces.{still_behind, unvalidated}
 use Rattle.txs_audit_difference.proofs.Piecing.{part_else, part_there}

@@ -3,7 +3,7 @@ use Rattle.txs_tree_meaning.specs.View.{program_of}
 use Rattle.txs_theorem_audit.specs.Audited.{report_as}
 use Rattle.txs_audit_book.specs.Answered.{terms_as}
 use Rattle.txs_audit_order.specs.Named.{off_in}
-use Rattle.txs_audit_evidence.proofs.Numbering.{few_off}
+use Rattle.txs_audit_book.proofs.Numbering.{few_off}
 use Rattle.txs_audit_difference.proofs.Tells.{traces_fine, traces_off}
 use Rattle.txs_audit_difference.proofs.telling.behind_sizes.Goals as goal
 

@@ -1,5 +1,5 @@
 use Rattle.std.proofs.Common.{◌∙◌, Some, ap, sym}
-use Rattle.txs_audit_evidence.proofs.Sized.{got}
+use Rattle.txs_audit_order.proofs.Lending.{got}
 use Rattle.txs_audit_event.specs.declared.what.What.TheVariants as what
 use Rattle.txs_audit_event.proofs.Writing.{sent_here, sent_on}
 use Rattle.txs_audit_event.proofs.commits.sent_what.Goals as goal

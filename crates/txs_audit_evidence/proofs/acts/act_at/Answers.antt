@@ -3,9 +3,9 @@ use Rattle.txs_value_data.specs.Places.{nth}
 use Rattle.txs_tree_meaning.specs.View.{program_of}
 use Rattle.txs_theorem_audit.specs.Audited.{books_of, place_of, ran_as}
 use Rattle.txs_theorem_audit.specs.Pieces.{act_finding, act_finding_at, event_serial, part_of, serial_at}
-use Rattle.txs_audit_evidence.specs.Named.{plain_trace}
+use Rattle.txs_audit_order.specs.Named.{plain_trace}
 use Rattle.txs_audit_evidence.proofs.Printing.{got_place, got_no_place}
-use Rattle.txs_audit_evidence.proofs.Sized.{got}
+use Rattle.txs_audit_order.proofs.Lending.{got}
 use Rattle.txs_audit_evidence.proofs.ThreadFound.{so}
 use Rattle.txs_audit_evidence.proofs.acts.act_at.Goals as goal
 

@@ -3,7 +3,7 @@ use Rattle.txs_value_data.specs.Places.{nth}
 use Rattle.txs_tree_meaning.specs.View.{program_of}
 use Rattle.txs_theorem_audit.specs.Audited.{ran_as}
 use Rattle.txs_theorem_audit.specs.Pieces.{act_finding_at, act_finding_in, act_serial}
-use Rattle.txs_audit_evidence.specs.Named.{plain_entry}
+use Rattle.txs_audit_order.specs.Named.{plain_entry}
 use Rattle.txs_audit_evidence.proofs.Printing.{there_below}
 use Rattle.txs_audit_evidence.proofs.ThreadFound.{so}
 use Rattle.txs_audit_evidence.proofs.acts.act_found.Goals as goal

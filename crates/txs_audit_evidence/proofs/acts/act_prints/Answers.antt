@@ -3,7 +3,7 @@ use Rattle.std.specs.Prelude.{option_copied}
 use Rattle.txs_world.specs.Store.{next_action}
 use Rattle.txs_world_book.specs.Served.{cells_of}
 use Rattle.txs_tree_meaning.specs.View.{program_of}
-use Rattle.txs_audit_evidence.specs.Named.{plain_trace}
+use Rattle.txs_audit_order.specs.Named.{plain_trace}
 use Rattle.txs_audit_evidence.proofs.ActionFound.{none_prints, sent_prints, unsent_prints}
 use Rattle.txs_audit_evidence.proofs.ThreadFound.{so}
 use Rattle.txs_audit_evidence.proofs.acts.act_prints.Goals as goal

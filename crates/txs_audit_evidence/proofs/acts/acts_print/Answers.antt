@@ -3,7 +3,7 @@ use Rattle.std.proofs.lemmas.List.{length-map}
 use Rattle.txs_tree_meaning.specs.View.{program_of}
 use Rattle.txs_theorem_audit.specs.Audited.{place_of}
 use Rattle.txs_theorem_audit.specs.Pieces.{acts_print}
-use Rattle.txs_audit_evidence.specs.Named.{plain_trace}
+use Rattle.txs_audit_order.specs.Named.{plain_trace}
 use Rattle.txs_world_protocol.specs.declared.event.Place.{Place}
 use Rattle.txs_audit_evidence.proofs.Judging.{there_is}
 use Rattle.txs_audit_evidence.proofs.Printing.{entry_plain, prints_end, prints_first, prints_next}

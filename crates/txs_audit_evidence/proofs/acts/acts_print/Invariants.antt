@@ -1,7 +1,7 @@
 use Rattle.std.proofs.Common.{◌≡◌, ◌≤◌, ◌++◌, [], drop}
 use Rattle.txs_tree_meaning.specs.View.{program_of}
 use Rattle.txs_theorem_audit.specs.Pieces.{acts_print, part_of}
-use Rattle.txs_audit_evidence.specs.Named.{plain_trace}
+use Rattle.txs_audit_order.specs.Named.{plain_trace}
 use Rattle.txs_audit_evidence.proofs.acts.acts_print.Given as goal
 
 -- what was printed so far, and what the rest prints, are all

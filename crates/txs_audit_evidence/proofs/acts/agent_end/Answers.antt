@@ -3,7 +3,7 @@ use Rattle.txs_value_data.specs.Places.{nth}
 use Rattle.txs_value_cell.specs.Agents.{agents_from}
 use Rattle.txs_tree_meaning.specs.View.{program_of}
 use Rattle.txs_theorem_audit.specs.Pieces.{end_finding, end_serial}
-use Rattle.txs_audit_evidence.specs.Named.{plain_entry}
+use Rattle.txs_audit_order.specs.Named.{plain_entry}
 use Rattle.txs_audit_evidence.proofs.Printing.{no_end_found}
 use Rattle.txs_audit_evidence.proofs.ThreadFound.{so}
 use Rattle.txs_audit_evidence.proofs.acts.agent_end.Goals as goal

@@ -2,7 +2,7 @@ use Rattle.std.proofs.Common.{◌≡◌, ◌∙◌, ap, option_copied, sym}
 use Rattle.txs_value_data.specs.Places.{nth}
 use Rattle.txs_value_cell.specs.Agents.{agents_from}
 use Rattle.txs_tree_meaning.specs.View.{Parts}
-use Rattle.txs_audit_evidence.proofs.Sized.{got}
+use Rattle.txs_audit_order.proofs.Lending.{got}
 use Rattle.txs_audit_evidence.proofs.acts.cell_of.Goals as goal
 
 pub returns-in-Some : goal.returns-in-Some

@@ -7,7 +7,7 @@ use Rattle.txs_theorem_audit.specs.Audited.{books_of, place_of}
 use Rattle.txs_theorem_audit.specs.Verdict.{act_ends, rest_ends}
 use Rattle.txs_theorem_audit.specs.Evaluated.{means_on}
 use Rattle.txs_audit_evidence.specs.Acted.{end_by}
-use Rattle.txs_audit_evidence.specs.Named.{plain_trace}
+use Rattle.txs_audit_order.specs.Named.{plain_trace}
 use Rattle.txs_audit_evidence.proofs.ActionFound.{seen_few}
 use Rattle.txs_audit_evidence.proofs.ThreadFound.{many_seen, so}
 use Rattle.txs_audit_evidence.proofs.acts.end_found.Goals as goal

@@ -6,7 +6,7 @@ use Rattle.txs_tree_meaning.specs.View.{program_of}
 use Rattle.txs_theorem_audit.specs.Audited.{place_of, ran_as}
 use Rattle.txs_theorem_audit.specs.Pieces.{acts_print, end_finding, end_serial}
 use Rattle.txs_theorem_audit.specs.Verdict.{action_covered, agent_end}
-use Rattle.txs_audit_evidence.proofs.Numbering.{agent_inside}
+use Rattle.txs_audit_book.proofs.Numbering.{agent_inside}
 use Rattle.txs_audit_evidence.proofs.Printing.{drop_least, no_later, there_below}
 use Rattle.txs_audit_evidence.proofs.ThreadFound.{so}
 use Rattle.txs_audit_evidence.proofs.acts.end_of.Goals as goal

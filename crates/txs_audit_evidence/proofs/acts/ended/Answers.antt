@@ -7,7 +7,7 @@ use Rattle.txs_theorem_audit.specs.Audited.{Off, place_of, ran_as}
 use Rattle.txs_theorem_audit.specs.Pieces.{acts_print}
 use Rattle.txs_theorem_audit.specs.Verdict.{action_covered, begins, is_full_stop, is_stopped, rest_found}
 use Rattle.txs_theorem_audit.proofs.Findings.{off_fine}
-use Rattle.txs_audit_evidence.specs.Named.{plain_trace}
+use Rattle.txs_audit_order.specs.Named.{plain_trace}
 use Rattle.txs_audit_evidence.proofs.Printing.{and_no, begins_few, end_holds, end_off, left_long}
 use Rattle.txs_audit_evidence.proofs.ThreadFound.{so}
 use Rattle.txs_audit_evidence.proofs.acts.ended.Goals as goal

@@ -1,8 +1,8 @@
 use Rattle.std.proofs.Common.{◌≡◌, ◌∙◌, ap, option_copied, sym}
 use Rattle.txs_value_data.specs.Places.{nth}
-use Rattle.txs_audit_evidence.specs.Named.{plain_entry}
-use Rattle.txs_audit_evidence.proofs.Locating.{entry_nth}
-use Rattle.txs_audit_evidence.proofs.Sized.{got}
+use Rattle.txs_audit_order.specs.Named.{plain_entry}
+use Rattle.txs_audit_order.proofs.Locating.{entry_nth}
+use Rattle.txs_audit_order.proofs.Lending.{got}
 use Rattle.txs_audit_evidence.proofs.acts.entry_of.Goals as goal
 
 pub returns : goal.returns

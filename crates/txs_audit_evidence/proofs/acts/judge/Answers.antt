@@ -8,7 +8,7 @@ use Rattle.txs_theorem_audit.specs.Audited.{books_of}
 use Rattle.txs_theorem_audit.specs.Evaluated.{calm_found_by, covered_all_by}
 use Rattle.txs_audit_book.specs.Judged.{as_found, is_fine}
 use Rattle.txs_audit_evidence.specs.Acted.{end_by}
-use Rattle.txs_audit_evidence.specs.Named.{plain_trace}
+use Rattle.txs_audit_order.specs.Named.{plain_trace}
 use Rattle.txs_audit_evidence.proofs.ActionFound.{end_covered, end_last, off_first}
 use Rattle.txs_audit_evidence.proofs.ThreadFound.{fine_is, no_fine}
 use Rattle.txs_audit_evidence.proofs.acts.judge.Goals as goal

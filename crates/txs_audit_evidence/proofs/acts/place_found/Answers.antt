@@ -6,7 +6,7 @@ use Rattle.txs_theorem_audit.specs.Audited.{books_of, place_of}
 use Rattle.txs_theorem_audit.specs.Pieces.{part_of}
 use Rattle.txs_audit_book.specs.Judged.{as_found}
 use Rattle.txs_audit_evidence.specs.Acted.{NamesAct}
-use Rattle.txs_audit_evidence.specs.Named.{plain_trace}
+use Rattle.txs_audit_order.specs.Named.{plain_trace}
 use Rattle.txs_audit_evidence.proofs.Printing.{act_here, begins_at, covered_here, no_later, nothing_found, part_least, there_below}
 use Rattle.txs_audit_evidence.proofs.ThreadFound.{so}
 use Rattle.txs_audit_evidence.proofs.acts.place_found.Goals as goal

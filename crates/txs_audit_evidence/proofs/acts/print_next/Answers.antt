@@ -1,7 +1,7 @@
 use Rattle.std.proofs.Common.{◌+◌, ◌++◌, ◌∙◌, ap, arith, refl, subst, take}
 use Rattle.txs_theorem_audit.specs.Audited.{place_of}
 use Rattle.txs_audit_evidence.specs.Acted.{NamesAct}
-use Rattle.txs_audit_evidence.specs.Named.{plain_trace}
+use Rattle.txs_audit_order.specs.Named.{plain_trace}
 use Rattle.txs_world.specs.Store.{next_action}
 use Rattle.txs_world_book.specs.Served.{cells_of}
 use Rattle.txs_tree_meaning.specs.View.{program_of}

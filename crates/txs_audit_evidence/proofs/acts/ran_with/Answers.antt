@@ -4,7 +4,7 @@ use Rattle.txs_world.specs.Store.{next_action}
 use Rattle.txs_world_book.specs.Served.{cells_of}
 use Rattle.txs_tree_meaning.specs.View.{program_of}
 use Rattle.txs_theorem_audit.proofs.Findings.{off_fine}
-use Rattle.txs_audit_evidence.specs.Named.{plain_trace}
+use Rattle.txs_audit_order.specs.Named.{plain_trace}
 use Rattle.txs_audit_evidence.proofs.ActionFound.{none_found, sent_covered, sent_found, unsent_found}
 use Rattle.txs_audit_evidence.proofs.ThreadFound.{so}
 use Rattle.txs_audit_evidence.proofs.acts.ran_with.Goals as goal

@@ -3,7 +3,7 @@ use Rattle.txs_world.specs.Store.{next_action}
 use Rattle.txs_world_book.specs.Served.{cells_of}
 use Rattle.txs_tree_meaning.specs.View.{program_of}
 use Rattle.txs_theorem_audit.specs.Verdict.{action_covered}
-use Rattle.txs_audit_evidence.specs.Named.{plain_trace}
+use Rattle.txs_audit_order.specs.Named.{plain_trace}
 use Rattle.txs_audit_evidence.proofs.ActionFound.{nothing_covered}
 use Rattle.txs_audit_evidence.proofs.Printing.{nothing_is, rest_nothing, rest_still}
 use Rattle.txs_audit_evidence.proofs.ThreadFound.{so}

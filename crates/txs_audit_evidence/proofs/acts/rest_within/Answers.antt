@@ -5,7 +5,7 @@ use Rattle.txs_tree_meaning.specs.Sound.{Sound}
 use Rattle.txs_tree_meaning.specs.View.{Parts, program_of}
 use Rattle.txs_theorem_audit.specs.Verdict.{action_covered, rest_found}
 use Rattle.txs_audit_book.specs.Judged.{as_found}
-use Rattle.txs_audit_evidence.specs.Named.{plain_trace}
+use Rattle.txs_audit_order.specs.Named.{plain_trace}
 use Rattle.txs_audit_evidence.proofs.Bounded.{bounded_finding, bounded_serial, still_stays}
 use Rattle.txs_audit_evidence.proofs.acts.rest_within.Goals as goal
 

@@ -3,7 +3,7 @@ use Rattle.std.proofs.lemmas.List.{get_or_default}
 use Rattle.txs_value_data.specs.Places.{nth}
 use Rattle.txs_value_data.specs.declared.value.CellId.{CellId}
 use Rattle.txs_value_data.specs.declared.value.CellKind.TheVariants.{Ref}
-use Rattle.txs_audit_evidence.proofs.Numbering.{agent_inside}
+use Rattle.txs_audit_book.proofs.Numbering.{agent_inside}
 use Rattle.txs_audit_evidence.proofs.Sized.{nth_at}
 use Rattle.txs_audit_evidence.proofs.ends.agents_off.Goals as goal
 

@@ -4,7 +4,7 @@ use Rattle.txs_tree_meaning.specs.View.{Parts}
 use Rattle.txs_audit_book.specs.Answered.{terms_as}
 use Rattle.txs_audit_order.specs.Named.{off_in}
 use Rattle.txs_audit_evidence.proofs.Ending.{by_agents, by_threads}
-use Rattle.txs_audit_evidence.proofs.Numbering.{agents_few}
+use Rattle.txs_audit_book.proofs.Numbering.{agents_few}
 use Rattle.txs_audit_evidence.proofs.ends.ends_off.Goals as goal
 
 pub returns-in-Some : goal.returns-in-Some

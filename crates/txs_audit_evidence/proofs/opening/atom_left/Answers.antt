@@ -2,7 +2,7 @@ use Rattle.std.proofs.Common.{◌≤◌, ◌<◌, ◌∙◌, ap, arith, get_or, 
 use Rattle.txs_value_data.specs.Limits.{most_events}
 use Rattle.txs_theorem_audit.specs.Audited.{books_of, check, entry_of, report_as}
 use Rattle.txs_theorem_audit.specs.Verdict.{length_if}
-use Rattle.txs_audit_evidence.proofs.Numbering.{atom_inside}
+use Rattle.txs_audit_book.proofs.Numbering.{atom_inside}
 use Rattle.txs_audit_evidence.proofs.Opened.{book_in, book_read, left_is}
 use Rattle.txs_audit_evidence.proofs.Sized.{sized}
 use Rattle.txs_audit_evidence.proofs.opening.atom_left.Goals as goal

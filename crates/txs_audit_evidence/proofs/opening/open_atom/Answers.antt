@@ -3,16 +3,15 @@ use Rattle.txs_value_cell.specs.Agents.{agents_from}
 use Rattle.txs_world_book.specs.Book.{actors}
 use Rattle.txs_world_book.specs.Served.{cells_of}
 use Rattle.txs_theorem_audit.specs.Audited.{Off, books_of, entry_of, report_as}
-use Rattle.txs_theorem_audit.specs.Verdict.{index_if}
+use Rattle.txs_theorem_audit.specs.Verdict.{index_if, atoms_from}
 use Rattle.txs_audit_book.specs.Replayed.{actor_in}
 use Rattle.txs_audit_book.specs.Swapped.{atom_test}
 use Rattle.txs_audit_book.specs.Judged.{as_found, is_fine}
 use Rattle.txs_theorem_audit.proofs.Listing.{within}
 use Rattle.txs_audit_evidence.proofs.Bookwise.{atom_off, atom_through, fine_is, legal_few}
-use Rattle.txs_audit_evidence.proofs.Numbering.{agents_few, atoms_few}
+use Rattle.txs_audit_book.proofs.Numbering.{agents_few, atoms_few}
 use Rattle.txs_audit_evidence.proofs.Opened.{actors_many, atom_gone, atom_up_to, book_in, book_read}
 use Rattle.txs_audit_evidence.proofs.Sized.{nth_at, threads_many}
-use Rattle.txs_theorem_audit.specs.Verdict.{atoms_from}
 use Rattle.txs_audit_evidence.proofs.opening.open_atom.Goals as goal
 
 pub overflow_add-actors : goal.overflow_add-actors

@@ -4,7 +4,7 @@ use Rattle.txs_value_cell.specs.Agents.{agents_from}
 use Rattle.txs_audit_book.specs.Replayed.{PlainReplay}
 use Rattle.txs_audit_evidence.specs.Evidence.{plain_books}
 use Rattle.txs_audit_evidence.proofs.Looking.{cells_many}
-use Rattle.txs_audit_evidence.proofs.Numbering.{agent_inside}
+use Rattle.txs_audit_book.proofs.Numbering.{agent_inside}
 use Rattle.txs_audit_evidence.proofs.opening.store_left.Goals as goal
 
 pub has_failed-failures-requires-clause-there : goal.has_failed-failures-requires-clause-there

@@ -1,5 +1,5 @@
 use Rattle.std.proofs.Common.{◌≡◌, drop}
-use Rattle.txs_theorem_explore.specs.System.{has}
+use Rattle.txs_explore.specs.System.{has}
 use Rattle.txs_explore.proofs.asks.is_among.Given as goal
 
 abbrev pub invariant-loop-j : goal.invariant-loop-j

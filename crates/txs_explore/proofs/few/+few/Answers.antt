@@ -1,7 +1,7 @@
 use Rattle.std.proofs.Common.{◌≡◌, ◌<◌, ◌≤◌, ◌+◌, ◌-◌, ◌*◌, ◌∷◌, ◌++◌, [], Bool, Some, true, false, nat_le, length, get_or, suc, refl, rules, sym, ap, subst, ◌∙◌, arith}
 use Rattle.std.proofs.lemmas.Bool.Decides.{nat_tests}
-use Rattle.txs_theorem_explore.specs.System.{has}
-use Rattle.txs_theorem_explore.specs.Runners.{asking, seen}
+use Rattle.txs_explore.specs.System.{has}
+use Rattle.txs_explore.specs.Runners.{asking, seen}
 use Rattle.txs_explore.specs.Told.{explored, begins}
 use Rattle.txs_explore.specs.Looked.{state_at}
 use Rattle.txs_explore.specs.Found.{HasAfforded, HasSearchedFew, switched_in}

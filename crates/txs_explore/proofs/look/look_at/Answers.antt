@@ -8,7 +8,7 @@ use Rattle.txs_explore.proofs.look.look_at.Goals as goal
 pub ask_of-requires : goal.ask_of-requires
 ask_of-requires c = λ went.
     (let a = c.args.actor in
-    let b = c.run.new.self in
+    let b = c.run.new.actor in
     let limited = c.requires.fresh.limited in
     let small = c.requires.small in
     let within = c.requires.fresh.within in
@@ -17,4 +17,4 @@ ask_of-requires c = λ went.
 
 pub returns : goal.returns
 returns c =
-    look_is c.args.code.now c.args.actor c.run.new.self c.run.new.turn c.in_ok-ask.ask c.outcome-outcome.result c.from_vec-printed.result c.run.ensures.turns c.run.ensures.says c.in_ok-ask.ensures (search rules) (search rules)
+    look_is c.args.code.now c.args.actor c.run.new.actor c.run.new.turn c.in_ok-ask.ask c.outcome-outcome.result c.from_vec-printed.result c.run.ensures.turns c.run.ensures.says c.in_ok-ask.ensures (search rules) (search rules)

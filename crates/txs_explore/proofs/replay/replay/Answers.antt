@@ -1,6 +1,6 @@
 use Rattle.std.proofs.Common.{◌<◌, ◌≤◌, ◌++◌, ◌∷◌, ℕ, [], List, length, get_or, take, rules, sym, subst}
 use Rattle.std.proofs.lemmas.List.{take_more, take_all}
-use Rattle.txs_theorem_explore.specs.Runners.{many}
+use Rattle.txs_explore.specs.Runners.{many}
 use Rattle.txs_explore.specs.Told.{explored}
 use Rattle.txs_explore.specs.Looked.{IsStageAt}
 use Rattle.txs_explore.proofs.Tests.{below_at}

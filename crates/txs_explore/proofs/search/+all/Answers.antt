@@ -1,6 +1,6 @@
 use Rattle.std.proofs.Common.{◌≡◌, ◌<◌, ◌≤◌, ◌+◌, ◌-◌, ◌*◌, ◌∷◌, ◌++◌, ◌&&◌, [], Bool, true, false, length, get_or, take, suc, refl, rules, sym, ap, subst, ◌∙◌, arith}
-use Rattle.txs_theorem_explore.specs.System.{has}
-use Rattle.txs_theorem_explore.specs.Runners.{asking, many, seen}
+use Rattle.txs_explore.specs.System.{has}
+use Rattle.txs_explore.specs.Runners.{asking, many, seen}
 use Rattle.txs_explore.specs.Told.{explored, begins}
 use Rattle.txs_explore.specs.Looked.{state_at}
 use Rattle.txs_explore.specs.Node.{AreBelow, apart_in, kept_by}

@@ -1,5 +1,5 @@
 use Rattle.std.proofs.Common.{◌+◌, ◌*◌}
-use Rattle.txs_theorem_explore.specs.Runners.{many}
+use Rattle.txs_explore.specs.Runners.{many}
 use Rattle.txs_explore.specs.Told.{explored}
 use Rattle.txs_explore.specs.Node.{AreBelow}
 use Rattle.txs_explore.proofs.Loops.{BranchAt}

@@ -1,6 +1,6 @@
 use Rattle.std.proofs.Common.{◌∙◌, arith}
 use Rattle.txs_audit_book.proofs.Reading.{boxes_many, failed_read}
-use Rattle.txs_audit_book.proofs.Stepping.{agent_in}
+use Rattle.txs_world.proofs.Kept.{agent_in}
 use Rattle.txs_audit_book.proofs.parts.Parts.is_failed.Goals as goal
 
 pub index-requires : goal.index-requires

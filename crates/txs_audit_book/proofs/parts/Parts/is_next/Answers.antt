@@ -2,7 +2,7 @@ use Rattle.std.proofs.Common.{◌≡◌, arith, length}
 use Rattle.txs_world_book.specs.Book.{mail_after}
 use Rattle.txs_audit_book.specs.Gone.{plain_inbox}
 use Rattle.txs_audit_book.proofs.Reading.{boxes_many, inbox_is, next_waits, none_waits}
-use Rattle.txs_audit_book.proofs.Stepping.{agent_in}
+use Rattle.txs_world.proofs.Kept.{agent_in}
 use Rattle.txs_audit_book.proofs.parts.Parts.is_next.Goals as goal
 
 pub index-inbox-requires : goal.index-inbox-requires

@@ -5,7 +5,7 @@ use Rattle.txs_world_book.specs.Book.{most_older, opening, times_written}
 use Rattle.txs_world_book.proofs.Sizes.{fits_place}
 use Rattle.txs_audit_book.proofs.Pasts.{times_more, times_none}
 use Rattle.txs_audit_book.proofs.Reading.{history_is}
-use Rattle.txs_audit_book.proofs.Stepping.{ref_in}
+use Rattle.txs_world.proofs.Kept.{ref_in}
 use Rattle.txs_audit_book.proofs.parts.Parts.is_outdated.Goals as goal
 
 pub index-history-requires : goal.index-history-requires

@@ -1,6 +1,6 @@
 use Rattle.std.proofs.Common.{◌∙◌, ap, nat_lt, arith}
 use Rattle.txs_audit_book.proofs.Reading.{written_read}
-use Rattle.txs_audit_book.proofs.Stepping.{ref_in}
+use Rattle.txs_world.proofs.Kept.{ref_in}
 use Rattle.txs_audit_book.proofs.parts.Parts.is_written.Goals as goal
 
 pub index-requires : goal.index-requires

@@ -3,7 +3,7 @@ use Rattle.std.proofs.lemmas.List.{take_all}
 use Rattle.txs_world_protocol.specs.declared.event.Place.{Place}
 use Rattle.txs_theorem_audit.specs.Audited.{books_of}
 use Rattle.txs_theorem_runs.specs.Told.{seen_of}
-use Rattle.txs_audit_evidence.specs.Named.{plain_trace}
+use Rattle.txs_audit_order.specs.Named.{plain_trace}
 use Rattle.txs_audit_evidence.proofs.SeenWorlds.{seen_more}
 use Rattle.txs_audit_evidence.proofs.books.Books.see_all.Goals as goal
 

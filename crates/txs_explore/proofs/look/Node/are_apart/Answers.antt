@@ -1,5 +1,5 @@
 use Rattle.std.proofs.Common.{◌≡◌, get_or, ap, ◌∙◌}
-use Rattle.txs_theorem_explore.specs.Runners.{are_apart}
+use Rattle.txs_explore.specs.Runners.{are_apart}
 use Rattle.txs_world_shared.specs.SharedState.{shared_of}
 use Rattle.txs_explore.proofs.Tests.{apart_never, apart_then, asks_read}
 use Rattle.txs_explore.proofs.look.Node.are_apart.Goals as goal

@@ -1,5 +1,5 @@
 use Rattle.std.proofs.Common.{◌≡◌, ◌<◌, ℕ, Bool, get_or, length, rules, sym, ap, subst, ◌∙◌}
-use Rattle.txs_theorem_explore.specs.Runners.{is_due, those}
+use Rattle.txs_explore.specs.Runners.{is_due, those}
 use Rattle.txs_world_shared.specs.SharedState.{shared_of}
 use Rattle.txs_explore.specs.Node.{asks_in}
 use Rattle.txs_explore.proofs.Tests.{asks_read, those_next}

@@ -3,7 +3,7 @@ use Rattle.txs_frame.specs.Frame.{empty_frame}
 use Rattle.txs_machine_actor.specs.PlainActor.{PlainActor, Attends}
 use Rattle.txs_machine_actor.specs.Turns.{IsNew}
 use Rattle.txs_machine_transaction.specs.declared.state.Transaction.TheVariants.{Outside}
-use Rattle.txs_machine_actor.specs.declared.role.Role.TheVariants.{Attending}
+use Rattle.txs_machine_transaction.specs.declared.role.Role.TheVariants.{Attending}
 use Rattle.txs_machine_stack.specs.PlainFrame.{PlainStack}
 use Rattle.txs_machine_actor.proofs.Attending.{agent_is_new, agent_lives}
 use Rattle.txs_machine_actor.proofs.actor.Actor.agent.Goals as goal

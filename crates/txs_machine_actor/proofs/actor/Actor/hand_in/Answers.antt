@@ -7,8 +7,8 @@ use Rattle.txs_machine_stack.specs.PlainFrame.{PlainStack}
 use Rattle.txs_machine_transaction.specs.declared.state.Savepoint.{Savepoint}
 use Rattle.txs_machine_transaction.specs.declared.state.Transaction.{Transaction}
 use Rattle.txs_machine_transaction.specs.declared.state.Transaction.TheVariants.{Outside, Restarting, Running, Applying, Evaluating, Swapping, Judging, Weighing}
-use Rattle.txs_machine_actor.specs.declared.role.Role.{Role}
-use Rattle.txs_machine_actor.specs.declared.role.Role.TheVariants.{Thread, Attending, Acting}
+use Rattle.txs_machine_transaction.specs.declared.role.Role.{Role}
+use Rattle.txs_machine_transaction.specs.declared.role.Role.TheVariants.{Thread, Attending, Acting}
 use Rattle.txs_machine_actor.specs.PlainActor.{PlainActor}
 use Rattle.txs_machine_actor.specs.Turns.{IsServing, IsEvaluating, handed_back, hands_in}
 use Rattle.txs_machine_actor.proofs.actor.Actor.hand_in.Goals as goal

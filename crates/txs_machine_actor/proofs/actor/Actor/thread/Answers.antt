@@ -6,7 +6,7 @@ use Rattle.txs_machine_actor.specs.PlainActor.{PlainActor, Runs, functions_of}
 use Rattle.txs_machine_stack.specs.PlainFrame.{PlainStack}
 use Rattle.txs_machine_actor.specs.Turns.{IsNew}
 use Rattle.txs_machine_transaction.specs.declared.state.Transaction.TheVariants.{Outside}
-use Rattle.txs_machine_actor.specs.declared.role.Role.TheVariants.{Thread}
+use Rattle.txs_machine_transaction.specs.declared.role.Role.TheVariants.{Thread}
 use Rattle.txs_machine_actor.proofs.Openings.{rooms_as_many, is_new, new_runs}
 use Rattle.txs_machine_actor.proofs.actor.Actor.thread.Goals as goal
 
