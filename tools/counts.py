@@ -18,6 +18,11 @@ def lines(*folders):
                         yield from file
 
 
+def is_code(line):
+    """Whether a line is neither blank nor the beginning of a comment, an import or a clause."""
+    return not re.match(r"\s*($|//|(pub |ghost )*use |ensures|requires|invariant|×)", line)
+
+
 def most(sizes):
     crate = max(sorted(sizes), key=sizes.get)
     return f"{crate}: {sizes[crate]:,}"
@@ -32,6 +37,7 @@ functions = {it: sum(bool(re.match(r"\s*(pub(\(\w+\))? )?fn \w+", line)) for lin
 rows = [
     ("crates", f"{len(crates)}, of which {len(tests)} hold tests"),
     ("lines of `src/`, without tests", f"{sum(size[it] for it in code):,}"),
+    ("of these code: no clauses, comments, imports and blank lines", f"{sum(map(is_code, (line for it in code for line in text[it]))):,}"),
     ("lines of `src/` in the crates of tests", f"{sum(size[it] for it in tests):,}"),
     ("lines of `specs/`", f"{sum(1 for it in crates for _ in lines(f'{CRATES}/{it}/specs')):,}"),
     ("lines of `proofs/`", f"{sum(1 for it in crates for _ in lines(f'{CRATES}/{it}/proofs')):,}"),

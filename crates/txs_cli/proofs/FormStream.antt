@@ -1,8 +1,7 @@
--- What is told of bytes that were read of a stream is told of all that the stream has: of bytes that are refused whatever stands behind them, too.
-use Rattle.std.proofs.Common.{◌≡◌, ◌≢◌, ◌⊎◌, ◌<◌, ◌≤◌, ◌+◌, ◌-◌, ◌^◌, ℕ, Bool, true, false, List, [], ◌++◌, length, take, Option, Some, None, append-nil, append_assoc, length-append, refl, sym, ap, subst, ◌∙◌, inl, inr, arith}
-use Rattle.std.specs.Io.KnownBytes.{Consumes, IsAtEnd, Keeps}
+-- Bytes that are read of a stream: enough of all that it has.
+use Rattle.std.proofs.Common.{◌≡◌, ◌≢◌, ◌<◌, ◌≤◌, ◌+◌, ◌-◌, ◌^◌, ℕ, Bool, true, false, List, [], ◌++◌, length, take, Option, Some, None, length-append, refl, sym, ap, subst, ◌∙◌, arith}
+use Rattle.std.specs.Io.KnownBytes.{Consumes, Keeps}
 use Rattle.std.specs.Option.{IfSome}
-use Rattle.std.proofs.KnownBytes.{Consumes-trans}
 use Rattle.std.proofs.lemmas.List.{take_at}
 use Rattle.txs_code_decode.specs.CodeForm.{code_format, magic_format}
 use Rattle.txs_code_decode.specs.Format.{number_at}
@@ -12,12 +11,8 @@ use Rattle.txs_verify.specs.Load.{IsFormOf, IsRefusal, is_settled}
 use Rattle.txs_verify.specs.declared.load_error.LoadError.{LoadError}
 use Rattle.txs_verify.specs.declared.load_error.LoadError.TheVariants.{Bytes, Code, Memory}
 use Rattle.txs_code_meaning.specs.PlainCode.{PlainCode}
-use Rattle.txs_machine.specs.declared.run_error.RunError.{RunError}
-use Rattle.txs_cli_report.specs.Told.{Told}
 use Rattle.txs_cli.specs.CodeStream.{IsNoFurther, IsRead, goal_after}
-use Rattle.txs_cli.specs.CodeTold.{CodeTells, CodeWanted, of_listed, of_no_actor, of_refused, of_run}
-use Rattle.txs_cli.specs.CodeWorkersTold as workers
-use Rattle.txs_cli.specs.CodeWorkersTold.{WorkedCodeTells}
+use Rattle.txs_cli.specs.Source.{IsEnoughOf}
 
 -- ---- reading
 
@@ -34,41 +29,23 @@ keeps_trans (Some x) None c k l = absurd k
 keeps_trans (Some x) (Some y) None k l = absurd l
 keeps_trans (Some x) (Some y) (Some z) k l = l ∙ k
 
--- ---- what is told
+-- ---- what is known of it
 
--- what is told of what was read is told of the whole, where it is told of it with what stands behind
-pub of_whole : (old new : Option (List ℕ)) (bytes : List ℕ) (P : List ℕ → Type 0) → ((rest : List ℕ) → (rest ≡ []) ⊎ (is_settled bytes ≡ true) → P (bytes ++ rest)) → IsRead old new bytes → IfSome old P
-of_whole None new bytes P f r = tt
-of_whole (Some input) None bytes P f r = absurd r.first
-of_whole (Some input) (Some rest) bytes P f r = subst P (sym r.first) (f rest r.enough)
+-- enough is read of the whole
+pub enough_of : (old new : Option (List ℕ)) (bytes : List ℕ) → IsRead old new bytes → IfSome old (λ input. IsEnoughOf input bytes)
+enough_of None new bytes r = tt
+enough_of (Some input) None bytes r = absurd r.first
+enough_of (Some input) (Some rest) bytes r = record { rest = rest; is = r.first; enough = r.enough }
 
-not_form : {A : Type 0} (bytes : List ℕ) (code : PlainCode) → is_settled bytes ≡ true → IsFormOf bytes code → A
+-- where no form begins with bytes, they are none
+pub not_form : {A : Type 0} (bytes : List ℕ) (code : PlainCode) → is_settled bytes ≡ true → IsFormOf bytes code → A
 not_form bytes code settled of = absurd (unsettled bytes code (is_read bytes code of.fits of.is) settled)
 
-refused_on : (bytes rest : List ℕ) (e : LoadError) → is_settled bytes ≡ true → e ≢ Memory → IsRefusal bytes e → IsRefusal (bytes ++ rest) e
+-- and are refused so whatever is behind them
+pub refused_on : (bytes rest : List ℕ) (e : LoadError) → is_settled bytes ≡ true → e ≢ Memory → IsRefusal bytes e → IsRefusal (bytes ++ rest) e
 refused_on bytes rest (Bytes b) settled told r = refusals_stay bytes rest settled ∙ r
 refused_on bytes rest (Code b) settled told r = not_form bytes r.code settled r.of
 refused_on bytes rest Memory settled told r = absurd (told refl)
-
-settled_told : (bytes rest : List ℕ) (t : Told) (wanted : CodeWanted) → is_settled bytes ≡ true → CodeTells bytes t wanted → CodeTells (bytes ++ rest) t wanted
-settled_told bytes rest t w settled (of_refused wanted e told refused output errors status) = of_refused wanted e told (refused_on bytes rest e settled told refused) output errors status
-settled_told bytes rest t w settled (of_listed code fs ts of typed output errors status) = not_form bytes code settled of
-settled_told bytes rest t w settled (of_run plays steps cells events ran code s of state named told output errors status) = not_form bytes code settled of
-settled_told bytes rest t w settled (of_no_actor plays steps cells events code of unnamed output errors status) = not_form bytes code settled of
-
-pub code_told : (bytes rest : List ℕ) (t : Told) (wanted : CodeWanted) → (rest ≡ []) ⊎ (is_settled bytes ≡ true) → CodeTells bytes t wanted → CodeTells (bytes ++ rest) t wanted
-code_told bytes rest t wanted (inl none) told = subst (λ b. CodeTells b t wanted) (sym (ap (λ r. bytes ++ r) none ∙ append-nil bytes)) told
-code_told bytes rest t wanted (inr settled) told = settled_told bytes rest t wanted settled told
-
-settled_worked : (failed : PlainCode → RunError → Type 0) (bytes rest : List ℕ) (steps : ℕ) (cells events : Bool) (t : Told) → is_settled bytes ≡ true → WorkedCodeTells failed bytes steps cells events t → WorkedCodeTells failed (bytes ++ rest) steps cells events t
-settled_worked failed bytes rest steps cells events t settled (workers.of_run code of told) = not_form bytes code settled of
-settled_worked failed bytes rest steps cells events t settled (workers.of_refused e told refused output errors status) = workers.of_refused e told (refused_on bytes rest e settled told refused) output errors status
-settled_worked failed bytes rest steps cells events t settled (workers.of_failure code of failure so told output errors status) = not_form bytes code settled of
-
-pub worked_code_told : (failed : PlainCode → RunError → Type 0) (bytes rest : List ℕ) (steps : ℕ) (cells events : Bool) (t : Told) → (rest ≡ []) ⊎ (is_settled bytes ≡ true) → WorkedCodeTells failed bytes steps cells events t
-    → WorkedCodeTells failed (bytes ++ rest) steps cells events t
-worked_code_told failed bytes rest steps cells events t (inl none) told = subst (λ b. WorkedCodeTells failed b steps cells events t) (sym (ap (λ r. bytes ++ r) none ∙ append-nil bytes)) told
-worked_code_told failed bytes rest steps cells events t (inr settled) told = settled_worked failed bytes rest steps cells events t settled told
 
 -- ---- how far is read
 

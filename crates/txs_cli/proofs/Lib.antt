@@ -1,10 +1,9 @@
 mod Interleaved
-mod Refused
+pub mod Alone
 pub mod Answered
-pub mod Audits
-pub mod Commands
 pub mod Failing
 pub mod FormStream
+pub mod Loading
 pub mod Ran
 pub mod Recording
 pub mod Weaker

@@ -1,57 +1,34 @@
--- What is told of a run is told of the script, or of the bytes, whose code has run.
-use Rattle.std.proofs.Common.{◌≡◌, ◌++◌, ◌∙◌, ℕ, Bool, List, ap, subst, sym}
+-- What is told of a run that is over.
+use Rattle.std.proofs.Common.{◌≡◌, ◌++◌, ◌∙◌, ℕ, List, Option, ap, append_assoc, subst, sym}
+use Rattle.txs_audit_book.specs.declared.verdict.AuditError.{AuditError}
+use Rattle.txs_cli_args.specs.declared.request.RunOptions.{RunOptions}
+use Rattle.txs_cli_audit.specs.Audit.{AuditTells, audit_line, of_answer, of_none}
+use Rattle.txs_cli_report.specs.Lines.{Script}
+use Rattle.txs_cli_report.specs.Told.{Told, behind_bytes}
 use Rattle.txs_code_meaning.specs.PlainCode.{PlainCode}
-use Rattle.txs_verify.specs.Load.{IsFormOf}
-use Rattle.txs_machine.specs.declared.run_error.RunError.{RunError}
-use Rattle.txs_machine.specs.declared.schedule.Play.{Play}
-use Rattle.txs_world_shared.specs.SharedState.{numbered_book}
-use Rattle.txs_cli_report.specs.Lines.{Script, all_printed}
-use Rattle.txs_cli_report.specs.Told.{Told, EndsTold, IsCompiled, NoActorTold, RunTells, TurnsTell, cells_told, events_told, of_none, of_turns}
-use Rattle.txs_cli.specs.CodeTold as turns_told
-use Rattle.txs_cli.specs.CodeTold.{CodeTells, Ran, no_script}
-use Rattle.txs_cli.specs.CodeWorkersTold as code_told
-use Rattle.txs_cli.specs.CodeWorkersTold.{WorkedCodeTells}
-use Rattle.txs_cli.specs.RunTold.{RunTold, of_failure, of_report}
-use Rattle.txs_cli.specs.WorkersTold as script_told
-use Rattle.txs_cli.specs.WorkersTold.{WorkedTells}
-use Rattle.txs_tree_meaning.specs.Tree.{PlainProgram}
-use Rattle.txs_value_cell.specs.declared.cell.CellDefinition.{CellDefinition}
+use Rattle.txs_machine.specs.declared.schedule.Entries.{Entries}
+use Rattle.txs_theorem_audit.specs.Audited.{Verdict}
+use Rattle.txs_tree_meaning.specs.View.{Parts}
+use Rattle.txs_world_protocol.specs.declared.report.Report.{Report}
+use Rattle.txs_world_shared.specs.SharedState.{PlainShared}
+use Rattle.txs_cli.specs.Runs.{RanTells}
 
--- of a script, whose program explains the run, and has the code's cells
-pub of_script : (failed : PlainCode → RunError → Type 0) (script : Script) (p : PlainProgram) (code : PlainCode) (steps : ℕ) (cells events : Bool) (t : Told)
-    → IsCompiled script.text p code → RunTold (failed code) code script steps cells events t → WorkedTells failed script steps cells events t
-of_script failed script p code steps cells events t compiled (of_report shared report worked told) =
-    script_told.of_run p code compiled
+-- what is told of an audit behind some lines is told of it behind what the threads printed and these lines
+pub audit_behind : (failed : AuditError → Type 0) (script : Script) (v : Verdict) (bytes : List ℕ) (before t : Told) → AuditTells failed script v before t → AuditTells failed script v (behind_bytes bytes before) (behind_bytes bytes t)
+audit_behind failed script v bytes before t (of_answer told) =
+    of_answer
     (record {
-      shared = shared;
-      report = report;
-      worked = worked;
-      explained = worked.explained p (sym compiled.same) compiled.follows compiled.agents compiled.sends compiled.agents_send;
-      output = told.output ∙ ap (λ (ds : List CellDefinition). (all_printed (report.threads.items ++ report.agents.items) ++ cells_told cells ds shared) ++ events_told events (numbered_book shared 0)) compiled.same;
+      lesson = told.lesson;
+      explained = told.explained;
+      output = ap (λ (l : List ℕ). bytes ++ l) told.output ∙ sym (append_assoc bytes before.output (audit_line v));
       errors = told.errors;
       status = told.status;
     })
-of_script failed script p code steps cells events t compiled (of_failure failure so told) = script_told.of_failure p code compiled failure so told.told told.output told.errors told.status
+audit_behind failed script v bytes before t (of_none e so told) = of_none e so (record { output = ap (λ (l : List ℕ). bytes ++ l) told.output; errors = told.errors; status = told.status })
 
--- of bytes, of which no line is explained
-pub of_bytes : (failed : PlainCode → RunError → Type 0) (bytes : List ℕ) (code : PlainCode) (script : Script) (steps : ℕ) (cells events : Bool) (t : Told)
-    → IsFormOf bytes code → script ≡ no_script → RunTold (failed code) code script steps cells events t → WorkedCodeTells failed bytes steps cells events t
-of_bytes failed bytes code script steps cells events t of none (of_report shared report worked told) =
-    code_told.of_run code of
-    (record {
-      shared = shared;
-      report = report;
-      worked = worked;
-      output = told.output;
-      errors = subst (λ (s : Script). EndsTold code.cells s shared report.threads.items report.agents.items t.errors) none told.errors;
-      status = told.status;
-    })
-of_bytes failed bytes code script steps cells events t of none (of_failure failure so told) = code_told.of_failure code of failure so told.told told.output told.errors told.status
-
--- of bytes, whose code runs by turns, and of which no line is explained
-pub code_by_turns : (bytes : List ℕ) (code : PlainCode) (script : Script) (plays : List Play) (steps : ℕ) (cells events : Bool) (t : Told)
-    → IsFormOf bytes code → script ≡ no_script → TurnsTell code script plays steps cells events t → CodeTells bytes t (Ran plays steps cells events)
-code_by_turns bytes code script plays steps cells events t of none (of_turns s state named told) =
-    turns_told.of_run plays steps cells events told.ran code s of state named (subst (λ (x : Script). RunTells code x plays steps s told.ran) none told.told) told.output told.errors told.status
-code_by_turns bytes code script plays steps cells events t of none (of_none unnamed output errors status) =
-    turns_told.of_no_actor plays steps cells events code of unnamed output (subst (λ (x : Script). NoActorTold x.file t.errors) none errors) status
+-- of the same script, against the same program, and with as many auditors
+pub ran_so : (unaudited : ℕ → Parts → Report → AuditError → Type 0) (a b : Option Parts) (n m : ℕ) (s z : Script) (code : PlainCode) (o : RunOptions) (shared : PlainShared) (entries : Entries) (t : Told)
+    → a ≡ b → n ≡ m → s ≡ z → RanTells a (unaudited n) code s o shared entries t → RanTells b (unaudited m) code z o shared entries t
+ran_so unaudited a b n m s z code o shared entries t p q r h =
+    subst (λ (x : Script). RanTells b (unaudited m) code x o shared entries t) r
+    (subst (λ (k : ℕ). RanTells b (unaudited k) code s o shared entries t) q (subst (λ (x : Option Parts). RanTells x (unaudited n) code s o shared entries t) p h))

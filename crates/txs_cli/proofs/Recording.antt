@@ -1,22 +1,22 @@
--- A schedule that tells what a run tells.
-use Rattle.std.proofs.Common.{◌≡◌, ◌+◌, ◌<◌, ◌≤◌, ◌++◌, ◌∙◌, ℕ, Bool, true, List, [], Ok, get_or, drop, length, ap, sym, subst}
+-- A run that tells the same as another, and what is recorded of it.
+use Rattle.std.proofs.Common.{◌≡◌, ◌+◌, ◌<◌, ◌≤◌, ◌++◌, ◌∙◌, ℕ, List, [], Option, Some, None, IfSome, get_or, drop, length, ap, sym, subst}
 use Rattle.std.proofs.lemmas.List.{drop_all}
 use Rattle.txs_code_meaning.specs.PlainCode.{PlainCode}
 use Rattle.txs_machine.specs.declared.schedule.Entries.{Entries}
-use Rattle.txs_machine.specs.declared.schedule.Play.{Play}
 use Rattle.txs_world_protocol.specs.declared.report.ActorReport.{ActorReport}
 use Rattle.txs_world_shared.specs.SharedState.{PlainShared}
-use Rattle.txs_cli_report.specs.Plays.{plays_in}
 use Rattle.txs_cli_report.proofs.Printing.{printed_both}
 use Rattle.txs_cli_report.proofs.Threads.{dropped}
 use Rattle.txs_cli_report.specs.Lines.{Script, all_printed}
-use Rattle.txs_cli_report.specs.Told.{Told, IsCompiled, Run, ScheduleTells, ScriptTells, behind_bytes, of_plays, of_script, of_stream}
+use Rattle.txs_cli_report.specs.Told.{Told, behind_bytes}
 use Rattle.txs_cli_args.specs.declared.request.RunOptions.{RunOptions}
-use Rattle.txs_cli.specs.Recorded.{IsRepeated, Records, ReportRecords}
+use Rattle.txs_cli.specs.Recorded.{Records, ReportRecords}
 use Rattle.txs_cli.specs.Runner.{IsWorked}
+use Rattle.txs_cli.specs.Source as source
+use Rattle.txs_cli.specs.Source.{IsLoaded}
 use Rattle.txs_cli.specs.declared.record.Record.{Record}
 use Rattle.txs_cli.specs.declared.record.Record.TheVariants.{NoRun, NoList, List as Listed}
-use Rattle.txs_tree_meaning.specs.Tree.{PlainProgram}
+use Rattle.txs_tree_meaning.specs.View.{Parts}
 
 -- ---- the same is told
 
@@ -51,22 +51,17 @@ behind_same ts us rs ss l m lines threads agents =
     let printed : all_printed (ts ++ us) ≡ all_printed (rs ++ ss) = printed_both ts us ∙ ap (λ (x : List ℕ). x ++ all_printed us) threads ∙ ap (λ (x : List ℕ). all_printed rs ++ x) agents ∙ sym (printed_both rs ss) in
     ap (λ (x : List ℕ). behind_bytes x l) printed ∙ ap (λ (x : Told). behind_bytes (all_printed (rs ++ ss)) x) lines
 
--- ---- a schedule that tells it
-
--- what a script's run by plays tells with cells and events, a schedule by their list tells
-pub scheduled_so : (script : Script) (list : List ℕ) (plays : List Play) (steps : ℕ) (cells events : Bool) (t whole : Told) → plays_in list ≡ Ok plays → cells ≡ true → events ≡ true
-    → ScriptTells script t (Run plays steps cells events) → t ≡ whole → ScheduleTells script list steps true true whole
-scheduled_so script list plays steps cells events t whole read with_cells with_events told same =
-    let all : ScriptTells script t (Run plays steps true true) =
-    subst (λ (b : Bool). ScriptTells script t (Run plays steps true b)) with_events (subst (λ (b : Bool). ScriptTells script t (Run plays steps b events)) with_cells told)
-    in
-    subst (λ (x : Told). ScheduleTells script list steps true true x) same (of_plays plays read (of_stream (of_script all)))
+-- what holds of a value, if there is one, holds of this one
+pub some_at : {A : Type 0} (o : Option A) (x : A) (P : A → Type 0) → o ≡ Some x → IfSome o P → P x
+some_at o x P e h = subst (λ m. IfSome m P) e h
 
 -- ---- what is recorded
 
 -- of a run of a script's code
-pub recorded_so : (script : Script) (o : RunOptions) (program : PlainProgram) (code : PlainCode) (shared : PlainShared) (report : Entries) (t : Told) (r : Record)
-    → IsCompiled script.text program code → IsWorked code o.steps shared report → ReportRecords code script o shared report t r → Records script o t r
-recorded_so script o program code shared report t NoRun compiled worked h = tt
-recorded_so script o program code shared report t NoList compiled worked h = tt
-recorded_so script o program code shared report t (Listed list) compiled worked h = record { program = program; code = code; compiled = compiled; shared = shared; report = report; worked = worked; repeated = h }
+pub recorded_so : (script : Script) (o : RunOptions) (program : Option Parts) (code : PlainCode) (shared : PlainShared) (report : Entries) (t : Told) (r : Record)
+    → IsLoaded (source.OfScript script.file) script.text program code → IsWorked code o.steps shared report → ReportRecords code script o shared report t r → Records script o t r
+recorded_so script o program code shared report t NoRun loaded worked h = tt
+recorded_so script o program code shared report t NoList loaded worked h = tt
+recorded_so script o None code shared report t (Listed list) loaded worked h = absurd loaded
+recorded_so script o (Some parts) code shared report t (Listed list) loaded worked h =
+    record { parts = parts; code = code; loaded = loaded; shared = shared; report = report; worked = worked; repeated = h }

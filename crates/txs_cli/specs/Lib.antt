@@ -1,11 +1,7 @@
-pub mod Audited
+pub mod CodeLines
 pub mod CodeStream
-pub mod CodeTold
-pub mod CodeWorkersTold
-pub mod LentCode
 pub mod Recorded
-pub mod RunTold
 pub mod Runner
+pub mod Runs
+pub mod Source
 pub mod Telling
-pub mod Workers
-pub mod WorkersTold

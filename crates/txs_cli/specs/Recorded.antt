@@ -1,29 +1,37 @@
 -- A run of a script by workers, and a list of plays by which a schedule makes it again.
-use Rattle.std.specs.Prelude.{◌≡◌, ℕ, Bool, true, List, string_bytes}
+use Rattle.std.specs.Prelude.{ℕ, true, false, List, string_bytes, Some}
+use Rattle.txs_cli_args.specs.declared.request.RunOptions.{RunOptions}
+use Rattle.txs_cli_report.specs.Lines.{Script}
+use Rattle.txs_cli_report.specs.Told.{Told, ReportTells}
 use Rattle.txs_code_meaning.specs.PlainCode.{PlainCode}
 use Rattle.txs_machine.specs.declared.schedule.Entries.{Entries}
-use Rattle.txs_tree_meaning.specs.Tree.{PlainProgram}
+use Rattle.txs_tree_meaning.specs.View.{Parts}
 use Rattle.txs_world_shared.specs.SharedState.{PlainShared}
-use Rattle.txs_cli_report.specs.Lines.{Script}
-use Rattle.txs_cli_report.specs.Told.{Told, IsCompiled, ReportTells, ScheduleTells}
-use Rattle.txs_cli_args.specs.declared.request.RunOptions.{RunOptions}
 use Rattle.txs_cli.specs.Runner.{IsWorked}
+use Rattle.txs_cli.specs.Runs.{nobody}
+use Rattle.txs_cli.specs.Source as source
+use Rattle.txs_cli.specs.Source.{IsLoaded}
+use Rattle.txs_cli.specs.Telling.{ScheduleTells}
 use Rattle.txs_cli.specs.declared.record.Record.{Record}
 use Rattle.txs_cli.specs.declared.record.Record.TheVariants.{NoRun, NoList, List as Listed}
+
+-- the same run, of which all is told
+abbrev pub whole : RunOptions → RunOptions
+whole o = record { steps = o.steps; cells = true; events = true; audit = false }
 
 -- A run of a code that is over tells this, and a schedule of the script by this list tells all that the run tells with its cells and events: the bytes of both streams,
 -- and the status.
 pub record IsRepeated (code : PlainCode) (script : Script) (o : RunOptions) (shared : PlainShared) (report : Entries) (t : Told) (list : List ℕ) : Type 0 where
   pub told : ReportTells code script shared report o.cells o.events t
-  pub whole : Told
-  pub all_told : ReportTells code script shared report true true whole
-  pub again : ScheduleTells script list o.steps true true whole
+  pub all : Told
+  pub all_told : ReportTells code script shared report true true all
+  pub again : ScheduleTells nobody (source.OfScript script.file) script.text list (whole o) all
 
 -- The list of a run of a script by workers which tells this.
 pub record IsRecorded (script : Script) (o : RunOptions) (t : Told) (list : List ℕ) : Type 0 where
-  pub program : PlainProgram
+  pub parts : Parts
   pub code : PlainCode
-  pub compiled : IsCompiled script.text program code
+  pub loaded : IsLoaded (source.OfScript script.file) script.text (Some parts) code
   pub shared : PlainShared
   pub report : Entries
   pub worked : IsWorked code o.steps shared report

@@ -41,3 +41,7 @@ abbrev pub FailsAs : (RunError → Type 0) → RunError → Type 0
 FailsAs failed JournalMismatch = failed JournalMismatch
 FailsAs failed NoThread = failed NoThread
 FailsAs failed Memory = Unit {0}
+
+-- a report of a run of this code, in which each actor makes no more than so many steps, or why there is none
+abbrev pub Runs : Global → Bor PlainCode → ℕ → ℕ → Result (PlainShared × Entries) RunError → Type 0
+Runs alloc code workers steps r = RunsLawfully code.now steps r

@@ -1,25 +1,88 @@
 -- What the program tells for a request.
-use Rattle.std.specs.Prelude.{◌≡◌, ℕ, Bool, true, false, List, [], codes, string_bytes, Option, Some, None}
+use Rattle.std.specs.Prelude.{◌≡◌, ◌&&◌, ℕ, Bool, true, false, List, [], codes, string_bytes, Option, Some, None, IsErr}
 use Rattle.std.proofs.Common.{String, Global}
-use Rattle.txs_code_meaning.specs.PlainCode.{PlainCode}
-use Rattle.txs_machine.specs.declared.run_error.RunError.{RunError}
-use Rattle.txs_cli_report.specs.Lines.{Script}
-use Rattle.txs_cli_report.specs.Told.{Told, Tells, ScheduleTells, front}
-use Rattle.txs_cli_report.specs.Told as wanted
-use Rattle.txs_cli.specs.Audited.{by_workers, ScheduleAuditedTells, StreamAuditedTells}
-use Rattle.txs_audit_book.specs.Answered.{finishing}
-use Rattle.txs_cli.specs.CodeWorkersTold.{StreamWorkedCodeTells}
-use Rattle.txs_cli.specs.WorkersTold.{StreamWorkedTells}
-use Rattle.txs_cli.specs.CodeTold.{Listed, BytesTell, BytesScheduleTell}
-use Rattle.txs_audit_book.specs.declared.verdict.AuditError.{AuditError}
-use Rattle.txs_audit_book.specs.declared.verdict.Terms.{Terms}
-use Rattle.txs_tree_meaning.specs.View.{Parts}
-use Rattle.txs_world_protocol.specs.declared.report.Report.{Report}
+use Rattle.std.specs.declared.result.Result.TheVariants.{Ok, Err}
 use Rattle.txs_cli_args.specs.declared.request.Input.{Input}
 use Rattle.txs_cli_args.specs.declared.request.Request.{Request}
 use Rattle.txs_cli_args.specs.declared.request.Request.TheVariants as asked
-use Rattle.txs_cli_args.specs.declared.request.Request.TheVariants.{Check, Build, Run, Record, Schedule, Replay, Show, CheckJson, Explore, Shown, Faulty}
 use Rattle.txs_cli_args.specs.declared.request.RunOptions.{RunOptions}
+use Rattle.txs_cli_report.specs.Lines.{Script}
+use Rattle.txs_cli_report.specs.Plays.{plays_in}
+use Rattle.txs_cli_report.specs.Told.{Told, Answers, IsTold, WrongListTells}
+use Rattle.txs_cli_report.specs.declared.plays.WrongPlay.{WrongPlay}
+use Rattle.txs_code_decode.specs.CodeForm.{form}
+use Rattle.txs_code_meaning.specs.PlainCode.{PlainCode}
+use Rattle.txs_disasm.specs.Listing.{listing}
+use Rattle.txs_machine.specs.declared.schedule.Play.{Play}
+use Rattle.txs_tree_meaning.specs.View.{Parts}
+use Rattle.txs_cli.specs.Runs.{Failures, RunTells, Way, Turns, Workers, nobody, way_of}
+use Rattle.txs_cli.specs.Source.{Source, OfForm, IsLoaded, RefusalTells, file_of, script_at, source_of, source_text}
+use Rattle.txs_cli.specs.Source as source
+use Rattle.txs_cli.specs.declared.task.Task as lent
+use Rattle.txs_cli.specs.declared.task.Task.TheVariants as lent_task
+use Rattle.txs_cli.specs.declared.tell.Use as lent_use
+use Rattle.txs_cli.specs.declared.tell.Use.TheVariants as lent_uses
+
+-- ---- what is wanted of a source
+
+-- What is wanted of what is loaded: that it was loaded, its listing, its byte form, or its run in this way.
+pub data Use : Type 0 where
+  Check : Use
+  Listing : Use
+  Build : Use
+  Run : (way : Way) (o : RunOptions) → Use
+
+-- the same as it is lent
+abbrev pub use_of : lent_use.Use → Use
+use_of lent_uses.Check = Check
+use_of lent_uses.Listing = Listing
+use_of lent_uses.Build = Build
+use_of (lent_uses.Run way options) = Run (way_of way) options
+
+-- what is told where this is wanted of code, and of the script's program that it is compiled from
+abbrev pub UseTells : Failures → Script → Option Parts → PlainCode → Use → Told → Type 0
+UseTells f script program code Check t = IsTold (codes "ok\n") [] 0 t
+UseTells f script program code Listing t = IsTold (listing code) [] 0 t
+UseTells f script program code Build t = IsTold (form code) [] 0 t
+UseTells f script program code (Run way o) t = RunTells f script program code way o t
+
+-- What is told of a source with this text: that it can't be read, that it is refused, or what is told of what it is loaded as.
+pub data SourceTells (f : Failures) (source : Source) (text : List ℕ) (wanted : Use) (t : Told) : Type 0 where
+  of_unread : (told : IsTold [] (codes "read failed\n") 2 t) → SourceTells f source text wanted t
+  of_refused : (told : RefusalTells source text t) → SourceTells f source text wanted t
+  of_use :
+      (program : Option Parts) (code : PlainCode) (loaded : IsLoaded source text program code) (told : UseTells f (script_at source text) program code wanted t) → SourceTells f source text wanted t
+
+-- What is told of a source that is to run by a list of plays: that the list is wrong, or what is told of its run by them.
+pub data ScheduleTells (f : Failures) (source : Source) (text turns : List ℕ) (o : RunOptions) (t : Told) : Type 0 where
+  of_plays : (plays : List Play) (read : plays_in turns ≡ Ok plays) (told : SourceTells f source text (Run (Turns plays) o) t) → ScheduleTells f source text turns o t
+  of_wrong : (wrong : WrongPlay) (read : plays_in turns ≡ Err wrong) (told : WrongListTells turns (file_of source) wrong t) → ScheduleTells f source text turns o t
+
+-- ---- what a request asks for
+
+-- What is to be done: to tell this, to use a source, or to run it by a list of plays.
+pub data Task : Type 0 where
+  Say : (told : Told) → Task
+  Do : (source : Source) (wanted : Use) → Task
+  Schedule : (source : Source) (turns : List ℕ) (o : RunOptions) → Task
+
+-- the same as it is lent
+abbrev pub task_in : lent.Task → Task
+task_in (lent_task.Say output errors status) = Say (record { output = output.now; errors = errors.now; status = status })
+task_in (lent_task.Do source wanted) = Do (source_of source) (use_of wanted)
+task_in (lent_task.Schedule source turns options) = Schedule (source_of source) turns.now options
+
+-- what is told of a task, where these are the input's bytes: or that there was no memory for it
+abbrev pub TaskTells : Failures → List ℕ → Task → Told → Type 0
+TaskTells f input (Say told) t = t ≡ told
+TaskTells f input (Do source wanted) t = Answers (SourceTells f source (source_text source input) wanted) t
+TaskTells f input (Schedule source turns o) t = Answers (ScheduleTells f source (source_text source input) turns o) t
+
+-- nothing of the input is read: where only something is told, or the list is wrong
+abbrev pub ReadsNothing : Task → Type 0
+ReadsNothing (Say told) = Unit {0}
+ReadsNothing (Do source wanted) = ⊥
+ReadsNothing (Schedule source turns o) = IsErr (plays_in turns)
 
 -- the name under which lines are explained, where they are: that of the file, or "-" for the standard input
 abbrev pub explained_as : Bool → Option (String Global) → Option (List ℕ)
@@ -27,94 +90,71 @@ explained_as false file = None
 explained_as true None = Some (codes "-")
 explained_as true (Some name) = Some (string_bytes name)
 
--- the script that an input begins with, and the name under which its lines are explained
-abbrev pub script_in : List ℕ → Input → Script
-script_in bytes input = record { text = front bytes; file = explained_as input.explain input.file }
+-- the script that an input is
+abbrev pub script_in : Input → Source
+script_in input = source.OfScript (explained_as input.explain input.file)
 
--- what is told of an input that is to be listed: of the code that it is the byte form of, or of a script
-abbrev pub ListTells : Bool → List ℕ → Input → Told → Type 0
-ListTells true bytes input t = BytesTell bytes Listed t
-ListTells false bytes input t = Tells (script_in bytes input) wanted.Listing t
+-- the source that an input is, which is code in its byte form or a script
+abbrev pub source_by : Bool → Input → Source
+source_by true input = OfForm
+source_by false input = script_in input
 
--- what is told of an input that is to run by this list of plays: of the code that it is the byte form of, or of a script
-abbrev pub TurnsOfInputTell : Bool → List ℕ → Input → List ℕ → RunOptions → Told → Type 0
-TurnsOfInputTell true bytes input plays o t = BytesScheduleTell bytes plays o.steps o.cells o.events t
-TurnsOfInputTell false bytes input plays o t = ScheduleTells (script_in bytes input) plays o.steps o.cells o.events t
+abbrev pub source_in : Input → Source
+source_in input = source_by input.code input
 
 -- what is told of arguments that can't be used, which clap doesn't find
-abbrev pub wrong_use : Told
-wrong_use = record { output = []; errors = codes "wrong use\n"; status = 2 }
+abbrev pub wrong_use : Task
+wrong_use = Say (record { output = []; errors = codes "wrong use\n"; status = 2 })
 
--- the same where nobody audits: what is told of its run by this list of plays, or of an audit that its arguments can't be used
-abbrev pub TurnsTell : Bool → List ℕ → Input → List ℕ → RunOptions → Told → Type 0
-TurnsTell true bytes input plays o t = t ≡ wrong_use
-TurnsTell false bytes input plays o t = TurnsOfInputTell input.code bytes input plays o t
+-- a task, but where it can't be asked for
+abbrev pub unless : Bool → Task → Task
+unless true task = wrong_use
+unless false task = task
 
--- What is told for a request, where these are the input's bytes: what is told of the script that they begin with (its byte form, where it is to be written, goes to the standard output here), or of the code that they are the
--- byte form of; or a text of the request itself, which is help (status 0) or a usage fault (status 2).
-abbrev pub RequestTells : List ℕ → Request → Told → Type 0
-RequestTells bytes (Check input) t = Tells (script_in bytes input) wanted.Check t
-RequestTells bytes (asked.List input) t = ListTells input.code bytes input t
-RequestTells bytes (Build input out) t = Tells (script_in bytes input) wanted.Build t
-RequestTells bytes (Run input workers options) t = TurnsTell options.audit bytes input [] options t
-RequestTells bytes (Record input workers options out) t = t ≡ wrong_use
-RequestTells bytes (Schedule input plays options) t = TurnsTell options.audit bytes input (string_bytes plays) options t
-RequestTells bytes (Replay input from options) t = t ≡ wrong_use
-RequestTells bytes (Show input scheduling options showing) t = t ≡ wrong_use
-RequestTells bytes (CheckJson input) t = t ≡ wrong_use
-RequestTells bytes (Explore input exploring timeline) t = t ≡ wrong_use
-RequestTells bytes (Shown text) t = t ≡ record { output = string_bytes text; errors = []; status = 0 }
-RequestTells bytes (Faulty text) t = t ≡ record { output = []; errors = string_bytes text; status = 2 }
+-- What a request asks for. A byte form that is to be written goes to the standard output here. Code in its byte form can't be audited. A run can't be recorded here, nor more be shown of it.
+abbrev pub task_of : Request → Task
+task_of (asked.Check input) = Do (script_in input) Check
+task_of (asked.List input) = Do (source_in input) Listing
+task_of (asked.Build input out) = Do (script_in input) Build
+task_of (asked.Run input workers o) = unless (o.audit && input.code) (Do (source_in input) (Run (Workers workers) o))
+task_of (asked.Record input workers o out) = wrong_use
+task_of (asked.Schedule input plays o) = unless (o.audit && input.code) (Schedule (source_in input) (string_bytes plays) o)
+task_of (asked.Replay input from o) = wrong_use
+task_of (asked.Show input scheduling o showing) = wrong_use
+task_of (asked.CheckJson input) = wrong_use
+task_of (asked.Explore input exploring timeline) = wrong_use
+task_of (asked.Shown text) = Say (record { output = string_bytes text; errors = []; status = 0 })
+task_of (asked.Faulty text) = Say (record { output = []; errors = string_bytes text; status = 2 })
+
+-- What the program tells for a request, where what runs code and who audits may fail so.
+abbrev pub RequestTells : Failures → List ℕ → Request → Told → Type 0
+RequestTells f input request t = TaskTells f input (task_of request) t
+
+-- ---- where nobody runs or audits
+
+-- how code runs without workers: by no plays, and then in rounds
+abbrev pub turns_alone : Way → Way
+turns_alone (Turns plays) = Turns plays
+turns_alone (Workers count) = Turns []
+
+-- a task without workers and without an audit, which can't be asked for
+abbrev pub alone : Task → Task
+alone (Say told) = Say told
+alone (Do source Check) = Do source Check
+alone (Do source Listing) = Do source Listing
+alone (Do source Build) = Do source Build
+alone (Do source (Run way o)) = unless o.audit (Do source (Run (turns_alone way) o))
+alone (Schedule source turns o) = unless o.audit (Schedule source turns o)
+
+-- what the program tells for a request without workers and without audits
+abbrev pub AloneTells : List ℕ → Request → Told → Type 0
+AloneTells input request t = TaskTells nobody input (alone (task_of request)) t
 
 -- What the program tells: what is told for its request, whichever that is, or that there was no memory for it.
 pub data ArgsTell (input : List ℕ) (t : Told) : Type 0 where
-  of_request : (request : Request) (told : RequestTells input request t) → ArgsTell input t
-  of_memory : (output : t.output ≡ []) (errors : t.errors ≡ codes "out of memory\n") (status : t.status ≡ 4) → ArgsTell input t
+  of_request : (request : Request) (told : AloneTells input request t) → ArgsTell input t
+  of_memory : (told : IsTold [] (codes "out of memory\n") 4 t) → ArgsTell input t
 
--- what is told of an input that workers are to run: of the code that it is the byte form of, or of a script, where what runs the code may have failed so
-abbrev pub WorkOfInputTells : (PlainCode → RunError → Type 0) → Bool → List ℕ → Input → RunOptions → Told → Type 0
-WorkOfInputTells failed true bytes input o t = StreamWorkedCodeTells failed bytes o.steps o.cells o.events t
-WorkOfInputTells failed false bytes input o t = StreamWorkedTells failed (script_in bytes input) o.steps o.cells o.events t
-
--- How many workers audit where a request doesn't say how many.
-abbrev pub audit_workers : ℕ
-audit_workers = 4
-
--- what is told of an input that workers are to run, and whose report is to be audited, where it is a script: code in its byte form can't be audited
-abbrev pub WorkAuditTells : (PlainCode → RunError → Type 0) → (Parts → Report → AuditError → Type 0) → Bool → List ℕ → Input → RunOptions → Told → Type 0
-WorkAuditTells failed unaudited true bytes input o t = t ≡ wrong_use
-WorkAuditTells failed unaudited false bytes input o t = StreamAuditedTells (by_workers failed) unaudited (script_in bytes input) o t
-
--- the same of an input that is to run by this list of plays
-abbrev pub TurnsAuditTells : (Parts → Report → AuditError → Type 0) → Bool → List ℕ → Input → List ℕ → RunOptions → Told → Type 0
-TurnsAuditTells unaudited true bytes input plays o t = t ≡ wrong_use
-TurnsAuditTells unaudited false bytes input plays o t = ScheduleAuditedTells plays unaudited (script_in bytes input) o t
-
--- what is told of an input that workers are to run, with an audit or without
-abbrev pub WorkTells : (PlainCode → RunError → Type 0) → (Parts → Report → AuditError → Type 0) → Bool → List ℕ → Input → RunOptions → Told → Type 0
-WorkTells failed unaudited true bytes input o t = WorkAuditTells failed unaudited input.code bytes input o t
-WorkTells failed unaudited false bytes input o t = WorkOfInputTells failed input.code bytes input o t
-
--- the same of an input that is to run by this list of plays
-abbrev pub PlaysTell : (Parts → Report → AuditError → Type 0) → Bool → List ℕ → Input → List ℕ → RunOptions → Told → Type 0
-PlaysTell unaudited true bytes input plays o t = TurnsAuditTells unaudited input.code bytes input plays o t
-PlaysTell unaudited false bytes input plays o t = TurnsOfInputTell input.code bytes input plays o t
-
--- What is told for a request where what runs scripts and code, and who audits, are handed in: of a script or of code that workers are to run what is told of
--- their run, of a script whose report is to be audited what is told of its run and of the audit, and else what is told for the request. What runs them may have
--- failed so, of that code, with the request's workers and steps; and who audits may have had no answer so, of a run that was to do this, with so many workers.
-abbrev pub WorkedRequestTells : (PlainCode → ℕ → ℕ → RunError → Type 0) → (Parts → Report → Terms → ℕ → AuditError → Type 0) → List ℕ → Request → Told → Type 0
-WorkedRequestTells failed unaudited bytes (Check input) t = RequestTells bytes (Check input) t
-WorkedRequestTells failed unaudited bytes (asked.List input) t = RequestTells bytes (asked.List input) t
-WorkedRequestTells failed unaudited bytes (Build input out) t = RequestTells bytes (Build input out) t
-WorkedRequestTells failed unaudited bytes (Run input workers options) t =
-    WorkTells (λ code. failed code workers options.steps) (λ p r e. unaudited p r (finishing options.steps) workers e) options.audit bytes input options t
-WorkedRequestTells failed unaudited bytes (Record input workers options out) t = RequestTells bytes (Record input workers options out) t
-WorkedRequestTells failed unaudited bytes (Schedule input plays options) t =
-    PlaysTell (λ p r e. unaudited p r (finishing options.steps) audit_workers e) options.audit bytes input (string_bytes plays) options t
-WorkedRequestTells failed unaudited bytes (Replay input from options) t = RequestTells bytes (Replay input from options) t
-WorkedRequestTells failed unaudited bytes (Show input scheduling options showing) t = RequestTells bytes (Show input scheduling options showing) t
-WorkedRequestTells failed unaudited bytes (CheckJson input) t = RequestTells bytes (CheckJson input) t
-WorkedRequestTells failed unaudited bytes (Explore input exploring timeline) t = RequestTells bytes (Explore input exploring timeline) t
-WorkedRequestTells failed unaudited bytes (Shown text) t = RequestTells bytes (Shown text) t
-WorkedRequestTells failed unaudited bytes (Faulty text) t = RequestTells bytes (Faulty text) t
+-- the same run, of which no audit is asked for
+abbrev pub without_audit : RunOptions → RunOptions
+without_audit o = record { steps = o.steps; cells = o.cells; events = o.events; audit = false }

@@ -3,27 +3,18 @@
 //! how workers run, and how a report is audited. `play_by_workers` runs workers by `run_threads`, with a handle that is lent.
 #![tactic(auto)]
 
-pub mod alone;
-pub mod audited;
-mod audited_stream;
-mod bytes;
-mod code;
-mod code_play;
 mod form_stream;
 mod lines;
-pub mod play;
 pub mod program;
 pub mod record;
-mod run;
-mod schedule;
-pub mod script;
-mod usage;
+pub mod run;
+pub mod source;
+mod task;
+pub mod tell;
 pub mod workers;
-pub mod workers_play;
 
-pub use play::{play_by_workers, record_by_workers};
-pub use program::{play, play_words};
+pub use program::{play, play_schedule, play_with, play_words};
 pub use record::{Record, record_run};
 pub use txs_audit_book::{AuditError, Terms, Verdict};
 pub use txs_cli_args::{Exploring, Input, Request, RunOptions, parse_words};
-pub use workers::play_with;
+pub use workers::{play_by_workers, record_by_workers};

@@ -4,7 +4,8 @@ ghost use Rattle.std.specs.Option.{option_map};
 ghost use Rattle.std.specs.Prelude.{◌≡◌, ◌≢◌, ◌++◌, [], codes, decimal, unwrap_or, IfOk, OnOk};
 ghost use Rattle.txs_verify.specs.declared.load_error.LoadError.TheVariants.{Memory};
 ghost use Rattle.txs_cli_report.specs.Lent.{told_of};
-ghost use Rattle.txs_cli.specs.CodeTold.{at_number, in_body, load_line, refused_front};
+ghost use Rattle.txs_cli_report.specs.Told.{IsTold};
+ghost use Rattle.txs_cli.specs.CodeLines.{at_number, in_body, load_line, refused_front};
 
 use std::alloc::{AllocError, Global};
 use txs_cli_report::told::{REFUSED, Told};
@@ -63,9 +64,7 @@ fn write_refusal(line: &mut Vec<u8>, error: LoadError) -> Result<(), AllocError>
 /// What is told of bytes that aren't taken as code. Of want of memory the program tells otherwise.
 pub(crate) fn refused(alloc: Global, error: LoadError) -> Result<Told, AllocError>
     ensures told { IfOk result (λ t. error ≢ Memory) }
-    ensures output { IfOk result (λ t. (told_of t).output ≡ []) }
-    ensures errors { IfOk result (λ t. t.errors.items ≡ load_line error) }
-    ensures status { IfOk result (λ t. t.status ≡ 1) }
+    ensures is { IfOk result (λ t. IsTold [] (load_line error) 1 (told_of t)) }
 {
     let mut errors = Vec::new(alloc);
     write_refusal(&mut errors, error)?;

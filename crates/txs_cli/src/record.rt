@@ -1,31 +1,29 @@
 //! A run by workers that is recorded: with a list of plays by which a schedule tells the same, to the byte.
 
-ghost use Rattle.std.specs.Prelude.{◌≡◌, ◌++◌, string_bytes, true, IfOk, IfSome, IsTrue};
-ghost use Rattle.txs_code_decode.specs.CodeForm.{HasForm};
-ghost use Rattle.txs_cli.specs.Recorded.{Records, ReportRecords};
+ghost use Rattle.std.specs.Prelude.{◌≡◌, ◌++◌, string_bytes, true, Some, IfOk, IfSome, IsTrue};
+ghost use Rattle.txs_cli.specs.Recorded.{Records, ReportRecords, whole};
 ghost use Rattle.txs_cli.specs.Runner.{HasFailed, IsRunnable, IsWorked, RunsLawfully};
-ghost use Rattle.txs_cli.specs.WorkersTold.{StreamWorkedTells, WorkedTells};
+ghost use Rattle.txs_cli.specs.Runs.{Turns, Workers, failing_run, nobody};
+ghost use Rattle.txs_cli.specs.Source.{IsLoaded, OfScript};
+ghost use Rattle.txs_cli.specs.Telling.{Run, ScheduleTells, SourceTells, UseTells, without_audit};
+ghost use Rattle.txs_machine.specs.Schedule.{spread};
 ghost use Rattle.txs_cli_report.specs.Lent.{lines_of, script_of, text_in, told_of};
 ghost use Rattle.txs_cli_report.specs.Lines.{all_printed};
-ghost use Rattle.txs_cli_report.specs.Told.{IsCompiled, ReportTells, ScheduleTells, Told as PlainTold, Written, behind_bytes, front};
-ghost use Rattle.txs_tree_meaning.specs.View.{program_of};
+ghost use Rattle.txs_cli_report.specs.Told.{Answers, ReportTells, Told as PlainTold, Written, behind_bytes, front};
 
-use crate::alone::run_all;
-use crate::run::of_failure;
-use crate::script::Working;
-use crate::workers_play::unread;
+use crate::run::{Working, run_all, run_plays};
+use crate::source::{Loaded, Source, load, tell_refusal, unread};
+use crate::tell::of_failure;
 use std::alloc::{AllocError, Global};
 use std::io::{Read, Write};
 use txs_cli_args::RunOptions;
 use txs_cli_report::explain::Script;
-use txs_cli_report::script::{report_lines, report_run, use_compiled};
+use txs_cli_report::report::{report_lines, report_run};
 use txs_cli_report::streams::read_bytes;
-use txs_cli_report::told::{Told, Use, refused};
+use txs_cli_report::told::Told;
 use txs_cli_report::{read_plays, write_answer, write_plays};
 use txs_code_meaning::Verified;
-use txs_compile::compile;
-use txs_machine::{ActorReport, Entries, Repeated, RunError};
-use txs_tree_meaning::Program;
+use txs_machine::{ActorReport, Entries, Repeated, RunError, ScheduleError};
 use txs_world_shared::SharedState;
 
 /// What came of a run that was to be recorded.
@@ -41,15 +39,13 @@ pub enum Record {
 
 /// The same run, of which all is told.
 fn whole(options: RunOptions) -> RunOptions
-    ensures steps { result.steps ≡ options.steps }
-    ensures cells { result.cells ≡ true }
-    ensures events { result.events ≡ true }
+    ensures { result ≡ whole options }
 {
     RunOptions {
         steps: options.steps,
         cells: true,
         events: true,
-        audit: options.audit,
+        audit: false,
     }
 }
 
@@ -115,31 +111,48 @@ fn text_of(alloc: Global, plays: &[Repeated]) -> Result<Option<String>, AllocErr
     }
 }
 
+/// What the run of a script's code by these plays and then in rounds tells with its cells and events. None where a play names no actor.
+fn tell_again(
+    alloc: Global,
+    script: Script<'_>,
+    loaded: &Loaded,
+    plays: &[Repeated],
+    options: RunOptions,
+) -> Result<Option<Told>, AllocError>
+    requires loaded { IsLoaded (OfScript (text_in script.file)) script.text.now loaded.now.program loaded.now.code }
+    ensures { IfOk result (λ o. IfSome o (λ t. UseTells nobody (script_of script.entry) loaded.now.program loaded.now.code (Run (Turns (spread plays.now)) (whole options)) (told_of t))) }
+{
+    let all = whole(options);
+    match run_plays(alloc, &loaded.code, plays, all.steps) {
+        Ok((shared, report)) => {
+            let code = loaded.code.code();
+            let told = report_run(alloc, script, code, report, &shared, all)?;
+            Ok(Some(told))
+        }
+        Err(ScheduleError::NoActor) => Ok(None),
+        Err(ScheduleError::Memory) => Err(AllocError),
+    }
+}
+
 /// Whether a schedule by this list tells all that is told of a run.
 fn repeats(
     alloc: Global,
     script: Script<'_>,
-    compiled: &(Program, Verified),
+    loaded: &Loaded,
     list: &str,
     options: RunOptions,
     report: &Entries,
     lines: &Told,
 ) -> Result<bool, AllocError>
-    requires compiled { IsCompiled script.text.now (program_of compiled.now.0) compiled.now.1 }
-    requires form { HasForm compiled.now.1 }
-    requires cells { options.cells ≡ true }
-    requires events { options.events ≡ true }
-    ensures { IfOk result (λ b. b ≡ true → ScheduleTells (script_of script.entry) list.now options.steps true true (behind_bytes (all_printed (report.now.threads.items ++ report.now.agents.items)) (lines_of lines.now))) }
+    requires loaded { IsLoaded (OfScript (text_in script.file)) script.text.now loaded.now.program loaded.now.code }
+    ensures { IfOk result (λ b. b ≡ true → ScheduleTells nobody (OfScript (text_in script.entry.file)) script.entry.text.now list.now (whole options) (behind_bytes (all_printed (report.now.threads.items ++ report.now.agents.items)) (lines_of lines.now))) }
 {
     let Ok(plays) = read_plays(alloc, list) else {
         return Ok(false);
     };
-    let wanted = Use::Run {
-        plays: plays.as_slice(),
-        turns: list,
-        options,
+    let Some(again) = tell_again(alloc, script, loaded, plays.as_slice(), options)? else {
+        return Ok(false);
     };
-    let again = use_compiled(alloc, script, compiled, wanted)?;
     Ok(is_told(report, lines, &again))
 }
 
@@ -147,17 +160,14 @@ fn repeats(
 fn list_of(
     alloc: Global,
     script: Script<'_>,
-    compiled: &(Program, Verified),
+    loaded: &Loaded,
     plays: Option<Vec<Repeated>>,
     options: RunOptions,
     report: &Entries,
     lines: &Told,
 ) -> Result<Option<String>, AllocError>
-    requires compiled { IsCompiled script.text.now (program_of compiled.now.0) compiled.now.1 }
-    requires form { HasForm compiled.now.1 }
-    requires cells { options.cells ≡ true }
-    requires events { options.events ≡ true }
-    ensures { IfOk result (λ l. IfSome l (λ list. ScheduleTells (script_of script.entry) (string_bytes list) options.steps true true (behind_bytes (all_printed (report.now.threads.items ++ report.now.agents.items)) (lines_of lines.now)))) }
+    requires loaded { IsLoaded (OfScript (text_in script.file)) script.text.now loaded.now.program loaded.now.code }
+    ensures { IfOk result (λ l. IfSome l (λ list. ScheduleTells nobody (OfScript (text_in script.entry.file)) script.entry.text.now (string_bytes list) (whole options) (behind_bytes (all_printed (report.now.threads.items ++ report.now.agents.items)) (lines_of lines.now)))) }
 {
     let Some(plays) = plays else {
         return Ok(None);
@@ -165,15 +175,7 @@ fn list_of(
     let Some(list) = text_of(alloc, plays.as_slice())? else {
         return Ok(None);
     };
-    if repeats(
-        alloc,
-        script,
-        compiled,
-        list.as_str(),
-        options,
-        report,
-        lines,
-    )? {
+    if repeats(alloc, script, loaded, list.as_str(), options, report, lines)? {
         return Ok(Some(list));
     }
     drop(list);
@@ -185,23 +187,21 @@ fn record_report<P: Fn() -> Result<Option<Vec<Repeated>>, AllocError>>(
     alloc: Global,
     noted: &P,
     script: Script<'_>,
-    compiled: &(Program, Verified),
+    loaded: &Loaded,
     shared: &SharedState,
     report: Entries,
     options: RunOptions,
 ) -> Result<(Told, Record), AllocError>
     requires noted { P.pre noted.now }
-    requires compiled { IsCompiled script.text.now (program_of compiled.now.0) compiled.now.1 }
-    requires form { HasForm compiled.now.1 }
-    requires worked { IsWorked compiled.now.1 options.steps shared.now report }
-    ensures told { IfOk result (λ r. ReportTells compiled.now.1 (script_of script.entry) shared.now report options.cells options.events (told_of r.0)) }
-    ensures recorded { IfOk result (λ r. ReportRecords compiled.now.1 (script_of script.entry) options shared.now report (told_of r.0) r.1) }
+    requires loaded { IsLoaded (OfScript (text_in script.file)) script.text.now loaded.now.program loaded.now.code }
+    requires worked { IsWorked loaded.now.code options.steps shared.now report }
+    ensures told { IfOk result (λ r. ReportTells loaded.now.code (script_of script.entry) shared.now report options.cells options.events (told_of r.0)) }
+    ensures recorded { IfOk result (λ r. ReportRecords loaded.now.code (script_of script.entry) options shared.now report (told_of r.0) r.1) }
 {
-    let all = whole(options);
-    let code = compiled.1.code();
-    let lines = report_lines(alloc, script, code, &report, shared, all)?;
+    let code = loaded.code.code();
+    let lines = report_lines(alloc, script, code, &report, shared, whole(options))?;
     let plays = noted()?;
-    let list = list_of(alloc, script, compiled, plays, all, &report, &lines)?;
+    let list = list_of(alloc, script, loaded, plays, options, &report, &lines)?;
     drop(lines);
     let told = report_run(alloc, script, code, report, shared, options)?;
     match list {
@@ -211,7 +211,7 @@ fn record_report<P: Fn() -> Result<Option<Vec<Repeated>>, AllocError>>(
 }
 
 /// Runs the code of a script by workers, and tells of the run, with its list.
-fn record_compiled<
+fn record_loaded<
     X: Fn(Global, &Verified, usize, u64) -> Result<(SharedState, Entries), RunError>,
     P: Fn() -> Result<Option<Vec<Repeated>>, AllocError>,
 >(
@@ -219,29 +219,21 @@ fn record_compiled<
     runner: &X,
     noted: &P,
     script: Script<'_>,
-    compiled: &(Program, Verified),
+    loaded: &Loaded,
     working: Working,
 ) -> Result<(Told, Record), AllocError>
     requires call { (a : _) (code : _) (n : _) (steps : _) → IsRunnable code.now → X.pre runner.now a code n steps }
     requires ran { (a : _) (code : _) (n : _) (steps : _) (r : _) → X.post runner.now a code n steps r → RunsLawfully code.now steps r }
     requires noted { P.pre noted.now }
-    requires compiled { IsCompiled script.text.now (program_of compiled.now.0) compiled.now.1 }
-    requires form { HasForm compiled.now.1 }
-    ensures told { IfOk result (λ r. WorkedTells (λ code. HasFailed (X.post runner.now) code working.workers working.options.steps) (script_of script.entry) working.options.steps working.options.cells working.options.events (told_of r.0)) }
+    requires loaded { IsLoaded (OfScript (text_in script.file)) script.text.now loaded.now.program loaded.now.code }
+    ensures told { IfOk result (λ r. SourceTells (failing_run (X.post runner.now)) (OfScript (text_in script.entry.file)) script.entry.text.now (Run (Workers working.workers) (without_audit working.options)) (told_of r.0)) }
     ensures recorded { IfOk result (λ r. Records (script_of script.entry) working.options (told_of r.0) r.1) }
 {
-    match run_all(alloc, runner, &compiled.1, working) {
-        Ok((shared, report)) => {
-            record_report(
-                alloc,
-                noted,
-                script,
-                compiled,
-                &shared,
-                report,
-                working.options,
-            )
-        }
+    let options = working.options;
+    match run_all(alloc, runner, &loaded.code, working.workers, options.steps) {
+        Ok((shared, report)) => record_report(
+            alloc, noted, script, loaded, &shared, report, options,
+        ),
         Err(failure) => {
             let told = of_failure(alloc, failure)?;
             Ok((told, Record::NoRun))
@@ -249,7 +241,7 @@ fn record_compiled<
     }
 }
 
-/// Runs the script's threads and agents by workers, and tells of the run, with its list.
+/// Runs a script by workers, and tells of the run, with its list; or that the script is refused.
 fn record_script<
     X: Fn(Global, &Verified, usize, u64) -> Result<(SharedState, Entries), RunError>,
     P: Fn() -> Result<Option<Vec<Repeated>>, AllocError>,
@@ -263,42 +255,16 @@ fn record_script<
     requires call { (a : _) (code : _) (n : _) (steps : _) → IsRunnable code.now → X.pre runner.now a code n steps }
     requires ran { (a : _) (code : _) (n : _) (steps : _) (r : _) → X.post runner.now a code n steps r → RunsLawfully code.now steps r }
     requires noted { P.pre noted.now }
-    ensures told { IfOk result (λ r. WorkedTells (λ code. HasFailed (X.post runner.now) code working.workers working.options.steps) (script_of script.entry) working.options.steps working.options.cells working.options.events (told_of r.0)) }
+    ensures told { IfOk result (λ r. SourceTells (failing_run (X.post runner.now)) (OfScript (text_in script.entry.file)) script.entry.text.now (Run (Workers working.workers) (without_audit working.options)) (told_of r.0)) }
     ensures recorded { IfOk result (λ r. Records (script_of script.entry) working.options (told_of r.0) r.1) }
 {
-    match compile(alloc, script.text) {
-        Ok(compiled) => record_compiled(alloc, runner, noted, script, &compiled, working),
-        Err(error) => {
-            let told = refused(alloc, script, &error)?;
+    let source = Source::Script(script.file);
+    match load(alloc, source, script.text) {
+        Ok(loaded) => record_loaded(alloc, runner, noted, script, &loaded, working),
+        Err(refusal) => {
+            let told = tell_refusal(alloc, source, script.text, refusal)?;
             Ok((told, Record::NoRun))
         }
-    }
-}
-
-/// Has a script run by workers, and writes what is told of it. Answers the status, and the list of the run.
-fn record_text<
-    X: Fn(Global, &Verified, usize, u64) -> Result<(SharedState, Entries), RunError>,
-    P: Fn() -> Result<Option<Vec<Repeated>>, AllocError>,
-    W: Write,
-    F: Write,
->(
-    alloc: Global,
-    runner: &X,
-    noted: &P,
-    script: Script<'_>,
-    working: Working,
-    writer: &mut W,
-    faults: &mut F,
-) -> (u8, Record)
-    requires call { (a : _) (code : _) (n : _) (steps : _) → IsRunnable code.now → X.pre runner.now a code n steps }
-    requires ran { (a : _) (code : _) (n : _) (steps : _) (r : _) → X.post runner.now a code n steps r → RunsLawfully code.now steps r }
-    requires noted { P.pre noted.now }
-    ensures { (t : PlainTold) × StreamWorkedTells (λ code. HasFailed (X.post runner.now) code working.workers working.options.steps) (script_of script.entry) working.options.steps working.options.cells working.options.events t
-        × Written (W.contents writer.old) (W.contents writer.new) (F.contents faults.old) (F.contents faults.new) t result.0 × Records (script_of script.entry) working.options t result.1 }
-{
-    match record_script(alloc, runner, noted, script, working) {
-        Ok((told, record)) => (write_answer(Ok(told), writer, faults), record),
-        Err(error) => (write_answer(Err(error), writer, faults), Record::NoRun),
     }
 }
 
@@ -324,7 +290,7 @@ pub fn record_run<
     requires call { (a : _) (code : _) (n : _) (steps : _) → IsRunnable code.now → X.pre runner.now a code n steps }
     requires ran { (a : _) (code : _) (n : _) (steps : _) (r : _) → X.post runner.now a code n steps r → RunsLawfully code.now steps r }
     requires noted { P.pre noted.now }
-    ensures { IfSome (R.remaining reader.old) (λ input. (t : PlainTold) × StreamWorkedTells (λ code. HasFailed (X.post runner.now) code workers options.steps) (record { text = front input; file = text_in file.entry }) options.steps options.cells options.events t
+    ensures { IfSome (R.remaining reader.old) (λ input. (t : PlainTold) × Answers (SourceTells (failing_run (X.post runner.now)) (OfScript (text_in file.entry)) (front input) (Run (Workers workers) (without_audit options))) t
         × Written (W.contents writer.old) (W.contents writer.new) (F.contents faults.old) (F.contents faults.new) t result.0 × Records (record { text = front input; file = text_in file.entry }) options t result.1) }
 {
     let working = Working { workers, options };
@@ -332,7 +298,10 @@ pub fn record_run<
         Ok(bytes) => {
             let text = bytes.as_slice();
             let script = Script { text, file };
-            record_text(alloc, runner, noted, script, working, writer, faults)
+            match record_script(alloc, runner, noted, script, working) {
+                Ok((told, record)) => (write_answer(Ok(told), writer, faults), record),
+                Err(error) => (write_answer(Err(error), writer, faults), Record::NoRun),
+            }
         }
         Err(fault) => (
             write_answer(unread(alloc, fault), writer, faults),

@@ -2,11 +2,11 @@
 use Rattle.std.proofs.Common.{◌≡◌, ◌<◌, ◌≤◌, ◌+◌, ◌++◌, ◌∙◌, ℕ, Bool, true, false, List, [], ◌∷◌, Option, Some, Result, IfOk, IfSome, length, take, drop, get_or, refl, sym, ap, subst, append_assoc, Global, Vec}
 use Rattle.std.proofs.lemmas.List.{append-nil, drop_all, take_all}
 use Rattle.txs_audit_book.specs.declared.verdict.AuditError.{AuditError}
-use Rattle.txs_cli.specs.Audited.{AuditedRunTells}
+use Rattle.txs_cli.specs.Runs.{RanTells, against}
 use Rattle.txs_cli_report.proofs.Printing.{printed_both}
 use Rattle.txs_cli_report.specs.Lent.{told_of}
 use Rattle.txs_cli_report.specs.Lines.{Script, all_printed}
-use Rattle.txs_cli_report.specs.Told.{Told, ReportTells}
+use Rattle.txs_cli_report.specs.Told.{Told}
 use Rattle.txs_cli_report.specs.declared.told.Told as owned
 use Rattle.txs_cli_args.specs.declared.request.RunOptions.{RunOptions}
 use Rattle.txs_code_meaning.specs.PlainCode.{PlainCode}
@@ -46,29 +46,12 @@ lines_are ts us ts2 us2 o o2 e e2 l0 l1 l2 l3 l4 p q r s a b c d f =
 
 -- ---- what a run tells
 
--- with its audit
-pub audited_so : {E : Type 0} (r : Result owned.Told E) (failed : ℕ → Parts → Report → AuditError → Type 0) (script : Script) (steps : ℕ) (audit : Bool) (o : RunOptions) (parts : Parts) (code : PlainCode) (s : PlainShared) (entries : Entries)
-    → audit ≡ true → o ≡ outcome_options steps audit → IfOk r (λ t. AuditedRunTells (failed o.steps parts) parts code script o s entries (told_of t)) → IfOk r (λ t. OutcomeTells audit (failed steps) script steps parts code s entries (told_of t))
-audited_so r failed script steps audit o parts code s entries is e h =
-    let h1 : IfOk r (λ t. AuditedRunTells (failed steps parts) parts code script (outcome_options steps audit) s entries (told_of t)) =
-    subst (λ (p : RunOptions). IfOk r (λ t. AuditedRunTells (failed p.steps parts) parts code script p s entries (told_of t))) e h
-    in
-    let h2 : IfOk r (λ t. AuditedRunTells (failed steps parts) parts code script (outcome_options steps true) s entries (told_of t)) =
-    subst (λ (b : Bool). IfOk r (λ t. AuditedRunTells (failed steps parts) parts code script (outcome_options steps b) s entries (told_of t))) is h1
-    in
-    subst (λ (b : Bool). IfOk r (λ t. OutcomeTells b (failed steps) script steps parts code s entries (told_of t))) (sym is) h2
-
--- and without
-pub reported_so : {E : Type 0} (r : Result owned.Told E) (failed : ℕ → Parts → Report → AuditError → Type 0) (script : Script) (steps : ℕ) (audit : Bool) (o : RunOptions) (parts : Parts) (code d : PlainCode) (s : PlainShared) (entries : Entries)
-    → audit ≡ false → o ≡ outcome_options steps audit → d ≡ code → IfOk r (λ t. ReportTells d script s entries o.cells o.events (told_of t)) → IfOk r (λ t. OutcomeTells audit (failed steps) script steps parts code s entries (told_of t))
-reported_so r failed script steps audit o parts code d s entries is e same h =
-    let h1 : IfOk r (λ t. ReportTells d script s entries true false (told_of t)) =
-    subst (λ (p : RunOptions). IfOk r (λ t. ReportTells d script s entries p.cells p.events (told_of t))) e h
-    in
-    let h2 : IfOk r (λ t. ReportTells code script s entries true false (told_of t)) =
-    subst (λ (x : PlainCode). IfOk r (λ t. ReportTells x script s entries true false (told_of t))) same h1
-    in
-    subst (λ (b : Bool). IfOk r (λ t. OutcomeTells b (failed steps) script steps parts code s entries (told_of t))) (sym is) h2
+-- against the program that is asked for, and by these options
+pub told_so : {E : Type 0} (r : Result owned.Told E) (failed : ℕ → Parts → Report → AuditError → Type 0) (script : Script) (steps : ℕ) (audit : Bool) (o : RunOptions) (a : Option Parts) (parts : Parts) (code : PlainCode) (s : PlainShared) (entries : Entries)
+    → a ≡ against audit (Some parts) → o ≡ outcome_options steps audit → IfOk r (λ t. RanTells a (failed o.steps) code script o s entries (told_of t)) → IfOk r (λ t. OutcomeTells audit (failed steps) script steps parts code s entries (told_of t))
+told_so r failed script steps audit o a parts code s entries is e h =
+    subst (λ (p : RunOptions). IfOk r (λ t. RanTells (against audit (Some parts)) (failed p.steps) code script p s entries (told_of t))) e
+    (subst (λ (x : Option Parts). IfOk r (λ t. RanTells x (failed o.steps) code script o s entries (told_of t))) is h)
 
 -- ---- lists of plays
 

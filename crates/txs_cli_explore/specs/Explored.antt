@@ -3,11 +3,11 @@ use Rattle.std.specs.Prelude.{◌≡◌, ◌==◌, ℕ, Bool, true, false, List,
 use Rattle.std.proofs.Common.{Global}
 use Rattle.std.specs.declared.result.Result.TheVariants.{Ok}
 use Rattle.txs_audit_book.specs.declared.verdict.AuditError.{AuditError}
-use Rattle.txs_cli.specs.Audited.{AuditedRunTells}
 use Rattle.txs_cli.specs.Runner.{IsWorked}
+use Rattle.txs_cli.specs.Runs.{RanTells, against}
 use Rattle.txs_cli_report.specs.Plays.{plays_in}
 use Rattle.txs_cli_report.specs.Lines.{Script}
-use Rattle.txs_cli_report.specs.Told.{Told, Wanted, IsCompiled, ReportTells, ScriptTells}
+use Rattle.txs_cli_report.specs.Told.{Told, IsCompiled, IsTold, ScriptRefused}
 use Rattle.txs_cli_args.specs.declared.request.RunOptions.{RunOptions}
 use Rattle.txs_code_meaning.specs.PlainCode.{PlainCode}
 use Rattle.txs_explore.specs.Reported.{plays_of, reported}
@@ -50,8 +50,7 @@ outcome_options steps audit = record { steps = steps; cells = true; events = fal
 
 -- What a run of a script's code tells that left this state and has these entries, with its cells; and behind it the verdict on its report, where that is audited, or that who audits had no answer.
 abbrev pub OutcomeTells : Bool → (Parts → Report → AuditError → Type 0) → Script → ℕ → Parts → PlainCode → PlainShared → Entries → Told → Type 0
-OutcomeTells false unaudited script steps parts code s entries t = ReportTells code script s entries true false t
-OutcomeTells true unaudited script steps parts code s entries t = AuditedRunTells (unaudited parts) parts code script (outcome_options steps true) s entries t
+OutcomeTells audit unaudited script steps parts code s entries t = RanTells (against audit (Some parts)) unaudited code script (outcome_options steps audit) s entries t
 
 -- The run by just the asks of a way, and by those of the rounds behind them, has the way's ending, and tells this.
 pub record WayTells (code : PlainCode) (limit : ℕ) (tells : PlainShared → Entries → Told → Type 0) (w : Way) (t : Told) : Type 0 where
@@ -117,10 +116,10 @@ pub record IsExplored (code : PlainCode) (limit : ℕ) (tells : PlainShared → 
 pub data ExploredTells (script : Script) (limit : ℕ) (tells : Parts → PlainCode → PlainShared → Entries → Told → Type 0) (same : Bool) (lists : List (List ℕ)) (t : Told) : Type 0 where
   of_outcomes :
       (parts : Parts) (code : PlainCode) (compiled : IsCompiled script.text (program_of parts) code) (told : IsExplored code limit (tells parts code) same lists t) → ExploredTells script limit tells same lists t
-  of_refused : (told : (wanted : Wanted) → ScriptTells script t wanted) (none : lists ≡ []) → ExploredTells script limit tells same lists t
+  of_refused : (told : ScriptRefused script t) (none : lists ≡ []) → ExploredTells script limit tells same lists t
 
 -- The same of a stream whose front is the script: it may not be read, or memory may run out.
 pub data StreamExploredTells (script : Script) (limit : ℕ) (tells : Parts → PlainCode → PlainShared → Entries → Told → Type 0) (same : Bool) (lists : List (List ℕ)) (t : Told) : Type 0 where
   of_script : (told : ExploredTells script limit tells same lists t) → StreamExploredTells script limit tells same lists t
-  of_unread : (output : t.output ≡ []) (errors : t.errors ≡ codes "read failed" ++ codes "\n") (status : t.status ≡ 2) (none : lists ≡ []) → StreamExploredTells script limit tells same lists t
-  of_memory : (output : t.output ≡ []) (errors : t.errors ≡ codes "out of memory\n") (status : t.status ≡ 4) (none : lists ≡ []) → StreamExploredTells script limit tells same lists t
+  of_unread : (told : IsTold [] (codes "read failed\n") 2 t) (none : lists ≡ []) → StreamExploredTells script limit tells same lists t
+  of_memory : (told : IsTold [] (codes "out of memory\n") 4 t) (none : lists ≡ []) → StreamExploredTells script limit tells same lists t

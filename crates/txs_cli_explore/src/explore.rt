@@ -16,7 +16,7 @@ use crate::written::add_outcomes;
 use std::alloc::{AllocError, Global};
 use std::io::{Read, Write};
 use txs_audit_book::{AuditError, Terms, Verdict};
-use txs_cli::workers_play::unread;
+use txs_cli::source::unread;
 use txs_cli_args::Exploring;
 use txs_cli_report::explain::Script;
 use txs_cli_report::streams::read_bytes;

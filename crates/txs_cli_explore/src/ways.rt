@@ -1,8 +1,9 @@
 //! The outcomes of ways: each way is run again by its list of plays, and what the run tells is an outcome.
 
-ghost use Rattle.std.specs.Prelude.{◌≡◌, ◌++◌, Ok, IfOk, IfSome, OnOk, true};
+ghost use Rattle.std.specs.Prelude.{◌≡◌, ◌++◌, Ok, Some, IfOk, IfSome, OnOk, true};
 ghost use Rattle.txs_audit_book.specs.Answered.{finishing};
 ghost use Rattle.txs_cli.specs.Runner.{IsWorked};
+ghost use Rattle.txs_cli.specs.Runs.{against, parts_in};
 ghost use Rattle.txs_cli_audit.specs.Audit.{HasNoAnswer, IsRight};
 ghost use Rattle.txs_cli_explore.specs.Explored.{ComesBy, OutcomeTells, WayHas, WayTells, outcome_options};
 ghost use Rattle.txs_cli_explore.specs.Outcomes.{AreOutcomes};
@@ -19,12 +20,10 @@ ghost use Rattle.txs_machine.specs.declared.schedule.Play.TheVariants as play;
 use crate::outcomes::{Outcome, add_outcome};
 use std::alloc::{AllocError, Global};
 use txs_audit_book::{AuditError, Terms, Verdict};
-use txs_cli::alone::run_plays;
-use txs_cli::audited::audit_run;
-use txs_cli::script::Working;
+use txs_cli::run::{Working, run_plays};
+use txs_cli::tell;
 use txs_cli_args::{Exploring, RunOptions};
 use txs_cli_report::explain::Script;
-use txs_cli_report::script::report_run;
 use txs_cli_report::told::Told;
 use txs_cli_report::{ListError, read_plays, write_plays};
 use txs_code_meaning::Verified;
@@ -175,6 +174,16 @@ fn outcome_options(steps: u64, audit: bool) -> RunOptions
     }
 }
 
+/// The program against which a run is audited, where an audit is wanted.
+fn against(program: &Program, audit: bool) -> Option<&Program>
+    ensures { parts_in result ≡ against audit (Some program.now) }
+{
+    if audit {
+        return Some(program);
+    }
+    None
+}
+
 /// What a run that is over tells with its cells, and with its audit where one is wanted.
 fn tell_run<A: Fn(Global, &Program, &Report, Terms, usize) -> Result<Verdict, AuditError>>(
     alloc: Global,
@@ -190,16 +199,12 @@ fn tell_run<A: Fn(Global, &Program, &Report, Terms, usize) -> Result<Verdict, Au
     requires worked { IsWorked compiled.now.1 exploring.steps ran.0 ran.1 }
     ensures { IfOk result (λ t. OutcomeTells exploring.audit (λ p r e. HasNoAnswer (A.post auditor.now) p r (finishing exploring.steps) 4 e) (script_of script.entry) exploring.steps compiled.now.0 compiled.now.1 ran.0 ran.1 (told_of t)) }
 {
-    let options = outcome_options(exploring.steps, exploring.audit);
-    if exploring.audit {
-        let working = Working {
-            workers: AUDIT_WORKERS,
-            options,
-        };
-        return audit_run(alloc, auditor, script, compiled, ran, working);
-    }
-    let (shared, report) = ran;
-    report_run(alloc, script, compiled.1.code(), report, &shared, options)
+    let working = Working {
+        workers: AUDIT_WORKERS,
+        options: outcome_options(exploring.steps, exploring.audit),
+    };
+    let against = against(&compiled.0, exploring.audit);
+    tell::tell_run(alloc, auditor, script, against, &compiled.1, ran, working)
 }
 
 /// What the run by these plays of a way tells. None where it doesn't end as the way says.

@@ -1,4 +1,3 @@
-pub mod Answered
 pub mod Begun
 pub mod Cutting
 pub mod Fronts
@@ -8,4 +7,3 @@ pub mod OfAgents
 pub mod Printing
 pub mod Reading
 pub mod Threads
-pub mod Turns

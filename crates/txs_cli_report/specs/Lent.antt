@@ -2,15 +2,12 @@
 use Rattle.std.specs.Prelude.{ℕ, List, [], ◌++◌, Option, Some, None, Result, codes}
 use Rattle.std.specs.Borrow.{Bor}
 use Rattle.std.specs.declared.result.Result.TheVariants.{Ok, Err}
-use Rattle.txs_machine.specs.Schedule.{spread}
 use Rattle.txs_cli_report.specs.Lines.{Script, agent_front, all_printed, thread_front}
-use Rattle.txs_cli_report.specs.Told.{Told, Wanted, Check, Listing, Build, Run, behind_bytes}
+use Rattle.txs_cli_report.specs.Told.{Told, behind_bytes}
 use Rattle.txs_cli_report.specs.declared.explain.Script as lent
 use Rattle.txs_cli_report.specs.declared.told.Front.{Front}
 use Rattle.txs_cli_report.specs.declared.told.Front.TheVariants as lent_front
 use Rattle.txs_cli_report.specs.declared.told.Told as owned
-use Rattle.txs_cli_report.specs.declared.told.Use.{Use}
-use Rattle.txs_cli_report.specs.declared.told.Use.TheVariants as lent_use
 
 -- a text that is lent, if one is
 abbrev pub text_in : Option (Bor (List ℕ)) → Option (List ℕ)
@@ -33,13 +30,6 @@ told_of t = behind_bytes (all_printed (t.threads.items ++ t.agents.items)) (line
 abbrev pub answer_of : {E : Type 0} → Result owned.Told E → Told
 answer_of (Ok t) = told_of t
 answer_of (Err e) = record { output = []; errors = codes "out of memory\n"; status = 4 }
-
--- what is wanted of a script, as plain data
-abbrev pub wanted_of : Use → Wanted
-wanted_of lent_use.Check = Check
-wanted_of lent_use.Listing = Listing
-wanted_of lent_use.Build = Build
-wanted_of (lent_use.Run plays turns options) = Run (spread plays.now) options.steps options.cells options.events
 
 -- how the line begins that tells of one
 abbrev pub front_of : Front → List ℕ

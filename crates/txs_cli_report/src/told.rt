@@ -5,7 +5,7 @@ ghost use Rattle.txs_compile.specs.Compiled.{IsRefusal};
 ghost use Rattle.txs_compile.specs.declared.compile_error.CompileError.TheVariants.{Memory};
 ghost use Rattle.txs_cli_report.specs.Lent.{front_of, text_in, script_of, told_of};
 ghost use Rattle.txs_cli_report.specs.Lines.{IsLesson, at_place, lesson_of, list_place, refusal_line, refused_line, refused_place, thread_front, failed_line, stopped_line, end_line, end_place, status_of, how_ended, status_from, AreLessons, AreThreadsTold};
-ghost use Rattle.txs_cli_report.specs.Told.{ScriptTells, Wanted, list_name};
+ghost use Rattle.txs_cli_report.specs.Told.{ScriptRefused, WrongListTells, list_name};
 
 use crate::explain::{Script, write_explained};
 use crate::{WrongPlay, write_both, write_number};
@@ -14,9 +14,8 @@ use txs_cli_advice::{
     OF_JOURNAL, OF_LIST, OF_MEMORY, OF_STEPS, of_check, of_fault, of_read, of_resolve, on_check,
     on_fault, on_read, on_resolve,
 };
-use txs_cli_args::RunOptions;
 use txs_compile::CompileError;
-use txs_machine::{ActorReport, Entries, Repeated};
+use txs_machine::{ActorReport, Entries};
 use txs_value_data::{Fault, Span};
 use txs_world_protocol::Outcome;
 
@@ -63,24 +62,6 @@ struct Refusal {
     name: &'static str,
     at: Span,
     advice: Option<&'static str>,
-}
-
-/// What is done with a script.
-#[derive(Clone, Copy)]
-pub enum Use<'a> {
-    /// It is compiled, and nothing runs.
-    Check,
-    /// It is compiled, and its code is listed.
-    Listing,
-    /// It is compiled, and its code is written in its byte form.
-    Build,
-    /// Its threads and agents run by these plays and then in rounds, as the options say.
-    Run {
-        plays: &'a [Repeated],
-        /// The plays as they are written, in a list.
-        turns: &'a str,
-        options: RunOptions,
-    },
 }
 
 /// All threads ended, and no agent has failed.
@@ -244,10 +225,10 @@ fn advice_for(
     }
 }
 
-/// What is told of a script that isn't compiled, whatever is wanted of it.
+/// What is told of a script that isn't compiled.
 pub fn refused(alloc: Global, script: Script<'_>, error: &CompileError) -> Result<Told, AllocError>
     requires { IsRefusal script.text.now error.now }
-    ensures { IfOk result (λ t. (wanted : Wanted) → ScriptTells (script_of script.entry) (told_of t) wanted) }
+    ensures { IfOk result (λ t. ScriptRefused (script_of script.entry) (told_of t)) }
 {
     let Some(refusal) = refusal_of(error) else {
         return Err(AllocError);
@@ -292,12 +273,19 @@ pub(crate) fn list_place(wrong: WrongPlay) -> Option<Span>
     })
 }
 
-/// What is told of a list of plays that has an item which says none.
-pub fn wrong_list(alloc: Global, list: Script<'_>, wrong: WrongPlay) -> Result<Told, AllocError>
-    ensures output { IfOk result (λ t. (told_of t).output ≡ []) }
-    ensures errors { IfOk result (λ t. IsLesson (script_of list.entry) (codes "wrong list\n") (list_place wrong) t.errors.items) }
-    ensures status { IfOk result (λ t. t.status ≡ 2) }
+/// What is told of a list of plays, which is written so, of which an item says none. Where a file is named, it is explained.
+pub fn wrong_list(
+    alloc: Global,
+    turns: &str,
+    file: Option<&str>,
+    wrong: WrongPlay,
+) -> Result<Told, AllocError>
+    ensures { IfOk result (λ t. WrongListTells turns.now (text_in file.entry) wrong (told_of t)) }
 {
+    let list = Script {
+        text: turns.as_bytes(),
+        file: list_name(file),
+    };
     let mut told = complaint(alloc, UNUSABLE, "wrong list")?;
     explain(&mut told.errors, list, list_place(wrong), OF_LIST)?;
     Ok(told)

@@ -1,8 +1,8 @@
 //! What is told of a list of plays of which one names no actor.
 
-ghost use Rattle.std.specs.Prelude.{◌≡◌, [], IfOk};
+ghost use Rattle.std.specs.Prelude.{IfOk};
 ghost use Rattle.txs_cli_report.specs.Lent.{text_in, told_of};
-ghost use Rattle.txs_cli_report.specs.Told.{NoActorTold};
+ghost use Rattle.txs_cli_report.specs.Told.{NoActorTells};
 
 use crate::WrongPlay;
 use crate::explain::Script;
@@ -52,9 +52,7 @@ pub fn no_actor(
     plays: &[Repeated],
     code: &Code,
 ) -> Result<Told, AllocError>
-    ensures output { IfOk result (λ t. (told_of t).output ≡ []) }
-    ensures errors { IfOk result (λ t. NoActorTold (text_in file.entry) t.errors.items) }
-    ensures status { IfOk result (λ t. t.status ≡ 2) }
+    ensures { IfOk result (λ t. NoActorTells (text_in file.entry) (told_of t)) }
 {
     let list = Script {
         text: turns.as_bytes(),

@@ -3,14 +3,14 @@ use Rattle.std.specs.Prelude.{◌≡◌, ℕ, Bool, true, false, List, [], ◌++
 use Rattle.std.specs.declared.result.Result.TheVariants.{Ok}
 use Rattle.txs_audit_book.specs.Answered.{audit_turns, finishing, terms_as}
 use Rattle.txs_audit_book.specs.declared.verdict.AuditError.{AuditError}
-use Rattle.txs_cli.specs.Audited.{IsPlayed, IsRunReport}
+use Rattle.txs_cli.specs.Runs.{IsPlayed, IsRunReport}
 use Rattle.txs_cli_audit.specs.Audit.{AuditTells}
 use Rattle.txs_cli_events.specs.LongLines.{long_lines}
 use Rattle.txs_cli_events.specs.declared.seen.Noted.{Noted}
 use Rattle.txs_cli_report.specs.Plays.{plays_in}
 use Rattle.txs_cli_events.specs.Noted.{AreInOrder, ArePrinted, AreTraced}
 use Rattle.txs_cli_report.specs.Lines.{Script}
-use Rattle.txs_cli_report.specs.Told.{IsCompiled, ScriptTells, Told, Wanted}
+use Rattle.txs_cli_report.specs.Told.{IsCompiled, ScriptRefused, Told}
 use Rattle.txs_cli_args.specs.declared.request.RunOptions.{RunOptions}
 use Rattle.txs_code_meaning.specs.PlainCode.{PlainCode}
 use Rattle.txs_machine.specs.declared.schedule.Entries.{Entries}
@@ -66,5 +66,5 @@ pub data ShowTells (list : List ℕ) (full : Bool) (unaudited : Parts → Report
   of_run :
       (parts : Parts) (code : PlainCode) (report : Report) (notes : List Noted) (compiled : IsCompiled script.text (program_of parts) code) (listed : IsListed code list o.steps report notes)
       (told : MayAudit o.audit (unaudited parts report) script (verdict_on parts o.steps report) (plainly (lines_shown full code.cells report notes)) t) → ShowTells list full unaudited script o t
-  of_refused : (told : (wanted : Wanted) → ScriptTells script t wanted) → ShowTells list full unaudited script o t
+  of_refused : (told : ScriptRefused script t) → ShowTells list full unaudited script o t
   of_failed : (output : t.output ≡ []) (errors : t.errors ≡ codes "show failed" ++ codes "\n") (status : t.status ≡ 4) → ShowTells list full unaudited script o t

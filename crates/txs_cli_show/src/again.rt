@@ -6,7 +6,7 @@ ghost use Rattle.txs_machine.specs.Schedule.{spread};
 ghost use Rattle.txs_cli_show.specs.Shown.{IsListed, IsReported, IsShown};
 
 use std::alloc::{AllocError, Global};
-use txs_cli::alone::run_plays;
+use txs_cli::run::run_plays;
 use txs_cli_events::{Noted, Replayed, replay};
 use txs_cli_report::{ListError, read_plays};
 use txs_code_meaning::Verified;

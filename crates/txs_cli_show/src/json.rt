@@ -12,7 +12,7 @@ use crate::again::run_listed;
 use crate::lines::terms_of;
 use std::alloc::{AllocError, Global};
 use txs_audit_book::{AuditError, Terms, Verdict};
-use txs_cli::script::Working;
+use txs_cli::run::Working;
 use txs_cli_audit::{Audited, reason_of, status_of};
 use txs_cli_events::Replayed;
 use txs_cli_json::{add_audit, add_end, add_ok, add_problem, add_refusal, add_run};

@@ -12,7 +12,7 @@ ghost use Rattle.txs_cli_show.specs.Shown.{MayAudit, ShowTells, lines_shown, pla
 use crate::again::run_listed;
 use std::alloc::{AllocError, Global};
 use txs_audit_book::{AuditError, Terms, Verdict};
-use txs_cli::script::Working;
+use txs_cli::run::Working;
 use txs_cli_audit::{Audited, add_audit};
 use txs_cli_events::{Replayed, write_replayed};
 use txs_cli_report::explain::Script;

@@ -186,7 +186,9 @@ fn proceed(actor: &mut Actor, code: &Verified, hopped: bool, left: u64, turn: &m
     0
 }
 
-/// Some turns, up to so many, of a body or of an agent in its own: how many. What the last of them came to goes to its place.
+/// Some turns, up to so many, of a body or of an agent in its own: how many. What the last of them came to goes to its place. It isn't inlined
+/// into the loop of `run`, which would compute what it needs in each case before its first turn.
+#[inline(never)]
 fn stride(actor: &mut Actor, code: &Verified, budget: u64, turn: &mut Turn) -> u64
     requires lives { Lives code.now actor.old }
     requires answered { unanswered actor.old ≡ None }

@@ -80,21 +80,21 @@ pub same_values-itself : (vs : List Value) → same_values vs vs ≡ true
 same_values-itself [] = refl
 same_values-itself (v ∷ vs) = and_true _ _ (same_value-itself v) (same_values-itself vs)
 
-same_span-sound : (a b : Span) → same_span a b ≡ true → a ≡ b
+pub same_span-sound : (a b : Span) → same_span a b ≡ true → a ≡ b
 same_span-sound a b h =
     let both = and_both (a.from == b.from) (a.to == b.to) h in
     λ i. record { from = numbers a.from b.from both.0 i; to = numbers a.to b.to both.1 i }
 
-same_span-itself : (a : Span) → same_span a a ≡ true
+pub same_span-itself : (a : Span) → same_span a a ≡ true
 same_span-itself a = and_true _ _ (number-itself a.from) (number-itself a.to)
 
-same_callee-sound : (a b : Callee) → same_callee a b ≡ true → a ≡ b
+pub same_callee-sound : (a b : Callee) → same_callee a b ≡ true → a ≡ b
 same_callee-sound (Core a) (Core b) h = ap Core (op_number-differs a b (numbers (op_number a) (op_number b) h))
 same_callee-sound (Core a) (Function g) h = absurd (false≢true h)
 same_callee-sound (Function f) (Core b) h = absurd (false≢true h)
 same_callee-sound (Function f) (Function g) h = ap Function (numbers f g h)
 
-same_callee-itself : (a : Callee) → same_callee a a ≡ true
+pub same_callee-itself : (a : Callee) → same_callee a a ≡ true
 same_callee-itself (Core a) = number-itself (op_number a)
 same_callee-itself (Function f) = number-itself f
 

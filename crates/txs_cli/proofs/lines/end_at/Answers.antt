@@ -1,7 +1,7 @@
 use Rattle.std.proofs.Common.{◌≡◌, ◌++◌, codes, decimal}
 use Rattle.txs_cli_report.proofs.Fronts.{on_ok}
 use Rattle.txs_value_data.proofs.PrintedLemmas.{then_more}
-use Rattle.txs_cli.specs.CodeTold.{at_number}
+use Rattle.txs_cli.specs.CodeLines.{at_number}
 use Rattle.txs_cli.proofs.lines.end_at.Goals as goal
 
 pub returns : goal.returns

@@ -5,7 +5,7 @@ use Rattle.txs_cli_report.proofs.Lessons.{two_pairs}
 use Rattle.txs_value_data.proofs.PrintedLemmas.{then_more}
 use Rattle.txs_verify.specs.declared.error.BodyName.{BodyName}
 use Rattle.txs_verify.specs.declared.error.BodyName.TheVariants.{Function, Thread, Cell}
-use Rattle.txs_cli.specs.CodeTold.{at_number, in_body, refused_front}
+use Rattle.txs_cli.specs.CodeLines.{at_number, in_body, refused_front}
 use Rattle.txs_cli.proofs.lines.write_line.Goals as goal
 
 -- the place, behind the number and the name

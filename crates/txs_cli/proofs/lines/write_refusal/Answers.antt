@@ -1,6 +1,6 @@
 use Rattle.std.proofs.Common.{◌≡◌, ◌++◌, ℕ, List, OnOk, codes, sym, subst, subst₂}
 use Rattle.txs_verify.specs.declared.load_error.LoadError.{LoadError}
-use Rattle.txs_cli.specs.CodeTold.{at_number, in_body, load_line, refused_front}
+use Rattle.txs_cli.specs.CodeLines.{at_number, in_body, load_line, refused_front}
 use Rattle.txs_cli.proofs.lines.write_refusal.Goals as goal
 
 pub returns-in-Bytes-clause-line : goal.returns-in-Bytes-clause-line

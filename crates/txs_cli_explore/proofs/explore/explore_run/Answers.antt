@@ -1,11 +1,11 @@
-use Rattle.std.proofs.Common.{◌≡◌, ◌∙◌, ℕ, List, [], ap, subst}
+use Rattle.std.proofs.Common.{◌≡◌, ◌∙◌, ℕ, List, [], ap, codes, subst}
 use Rattle.txs_audit_book.specs.Answered.{finishing}
 use Rattle.txs_cli.proofs.Answered.{stream_written, unread_told}
 use Rattle.txs_cli_audit.specs.Audit.{HasNoAnswer}
 use Rattle.txs_cli_report.proofs.Fronts.{some_maps}
 use Rattle.txs_cli_report.specs.Lent.{text_in}
 use Rattle.txs_cli_report.specs.Lines.{Script}
-use Rattle.txs_cli_report.specs.Told.{Told, Written, front}
+use Rattle.txs_cli_report.specs.Told.{IsTold, Told, Written, front}
 use Rattle.txs_cli_explore.proofs.explore.explore_run.Goals as goal
 use Rattle.txs_cli_explore.specs.Explored.{OutcomeTells, StreamExploredTells, limit_of, of_memory, of_unread, texts_in}
 
@@ -34,4 +34,4 @@ returns-in-Err g c =
     λ input t. StreamExploredTells (script (front input)) limit (OutcomeTells x.audit (λ p r e. HasNoAnswer (goal.A-post g c.args.auditor.now) p r (finishing limit) 4 e) (script (front input)) limit) x.same (texts_in c.new.result.items) t
     in
     let writes : Told → Type 0 = λ t. Written (g.W.Write.contents c.args.writer.now) (g.W.Write.contents c.write_answer.new.writer) (g.F.Write.contents c.args.faults.now) (g.F.Write.contents c.write_answer.new.faults) t c.write_answer.result in
-    stream_written told known tells writes (λ input t m. of_memory m.0 m.1 m.2 none) (unread_told told known tells (λ input t o e s. of_unread o e s none) c.unread.ensures) c.write_answer.ensures
+    stream_written told known tells writes (λ input t m. of_memory m none) (unread_told told known (IsTold [] (codes "read failed\n") 2) tells (λ input t u. of_unread u none) c.unread.ensures) c.write_answer.ensures

@@ -21,4 +21,4 @@ returns-in-Ok g c =
     )
 
 pub returns-in-Err : goal.returns-in-Err
-returns-in-Err g c = (record { output = []; errors = codes "out of memory\n"; status = 4 }, of_memory refl refl refl (ap texts_in c.new.ensures.items), c.write_answer-in-Err.ensures)
+returns-in-Err g c = (record { output = []; errors = codes "out of memory\n"; status = 4 }, of_memory (record { output = refl; errors = refl; status = refl }) (ap texts_in c.new.ensures.items), c.write_answer-in-Err.ensures)

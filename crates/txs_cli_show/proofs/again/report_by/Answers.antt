@@ -1,10 +1,8 @@
-use Rattle.std.proofs.Common.{◌≡◌, ◌≤◌, IfOk, List, length, subst, sym, true}
+use Rattle.std.proofs.Common.{◌≤◌, IfOk, List, length, subst, sym}
 use Rattle.txs_verify.proofs.Formed.{few_threads}
-use Rattle.txs_cli.specs.Audited.{IsPlayed}
+use Rattle.txs_cli.specs.Runs.{IsPlayed}
 use Rattle.txs_cli.specs.Runner.{IsWorked}
-use Rattle.txs_machine.specs.Agents.{actors_of}
-use Rattle.txs_machine.specs.Schedule.{all_named, spread}
-use Rattle.txs_machine.specs.Scheduled.{IsScheduledRun}
+use Rattle.txs_machine.specs.Schedule.{spread}
 use Rattle.txs_value_cell.specs.declared.cell.CellDefinition.{CellDefinition}
 use Rattle.txs_cli_show.proofs.Fitting.{has_few_cells, is_runnable}
 use Rattle.txs_cli_show.proofs.again.report_by.Goals as goal
@@ -26,11 +24,7 @@ returns-in_ok-report-in-Ok c =
     let code = c.args.code.now in
     let plays = spread c.args.plays.now in
     let made = c.in_ok-report-in-Ok.ensures in
-    let played : IsPlayed plays code c.args.steps c.in-Ok.shared c.in-Ok.entries = record {
-      named = subst (λ r. IfOk r (λ ran. all_named (actors_of code) plays ≡ true)) c.in-Ok.is c.run_plays.ensures.named;
-      scheduled = subst (λ r. IfOk r (λ ran. IsScheduledRun code c.args.steps plays true ran.0 ran.1.threads.items ran.1.agents.items)) c.in-Ok.is c.run_plays.ensures.scheduled;
-    }
-    in
+    let played : IsPlayed plays code c.args.steps c.in-Ok.shared c.in-Ok.entries = subst (λ r. IfOk r (λ ran. IsPlayed plays code c.args.steps ran.0 ran.1)) c.in-Ok.is c.run_plays.ensures.played in
     record {
       shared = c.in-Ok.shared;
       entries = c.in-Ok.entries;
