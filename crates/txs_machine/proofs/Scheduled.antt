@@ -19,10 +19,10 @@ use Rattle.txs_world_book.specs.Served.{cells_of}
 use Rattle.txs_world_protocol.specs.declared.report.ActorReport.{ActorReport}
 use Rattle.txs_world_shared.specs.SharedState.{PlainShared}
 use Rattle.txs_machine.specs.Agents.{agents_of, actors_of}
-use Rattle.txs_machine.specs.Playing.{AllEnded, AreLater, AreReported, HaveEndedBefore, IsReported}
+use Rattle.txs_machine.specs.Playing.{AllEnded, AreReported, HaveEndedBefore, IsReported}
 use Rattle.txs_machine.specs.RunOver.{books_of, places_of}
 use Rattle.txs_machine.specs.Running.{AreIdle, ArePlaying, ArePlayingBy, GoOnBy, HasWork, IsLive, IsPlacedAs, IsPlayerOf, attendants, left_all}
-use Rattle.txs_machine.specs.Scheduled.{after_turns, run_of, most_turns, own_turns, outcome_of, printed_at, AreTurnsOf, IsPlay, ArePlays, GoesOn, IsGoing, IsOver, AreRounds, AreRoundsIf, AreScheduled, LeadRounds, IsEntryOf, IsScheduledRun, asks_from}
+use Rattle.txs_machine.specs.Scheduled.{after_turns, run_of, most_turns, own_turns, outcome_of, printed_at, IsPlay, ArePlays, GoesOn, IsGoing, IsOver, AreRounds, AreRoundsIf, AreScheduled, LeadRounds, IsEntryOf, IsScheduledRun, asks_from}
 use Rattle.txs_machine.specs.declared.player.AgentPlayer.{AgentPlayer}
 use Rattle.txs_machine.specs.declared.player.Player.{Player}
 use Rattle.txs_machine.specs.declared.player.Players.{Players}
@@ -321,14 +321,6 @@ pub live_below : (code : PlainCode) (k j : ℕ) (all : Players) (first : ℕ) (s
 live_below code k j all first s past (inl l) = l
 live_below code k j all first s past (inr h) = let w = live_within code s all j h.1 in let p = h.0 in absurd (omega (arith, w, p, past))
 
--- a thread before which all have ended: its ask is a round where it is the last actor
-pub last_round : (code : PlainCode) (limit k : ℕ) (s : PlainShared) (all : Players) (turns us : List Play) → ArePlayingBy code limit s all turns → suc k ≡ actors_of code → k < length all.threads.items → HaveEndedBefore k all.threads.items → IsLive code s all k
-    → AreTurnsOf code limit k (2 ^ 64 - 1) (run_of code turns) us → LeadRounds code limit (run_of code turns) us
-last_round code limit k s all turns us h last within ended live made =
-    let z : 0 + k ≡ k = omega arith in
-    round_leads code limit (suc k) (run_of code turns) us last (not_over code limit s all turns h k live)
-    (subst (λ ys. ArePlays code limit ys (run_of code turns) us) (asks_more 0 k) (plays_more code limit (asks_from 0 k) (play.Ask (0 + k)) (run_of code turns) [] us (before_none code limit s all turns h k (omega (arith, within)) ended) (subst (λ i. AreTurnsOf code limit i (2 ^ 64 - 1) (run_of code turns) us) (sym z) made)))
-
 -- a round from an actor on before which all have ended
 pub first_round : (code : PlainCode) (limit k j n : ℕ) (s : PlainShared) (all : Players) (turns us : List Play) → ArePlayingBy code limit s all turns → n ≡ actors_of code → k ≤ n → k ≤ length all.threads.items → HaveEndedBefore k all.threads.items → IsLive code s all j
     → ArePlays code limit (asks_from k (n - k)) (run_of code turns) us → LeadRounds code limit (run_of code turns) us
@@ -339,13 +331,6 @@ first_round code limit k j n s all turns us h many within below ended live made 
     (subst (λ m. ArePlays code limit (asks_from 0 m) (run_of code turns) us) e
     (subst (λ ys. ArePlays code limit ys (run_of code turns) us) (sym (asks_split 0 k (n - k)))
     (plays_append code limit (asks_from 0 k) (asks_from (0 + k) (n - k)) (run_of code turns) [] us (before_none code limit s all turns h k below ended) (subst (λ i. ArePlays code limit (asks_from i (n - k)) (run_of code turns) us) (sym z) made))))
-
--- threads that have ended stay so
-pub before_later : (k : ℕ) (xs ys : List Player) → AreLater xs ys → HaveEndedBefore k xs → HaveEndedBefore k ys
-before_later zero xs ys l h = tt
-before_later (suc k) xs [] l h = tt
-before_later (suc k) [] (y ∷ ys) l h = absurd l
-before_later (suc k) (x ∷ xs) (y ∷ ys) l h = (λ e. h.0 (l.0 e).0, before_later k xs ys l.1 h.1)
 
 -- rounds that aren't made
 pub stays : (code : PlainCode) (limit : ℕ) (s : PlainShared) (all : Players) → GoOnBy code limit (LeadRounds code limit) s all s all

@@ -1,13 +1,13 @@
 //! Runs of all threads and agents over what they share, by turns that a schedule names.
 
-ghost use Rattle.std.specs.Prelude.{◌≡◌, ◌<◌, ◌≤◌, ◌+◌, ◌-◌, ◌++◌, ℕ, List, [], length, replicate, true, false, IfOk, IfErr, IfSome, IsTrue, OnOk, Some, None};
+ghost use Rattle.std.specs.Prelude.{◌≡◌, ◌<◌, ◌≤◌, ◌+◌, ◌-◌, ◌++◌, ℕ, List, [], length, replicate, true, IfOk, IfErr, IfSome, OnOk, Some, None};
 ghost use Rattle.txs_machine.specs.declared.schedule.Play.{Play as AnyPlay};
 ghost use Rattle.txs_machine.specs.declared.schedule.ScheduleError.TheVariants.{Memory};
 ghost use Rattle.txs_machine.specs.ErrorName.{schedule_error_number};
 ghost use Rattle.txs_machine.specs.RunOver.{IsStateOf, books_of};
 ghost use Rattle.txs_machine.specs.Agents.{actors_of, AgentsAreDone, AreExplainedBy, AreDrained};
 ghost use Rattle.txs_machine.specs.Running.{ArePlaying, AreIdle, GoOnBy, IsAtRest, IsAttending, IsLive, attendants, left_all};
-ghost use Rattle.txs_machine.specs.Scheduled.{most_turns, asks_from, ArePlays, LeadRounds, AreRoundsIf, IsScheduledRun};
+ghost use Rattle.txs_machine.specs.Scheduled.{most_turns, asks_from, ArePlays, AreRoundsIf, IsScheduledRun};
 ghost use Rattle.txs_machine.specs.Playing.{IsBetween, AreLater, HaveEndedBefore, HaveSteps, AllEnded, IsUnended, IsReported, AreReported};
 ghost use Rattle.txs_machine.specs.Plays.{IsThreadsPlay, IsAgentsPlay, IsPlayAt, AreReady, SaysOf};
 ghost use Rattle.txs_machine.specs.Turning.{MayGoOn};
@@ -208,15 +208,8 @@ pub fn open_players(
     Ok(())
 }
 
-/// The plays that a schedule or a round makes of any actor.
-struct OfAny;
-
-/// The plays of the only one that is left.
-struct OfLast;
-
 /// A play of an actor: up to so many turns, up to its end or an ask, which is served. One that has ended stays as it is.
-/// The type says for whom it is: each caller has a copy of it, which is inlined so.
-fn play_actor<Caller>(
+fn play_actor(
     player: &mut Player,
     code: &Verified,
     shared: &mut SharedState,
@@ -282,7 +275,7 @@ pub fn play_at(
     let threads = players.threads.len();
     let at = k as usize;
     if at < threads {
-        play_actor::<OfAny>(&mut players.threads[at], code, shared, k, budget, max_steps);
+        play_actor(&mut players.threads[at], code, shared, k, budget, max_steps);
     } else {
         play_agent(
             &mut players.agents[at - threads],
@@ -293,15 +286,6 @@ pub fn play_at(
             max_steps,
         );
     }
-}
-
-/// Whether an actor hasn't ended.
-#[inline(always)]
-fn is_unended(player: &Player) -> bool
-    ensures yes { IsTrue result → player.now.actor.outcome ≡ None }
-    ensures no { result ≡ false → player.now.actor.outcome ≡ None → ⊥ }
-{
-    player.actor.outcome().is_none()
 }
 
 /// A play, so many times in a row.
@@ -375,50 +359,6 @@ fn play_rest(
     }
 }
 
-/// Where no other actor is behind a thread's, and those before it have ended, the rounds up to its end: each is one ask of
-/// this actor.
-fn play_out(
-    players: &mut Players,
-    code: &Verified,
-    shared: &mut SharedState,
-    k: u16,
-    actors: u16,
-    max_steps: u64,
-)
-    requires many { actors ≡ length players.old.threads.items + length players.old.agents.items }
-    requires of { IsStateOf code.now shared.old }
-    requires playing { ArePlaying code.now max_steps shared.old players.old }
-    requires before { HaveEndedBefore k players.old.threads.items }
-    ensures of { IsStateOf code.now shared.new }
-    ensures plays { GoOnBy code.now max_steps (LeadRounds code.now max_steps) shared.old players.old shared.new players.new }
-    ensures many { length players.new.threads.items ≡ length players.old.threads.items }
-    ensures agents { length players.new.agents.items ≡ length players.old.agents.items }
-    ensures later { AreLater players.old.threads.items players.new.threads.items }
-    ensures left { left_all players.new ≤ left_all players.old }
-{
-    // A step of the proof, which does nothing when it runs.
-    let _own_cells = code.code();
-    let at = k as usize;
-    if at >= players.threads.len() {
-        return;
-    }
-    if at + 1 != actors as usize {
-        return;
-    }
-    let mut going = is_unended(&players.threads[at]);
-    while going {
-        play_actor::<OfLast>(
-            &mut players.threads[at],
-            code,
-            shared,
-            k,
-            u64::MAX,
-            max_steps,
-        );
-        going = is_unended(&players.threads[at]);
-    }
-}
-
 /// The first thread whose actor hasn't ended.
 fn first_unended(players: &[Player]) -> Option<usize>
     ensures there { IfSome result (λ k. k < length players.now) }
@@ -479,7 +419,6 @@ fn play_rounds(
     }
     while let Some(k) = first_live(players, code, shared) {
         play_rest(players, code, shared, k, actors, max_steps);
-        play_out(players, code, shared, k, actors, max_steps);
     }
 }
 

@@ -1,6 +1,6 @@
 //! Turns of an actor, one and many.
 
-ghost use Rattle.std.specs.Prelude.{◌≡◌, IsTrue, false, ◌-◌, ◌<◌, ◌≤◌, ◌^◌, None};
+ghost use Rattle.std.specs.Prelude.{◌≡◌, IsTrue, false, ◌<◌, None};
 ghost use Rattle.txs_machine_actor.specs.PlainActor.{Runs, Lives, unanswered};
 ghost use Rattle.txs_machine_actor.specs.Paces.{LeavesLoop, MayStep};
 ghost use Rattle.txs_code_meaning.specs.declared.instr.Instr.TheVariants.{TxEnd};
@@ -17,8 +17,8 @@ use txs_machine_transaction::{Role, Transaction};
 use txs_value_data::Span;
 use txs_world_protocol::Outcome;
 
-/// The end of a transaction, or of one that is joined. It is apart from the other instructions that leave the loop, and so
-/// that a stride holds nothing for it.
+/// The end of a transaction, or of one that is joined. It is apart from the other instructions that leave the loop, so that
+/// a stride holds nothing for it.
 #[inline(never)]
 fn leave_at_end(actor: &mut Actor, code: &Verified, span: Span, next: usize, turn: &mut Turn)
     requires can { CanLeave code.now actor.old TxEnd }
@@ -156,36 +156,6 @@ fn depart(actor: &mut Actor, code: &Verified, turn: &mut Turn) -> bool
     hopped
 }
 
-/// Turns that follow at once, up to so many, behind an instruction that left the body's loop: those of the loop of the stack
-/// alone where that was a call or a return, and else the end of a transaction, where it is there. How many they were;
-/// what the last of them came to goes to its place.
-#[inline(always)]
-fn proceed(actor: &mut Actor, code: &Verified, hopped: bool, left: u64, turn: &mut Turn) -> u64
-    requires runs { Runs code.now actor.old }
-    requires answered { unanswered actor.old ≡ None }
-    requires unended { actor.old.outcome ≡ None }
-    requires fits { left ≤ actor.old.limit - actor.old.steps }
-    requires small { actor.old.limit < 2 ^ 64 }
-    requires went { turn.old ≡ turned.Went }
-    ensures turns { TurnsOf code.now result actor.old turn.new actor.new }
-    ensures within { result ≤ left }
-    ensures runs { Runs code.now actor.new }
-{
-    if hopped {
-        return actor.quicken(code, left);
-    }
-    if left == 0 {
-        return 0;
-    }
-    let (instr, span, next) = at_hand(actor, code);
-    if let Instr::TxEnd = instr {
-        actor.count();
-        leave_at_end(actor, code, span, next, turn);
-        return 1;
-    }
-    0
-}
-
 /// Some turns, up to so many, of a body or of an agent in its own: how many. What the last of them came to goes to its place. It isn't inlined
 /// into the loop of `run`, which would compute what it needs in each case before its first turn.
 #[inline(never)]
@@ -221,8 +191,11 @@ fn stride(actor: &mut Actor, code: &Verified, budget: u64, turn: &mut Turn) -> u
             }
             let hopped = depart(actor, code, turn);
             let done = pause.done + 1;
+            if !hopped {
+                return done;
+            }
             if went(turn) {
-                return done + proceed(actor, code, hopped, count - done, turn);
+                return done + actor.quicken(code, count - done);
             }
             done
         }

@@ -8,16 +8,16 @@ use Rattle.txs_machine.proofs.schedule.play_actor.Goals as goal
 
 -- one that has ended stays as it is
 pub returns-then-ended : goal.returns-then-ended
-returns-then-ended g c = thread_rests c.args.code.now c.args.k c.args.max_steps c.args.budget c.args.shared.now c.args.player.now c.requires.of c.requires.between (λ e. search (rules, e))
+returns-then-ended c = thread_rests c.args.code.now c.args.k c.args.max_steps c.args.budget c.args.shared.now c.args.player.now c.requires.of c.requires.between (λ e. search (rules, e))
 
 pub go_on-requires-clause-may : goal.go_on-requires-clause-may
-go_on-requires-clause-may g c =
+go_on-requires-clause-may c =
     let x = c.args.player.now in
     let h = c.requires.between in
     thread_asks actors_run c.args.code.now c.args.k c.args.budget c.args.shared.now x.actor x.trace.items c.code-own_cells.ensures.own_cells h.free c.requires.of h.over
 
 pub returns : goal.returns
-returns g c =
+returns c =
     let x = c.args.player.now in
     let y = c.go_on.new.player in
     let h = c.requires.between in

@@ -1,7 +1,7 @@
-use Rattle.std.proofs.Common.{◌-◌, refl, rules, ◌∙◌, arith}
-use Rattle.txs_machine.specs.Scheduled.{asks_from, ArePlays, AreRoundsIf, LeadRounds}
+use Rattle.std.proofs.Common.{refl, rules, ◌∙◌, arith}
+use Rattle.txs_machine.specs.Scheduled.{AreRoundsIf, LeadRounds}
 use Rattle.txs_machine.proofs.Playing.{later_itself, later_than}
-use Rattle.txs_machine.proofs.Scheduled.{actors_all, before_later, first_round, none_on, rounds_lead, rounds_made, stays, still, then_on, unwanted}
+use Rattle.txs_machine.proofs.Scheduled.{actors_all, first_round, none_on, rounds_lead, rounds_made, stays, still, then_on, unwanted}
 use Rattle.txs_machine.proofs.schedule.play_rounds.Goals as goal
 
 pub loop-k-init : goal.loop-k-init
@@ -23,26 +23,11 @@ play_rest-requires-clause-within c =
     let there = c.in-Some.ensures.there in
     omega (arith, there, c.requires.many, i.many, i.agents)
 
-pub play_out-requires-clause-playing : goal.play_out-requires-clause-playing
-play_out-requires-clause-playing c =
-    let l = c.loop-k in
-    let h = still c.args.code.now c.args.max_steps (LeadRounds c.args.code.now c.args.max_steps) c.args.shared.now l.shared c.args.players.now l.players l.invariant.plays c.requires.playing in
-    still c.args.code.now c.args.max_steps (ArePlays c.args.code.now c.args.max_steps (asks_from c.in-Some.k (c.args.actors - c.in-Some.k))) l.shared c.play_rest.new.shared l.players c.play_rest.new.players c.play_rest.ensures.plays h
-
-pub play_out-requires-clause-before : goal.play_out-requires-clause-before
-play_out-requires-clause-before c = before_later c.in-Some.k c.loop-k.players.threads.items c.play_rest.new.players.threads.items c.play_rest.ensures.later c.in-Some.ensures.before
-
 pub loop-k-smaller : goal.loop-k-smaller
-loop-k-smaller c =
-    let o = c.play_out.ensures in
-    let r = c.play_rest.ensures in
-    let live = c.in-Some.ensures.live in
-    let less = r.less live.0 live.1 live.2 in
-    omega (arith, less, o.left)
+loop-k-smaller c = let live = c.in-Some.ensures.live in c.play_rest.ensures.less live.0 live.1 live.2
 
 pub loop-k-preserved : goal.loop-k-preserved
 loop-k-preserved c =
-    let o = c.play_out.ensures in
     let r = c.play_rest.ensures in
     let l = c.loop-k in
     let i = l.invariant in
@@ -51,20 +36,18 @@ loop-k-preserved c =
     let code = c.args.code.now in
     let limit = c.args.max_steps in
     let rest = c.play_rest.new.players in
-    let out = c.play_out.new.players in
     record {
-      of = o.of;
-      plays = then_on code limit (LeadRounds code limit) (LeadRounds code limit) (LeadRounds code limit) c.args.shared.now c.play_rest.new.shared c.play_out.new.shared c.args.players.now rest out (λ st us vs f g. rounds_lead code limit st us vs f g)
-          (then_on code limit (LeadRounds code limit) (LeadRounds code limit) (LeadRounds code limit) c.args.shared.now l.shared c.play_rest.new.shared c.args.players.now l.players rest (λ st us vs f g. rounds_lead code limit st us vs f g) i.plays
+      of = r.of;
+      plays = then_on code limit (LeadRounds code limit) (LeadRounds code limit) (LeadRounds code limit) c.args.shared.now l.shared c.play_rest.new.shared c.args.players.now l.players rest (λ st us vs f g. rounds_lead code limit st us vs f g) i.plays
           (λ turns h. (let a = r.plays turns h in (
             a.0,
             first_round code limit k found.live.0 c.args.actors l.shared l.players turns a.0 h (actors_all code limit l.shared l.players turns h c.args.actors (omega (arith, c.requires.many, i.many, i.agents)))
                 (let t = found.there in omega (arith, t, c.requires.many, i.many, i.agents)) found.there found.before found.live.2 a.1,
             a.2,
-          )))) o.plays;
-      many = o.many ∙ r.many ∙ i.many;
-      agents = o.agents ∙ r.agents ∙ i.agents;
-      later = later_than c.args.players.now.threads.items l.players.threads.items out.threads.items i.later (later_than l.players.threads.items rest.threads.items out.threads.items r.later o.later);
+          )));
+      many = r.many ∙ i.many;
+      agents = r.agents ∙ i.agents;
+      later = later_than c.args.players.now.threads.items l.players.threads.items rest.threads.items i.later r.later;
     }
 
 -- where no rounds are wanted all is as it is

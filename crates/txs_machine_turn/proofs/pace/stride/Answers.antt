@@ -141,10 +141,11 @@ returns-then-went-clause-strides c =
     let went : c.depart-hopped.new.turn ≡ turned.Went = c.went.ensures.went c.if-went.true in
     let t : Turns d b turned.Went n = subst (λ (r : Turn). Turns d b r n) went c.depart-hopped.ensures.turns in
     let s = strides_on d a b n c.args.budget count p.done turned.Went v.le v.pauses.0 v.pauses.1 t in
-    strides_more d a n c.proceed.new.actor c.args.budget count p.done c.proceed.result c.proceed.new.turn v.le v.pauses.0 c.proceed.ensures.within s.turns c.proceed.ensures.turns
+    subst (λ (r : Turn). Strides d a c.args.budget (p.done + 1 + c.quicken.result) r c.quicken.new.self) (sym went)
+    (strides_more d a n c.quicken.new.self c.args.budget count p.done c.quicken.result turned.Went v.le v.pauses.0 c.quicken.ensures.within s.turns c.quicken.ensures.turns)
 
-pub proceed-requires-clause-answered : goal.proceed-requires-clause-answered
-proceed-requires-clause-answered c =
+pub quicken-requires-clause-answered : goal.quicken-requires-clause-answered
+quicken-requires-clause-answered c =
     let a = c.args.actor.now in
     let d = c.args.code.now in
     let count = c.share-count.result in
@@ -154,8 +155,8 @@ proceed-requires-clause-answered c =
     let k = went_on d a b c.depart-hopped.new.actor c.args.budget count p.done c.depart-hopped.new.turn v c.requires.answered (c.went.ensures.went c.if-went.true) c.depart-hopped.ensures.turns in
     k.unasked
 
-pub proceed-requires-clause-unended : goal.proceed-requires-clause-unended
-proceed-requires-clause-unended c =
+pub quicken-requires-clause-unended : goal.quicken-requires-clause-unended
+quicken-requires-clause-unended c =
     let a = c.args.actor.now in
     let d = c.args.code.now in
     let count = c.share-count.result in
@@ -165,8 +166,8 @@ proceed-requires-clause-unended c =
     let k = went_on d a b c.depart-hopped.new.actor c.args.budget count p.done c.depart-hopped.new.turn v c.requires.answered (c.went.ensures.went c.if-went.true) c.depart-hopped.ensures.turns in
     k.unended
 
-pub proceed-requires-clause-fits : goal.proceed-requires-clause-fits
-proceed-requires-clause-fits c =
+pub quicken-requires-clause-fits : goal.quicken-requires-clause-fits
+quicken-requires-clause-fits c =
     let a = c.args.actor.now in
     let d = c.args.code.now in
     let count = c.share-count.result in
@@ -182,8 +183,8 @@ proceed-requires-clause-fits c =
     let less = v.pauses.0 in
     omega (arith, counted, limited, counted_on, limited_on, fits, less)
 
-pub proceed-requires-clause-small : goal.proceed-requires-clause-small
-proceed-requires-clause-small c =
+pub quicken-requires-clause-small : goal.quicken-requires-clause-small
+quicken-requires-clause-small c =
     let a = c.args.actor.now in
     let d = c.args.code.now in
     let count = c.share-count.result in
@@ -195,6 +196,16 @@ proceed-requires-clause-small c =
     let limited_on = k.limited in
     let small = v.may.2 in
     omega (arith, limited, limited_on, small)
+
+pub returns-then-not-hopped-clause-strides : goal.returns-then-not-hopped-clause-strides
+returns-then-not-hopped-clause-strides c =
+    let a = c.args.actor.now in
+    let d = c.args.code.now in
+    let count = c.share-count.result in
+    let p = c.advance-pause.result in
+    let b = c.advance-pause.new.self in
+    let v = paced d a c.over.new.self b c.args.budget count p.done p.next next.Leaves (c.in_default.ensures.more refl) c.requires.some c.share-count.ensures c.advance-pause.ensures.pauses c.advance-pause.ensures.counted c.in-Leaves.is in
+    strides_on d a b c.depart-hopped.new.actor c.args.budget count p.done c.depart-hopped.new.turn v.le v.pauses.0 v.pauses.1 c.depart-hopped.ensures.turns
 
 pub returns-else-went-clause-strides : goal.returns-else-went-clause-strides
 returns-else-went-clause-strides c =
@@ -324,8 +335,8 @@ come_home-requires-clause-hands_over c = c.hands_over.ensures.yes c.if-hands_ove
 pub depart-hopped-requires-clause-stays : goal.depart-hopped-requires-clause-stays
 depart-hopped-requires-clause-stays c = c.hands_over.ensures.no c.if-hands_over.false
 
-pub proceed-requires-clause-runs : goal.proceed-requires-clause-runs
-proceed-requires-clause-runs c = c.depart-hopped.ensures.runs
+pub quicken-requires-clause-runs : goal.quicken-requires-clause-runs
+quicken-requires-clause-runs c = c.depart-hopped.ensures.runs
 
 pub overflow_add-result-then-hands_over : goal.overflow_add-result-then-hands_over
 overflow_add-result-then-hands_over c =
@@ -355,10 +366,13 @@ overflow_add-result-then-went c =
     let p = c.advance-pause.result in
     let b = c.advance-pause.new.self in
     let v = paced d a c.over.new.self b c.args.budget count p.done p.next next.Leaves (c.in_default.ensures.more refl) c.requires.some c.share-count.ensures c.advance-pause.ensures.pauses c.advance-pause.ensures.counted c.in-Leaves.is in
-    more_fit p.done c.proceed.result count c.args.budget v.pauses.0 c.proceed.ensures.within v.le c.ranges.budget
+    more_fit p.done c.quicken.result count c.args.budget v.pauses.0 c.quicken.ensures.within v.le c.ranges.budget
 
 pub returns-then-went-clause-lives : goal.returns-then-went-clause-lives
-returns-then-went-clause-lives c = inl c.proceed.ensures.runs
+returns-then-went-clause-lives c = inl c.quicken.ensures.runs
+
+pub returns-then-not-hopped-clause-lives : goal.returns-then-not-hopped-clause-lives
+returns-then-not-hopped-clause-lives c = inl c.depart-hopped.ensures.runs
 
 pub returns-else-went-clause-lives : goal.returns-else-went-clause-lives
 returns-else-went-clause-lives c = inl c.depart-hopped.ensures.runs
