@@ -22,7 +22,7 @@ use Rattle.txs_machine.specs.Agents.{agents_of, actors_of}
 use Rattle.txs_machine.specs.Playing.{AllEnded, AreReported, HaveEndedBefore, IsReported}
 use Rattle.txs_machine.specs.RunOver.{books_of, places_of}
 use Rattle.txs_machine.specs.Running.{AreIdle, ArePlaying, ArePlayingBy, GoOnBy, HasWork, IsLive, IsPlacedAs, IsPlayerOf, attendants, left_all}
-use Rattle.txs_machine.specs.Scheduled.{after_turns, run_of, most_turns, own_turns, outcome_of, printed_at, IsPlay, ArePlays, GoesOn, IsGoing, IsOver, AreRounds, AreRoundsIf, AreScheduled, LeadRounds, IsEntryOf, IsScheduledRun, asks_from}
+use Rattle.txs_machine.specs.Scheduled.{after_turns, run_of, most_turns, own_turns, outcome_of, printed_at, IsPlay, ArePlays, GoesOn, IsGoing, IsOver, AreRounds, AreRoundsIf, AreScheduled, IsEntryOf, IsScheduledRun, asks_from}
 use Rattle.txs_machine.specs.declared.player.AgentPlayer.{AgentPlayer}
 use Rattle.txs_machine.specs.declared.player.Player.{Player}
 use Rattle.txs_machine.specs.declared.player.Players.{Players}
@@ -99,6 +99,10 @@ asks_next from k h =
     ap (λ i. asks_from from (k - from) ++ play.Ask i ∷ []) (sym e) ∙ asks_more from (k - from) ∙ ap (asks_from from) f
 
 -- ---- rounds
+
+-- these are the turns of some rounds, behind which there are others: those of the others follow them
+abbrev pub LeadRounds : PlainCode → ℕ → State → List Play → Type 0
+LeadRounds code limit st us = (n : ℕ) (ws : List Play) → AreRounds code limit n (after_turns code us st) ws → (m : ℕ) × AreRounds code limit m st (us ++ ws)
 
 -- so many rounds behind turns that lead to them
 pub rounds_lead : (code : PlainCode) (limit : ℕ) (st : State) (us vs : List Play) → LeadRounds code limit st us → LeadRounds code limit (after_turns code us st) vs → LeadRounds code limit st (us ++ vs)

@@ -113,10 +113,6 @@ AreRounds code limit zero st us = IsOver code st × (us ≡ [])
 AreRounds code limit (suc n) st us =
     (IsOver code st → ⊥) × (vs : List run.Play) × (ws : List run.Play) × (us ≡ vs ++ ws) × ArePlays code limit (asks_from 0 (actors_of code)) st vs × AreRounds code limit n (after_turns code vs st) ws
 
--- these are the turns of some rounds, behind which there are others: those of the others follow them
-abbrev pub LeadRounds : PlainCode → ℕ → State → List run.Play → Type 0
-LeadRounds code limit st us = (n : ℕ) (ws : List run.Play) → AreRounds code limit n (after_turns code us st) ws → (m : ℕ) × AreRounds code limit m st (us ++ ws)
-
 -- these are the turns of rounds, where they are wanted
 abbrev pub AreRoundsIf : PlainCode → ℕ → Bool → State → List run.Play → Type 0
 AreRoundsIf code limit false st us = us ≡ []

@@ -1,7 +1,7 @@
 use Rattle.std.proofs.Common.{refl, rules, ◌∙◌, arith}
-use Rattle.txs_machine.specs.Scheduled.{AreRoundsIf, LeadRounds}
+use Rattle.txs_machine.specs.Scheduled.{AreRoundsIf}
 use Rattle.txs_machine.proofs.Playing.{later_itself, later_than}
-use Rattle.txs_machine.proofs.Scheduled.{actors_all, first_round, none_on, rounds_lead, rounds_made, stays, still, then_on, unwanted}
+use Rattle.txs_machine.proofs.Scheduled.{LeadRounds, actors_all, first_round, none_on, rounds_lead, rounds_made, stays, still, then_on, unwanted}
 use Rattle.txs_machine.proofs.schedule.play_rounds.Goals as goal
 
 pub loop-k-init : goal.loop-k-init

@@ -2,7 +2,7 @@ use Rattle.std.proofs.Common.{◌≡◌, length}
 use Rattle.txs_machine.specs.Playing.{AreLater}
 use Rattle.txs_machine.specs.RunOver.{IsStateOf}
 use Rattle.txs_machine.specs.Running.{GoOnBy, left_all}
-use Rattle.txs_machine.specs.Scheduled.{LeadRounds}
+use Rattle.txs_machine.proofs.Scheduled.{LeadRounds}
 use Rattle.txs_machine.proofs.schedule.play_rounds.Given as goal
 
 abbrev pub invariant-loop-k : goal.invariant-loop-k
