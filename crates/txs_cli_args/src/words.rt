@@ -23,7 +23,7 @@ const DEFAULT_WORKERS: u64 = 4;
 /// What `--version` says behind the program's name: with the kit that the sources are for. A checked program is made of the same sources, and says the
 /// same; so this says nothing of proofs.
 const VERSION: &str =
-    "0.1.0 (a profile of Clojure 1.11; byte forms TXS1 and TXS2; for rattle-kit-13b)";
+    "0.1.0 (a profile of Clojure 1.11; byte forms TXS1 and TXS2; for rattle-kit-13f)";
 
 /// What stands below each text of help: what the statuses say, of which the highest that applies counts.
 const STATUSES: &str = "Statuses, of which the highest that applies counts:
