@@ -5,13 +5,13 @@ Runs scripts of bench/scripts in txs and in real Clojure, turn and turn about in
   clj whole  best wall time of a fresh JVM, from its start to its end
   clj warm   best time inside one JVM, after W runs of the same compiled code
   txs        best wall time of `txs run`
-Loop and calls are also run in Lua 5.4 and CPython, where these are installed.
+Loop and calls are also run in Lua 5.4, CPython, SBCL and node, where these are installed.
 With --counts nothing is timed: it prints the machine instructions of a round, which is the difference of two sizes by
 callgrind (Debian's package `valgrind`)."""
 import argparse, shutil, tempfile
 import beside
 SIZES = {"loop": 2000000, "calls": 1000000, "commits": 200000, "nested": 10000, "primes": 50000, "bank": 200000}
-OTHERS = {"lua5.4": ".lua", "python3": ".py"}
+OTHERS = {("lua5.4",): ".lua", ("python3",): ".py", ("sbcl", "--script"): ".lisp", ("node",): ".js"}
 
 
 def counts(folder, name):
@@ -24,10 +24,10 @@ def others(folder, name, size, runs):
     """Best seconds in other languages that have this script, with what they printed."""
     told, lines = [], set()
     for command, ending in OTHERS.items():
-        if name in ("loop", "calls") and shutil.which(command):
+        if name in ("loop", "calls") and shutil.which(command[0]):
             path = beside.filled(folder, name, size, ending)
-            tried = [beside.timed([command, path]) for _ in range(runs)]
-            told.append("%s %.3f s" % (command, min(it[0] for it in tried)))
+            tried = [beside.timed([*command, path]) for _ in range(runs)]
+            told.append("%s %.3f s" % (command[0], min(it[0] for it in tried)))
             lines.update(it[2] for it in tried)
     return told, lines
 

@@ -1,0 +1,12 @@
+; what calls.clj does
+(defun mix (a b)
+  (rem (+ (* a 31) b) 1000003))
+(defun turn (acc i)
+  (mix acc (truncate i 3)))
+(defun turns (n)
+  (let ((i 0) (acc 0))
+    (loop while (< i n)
+          do (setf acc (turn acc i)
+                   i (+ i 1)))
+    acc))
+(format t "~a~%" (turns @N@))
