@@ -1,5 +1,5 @@
 -- Lists of numbers alone, as they are built, read and cut; and vectors that are compared row by row.
-use Rattle.std.proofs.Common.{◌≡◌, ℕ, zero, suc, ◌+◌, ◌*◌, max, ◌<◌, ◌≤◌, ◌++◌, List, [], ◌∷◌, length, get_or, map, take, drop, refl, sym, ap, ◌∙◌, arith}
+use Rattle.std.proofs.Common.{◌≡◌, ℕ, zero, suc, ◌+◌, ◌*◌, max, ◌<◌, ◌≤◌, ◌++◌, List, [], ◌∷◌, length, get_or, map, set, take, drop, refl, sym, ap, ◌∙◌, arith}
 use Rattle.std.proofs.lemmas.List.{length-take, length-drop, take_more, get_or_read}
 use Rattle.txs_value_data.specs.Numbers.{IsNumber, AreNumbers}
 use Rattle.txs_value_data.specs.PlainValue.{PlainValue, row_size}
@@ -41,13 +41,25 @@ numbers-changed ds us d i m n k is before one top none =
     let all = before (omega (arith, top, none)) in
     rw is (AreNumbers-append (take i ds) (d ∷ drop (i + 1) ds) (AreNumbers-take ds i all) (one (omega (arith, top, none)), AreNumbers-drop ds (i + 1) all))
 
+-- a row of numbers stays one with one more, where a number takes the place of another, and where it is cut
+pub numbers_push : (ws : List Value) (v : Value) → IsNumber (plain_of v) → AreNumbers (plains_of ws) → AreNumbers (plains_of (ws ++ v ∷ []))
+numbers_push [] v one h = (one, tt)
+numbers_push (w ∷ ws) v one h = (h.0, numbers_push ws v one h.1)
+
+pub numbers_set : (ws : List Value) (n : ℕ) (v : Value) → IsNumber (plain_of v) → AreNumbers (plains_of ws) → AreNumbers (plains_of (set ws n v))
+numbers_set [] n v one h = tt
+numbers_set (w ∷ ws) zero v one h = (one, h.1)
+numbers_set (w ∷ ws) (suc n) v one h = (h.0, numbers_set ws n v one h.1)
+
+pub numbers_cut : (ws : List Value) (n : ℕ) → AreNumbers (plains_of ws) → AreNumbers (plains_of (take n ws))
+numbers_cut [] zero h = tt
+numbers_cut [] (suc n) h = tt
+numbers_cut (w ∷ ws) zero h = tt
+numbers_cut (w ∷ ws) (suc n) h = (h.0, numbers_cut ws n h.1)
+
 pub numbers_so_far : (vs : List Value) (i : ℕ) (v : Value) → i < length vs → v ≡ get_or vs i v → IsNumber (plain_of v) → AreNumbers (plains_of (take i vs)) → AreNumbers (plains_of (take (i + 1) vs))
 numbers_so_far vs i v lt is one before =
-    rw (take_more vs i v lt, sym is) (put_last (take i vs) v one before)
-  where
-    put_last : (ws : List Value) (v : Value) → IsNumber (plain_of v) → AreNumbers (plains_of ws) → AreNumbers (plains_of (ws ++ v ∷ []))
-    put_last [] v one h = (one, tt)
-    put_last (w ∷ ws) v one h = (h.0, put_last ws v one h.1)
+    rw (take_more vs i v lt, sym is) (numbers_push (take i vs) v one before)
 
 -- two lists of values with the same plain values are equal
 plains_back : (us : List Value) → map value_of (plains_of us) ≡ us
@@ -76,6 +88,11 @@ module _ (ds es : List PlainValue) (len : length ds ≡ length es) (n : ℕ) (us
 
   pub rows_next : us ≡ vs → take (n * 32) ds ≡ take (n * 32) es → take ((n + 1) * 32) ds ≡ take ((n + 1) * 32) es
   rows_next e before = window_next ds es (n * 32) 32 ((n + 1) * 32) (omega arith) (sym is_u ∙ ap plains_of e ∙ is_v) before
+
+-- a list of numbers ends with a number, and the rest are numbers
+pub numbers_back : (vs : List Value) (v : Value) → AreNumbers (plains_of (vs ++ v ∷ [])) → IsNumber (plain_of v) × AreNumbers (plains_of vs)
+numbers_back [] v h = (h.0, tt)
+numbers_back (w ∷ vs) v h = let rest = numbers_back vs v h.1 in (rest.0, (h.0, rest.1))
 
 pub row_numbers : (ds : List PlainValue) (n : ℕ) (us : List Value) → plains_of us ≡ take 32 (drop (n * 32) ds) → AreNumbers ds → AreNumbers (plains_of us)
 row_numbers ds n us is h = rw is (AreNumbers-take (drop (n * 32) ds) 32 (AreNumbers-drop ds (n * 32) h))

@@ -2,7 +2,7 @@
 use Rattle.std.specs.Prelude.{◌≡◌, ◌+◌, ◌≤◌, List, [], ◌∷◌, ◌++◌, max, Option, Some, None}
 use Rattle.std.proofs.Common.{arith}
 use denote.Param.Weighed.{most}
-use Rattle.txs_value_data.specs.PlainValue.{PlainValue, plain_size, row_size, branch_size, rows_size, root_size, body_size, items_size}
+use Rattle.txs_value_data.specs.PlainValue.{PlainValue, plain_size, row_size, leaf_size, branch_size, rows_size, root_size, body_size, items_size}
 use Rattle.txs_value_data.specs.Rows.{joined, stored}
 use Rattle.txs_value_data.specs.View.{plains_of, plain_of}
 use Rattle.txs_value_data.specs.declared.value.Value.{Value}
@@ -33,20 +33,24 @@ row_size-append (d ∷ ds) es = omega (arith, row_size-append ds es)
 pub items_fall : (vs : List Value) → max (most deep-Value vs) 0 ≤ row_size (plains_of vs)
 items_fall vs = omega (arith, most_le vs)
 
-most_leaf_le : (cs : List (List PlainValue)) → most (λ c. row_size c + 1) cs ≤ row_size (joined cs) + 1
+-- the row behind a pointer falls to it
+pub leaf_falls : (ds : List PlainValue) → max (row_size ds + 1) 0 ≤ leaf_size ds
+leaf_falls ds = omega arith
+
+most_leaf_le : (cs : List (List PlainValue)) → most (λ c. leaf_size c + 1) cs ≤ row_size (joined cs) + 2
 most_leaf_le [] = omega arith
 most_leaf_le (c ∷ cs) = omega (arith, row_size-append c (joined cs), most_leaf_le cs)
 
-most_branch_le : (bs : List (List PlainValue)) → most (λ b. branch_size b + 1) bs ≤ row_size (joined bs) + 2
+most_branch_le : (bs : List (List PlainValue)) → most (λ b. branch_size b + 1) bs ≤ row_size (joined bs) + 3
 most_branch_le [] = omega arith
 most_branch_le (b ∷ bs) = omega (arith, row_size-append b (joined bs), most_branch_le bs)
 
 -- the leaves of a branch fall to it
-pub leaves_fall : (cs : List (List PlainValue)) → max (most (λ c. row_size c + 1) cs) 0 ≤ branch_size (joined cs)
+pub leaves_fall : (cs : List (List PlainValue)) → max (most (λ c. leaf_size c + 1) cs) 0 ≤ branch_size (joined cs)
 leaves_fall cs = omega (arith, most_leaf_le cs)
 
 -- branches and leaves fall to the rows that they make
-pub rows_fall : (bs cs : List (List PlainValue)) → max (most (λ b. branch_size b + 1) bs) (max (most (λ c. row_size c + 1) cs) 0) ≤ rows_size (joined bs ++ joined cs)
+pub rows_fall : (bs cs : List (List PlainValue)) → max (most (λ b. branch_size b + 1) bs) (max (most (λ c. leaf_size c + 1) cs) 0) ≤ rows_size (joined bs ++ joined cs)
 rows_fall bs cs = omega (arith, row_size-append (joined bs) (joined cs), most_branch_le bs, most_leaf_le cs)
 
 -- the rows behind a pointer fall to it
@@ -54,12 +58,12 @@ pub root_falls : (ds : List PlainValue) → max (rows_size ds + 1) 0 ≤ root_si
 root_falls ds = omega arith
 
 -- with rows, and without
-body_falls_by : (a : Inside) (r : Option (List PlainValue)) → deep-Body (record { root = r; tail = a.tail }) ≤ body_size (stored r ++ plains_of a.tail.items)
-body_falls_by a None = omega (arith, most_le a.tail.items)
-body_falls_by a (Some ds) = omega (arith, row_size-append ds (plains_of a.tail.items), most_le a.tail.items)
+body_falls_by : (a : Inside) (r : Option (List PlainValue)) → deep-Body (record { root = r; tail = a.tail }) ≤ body_size (stored r ++ a.tail)
+body_falls_by a None = omega arith
+body_falls_by a (Some ds) = omega (arith, row_size-append ds a.tail)
 
 -- the rows and the short list of a vector fall to its body
-pub body_falls : (a : Inside) → deep-Body a ≤ body_size (stored a.root ++ plains_of a.tail.items)
+pub body_falls : (a : Inside) → deep-Body a ≤ body_size (stored a.root ++ a.tail)
 body_falls a = body_falls_by a a.root
 
 -- the body of a vector falls to the vector

@@ -142,7 +142,7 @@ coded_plain_value = code_by Gv itself plain_out (λ g. (both_in g).0) plain_in-o
 -- a measure that falls from a value to each thing inside, also to the parts by which a vector is stored
 abbrev mutual
   pub plain_size : PlainValue → ℕ
-  plain_size (vector ds) = 6 + row_nodes ds
+  plain_size (vector ds) = 7 + row_nodes ds
   plain_size _ = 0
 
   -- the measure of a row: one for each item, and what is inside of it
@@ -155,24 +155,28 @@ abbrev pub row_size : List PlainValue → ℕ
 row_size ds = row_nodes (plain_row ds)
 
 -- the same for the parts by which a vector is stored, from the leaves up to the vector
+abbrev pub leaf_size : List PlainValue → ℕ
+leaf_size ds = 1 + row_size ds
+
+-- of a branch
 abbrev pub branch_size : List PlainValue → ℕ
-branch_size ds = 1 + row_size ds
+branch_size ds = 2 + row_size ds
 
 -- of the rows
 abbrev pub rows_size : List PlainValue → ℕ
-rows_size ds = 2 + row_size ds
+rows_size ds = 3 + row_size ds
 
 -- of the pointer to them
 abbrev pub root_size : List PlainValue → ℕ
-root_size ds = 3 + row_size ds
+root_size ds = 4 + row_size ds
 
 -- of the rows and the short list behind them
 abbrev pub body_size : List PlainValue → ℕ
-body_size ds = 4 + row_size ds
+body_size ds = 5 + row_size ds
 
 -- of the vector
 abbrev pub items_size : List PlainValue → ℕ
-items_size ds = 5 + row_size ds
+items_size ds = 6 + row_size ds
 
 -- how deep vectors nest: an empty one has depth 1
 abbrev mutual

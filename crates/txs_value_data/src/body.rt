@@ -1,19 +1,17 @@
 //! What a vector's owners share: rows, where it has any, and a short list behind them.
-ghost use Rattle.std.specs.Prelude.{◌≡◌, ◌<◌, ◌≤◌, ◌+◌, ◌-◌, ◌*◌, ◌++◌, ◌∷◌, [], length, take, drop, IfOk, OnOk, Some};
+ghost use Rattle.std.specs.Prelude.{◌≡◌, ◌<◌, ◌≤◌, ◌+◌, ◌-◌, ◌*◌, ◌++◌, ◌∷◌, [], length, take, drop, IfOk, OnOk, Some, IsTrue};
 ghost use Rattle.std.specs.List.{slice_get};
 ghost use Rattle.txs_value_data.specs.Limits.{most_items};
+ghost use Rattle.txs_value_data.specs.Numbers.{AreNumbers};
 ghost use Rattle.txs_value_data.specs.Rows.{stored};
 ghost use Rattle.txs_value_data.specs.View.{plain_of, plains_of};
 
-use crate::copy::{copy_row, copy_value, taken};
-use crate::leaf::put;
-use crate::value::{Body, Leaf, Root, Rows, Value};
+use crate::copy::copy_value;
+use crate::row::ROW;
+use crate::value::{Body, Leaf, Root, Row, Rows, Value};
 use std::alloc::{AllocError, Global};
 use std::mem;
 use std::sync::Arc;
-
-/// How many values the row behind the leaves has at most, as a leaf has.
-const ROW: usize = 32;
 
 /// How many values the rows have.
 fn stored_len(root: &Option<Root>) -> usize
@@ -23,6 +21,16 @@ fn stored_len(root: &Option<Root>) -> usize
     match root {
         None => 0,
         Some(root) => root.shared.len(),
+    }
+}
+
+/// The row, copied only where others share it.
+fn taken_row(shared: Arc<Row>) -> Result<Row, AllocError>
+    ensures { IfOk result (λ r. r ≡ shared.value) }
+{
+    match Arc::try_unwrap(shared) {
+        Ok(row) => Ok(row),
+        Err(shared) => shared.copied(),
     }
 }
 
@@ -52,7 +60,7 @@ impl Clone for Body {
 
     /// The same body, with the same leaves and a copy of the row behind them.
     fn clone(&self) -> Result<Body, AllocError> {
-        let tail = copy_row(*self.tail.allocator(), self.tail.as_slice())?;
+        let tail = self.tail.copied()?;
         let Some(root) = &self.root else {
             return Ok(Body { root: None, tail });
         };
@@ -63,19 +71,26 @@ impl Clone for Body {
 }
 
 impl Body {
-    /// The body of a vector of these values.
-    pub(crate) fn from_vec(alloc: Global, tail: Vec<Value>) -> Result<Body, AllocError>
-        requires { length tail.items ≤ most_items }
-        ensures { IfOk result (λ b. b ≡ plains_of tail.items) }
+    /// The body of a vector of these values, of which it may be known that all are numbers.
+    pub(crate) fn from_vec(
+        alloc: Global,
+        items: Vec<Value>,
+        are_numbers: bool,
+    ) -> Result<Body, AllocError>
+        requires few { length items.items ≤ most_items }
+        requires numbers { IsTrue are_numbers → AreNumbers (plains_of items.items) }
+        ensures { IfOk result (λ b. b ≡ plains_of items.items) }
     {
-        if tail.len() <= 32 {
+        if items.len() <= 32 {
+            let tail = Row { items, are_numbers };
             return Ok(Body { root: None, tail });
         }
-        let mut body = Body {
-            root: None,
-            tail: Vec::new(alloc),
+        let tail = Row {
+            items: Vec::new(alloc),
+            are_numbers: true,
         };
-        body.push_all(alloc, tail.as_slice())?;
+        let mut body = Body { root: None, tail };
+        body.push_all(alloc, items.as_slice())?;
         Ok(body)
     }
 
@@ -104,13 +119,13 @@ impl Body {
         ensures { slice_get self.now place ≡ Some (plain_of result.now) }
     {
         let Some(root) = &self.root else {
-            return &self.tail[place];
+            return self.tail.get(place);
         };
         let before = root.shared.len();
         if place < before {
             return root.shared.get(place);
         }
-        &self.tail[place - before]
+        self.tail.get(place - before)
     }
 
     /// The values of a row of 32 places: fewer in the last row.
@@ -135,7 +150,7 @@ impl Body {
     {
         let before = stored_len(&self.root);
         if place >= before {
-            put(&mut self.tail, place - before, item);
+            self.tail.put(place - before, item);
             return Ok(());
         }
         let Some(root) = &mut self.root else {
@@ -157,11 +172,7 @@ impl Body {
             self.tail.push(item)?;
             return Ok(());
         }
-        let Ok(mut next) = Vec::with_capacity(alloc, ROW) else {
-            drop(item);
-            return Err(AllocError);
-        };
-        next.push_reserved(item);
+        let next = Row::of_one(alloc, item)?;
         let full = mem::replace(&mut self.tail, next);
         let shared = Arc::new(alloc, full)?;
         push_leaf(alloc, &mut self.root, Leaf { shared })
@@ -183,7 +194,7 @@ impl Body {
         let rows = Arc::make_mut(&mut root.shared)?;
         let leaf = rows.pop(alloc)?;
         let Leaf { shared } = leaf;
-        let mut tail = taken(alloc, shared)?;
+        let mut tail = taken_row(shared)?;
         tail.truncate(31);
         self.tail = tail;
         Ok(())

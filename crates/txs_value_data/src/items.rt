@@ -56,7 +56,7 @@ impl Items {
         ensures { IfOk result (λ v. v ≡ plains_of items.items) }
     {
         let deep = deepest(items.as_slice());
-        let body = Body::from_vec(alloc, items)?;
+        let body = Body::from_vec(alloc, items, deep == 0)?;
         let shared = Arc::new(alloc, (body, deep))?;
         Ok(Items { shared })
     }

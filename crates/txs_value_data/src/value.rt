@@ -4,10 +4,13 @@ ghost use Rattle.std.specs.Prelude.{◌≡◌, ◌≤◌, ◌<◌, ◌^◌, ◌�
 ghost use Rattle.std.specs.List.{list_all};
 ghost use Rattle.txs_value_data.specs.Limits.{IsVector, most_items, most_text};
 ghost use Rattle.txs_value_data.specs.Names.{IsName, is_symbol_byte};
+ghost use Rattle.txs_value_data.specs.Numbers.{IsNumber};
 ghost use Rattle.txs_value_data.specs.PlainValue.{depth};
 ghost use Rattle.txs_value_data.specs.View.{plain_of, plains_of, vector_items};
+ghost use Rattle.txs_value_data.specs.declared.value.Value.TheVariants.{Int};
 
 use crate::items::no_deeper;
+use crate::row::drop_numbers;
 use std::alloc::{AllocError, Global};
 use std::marker::Model;
 use std::sync::Arc;
@@ -200,13 +203,45 @@ impl Value {
             }
         }
     }
+
+    /// The number that the value is.
+    #[inline(always)]
+    pub(crate) fn into_number(self) -> i64
+        requires { IsNumber (plain_of self) }
+        ensures { self ≡ Int result }
+    {
+        match self {
+            Value::Int(n) => n,
+            _ => unreachable!(),
+        }
+    }
 }
 
-/// Values in a row, which several vectors may share.
+/// Values in a row, and whether it is known that all are numbers.
+#[cycle(value)]
+pub(crate) struct Row {
+    pub(crate) items: Vec<Value>,
+    pub(crate) are_numbers: bool,
+}
+
+// Numbers are freed with no test of each.
+impl Drop for Row {
+    #[cycle(value_drop)]
+    fn drop(self) {
+        let Row { items, are_numbers } = self;
+        if are_numbers {
+            drop_numbers(items);
+        } else {
+            drop(items);
+        }
+    }
+}
+
+/// A row of values that several vectors may share.
 #[cycle(value)]
 #[derive(Drop)]
 pub(crate) struct Leaf {
-    pub(crate) shared: Arc<Vec<Value>>,
+    pub(crate) shared: Arc<Row>,
 }
 
 /// At most 32 leaves of 32 values each, which several vectors may share.
@@ -243,7 +278,7 @@ impl Drop for Root {
 #[derive(Drop)]
 pub(crate) struct Body {
     pub(crate) root: Option<Root>,
-    pub(crate) tail: Vec<Value>,
+    pub(crate) tail: Row,
 }
 
 /// The items of a vector: at most 65,535, none of them of depth 32. Beside the body stands a number
@@ -261,9 +296,10 @@ impl Drop for Items {
     }
 }
 
-impl Model for Leaf {
-    ghost use Rattle.std.specs.Prelude.{List};
+impl Model for Row {
+    ghost use Rattle.std.specs.Prelude.{List, IsTrue};
     ghost use Rattle.std.specs.Coded.{coded_list};
+    ghost use Rattle.txs_value_data.specs.Numbers.{AreNumbers};
     ghost use Rattle.txs_value_data.specs.PlainValue.{PlainValue, coded_plain_value, row_size};
 
     ghost Value = { List PlainValue };
@@ -272,13 +308,33 @@ impl Model for Leaf {
 
     ghost use Rattle.txs_value_data.specs.View.{plains_of};
 
-    ghost view = { λ a. plains_of a.shared.value.items };
+    ghost view = { λ a. plains_of a.items.items };
+
+    ghost invariant = { λ a. IsTrue a.are_numbers → AreNumbers (plains_of a.items.items) };
 
     ghost size = { row_size };
 
     ghost use Rattle.txs_value_data.specs.Falls.{items_fall};
 
-    ghost size_decreases = { λ a h. items_fall a.shared.value.items };
+    ghost size_decreases = { λ a h. items_fall a.items.items };
+}
+
+impl Model for Leaf {
+    ghost use Rattle.std.specs.Prelude.{List};
+    ghost use Rattle.std.specs.Coded.{coded_list};
+    ghost use Rattle.txs_value_data.specs.PlainValue.{PlainValue, coded_plain_value, leaf_size};
+
+    ghost Value = { List PlainValue };
+
+    ghost coded = { coded_list coded_plain_value };
+
+    ghost view = { λ a. a.shared.value };
+
+    ghost size = { leaf_size };
+
+    ghost use Rattle.txs_value_data.specs.Falls.{leaf_falls};
+
+    ghost size_decreases = { λ a h. leaf_falls a.shared.value };
 }
 
 impl Model for Branch {
@@ -351,11 +407,9 @@ impl Model for Body {
 
     ghost coded = { coded_list coded_plain_value };
 
-    ghost use Rattle.txs_value_data.specs.View.{plains_of};
+    ghost view = { λ a. stored a.root ++ a.tail };
 
-    ghost view = { λ a. stored a.root ++ plains_of a.tail.items };
-
-    ghost invariant = { λ a. length a.tail.items ≤ 32 };
+    ghost invariant = { λ a. length a.tail ≤ 32 };
 
     ghost size = { body_size };
 

@@ -1,10 +1,7 @@
-use Rattle.std.proofs.Common.{◌≡◌, ℕ, ◌+◌, ◌<◌, ◌++◌, ◌∷◌, [], ◌∙◌, List, ap, arith, get_or, length, sym, take}
-use Rattle.std.proofs.lemmas.List.{length-take, take_all, take_more}
+use Rattle.std.proofs.Common.{◌∙◌, ap, arith, length}
+use Rattle.std.proofs.lemmas.List.{length-take, take_all}
+use Rattle.txs_value_data.proofs.CopyLemmas.{copied}
 use Rattle.txs_value_data.proofs.copy.copy_with.Goals as goal
-
--- one more item of a copy
-copied : {A : Type 0} (xs : List A) (i : ℕ) (x : A) (ys zs : List A) (y : A) → i < length xs → x ≡ get_or xs i x → ys ≡ take i xs → zs ≡ ys ++ y ∷ [] → y ≡ x → zs ≡ take (i + 1) xs
-copied xs i x ys zs y lt at so_far put same = put ∙ ap (λ l. l ++ y ∷ []) so_far ∙ ap (λ z. take i xs ++ z ∷ []) (same ∙ at) ∙ sym (take_more xs i x lt)
 
 pub loop-item-init : goal.loop-item-init
 loop-item-init g c = let h = c.in_ok-copies.ensures in record { items = h.items; capacity = h.exact }
