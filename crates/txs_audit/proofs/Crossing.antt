@@ -20,7 +20,7 @@ use Rattle.txs_value_cell.proofs.cell.ErrorMode.TheSendSync as error_mode_sent
 use Rattle.txs_value_cell.proofs.form.LookForm.TheSendSync as look_sent
 use Rattle.txs_value_cell.proofs.form.PutForm.TheSendSync as put_sent
 use Rattle.txs_value_cell.proofs.form.UpdateForm.TheSendSync as update_sent
-use Rattle.txs_value_cell.specs.contracts.action.Action as action_is
+use Rattle.txs_value_cell.proofs.Crossing.{action_field_sync, action_sync}
 use Rattle.txs_value_cell.specs.contracts.cell.CellDefinition as cell_definition_is
 use Rattle.txs_world_protocol.proofs.event.Cause.TheSendSync as cause_sent
 use Rattle.txs_world_protocol.proofs.event.Outcome.TheSendSync as outcome_sent
@@ -78,12 +78,6 @@ pub program_sync : IsSync program_is.the_row
 program_sync = view_sync program_in.the_row _ _ _ _ (recorded_sync (program_in.the_field).row _ _ (program_in.the_type).to_one (struct_sync (S.shape program_in.the_type) (raw_sync, tt)))
 
 -- ---- events
-
-action_field_sync : IsSync (action_is.the_field).row
-action_field_sync = struct_sync (S.shape action_is.the_type) (search (value_sync, cell_id_sent.the_field_sync, callee_sent.the_field_sync, span_sent.the_field_sync, listed.the_sync, crosses, sendable) depth 60 fits 20000)
-
-action_sync : IsSync action_is.the_row
-action_sync = recorded_sync (action_is.the_field).row _ _ (action_is.the_type).to_one action_field_sync
 
 event_kind_field_sync : IsSync (event_kind_is.the_field).row
 event_kind_field_sync = enum_sync (E.shape event_kind_is.the_type) ((cell_id_sent.the_field_sync, tt), ((plain_sync _ _ _ _ _, (plain_sync _ _ _ _ _, ((search (value_sync, vec.the_sync, listed.the_sync, cell_id_sent.the_sync, crosses, sendable) depth 60 fits 20000), ((search (action_sync, listed.the_sync, crosses, sendable) depth 60 fits 20000), tt)))), ((plain_sync _ _ _ _ _, (cell_id_sent.the_field_sync, (cause_sent.the_field_sync, tt))), ((plain_sync _ _ _ _ _, (plain_sync _ _ _ _ _, tt)), ((plain_sync _ _ _ _ _, (plain_sync _ _ _ _ _, (cell_id_sent.the_field_sync, tt))), ((action_field_sync, tt), ((cell_id_sent.the_field_sync, tt), ((cell_id_sent.the_field_sync, (plain_sync _ _ _ _ _, ((search (value_sync, fault_sent.the_sync, crosses, sendable) depth 60 fits 20000), ((search (action_sync, listed.the_sync, crosses, sendable) depth 60 fits 20000), tt)))), ((value_field_sync, tt), ((plain_sync _ _ _ _ _, tt), tt))))))))))

@@ -30,7 +30,7 @@ use txs_code_meaning::{Instr, OpenForm};
 use txs_frame::{Commute, Phase, SetError, TxFrame};
 use txs_machine_stack::Stack;
 use txs_value_apply::apply_owned;
-use txs_value_cell::{Action, CellDefinition, CellForm, LookForm, PutForm, UpdateForm};
+use txs_value_cell::{Action, Arguments, CellDefinition, CellForm, LookForm, PutForm, UpdateForm};
 use txs_value_data::{
     Callee, CellId, Fault, FaultKind, Listed, Op, Span, Stop, Value, copy_value, copy_values,
 };
@@ -138,6 +138,17 @@ fn copy_topmost(alloc: Global, stack: &Stack, n: usize) -> Result<Listed<Value>,
         copies.push_reserved(copy_value(stack.under(n - i - 1))?);
     }
     Ok(Listed::from_vec(copies))
+}
+
+/// The n values at the top as arguments of an action, which the stack goes on sharing.
+fn copy_arguments(alloc: Global, stack: &Stack, n: usize) -> Result<Arguments, AllocError>
+    requires { n ≤ length stack.now.values }
+    ensures { IfOk result (λ copies. copies ≡ topmost n stack.now.values) }
+{
+    if n == 1 {
+        return Ok(Arguments::one(copy_value(stack.under(0))?));
+    }
+    Arguments::from_vec(copy_topmost(alloc, stack, n)?.into_vec())
 }
 
 /// The value of the ref below n arguments. A commute is open then, with copies of these.
@@ -277,7 +288,7 @@ fn send(
         Err(kind) => return Moved::Faults(kind),
         Ok(agent) => agent,
     };
-    let Ok(args) = copy_topmost(alloc, stack, n as usize) else {
+    let Ok(args) = copy_arguments(alloc, stack, n as usize) else {
         return Moved::Memory;
     };
     let action = Action {

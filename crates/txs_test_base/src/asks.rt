@@ -1,7 +1,7 @@
 // Asks by the words of a row. What a row misspells is another ask, and isn't answered as the row says.
 use std::alloc::Global;
 use std::str::SplitWhitespace;
-use txs_value_cell::Action;
+use txs_value_cell::{Action, Arguments};
 use txs_value_data::{Callee, CellId, CellKind, Fault, FaultKind, Listed, Op, Span, Value};
 use txs_world_protocol::Ask;
 
@@ -56,17 +56,15 @@ fn cell_of(word: &str) -> CellId {
 }
 
 // The action of `(send g + N)` for a word `N`, of `(send h + N)` for a word `hN`.
-fn action_of(alloc: Global, word: &str) -> Action {
+fn action_of(word: &str) -> Action {
     let (agent, number) = match word.strip_prefix('h') {
         Some(number) => (OTHER_AGENT, number),
         None => (AGENT, word),
     };
-    let mut args = Vec::new(alloc);
-    let _pushed = args.push(Value::Int(i64::from(number_of(number))));
     Action {
         agent,
         callee: Callee::Core(Op::Add),
-        args: Listed::from_vec(args),
+        args: Arguments::one(Value::Int(i64::from(number_of(number)))),
         span: SPAN,
     }
 }
@@ -101,7 +99,7 @@ fn cells_of(alloc: Global, list: &str) -> Listed<CellId> {
 fn actions_of(alloc: Global, list: &str) -> Listed<Action> {
     let mut actions = Vec::new(alloc);
     for word in list.split(',') {
-        if word == "-" || actions.push(action_of(alloc, word)).is_err() {
+        if word == "-" || actions.push(action_of(word)).is_err() {
             break;
         }
     }
@@ -176,7 +174,7 @@ pub fn ask_of(alloc: Global, agent: CellId, words: &mut SplitWhitespace<'_>) -> 
             cells: cells_of(alloc, next_word(words)),
         },
         "send" => Ask::Send {
-            action: action_of(alloc, next_word(words)),
+            action: action_of(next_word(words)),
         },
         "finish" => finish_of(alloc, agent, words),
         name => ask_of_cell(name, cell_of(next_word(words)), words),

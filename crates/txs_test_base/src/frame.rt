@@ -3,7 +3,7 @@
 use std::alloc::Global;
 use std::str::Split;
 use txs_frame::{SetError, TxFrame};
-use txs_value_cell::Action;
+use txs_value_cell::{Action, Arguments};
 use txs_value_data::{Callee, CellId, CellKind, Listed, Op, Span, Value, write_text};
 
 // A word of one digit, or two, as a number.
@@ -21,14 +21,14 @@ pub fn next_number(words: &mut Split<'_, char>) -> u8 {
 }
 
 // Holds the action that calls `inc` on the state of an agent.
-fn send(frame: &mut TxFrame, alloc: Global, number: u16) -> bool {
+fn send(frame: &mut TxFrame, number: u16) -> bool {
     let action = Action {
         agent: CellId {
             kind: CellKind::Agent,
             number,
         },
         callee: Callee::Core(Op::Inc),
-        args: Listed::from_vec(Vec::new(alloc)),
+        args: Arguments::none(),
         span: Span { from: 0, to: 1 },
     };
     frame.hold_send(action).is_ok()
@@ -63,7 +63,7 @@ fn call(frame: &mut TxFrame, alloc: Global, text: &str) -> bool {
             Err(_) => false,
         },
         "ensure" => frame.ensure(cell).is_ok(),
-        "send" => send(frame, alloc, number),
+        "send" => send(frame, number),
         _ => {
             frame.reset();
             true

@@ -1,11 +1,10 @@
 // What no clause says: that the calls succeed with ample memory, and that puts and takes cost the same however many wait.
-use std::alloc::Global;
-use txs_value_cell::Action;
-use txs_value_data::{Callee, CellId, CellKind, Listed, Op, Span};
+use txs_value_cell::{Action, Arguments};
+use txs_value_data::{Callee, CellId, CellKind, Op, Span};
 use txs_world::Mailbox;
 
 // Sends `(send g inc)`, which stands at this place: whether there was room.
-fn send(mailbox: &mut Mailbox, alloc: Global, at: u32) -> bool {
+fn send(mailbox: &mut Mailbox, at: u32) -> bool {
     let Ok(()) = mailbox.reserve(1) else {
         return false;
     };
@@ -15,7 +14,7 @@ fn send(mailbox: &mut Mailbox, alloc: Global, at: u32) -> bool {
             number: 0,
         },
         callee: Callee::Core(Op::Inc),
-        args: Listed::from_vec(Vec::new(alloc)),
+        args: Arguments::none(),
         span: Span { from: at, to: at },
     });
     true
@@ -99,7 +98,7 @@ fn runs_by_plan(rt: HostRuntime) {
         let mut mailbox = Mailbox::new(rt.alloc(), *goes_on);
         let mut sent = true;
         for at in 1..4 {
-            sent = send(&mut mailbox, rt.alloc(), at) && sent;
+            sent = send(&mut mailbox, at) && sent;
         }
         assert!(rt;
             sent && mailbox.len() == 3
@@ -120,7 +119,7 @@ fn takes_as_long_with_many(rt: HostRuntime) {
     let mut mailbox = Mailbox::new(rt.alloc(), false);
     let mut so = true;
     for at in 1..=MANY {
-        so = send(&mut mailbox, rt.alloc(), at) && so;
+        so = send(&mut mailbox, at) && so;
         so = (at % 2 == 1 || run(&mut mailbox, Some(false)) == at / 2) && so;
     }
     for at in MANY / 2 + 1..=MANY {

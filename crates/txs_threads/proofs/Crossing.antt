@@ -21,7 +21,7 @@ use Rattle.txs_code_meaning.specs.contracts.verified.Verified.TheInside as verif
 use Rattle.txs_code_meaning.proofs.fusing.Fused.TheSendSync as fused_sent
 use Rattle.std.below.std_heap.proofs.GlobalAllocator.TheSendSync as heap
 use Rattle.txs_value_data.specs.contracts.value.Value as value
-use Rattle.txs_value_cell.specs.contracts.action.Action as action
+use Rattle.txs_value_cell.proofs.Crossing.{action_send, action_field_send}
 use Rattle.txs_value_data.proofs.value.CellId.TheSendSync as cell_id_sent
 use Rattle.txs_value_data.proofs.value.Name.TheSendSync as name_sent
 use Rattle.txs_value_data.proofs.fault.Fault.TheSendSync as fault_sent
@@ -90,12 +90,6 @@ value_field_send = search (crosses, knot.crosses, sendable) depth 60 fits 20000
 
 pub value_sync : IsSync value.the_row
 value_sync = search (crosses, knot.crosses, sendable) depth 60 fits 20000
-
-pub action_send : IsSend action.the_row
-action_send = search (value_send, crosses, sendable) depth 60 fits 20000
-
-pub action_field_send : IsSend (action.the_field).row
-action_field_send = search (value_send, crosses, sendable) depth 60 fits 20000
 
 pub ask_field_send : IsSend (ask_is.the_field).row
 ask_field_send = enum_send (E.shape ask_is.the_type) (tt, ((cell_id_sent.the_field_send, (plain_send _ _ _ _ _, tt)), (((search (listed.the_send, cell_id_sent.the_send, crosses, sendable) depth 60 fits 20000), tt), ((plain_send _ _ _ _ _, ((search (value_send, vec.the_send, listed.the_send, cell_id_sent.the_send, crosses, sendable) depth 60 fits 20000), ((search (listed.the_send, cell_id_sent.the_send, crosses, sendable) depth 60 fits 20000), (plain_send _ _ _ _ _, ((search (value_send, vec.the_send, listed.the_send, cell_id_sent.the_send, crosses, sendable) depth 60 fits 20000), ((search (action_send, listed.the_send, crosses, sendable) depth 60 fits 20000), tt)))))), ((plain_send _ _ _ _ _, (plain_send _ _ _ _ _, tt)), ((cell_id_sent.the_field_send, tt), ((action_field_send, tt), ((cell_id_sent.the_field_send, tt), ((cell_id_sent.the_field_send, ((search (value_send, fault_sent.the_send, crosses, sendable) depth 60 fits 20000), ((search (action_send, listed.the_send, crosses, sendable) depth 60 fits 20000), tt))), ((cell_id_sent.the_field_send, tt), ((cell_id_sent.the_field_send, ((search (plain_send, option.the_field_send, crosses, sendable) depth 60 fits 20000), (value_field_send, tt))), ((cell_id_sent.the_field_send, (plain_send _ _ _ _ _, tt)), tt))))))))))))

@@ -12,8 +12,8 @@ use crate::seen::Seen;
 use crate::state::Progress;
 use std::alloc::AllocError;
 use txs_tree_eval_transaction::{RefView, ThreadStop, TxWork};
-use txs_value_cell::Action;
-use txs_value_data::{Callee, CellId, Fault, FaultKind, Listed, Span, Value};
+use txs_value_cell::{Action, Arguments};
+use txs_value_data::{Callee, CellId, Fault, FaultKind, Span, Value};
 use txs_world_protocol::{Cause, EventKind, same_action, same_cell, same_value};
 
 /// How often a transaction is tried.
@@ -175,7 +175,7 @@ impl<'a> Progress<'a> {
     {
         match &mut self.held {
             Some(held) => {
-                let args = Listed::from_vec(args);
+                let args = Arguments::from_vec(args)?;
                 held.push(Action {
                     agent,
                     callee,
@@ -248,7 +248,7 @@ pub(crate) fn send_at(
     ensures { (t : ThreadState) → AnswersAt result t
         (sends (record { agent = agent; callee = callee; args = args.items; span = span }) span event.now.kind.now t) }
 {
-    let args = Listed::from_vec(args);
+    let args = Arguments::from_vec(args)?;
     let sending = sent_as(
         event.kind,
         &Action {

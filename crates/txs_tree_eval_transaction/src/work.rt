@@ -16,7 +16,7 @@ use crate::stop::ThreadStop;
 use crate::view::TxView;
 use std::alloc::AllocError;
 use txs_frame::{SetError, TxFrame};
-use txs_value_cell::{Action, CellForm, LookForm, UpdateForm};
+use txs_value_cell::{Action, Arguments, CellForm, LookForm, UpdateForm};
 use txs_value_data::{Callee, CellId, Fault, FaultKind, Listed, Span, Value, copy_value};
 
 /// What a transaction has done: its values, sets, ensures, commutes and sends, the refs that it read of the world, by
@@ -244,7 +244,7 @@ impl TxWork {
         ensures { Gives true result (tx_state self.new)
             (Completes (Cell agent) (with_work (hold_send (record { agent = agent; callee = callee; args = args.items; span = span }) self.old.done) (tx_state self.old))) }
     {
-        let args = Listed::from_vec(args);
+        let args = Arguments::from_vec(args)?;
         self.hold(
             Action {
                 agent,

@@ -1,1 +1,2 @@
 pub mod AgentsLemmas
+pub mod Crossing

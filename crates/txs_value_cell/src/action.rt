@@ -2,15 +2,16 @@
 
 ghost use Rattle.std.specs.Prelude.{◌≡◌, IfOk};
 
+use crate::arguments::Arguments;
 use std::alloc::{AllocError, Global};
-use txs_value_data::{Callee, CellId, Listed, Span, Value, copy_values};
+use txs_value_data::{Callee, CellId, Span};
 
 /// An action that waits for its agent: what is called on the agent's state and these further arguments, and where the `send`
 /// is in the script.
 pub struct Action {
     pub agent: CellId,
     pub callee: Callee,
-    pub args: Listed<Value>,
+    pub args: Arguments,
     pub span: Span,
 }
 
@@ -27,14 +28,14 @@ impl Drop for Action {
     }
 }
 
-/// The same action in memory of its own; what its values hold is shared. An error where there is no memory for the list.
-pub fn copy_action(alloc: Global, action: &Action) -> Result<Action, AllocError>
+/// The same action, which shares its arguments. An error where a count of owners is full.
+pub fn copy_action(_alloc: Global, action: &Action) -> Result<Action, AllocError>
     ensures { IfOk result (λ c. c ≡ action.now) }
 {
     Ok(Action {
         agent: action.agent,
         callee: action.callee,
-        args: copy_values(alloc, &action.args)?,
+        args: action.args.share()?,
         span: action.span,
     })
 }

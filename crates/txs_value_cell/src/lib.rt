@@ -4,9 +4,11 @@
 #![tactic(auto)]
 
 pub mod action;
+pub mod arguments;
 pub mod cell;
 pub mod form;
 
 pub use action::{Action, copy_action};
+pub use arguments::Arguments;
 pub use cell::{CellDefinition, ErrorMode, agents_in, copy_cells, count_agents, list_agents};
 pub use form::{CellForm, FormAsk, FormRule, LookForm, PutForm, Standing, UpdateForm};

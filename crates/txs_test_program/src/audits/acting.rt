@@ -5,7 +5,7 @@ use std::sync::Wait;
 use std::thread::Threads;
 use txs_audit::Verdict;
 use txs_machine::Play;
-use txs_value_cell::Action;
+use txs_value_cell::{Action, Arguments};
 use txs_value_data::{CellId, CellKind, Listed, Span, Value};
 use txs_world_protocol::{Event, EventKind, Report};
 
@@ -74,15 +74,13 @@ fn write_other(alloc: Global, event: &mut Event) -> Result<(), AllocError> {
 }
 
 /// The same action as it would be sent by another form.
-fn moved(alloc: Global, action: &Action) -> Result<Action, AllocError> {
-    let mut args = Vec::new(alloc);
-    args.push(Value::Int(2))?;
-    Ok(Action {
+fn moved(action: &Action) -> Action {
+    Action {
         agent: action.agent,
         callee: action.callee,
-        args: Listed::from_vec(args),
+        args: Arguments::one(Value::Int(2)),
         span: Span { from: 0, to: 1 },
-    })
+    }
 }
 
 /// The act sends that of its action, or nothing.
@@ -90,7 +88,7 @@ fn send_other(alloc: Global, event: &mut Event, some: bool) -> Result<(), AllocE
     if let EventKind::Act { sends, .. } = &mut event.kind {
         let mut other = Vec::new(alloc);
         if let (true, Some(action)) = (some, sends.as_slice().first()) {
-            other.push(moved(alloc, action)?)?;
+            other.push(moved(action))?;
         }
         *sends = Listed::from_vec(other);
     }

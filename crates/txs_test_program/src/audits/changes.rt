@@ -1,6 +1,6 @@
 // A report with one thing changed.
 use std::alloc::{AllocError, Global};
-use txs_value_cell::Action;
+use txs_value_cell::{Action, Arguments};
 use txs_value_data::{Callee, CellId, CellKind, Fault, FaultKind, Listed, Op, Span, Value};
 use txs_world_protocol::{ActorReport, Event, EventKind, Outcome, Place, Report};
 
@@ -68,7 +68,7 @@ fn decremented(alloc: Global, sends: &[Action]) -> Result<Listed<Action>, AllocE
         changed.push(Action {
             agent,
             callee: Callee::Core(Op::Dec),
-            args: Listed::from_vec(Vec::new(alloc)),
+            args: Arguments::none(),
             span,
         })?;
     }

@@ -1,6 +1,6 @@
 // Copies of actions, asks, replies and events.
 use std::alloc::Global;
-use txs_value_cell::{Action, copy_action};
+use txs_value_cell::{Action, Arguments, copy_action};
 use txs_value_data::{Callee, CellId, CellKind, Fault, FaultKind, Listed, Op, Span, Value};
 use txs_world_protocol::{
     Ask, Cause, Event, EventKind, Reply, copy_ask, copy_event, copy_reply, copy_writes,
@@ -22,13 +22,11 @@ const FAULT: Fault = Fault {
 };
 
 /// The action of `(send g quot 0)`, with this span.
-pub fn quotient(alloc: Global, agent: CellId, span: Span) -> Action {
-    let mut args = Vec::new(alloc);
-    let _pushed = args.push(Value::Int(0));
+pub fn quotient(agent: CellId, span: Span) -> Action {
     Action {
         agent,
         callee: Callee::Core(Op::Quot),
-        args: Listed::from_vec(args),
+        args: Arguments::one(Value::Int(0)),
         span,
     }
 }
@@ -48,7 +46,7 @@ fn send_quotient(sends: &Listed<Action>) -> bool {
 
 // Whether such an action is copied, and an ask that sends it.
 fn are_sends_copied(alloc: Global) -> bool {
-    let action = quotient(alloc, AGENT, FAULT.span);
+    let action = quotient(AGENT, FAULT.span);
     let is = match copy_action(alloc, &action) {
         Ok(copy) => is_quotient(&copy),
         Err(_) => false,
@@ -59,6 +57,22 @@ fn are_sends_copied(alloc: Global) -> bool {
     let sends = matches!(&copy, Ok(Ask::Send { action }) if is_quotient(action));
     drop(copy);
     is && sends
+}
+
+// Whether several arguments are shared.
+fn are_arguments_shared(alloc: Global) -> bool {
+    let Ok(values) = vec![in alloc; Value::Int(1), Value::Int(2)] else {
+        return false;
+    };
+    let Ok(args) = Arguments::from_vec(values) else {
+        return false;
+    };
+    let copy = args.share();
+    drop(args);
+    match copy {
+        Ok(copy) => matches!(copy.as_slice(), [Value::Int(a), Value::Int(b)] if *a == 1 && *b == 2),
+        Err(_) => false,
+    }
 }
 
 // Whether writes set a ref to 7.
@@ -189,10 +203,15 @@ fn copies_asks(rt: HostRuntime) {
 }
 
 #[test]
+fn shares_arguments(rt: HostRuntime) {
+    assert!(rt; are_arguments_shared(rt.alloc()));
+}
+
+#[test]
 fn copies_replies(rt: HostRuntime) {
     let first = Reply::Action {
         number: 1,
-        action: quotient(rt.alloc(), AGENT, FAULT.span),
+        action: quotient(AGENT, FAULT.span),
         state: Value::Int(10),
     };
     let is = is_reply_copied(rt.alloc(), first);
@@ -203,7 +222,7 @@ fn copies_replies(rt: HostRuntime) {
 fn copies_events(rt: HostRuntime) {
     let is = are_retries_copied(rt.alloc());
     let mut sends = Vec::new(rt.alloc());
-    let _pushed = sends.push(quotient(rt.alloc(), AGENT, FAULT.span));
+    let _pushed = sends.push(quotient(AGENT, FAULT.span));
     let act = EventKind::Act {
         agent: AGENT,
         number: 1,

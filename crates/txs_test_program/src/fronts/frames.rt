@@ -45,7 +45,7 @@ fn is_filled(frame: &mut TxFrame, alloc: Global) -> bool {
         && is_commuted(frame, alloc, 1)
         && frame.ensure(cell(2)).is_ok()
         && frame
-            .hold_send(quotient(alloc, agent, Span { from: 0, to: 1 }))
+            .hold_send(quotient(agent, Span { from: 0, to: 1 }))
             .is_ok()
 }
 

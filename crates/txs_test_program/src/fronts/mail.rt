@@ -1,16 +1,15 @@
 // A mailbox.
 use crate::fronts::copies::quotient;
-use std::alloc::Global;
 use txs_value_data::{CellId, CellKind, Span};
 use txs_world::{Action, Mailbox};
 
 // Puts an action of this span into a mailbox: whether there was memory.
-fn put(mailbox: &mut Mailbox, alloc: Global, from: u32) -> bool {
+fn put(mailbox: &mut Mailbox, from: u32) -> bool {
     let agent = CellId {
         kind: CellKind::Agent,
         number: 0,
     };
-    let action: Action = quotient(alloc, agent, Span { from, to: from });
+    let action: Action = quotient(agent, Span { from, to: from });
     let Ok(()) = mailbox.reserve(1) else {
         drop(action);
         return false;
@@ -38,7 +37,7 @@ fn run(mailbox: &mut Mailbox, failed: Option<bool>) -> u32 {
 #[test]
 fn runs_in_order(rt: HostRuntime) {
     let mut mailbox = Mailbox::new(rt.alloc(), false);
-    let sent = put(&mut mailbox, rt.alloc(), 5) && put(&mut mailbox, rt.alloc(), 6);
+    let sent = put(&mut mailbox, 5) && put(&mut mailbox, 6);
     let ran = run(&mut mailbox, None) == 5 && run(&mut mailbox, Some(false)) == 5;
     let failed = run(&mut mailbox, Some(true)) == 6 && run(&mut mailbox, None) == 0;
     let empty = mailbox.len() == 0 && mailbox.has_failed();

@@ -21,7 +21,7 @@ returns-then-not-inside-clause-comes c = λ k.
     let e : cell_of (rule form.Send) (is_running tx) (under a.n vs) ≡ Ok g =
     sym (c.in-Ok.ensures ∙ ap (λ v. cell_of (rule form.Send) c.is_running-inside.result v) c.under.ensures ∙ ap (λ b. cell_of (rule form.Send) b (under a.n vs)) c.is_running-inside.ensures) in
     ap (λ r. sends_cell (is_running tx) a.callee a.n a.span vs tx w k r) e ∙ ap (λ b. sends_cell b a.callee a.n a.span vs tx w k (Ok g)) inside
-    ∙ ap (λ (ts : List Value). dispatches (record { agent = g; callee = a.callee; args = ts; span = a.span }) a.n vs tx w k) (sym c.in-Ok-copy_topmost.ensures)
+    ∙ ap (λ (ts : List Value). dispatches (record { agent = g; callee = a.callee; args = ts; span = a.span }) a.n vs tx w k) (sym c.in-Ok-copy_arguments.ensures)
 
 pub returns-in-Ok-hold_send-clause-comes : goal.returns-in-Ok-hold_send-clause-comes
 returns-in-Ok-hold_send-clause-comes c = λ k.
@@ -35,6 +35,6 @@ returns-in-Ok-hold_send-clause-comes c = λ k.
     sym (c.in-Ok.ensures ∙ ap (λ v. cell_of (rule form.Send) c.is_running-inside.result v) c.under.ensures ∙ ap (λ b. cell_of (rule form.Send) b (under a.n vs)) c.is_running-inside.ensures) in
     let sent = below (a.n + 1) vs ++ Cell g ∷ [] in
     ap (λ r. sends_cell (is_running tx) a.callee a.n a.span vs tx w k r) e ∙ ap (λ b. sends_cell b a.callee a.n a.span vs tx w k (Ok g)) inside
-    ∙ ap (λ (ts : List Value). moves sent tx (hold_send (record { agent = g; callee = a.callee; args = ts; span = a.span }) w) k) (sym c.in-Ok-copy_topmost.ensures)
+    ∙ ap (λ (ts : List Value). moves sent tx (hold_send (record { agent = g; callee = a.callee; args = ts; span = a.span }) w) k) (sym c.in-Ok-copy_arguments.ensures)
     ∙ ap (λ (u : PlainTxFrame). moves sent tx u k) (sym c.in-Ok-hold_send.ensures.kept)
     ∙ ap (λ (s : PlainStack). moves s.values tx c.hold_send.new.self k) (sym c.replace_over.ensures)

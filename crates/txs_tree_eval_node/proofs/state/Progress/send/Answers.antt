@@ -15,13 +15,13 @@ use Rattle.txs_tree_eval_node.proofs.state.Progress.send.Goals as goal
 
 pub returns-in_err-push-in-Some : goal.returns-in_err-push-in-Some
 returns-in_err-push-in-Some c =
-    let p = err_from_is_err_and c.from_residual.result c.from_residual.ensures.1 in
-    stops_gives (λ v. v) false c.from_residual.result Memory _ _ (p.1 ∙ ap Err p.2) tt
+    let p = err_from_is_err_and c.from_residual-in_err-push-in-Some.result c.from_residual-in_err-push-in-Some.ensures.1 in
+    stops_gives (λ v. v) false c.from_residual-in_err-push-in-Some.result Memory _ _ (p.1 ∙ ap Err p.2) tt
 
 pub returns-in_ok-push-in-Some : goal.returns-in_ok-push-in-Some
 returns-in_ok-push-in-Some c =
     let a : List Value → Action = λ l. record { agent = c.args.agent; callee = c.args.callee; args = l; span = c.args.span } in
-    send_held c.args.self.now c.in-Some.held c.push.new.self (a c.args.args.items) c.args.span c.in-Some.is (c.in_ok-push-in-Some.ensures.items ∙ ap (λ l. c.in-Some.held.items ++ a l ∷ []) c.from_vec-args.ensures)
+    send_held c.args.self.now c.in-Some.held c.push.new.self (a c.args.args.items) c.args.span c.in-Some.is (c.in_ok-push-in-Some.ensures.items ∙ ap (λ l. c.in-Some.held.items ++ a l ∷ []) c.in_ok-args-in-Some.ensures)
 
 pub returns-in_err-event-in-None : goal.returns-in_err-event-in-None
 returns-in_err-event-in-None c =
