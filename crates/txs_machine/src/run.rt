@@ -8,6 +8,7 @@ ghost use Rattle.txs_value_data.specs.Limits.{most_events};
 ghost use Rattle.txs_machine.specs.Serving.{with_place, IsNext, IsServed};
 ghost use Rattle.txs_machine_actor.specs.declared.outcome.Turn.TheVariants.{Asks};
 ghost use Rattle.txs_machine.specs.Briefs.{ask_of};
+ghost use Rattle.txs_world_protocol.specs.declared.ask.Ask.TheVariants as ask;
 ghost use Rattle.txs_machine.specs.Turning.{MayAsk, MayGoOn, HasGoneOn};
 ghost use Rattle.txs_machine.specs.Running.{IsAnswered};
 
@@ -16,7 +17,7 @@ use std::mem;
 use txs_code_meaning::Verified;
 use txs_machine_actor::Turn;
 use txs_machine_turn::run;
-use txs_value_data::CellId;
+use txs_value_data::{CellId, Value};
 use txs_world_protocol::{Ask, Outcome, Place, Reply};
 use txs_world_shared::SharedState;
 
@@ -112,6 +113,37 @@ fn take_any_ask(player: &mut Player, code: &Verified, shared: &mut SharedState, 
     take_ask(player, code, shared, ask);
 }
 
+/// The same of the open of a swap.
+#[inline(never)]
+fn take_open(player: &mut Player, code: &Verified, shared: &mut SharedState, cell: CellId)
+    requires lives { Lives code.now player.old.actor }
+    requires asks { unanswered player.old.actor ≡ Some (ask.OpenAt cell) }
+    requires may { MayAsk code.now shared.old player.old.actor (ask.OpenAt cell) }
+    ensures answered { IsAnswered player.old.actor.number shared.old player.old.actor player.old.trace.items (ask.OpenAt cell) shared.new player.new.actor player.new.trace.items }
+    ensures lives { Lives code.now player.new.actor }
+{
+    take_ask(player, code, shared, Ask::OpenAt { cell });
+}
+
+/// The same of a swap's end, and of a reset.
+#[inline(never)]
+fn take_close(
+    player: &mut Player,
+    code: &Verified,
+    shared: &mut SharedState,
+    cell: CellId,
+    at: Option<u32>,
+    new: Value,
+)
+    requires lives { Lives code.now player.old.actor }
+    requires asks { unanswered player.old.actor ≡ Some (ask.CloseAt cell at new) }
+    requires may { MayAsk code.now shared.old player.old.actor (ask.CloseAt cell at new) }
+    ensures answered { IsAnswered player.old.actor.number shared.old player.old.actor player.old.trace.items (ask.CloseAt cell at new) shared.new player.new.actor player.new.trace.items }
+    ensures lives { Lives code.now player.new.actor }
+{
+    take_ask(player, code, shared, Ask::CloseAt { cell, at, new });
+}
+
 /// The same of an ask in few words, each in an arm of its own, so that only what serves it is left where the call is inlined.
 #[inline(always)]
 fn take_brief(player: &mut Player, code: &Verified, shared: &mut SharedState, brief: Brief)
@@ -127,7 +159,7 @@ fn take_brief(player: &mut Player, code: &Verified, shared: &mut SharedState, br
     }
 }
 
-/// The same of a whole ask, where a commit has an arm of its own.
+/// The same of a whole ask, where a commit and those of swaps have arms of their own.
 #[inline(always)]
 fn meet(player: &mut Player, code: &Verified, shared: &mut SharedState, ask: Ask)
     requires lives { Lives code.now player.old.actor }
@@ -155,6 +187,8 @@ fn meet(player: &mut Player, code: &Verified, shared: &mut SharedState, ask: Ask
             };
             take_ask(player, code, shared, commit);
         }
+        Ask::OpenAt { cell } => take_open(player, code, shared, cell),
+        Ask::CloseAt { cell, at, new } => take_close(player, code, shared, cell, at, new),
         other => take_any_ask(player, code, shared, other),
     }
 }

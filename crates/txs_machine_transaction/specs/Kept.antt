@@ -1,6 +1,7 @@
 -- What an actor keeps of its transaction and of its unanswered ask, in part in places that are overwritten, put together again.
 use Rattle.std.specs.Prelude.{◌≡◌, ℕ, suc, ◌+◌, Option, Some, None}
 use Rattle.txs_value_data.specs.Limits.{reruns}
+use Rattle.txs_value_data.specs.declared.value.Value.{Value}
 use Rattle.txs_machine_transaction.specs.declared.kept.Ending.{Ending}
 use Rattle.txs_machine_transaction.specs.declared.kept.Ending.TheVariants as ending
 use Rattle.txs_machine_transaction.specs.declared.kept.Standing.{Standing}
@@ -17,14 +18,15 @@ abbrev pub transaction_of : Option Standing → Savepoint → Transaction → Tr
 transaction_of None from other = other
 transaction_of (Some s) from other = Running s.left s.inner from
 
--- what an unanswered ask is for: a transaction's beginning, or a swap's, here; something small; or another, which is kept whole
-abbrev pub pending_of : Wanted → Savepoint → Option Pending → Option Pending
-pending_of wanted.Other from other = other
-pending_of (wanted.Begin left) from other = Some (pending.Begin left from)
-pending_of (wanted.Read c) from other = Some (pending.Read c)
-pending_of (wanted.Open c n) from other = Some (pending.Open c n None)
-pending_of wanted.Commit from other = Some pending.Commit
-pending_of (wanted.Swap c n) from other = Some (pending.Swap c n from)
+-- what an unanswered ask is for: a transaction's beginning, or a swap's, here; a swap's end, with this value; something small; or another, which is kept whole
+abbrev pub pending_of : Wanted → Savepoint → Value → Option Pending → Option Pending
+pending_of wanted.Other from v other = other
+pending_of (wanted.Begin left) from v other = Some (pending.Begin left from)
+pending_of (wanted.Read c) from v other = Some (pending.Read c)
+pending_of (wanted.Open c n) from v other = Some (pending.Open c n None)
+pending_of wanted.Commit from v other = Some pending.Commit
+pending_of (wanted.Swap c n) from v other = Some (pending.Swap c n from)
+pending_of (wanted.Close c p) from v other = Some (pending.Close c p v)
 
 -- a transaction runs that isn't at its end
 abbrev pub RunsOn : Transaction → Type 0
@@ -38,6 +40,7 @@ IsWanted (wanted.Read c) p = p ≡ Some (pending.Read c)
 IsWanted (wanted.Open c n) p = p ≡ Some (pending.Open c n None)
 IsWanted wanted.Commit p = p ≡ Some pending.Commit
 IsWanted (wanted.Swap c n) p = (from : Savepoint) × (p ≡ Some (pending.Swap c n from))
+IsWanted (wanted.Close c at) p = (v : Value) × (p ≡ Some (pending.Close c at v))
 
 -- a transaction begins, which may run again so many times, or joins the one that runs
 abbrev pub IsBegun : Option ℕ → Transaction → Transaction → Type 0
@@ -80,3 +83,4 @@ IsTold (wanted.Read c) other p = IsWanted (wanted.Read c) p
 IsTold (wanted.Open c n) other p = IsWanted (wanted.Open c n) p
 IsTold wanted.Commit other p = IsWanted wanted.Commit p
 IsTold (wanted.Swap c n) other p = IsWanted (wanted.Swap c n) p
+IsTold (wanted.Close c at) other p = IsWanted (wanted.Close c at) p

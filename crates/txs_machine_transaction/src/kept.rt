@@ -13,7 +13,7 @@ use std::marker::Model;
 use std::mem;
 use txs_machine_stack::Stack;
 use txs_value_data::limits::RERUNS;
-use txs_value_data::{CellId, Span};
+use txs_value_data::{CellId, Span, Value};
 
 /// How often a transaction that runs may run again, and how many inner ones it has.
 #[derive(Clone, Copy)]
@@ -71,30 +71,34 @@ pub enum Wanted {
     Commit,
     /// An atom's value goes between the atom and so many arguments, and a swap is applied then.
     Swap(CellId, u16),
+    /// A swap ends: its atom, which was opened at this place, gets a value.
+    Close(CellId, u32),
 }
 
-/// What an actor's unanswered ask is for, if there is one. Where a transaction or a swap would begin is in a place of its own.
+/// What an actor's unanswered ask is for, if there is one. Where a transaction or a swap would begin is in a place of its own, and so is what the atom of
+/// a swap that ends gets.
 #[derive(Drop)]
 pub struct KeptPending {
     alloc: Global,
     wanted: Wanted,
     from: Savepoint,
+    value: Value,
     other: Option<Pending>,
 }
 
 impl Model for KeptPending {
     ghost use Rattle.std.specs.Prelude.{Option};
     ghost use Rattle.std.specs.Coded.{codes};
-    ghost use Rattle.txs_value_data.specs.contracts.value.Value as value;
+    ghost use Rattle.txs_value_data.specs.contracts.value.Value as value_is;
     ghost use Rattle.txs_machine_transaction.specs.declared.state.Pending.{Pending};
 
     ghost Value = { Option Pending };
 
-    ghost coded = { Prim.hlevel (codes, value.the_row.coded) };
+    ghost coded = { Prim.hlevel (codes, value_is.the_row.coded) };
 
     ghost use Rattle.txs_machine_transaction.specs.Kept.{pending_of};
 
-    ghost view = { λ k. pending_of k.wanted k.from k.other };
+    ghost view = { λ k. pending_of k.wanted k.from k.value k.other };
 }
 
 /// Where nothing began.
@@ -293,6 +297,7 @@ impl KeptPending {
             alloc,
             wanted: Wanted::Other,
             from: no_origin(alloc),
+            value: Value::Nil,
             other: None,
         }
     }
@@ -328,6 +333,9 @@ impl KeptPending {
             Wanted::Commit => Pending::Commit,
             Wanted::Swap(cell, n) => {
                 Pending::Swap(cell, n, mem::replace(&mut self.from, no_origin(self.alloc)))
+            }
+            Wanted::Close(cell, at) => {
+                Pending::Close(cell, at, mem::replace(&mut self.value, Value::Nil))
             }
         };
         self.clear();
@@ -368,6 +376,14 @@ impl KeptPending {
         ensures { self.new ≡ Some (pending.Open cell n None) }
     {
         self.wanted = Wanted::Open(cell, n);
+    }
+
+    /// A swap's atom, which was opened at this place, is to get this value.
+    pub fn close(&mut self, cell: CellId, at: u32, value: Value)
+        ensures { self.new ≡ Some (pending.Close cell at value) }
+    {
+        drop(mem::replace(&mut self.value, value));
+        self.wanted = Wanted::Close(cell, at);
     }
 
     /// The commit of the transaction is asked for.

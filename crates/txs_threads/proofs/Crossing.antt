@@ -143,7 +143,7 @@ pub kept_transaction_send : IsSend kept_transaction_is.the_row
 kept_transaction_send = view_send kept_transaction_in.the_row _ _ _ _ (recorded_send (kept_transaction_in.the_field).row _ _ (kept_transaction_in.the_type).to_one (struct_send (S.shape kept_transaction_in.the_type) ((search (global.the_field_send, crosses, sendable) depth 60 fits 20000), ((search (standing_sent.the_send, option.the_field_send, crosses, sendable) depth 60 fits 20000), ((search (origin_field_send, crosses, sendable) depth 60 fits 20000), ((search (transaction_field_send, crosses, sendable) depth 60 fits 20000), tt))))))
 
 pub kept_pending_send : IsSend kept_pending_is.the_row
-kept_pending_send = view_send kept_pending_in.the_row _ _ _ _ (recorded_send (kept_pending_in.the_field).row _ _ (kept_pending_in.the_type).to_one (struct_send (S.shape kept_pending_in.the_type) ((search (global.the_field_send, crosses, sendable) depth 60 fits 20000), ((search (wanted_sent.the_field_send, crosses, sendable) depth 60 fits 20000), ((search (origin_field_send, crosses, sendable) depth 60 fits 20000), ((search (pending_send, option.the_field_send, crosses, sendable) depth 60 fits 20000), tt))))))
+kept_pending_send = view_send kept_pending_in.the_row _ _ _ _ (recorded_send (kept_pending_in.the_field).row _ _ (kept_pending_in.the_type).to_one (struct_send (S.shape kept_pending_in.the_type) ((search (global.the_field_send, crosses, sendable) depth 60 fits 20000), ((search (wanted_sent.the_field_send, crosses, sendable) depth 60 fits 20000), ((search (origin_field_send, crosses, sendable) depth 60 fits 20000), (value_field_send, ((search (pending_send, option.the_field_send, crosses, sendable) depth 60 fits 20000), tt)))))))
 
 pub in_hand_send : IsSend in_hand_is.the_row
 in_hand_send = view_send in_hand_in.the_row _ _ _ _ (recorded_send (in_hand_in.the_field).row _ _ (in_hand_in.the_type).to_one (struct_send (S.shape in_hand_in.the_type) (cell_id_sent.the_field_send, (action_field_send, ((search (action_send, vec.the_send, crosses, sendable) depth 60 fits 20000), ((search (fault_sent.the_send, option.the_field_send, crosses, sendable) depth 60 fits 20000), tt))))))

@@ -12,31 +12,34 @@ use Rattle.txs_machine_actor.specs.RareAnswers.{IsRareAnswer}
 use Rattle.txs_machine_actor.proofs.actor.Actor.take_answer.Goals as goal
 
 -- the other answers
-rare : (r : Reply) → ((p : ℕ) → r ≡ reply.At p → ⊥) → ((v : Value) → r ≡ reply.Is v → ⊥) → (r ≡ reply.Done → ⊥) → IsRareAnswer r
-rare (reply.At p) at is done = at p refl
-rare (reply.Is v) at is done = is v refl
-rare (reply.Opened p v) at is done = tt
-rare (reply.Views q vs) at is done = tt
-rare reply.Done at is done = done refl
-rare (reply.Retry d) at is done = tt
-rare (reply.Changed d) at is done = tt
-rare (reply.AgentIsFailed g) at is done = tt
-rare (reply.Action n x v) at is done = tt
-rare reply.Idle at is done = tt
-rare reply.Full at is done = tt
-rare reply.Memory at is done = tt
+rare : (r : Reply) → ((p : ℕ) → r ≡ reply.At p → ⊥) → ((v : Value) → r ≡ reply.Is v → ⊥) → (r ≡ reply.Done → ⊥) → ((p : ℕ) (v : Value) → r ≡ reply.Opened p v → ⊥) → IsRareAnswer r
+rare (reply.At p) at is done opened = at p refl
+rare (reply.Is v) at is done opened = is v refl
+rare (reply.Opened p v) at is done opened = opened p v refl
+rare (reply.Views q vs) at is done opened = tt
+rare reply.Done at is done opened = done refl
+rare (reply.Retry d) at is done opened = tt
+rare (reply.Changed d) at is done opened = tt
+rare (reply.AgentIsFailed g) at is done opened = tt
+rare (reply.Action n x v) at is done opened = tt
+rare reply.Idle at is done opened = tt
+rare reply.Full at is done opened = tt
+rare reply.Memory at is done opened = tt
 
 pub take_rare_answer-requires-clause-rare : goal.take_rare_answer-requires-clause-rare
-take_rare_answer-requires-clause-rare c = rare c.args.reply c.in_default.not-At c.in_default.not-Is c.in_default.not-Done
+take_rare_answer-requires-clause-rare c = rare c.args.reply c.in_default.not-At c.in_default.not-Is c.in_default.not-Done c.in_default.not-Opened
 
 pub returns-in-At : goal.returns-in-At
 returns-in-At c = c.take_read_point.ensures ∙ ap (answered c.args.self.now) (sym c.in-At.is)
+
+pub returns-in-Opened : goal.returns-in-Opened
+returns-in-Opened c = c.take_atom.ensures ∙ ap (answered c.args.self.now) (sym c.in-Opened.is)
 
 pub returns-in-Is : goal.returns-in-Is
 returns-in-Is c = c.take_value.ensures ∙ ap (answered c.args.self.now) (sym c.in-Is.is)
 
 pub returns-in_default-wanted : goal.returns-in_default-wanted
-returns-in_default-wanted c = c.take_whole_done.ensures ∙ ap (answered c.args.self.now) (sym c.in-Done.is)
+returns-in_default-wanted c = c.take_other_done.ensures ∙ ap (answered c.args.self.now) (sym c.in-Done.is)
 
 pub returns-in-Commit : goal.returns-in-Commit
 returns-in-Commit c =

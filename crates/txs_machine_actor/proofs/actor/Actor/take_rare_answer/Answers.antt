@@ -139,9 +139,6 @@ returns-in-Retry c =
 pub returns-in-Changed : goal.returns-in-Changed
 returns-in-Changed c = search rules
 
-pub returns-in-Opened : goal.returns-in-Opened
-returns-in-Opened c = c.take_atom.ensures ∙ ap (answered c.args.self.now) (sym c.in-Opened.is)
-
 pub returns-in-Views : goal.returns-in-Views
 returns-in-Views c = c.take_views.ensures ∙ ap (answered c.args.self.now) (sym c.in-Views.is)
 
