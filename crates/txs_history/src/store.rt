@@ -41,6 +41,7 @@ impl<J: Run> Model for LoggedStore<J> {
 
 /// Serves an ask from the store, if the actor may ask it there. An ask that names an atom isn't asked of the store. Else, and only
 /// then, it is refused, and all is as it was.
+#[inline(always)]
 fn serve_store(store: &mut Store, actor: u16, ask: Ask) -> Option<Served>
     ensures served { IfSome result (λ v. StoreServed store.old actor ask v store.new) }
     ensures refused { result ≡ None → (store.new ≡ store.old) × (is_lawful store.old actor ask ≡ false) }
@@ -77,6 +78,7 @@ impl<J: Run> LoggedStore<J> {
     ///
     /// None where the actor may not ask this of the store, or behind 2^62 asks; then all is as it was. None, too, where the history has
     /// asks of the store that weren't served here, which no code adds. Then it is broken, and serves no more, and the past has seen those.
+    #[inline(always)]
     pub fn serve<X, M: StandsFor<X, Asked>>(
         &mut self,
         past: &mut Past<Asked, J>,

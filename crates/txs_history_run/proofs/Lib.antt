@@ -2,6 +2,7 @@ pub mod Answering
 pub mod Back
 pub mod Counting
 pub mod Home
+pub mod Kept
 pub mod Left
 pub mod Lists
 pub mod Numbers

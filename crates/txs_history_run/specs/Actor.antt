@@ -7,6 +7,8 @@ use Rattle.txs_world_protocol.specs.declared.event.Place.{Place}
 use Rattle.txs_code_meaning.specs.Machine.{Configuration}
 use Rattle.txs_code_meaning.specs.PlainCode.{PlainCode}
 use Rattle.txs_machine_actor.specs.PlainActor.{PlainActor, Awaits, HasRun, Lives, code_of, unanswered}
+use Rattle.txs_machine_actor.specs.declared.outcome.Turn.{Turn}
+use Rattle.txs_machine_actor.specs.declared.outcome.Turn.TheVariants as turned
 use Rattle.txs_theorem_runs.specs.Run.{Actor}
 use Rattle.txs_theorem_runs.specs.Stages.{Stage, Idle}
 use Rattle.txs_theorem_runs.specs.Standing.{StandingCode}
@@ -19,6 +21,8 @@ use Rattle.txs_history.specs.declared.serve.Served.{Served}
 use Rattle.txs_machine.specs.RunOver.{IsIn, IsLimited, AskedOn, places_of}
 use Rattle.txs_machine.specs.Running.{IsPlayerOf}
 use Rattle.txs_machine.specs.declared.player.Player.{Player}
+use Rattle.txs_history_run.specs.declared.step.Answer.{Answer}
+use Rattle.txs_history_run.specs.declared.step.Answer.TheVariants as answer
 use Rattle.txs_history_run.specs.declared.step.Step.{Step}
 use Rattle.txs_history_run.specs.declared.step.Step.TheVariants as step
 
@@ -86,9 +90,36 @@ pub record IsServed (code : PlainCode) (a : PlainActor) (lock : ℕ) (v : Served
   pub served : WasServed code.cells (length code.threads) lock a.number ask old h v
   pub counted : asks ≡ made_with (is_memory v.reply) made
 
+-- An ask of an actor that had made so many was served by the store: it may make one more.
+pub record AskServed (code : PlainCode) (a asks : ℕ) (q : Ask) (old new : History) (v : Served) : Type 0 where
+  pub fewer : asks < 18446744073709551615
+  pub was : WasServed code.cells (length code.threads) 0 a q old new v
+
+-- The same of what an actor's last turn came to, which is an ask.
+pub record TurnServed (code : PlainCode) (a asks : ℕ) (turn : Turn) (old new : History) (v : Served) : Type 0 where
+  pub ask : Ask
+  pub asked : turn ≡ turned.Asks ask
+  pub served : AskServed code a asks ask old new v
+
 -- the trace with the place of the event that was added, if one was
 abbrev pub noted : Bool → ℕ → ℕ → List Place → List Place
 noted added book at ps = if added then ps ++ record { book = book; at = at } ∷ [] else ps
+
+-- ---- as it is kept
+
+-- what an actor is to do next, by the answer that it is to take, and by what its last turn came to
+abbrev pub step_of : Answer → Turn → Step
+step_of answer.Absent turned.Went = step.Runs
+step_of answer.Absent (turned.Asks q) = step.Asks q
+step_of answer.Absent (turned.Ended o) = step.Broken
+step_of (answer.Given lock v) t = step.Answered lock v
+step_of answer.Broken t = step.Broken
+
+-- where there is an answer, or will be none, the ask of the last turn was taken
+abbrev pub IsTaken : Answer → Turn → Type 0
+IsTaken answer.Absent t = Unit {0}
+IsTaken (answer.Given lock v) t = t ≡ turned.Went
+IsTaken answer.Broken t = t ≡ turned.Went
 
 -- ---- as contracts see it
 

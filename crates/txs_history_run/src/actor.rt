@@ -3,9 +3,10 @@
 ghost use Rattle.std.specs.Prelude.{◌≡◌, ◌<◌, ◌≤◌, ℕ, length, true, false, ◌++◌, ◌∷◌, [], None, Some, IfSome, IsTrue, IsFalse, vec_capacity, vec_len};
 ghost use mathlib.Core.List.{IsPrefix};
 ghost use Rattle.txs_world_protocol.specs.Ask.{may_add_event};
-ghost use Rattle.txs_machine_actor.specs.PlainActor.{Lives};
+ghost use Rattle.txs_machine_actor.specs.PlainActor.{Lives, PlainActor, unanswered};
+ghost use Rattle.txs_machine_actor.specs.declared.outcome.Turn.TheVariants as turned;
 ghost use Rattle.txs_machine_actor.specs.Turns.{IsNew};
-ghost use Rattle.txs_history_run.specs.Actor.{IsFollowing, made_with, noted};
+ghost use Rattle.txs_history_run.specs.Actor.{AskServed, IsFollowing, TurnServed, made_with, noted};
 ghost use Rattle.txs_history_run.specs.Callees.{AreCallees, HandsOutSent};
 ghost use Rattle.txs_history_run.specs.declared.actor.AfterReply.TheVariants as after;
 ghost use Rattle.txs_history_run.specs.declared.actor.Next.TheVariants as next;
@@ -18,7 +19,7 @@ ghost use Rattle.txs_world_protocol.specs.declared.ask.Ask.{Ask};
 ghost use Rattle.txs_world_protocol.specs.declared.event.Outcome.{Outcome};
 
 use crate::callees::hands_out;
-use crate::step::Step;
+use crate::step::Answer;
 use std::alloc::Global;
 use std::marker::Model;
 use std::mem;
@@ -26,6 +27,7 @@ use txs_code_meaning::Verified;
 use txs_gate::Made;
 use txs_history::{Asked, LoggedAtom, LoggedStore, Past, Run, Served, StandsFor};
 use txs_machine::Player;
+use txs_machine_actor::actor::went;
 use txs_machine_actor::{Actor, Turn, actors_run};
 use txs_machine_turn::run;
 use txs_theorem_runs::law::typed_stands;
@@ -70,6 +72,7 @@ impl StandsFor<Actor, Asked> for Waiting {
 }
 
 /// An actor, of a thread or of an agent, with a reference to its code, the places of its events, how many asks it made, and what it has seen of the history.
+/// An ask stays where the turn that came to it has put it, since it is large to move.
 pub struct LoggedActor<'a, J: Run> {
     code: &'a Verified,
     /// Of each function, whether it is the callee of a send to which a path of the code comes.
@@ -77,7 +80,8 @@ pub struct LoggedActor<'a, J: Run> {
     player: Player,
     asks: u64,
     past: Past<Asked, J>,
-    step: Step,
+    turn: Turn,
+    answer: Answer,
 }
 
 // Dropped by a call that is proved here, so that no crate above proves it again.
@@ -89,17 +93,19 @@ impl<'a, J: Run> Drop for LoggedActor<'a, J> {
             player,
             asks: _,
             past,
-            step,
+            turn,
+            answer,
         } = self;
         drop(player);
         drop(past);
-        drop(step);
+        drop(turn);
+        drop(answer);
     }
 }
 
 impl<'a, J: Run> Model for LoggedActor<'a, J> {
     ghost use Rattle.std.specs.Prelude.{◌≡◌};
-    ghost use Rattle.txs_history_run.specs.Actor.{PlainLogged, IsLogged};
+    ghost use Rattle.txs_history_run.specs.Actor.{PlainLogged, IsLogged, IsTaken, step_of};
     ghost use Rattle.txs_history_run.specs.Callees.{AreCallees};
     ghost use Rattle.std.specs.Coded.{codes};
     ghost use Rattle.txs_value_data.specs.contracts.value.Value as value;
@@ -108,9 +114,9 @@ impl<'a, J: Run> Model for LoggedActor<'a, J> {
 
     ghost coded = { Prim.hlevel (codes, value.the_row.coded) };
 
-    ghost view = { λ p. record { player = p.player; asks = p.asks; past = p.past; step = p.step } };
+    ghost view = { λ p. record { player = p.player; asks = p.asks; past = p.past; step = step_of p.answer p.turn } };
 
-    ghost invariant = { λ p. (p.code.now ≡ J.code) × AreCallees p.code.now p.callees.now × IsLogged J.code J.limit (record { player = p.player; asks = p.asks; past = p.past; step = p.step }) };
+    ghost invariant = { λ p. (p.code.now ≡ J.code) × AreCallees p.code.now p.callees.now × IsLogged J.code J.limit (record { player = p.player; asks = p.asks; past = p.past; step = step_of p.answer p.turn }) × IsTaken p.answer p.turn };
 }
 
 /// What an actor is to do next, by the reply that it takes.
@@ -165,7 +171,8 @@ impl<'a, J: Run> LoggedActor<'a, J> {
             },
             asks: 0,
             past,
-            step: Step::Runs,
+            turn: Turn::Went,
+            answer: Answer::Absent,
         }
     }
 }
@@ -195,20 +202,24 @@ impl<'a, J: Run> LoggedActor<'a, J> {
     {
         // A law that the proof uses; it does nothing when it runs.
         actors_run();
-        let Step::Runs = &self.step else {
+        let Answer::Absent = &self.answer else {
             return Next::Waits;
         };
-        let mut turn = Turn::Went;
-        run(&mut self.player.actor, self.code, budget, &mut turn);
-        match turn {
+        if !went(&self.turn) {
+            return Next::Waits;
+        }
+        run(&mut self.player.actor, self.code, budget, &mut self.turn);
+        match &self.turn {
             Turn::Went => Next::Went,
-            Turn::Ended(_) => Next::Ended,
+            Turn::Ended(_) => {
+                self.turn = Turn::Went;
+                Next::Ended
+            }
             Turn::Asks(ask) => {
-                if has_room(&mut self.player.trace, &ask) {
-                    self.step = Step::Asks(ask);
+                if has_room(&mut self.player.trace, ask) {
                     return Next::Asks;
                 }
-                drop(ask);
+                self.turn = Turn::Went;
                 self.player.actor.answer(self.code, Reply::Memory);
                 Next::Ended
             }
@@ -227,6 +238,78 @@ fn made_with(asks: u64, reply: &Reply) -> u64
     }
 }
 
+/// An actor's ask is served by the store, behind all that its past has seen, if the actor may still make one.
+#[inline(always)]
+fn serve_by<J: Run>(
+    store: &mut LoggedStore<J>,
+    past: &mut Past<Asked, J>,
+    asks: u64,
+    actor: &Actor,
+    ask: Ask,
+) -> Option<Served>
+    requires asks { unanswered actor.now ≡ Some ask }
+    ensures served { IfSome result (λ v. AskServed J.code actor.now.number asks ask past.old past.new v) }
+    ensures unserved { result ≡ None → store.new.broken ≡ false → asks < 18446744073709551615 → MayNot J.code.cells (length J.code.threads) 0 actor.now.number ask store.old.log.log }
+    ensures breaks { store.new.broken ≡ true → store.old.broken ≡ false → HasOthers 0 store.old.log.log past.old past.new }
+{
+    if asks == u64::MAX {
+        drop(ask);
+        return None;
+    }
+    store.serve::<Actor, Waiting>(past, actor, actor.number(), ask)
+}
+
+/// The same of the ask that the actor's last turn came to, which is taken.
+#[inline(never)]
+fn serve_whole<J: Run>(
+    store: &mut LoggedStore<J>,
+    past: &mut Past<Asked, J>,
+    asks: u64,
+    actor: &Actor,
+    turn: &mut Turn,
+) -> Option<Served>
+    requires asks { (q : Ask) → turn.old ≡ turned.Asks q → unanswered actor.now ≡ Some q }
+    ensures taken { turn.new ≡ turned.Went }
+    ensures served { IfSome result (λ v. TurnServed J.code actor.now.number asks turn.old past.old past.new v) }
+    ensures unserved { result ≡ None → store.new.broken ≡ false → (q : Ask) → turn.old ≡ turned.Asks q → asks < 18446744073709551615 → MayNot J.code.cells (length J.code.threads) 0 actor.now.number q store.old.log.log }
+    ensures breaks { store.new.broken ≡ true → store.old.broken ≡ false → HasOthers 0 store.old.log.log past.old past.new }
+{
+    match mem::replace(turn, Turn::Went) {
+        Turn::Asks(ask) => serve_by(store, past, asks, actor, ask),
+        Turn::Went | Turn::Ended(_) => None,
+    }
+}
+
+/// The same. A look and the begin of a transaction have arms of their own, so that only what serves it is left where the call is inlined. These
+/// asks keep nothing that would have to be dropped.
+#[inline(always)]
+fn serve_turn<J: Run>(
+    store: &mut LoggedStore<J>,
+    past: &mut Past<Asked, J>,
+    asks: u64,
+    actor: &Actor,
+    turn: &mut Turn,
+) -> Option<Served>
+    requires asks { (q : Ask) → turn.old ≡ turned.Asks q → unanswered actor.now ≡ Some q }
+    ensures taken { turn.new ≡ turned.Went }
+    ensures served { IfSome result (λ v. TurnServed J.code actor.now.number asks turn.old past.old past.new v) }
+    ensures unserved { result ≡ None → store.new.broken ≡ false → (q : Ask) → turn.old ≡ turned.Asks q → asks < 18446744073709551615 → MayNot J.code.cells (length J.code.threads) 0 actor.now.number q store.old.log.log }
+    ensures breaks { store.new.broken ≡ true → store.old.broken ≡ false → HasOthers 0 store.old.log.log past.old past.new }
+{
+    match &*turn {
+        Turn::Asks(Ask::Begin) => {
+            mem::forget(mem::replace(turn, Turn::Went));
+            serve_by(store, past, asks, actor, Ask::Begin)
+        }
+        Turn::Asks(Ask::Look { cell, at }) => {
+            let (cell, at) = (*cell, *at);
+            mem::forget(mem::replace(turn, Turn::Went));
+            serve_by(store, past, asks, actor, Ask::Look { cell, at })
+        }
+        _ => serve_whole(store, past, asks, actor, turn),
+    }
+}
+
 impl<'a, J: Run> LoggedActor<'a, J> {
     /// Its ask is served by the store, behind all that it has seen: whether it was. One whose ask isn't served does no more: it has made 2^64 - 1 asks,
     /// may not ask this, or the store is broken.
@@ -236,24 +319,18 @@ impl<'a, J: Run> LoggedActor<'a, J> {
         ensures unserved { IsFalse result → store.new.broken ≡ false → (q : Ask) → self.old.step ≡ step.Asks q → self.old.asks < 18446744073709551615 → MayNot J.code.cells (length J.code.threads) 0 self.old.player.actor.number q store.old.log.log }
         ensures breaks { store.new.broken ≡ true → store.old.broken ≡ false → HasOthers 0 store.old.log.log self.old.past self.new.past }
     {
-        let Step::Asks(ask) = mem::replace(&mut self.step, Step::Broken) else {
-            return false;
-        };
-        if self.asks == u64::MAX {
-            drop(ask);
-            return false;
-        }
-        let number = self.player.actor.number();
-        let Some(served) = store.serve::<Actor, Waiting>(
+        let Some(served) = serve_turn(
+            store,
             &mut self.past,
+            self.asks,
             &self.player.actor,
-            number,
-            ask,
+            &mut self.turn,
         ) else {
+            self.answer = Answer::Broken;
             return false;
         };
         self.asks = made_with(self.asks, &served.reply);
-        self.step = Step::Answered(0, served);
+        self.answer = Answer::Given(0, served);
         true
     }
 }
@@ -267,11 +344,13 @@ impl<'a, J: Run> LoggedActor<'a, J> {
         ensures unserved { IsFalse result → atom.new.broken ≡ false → (q : Ask) → self.old.step ≡ step.Asks q → self.old.asks < 18446744073709551615 → MayNot J.code.cells (length J.code.threads) (home J.code.cells atom.old.atom.cell) self.old.player.actor.number q atom.old.log.log }
         ensures breaks { atom.new.broken ≡ true → atom.old.broken ≡ false → HasOthers (home J.code.cells atom.old.atom.cell) atom.old.log.log self.old.past self.new.past }
     {
-        let Step::Asks(ask) = mem::replace(&mut self.step, Step::Broken) else {
+        let Turn::Asks(ask) = mem::replace(&mut self.turn, Turn::Went) else {
+            self.answer = Answer::Broken;
             return false;
         };
         if self.asks == u64::MAX {
             drop(ask);
+            self.answer = Answer::Broken;
             return false;
         }
         let number = self.player.actor.number();
@@ -282,10 +361,11 @@ impl<'a, J: Run> LoggedActor<'a, J> {
             number,
             ask,
         ) else {
+            self.answer = Answer::Broken;
             return false;
         };
         self.asks = made_with(self.asks, &served.reply);
-        self.step = Step::Answered(lock, served);
+        self.answer = Answer::Given(lock, served);
         true
     }
 }
@@ -316,18 +396,20 @@ impl<'a, J: Run> LoggedActor<'a, J> {
     {
         // A law that the proof uses; it does nothing when it runs.
         actors_run();
-        let Step::Answered(lock, served) = mem::replace(&mut self.step, Step::Broken) else {
+        let Answer::Given(lock, served) = mem::replace(&mut self.answer, Answer::Absent) else {
+            self.answer = Answer::Broken;
+            self.turn = Turn::Went;
             return AfterReply::Broken;
         };
         let Served { reply, at, added } = served;
         if !hands_out(self.code, self.callees, &reply) {
             drop(reply);
+            self.answer = Answer::Broken;
             return AfterReply::Broken;
         }
         note(&mut self.player.trace, lock, at, added);
         let next = after_reply(&reply);
         self.player.actor.answer(self.code, reply);
-        self.step = Step::Runs;
         next
     }
 }
@@ -338,8 +420,8 @@ impl<'a, J: Run> LoggedActor<'a, J> {
         ensures is { IfSome result (λ q. self.now.step ≡ step.Asks q.now) }
         ensures none { result ≡ None → (q : Ask) → self.now.step ≡ step.Asks q → ⊥ }
     {
-        match &self.step {
-            Step::Asks(ask) => Some(ask),
+        match &self.turn {
+            Turn::Asks(ask) => Some(ask),
             _ => None,
         }
     }
@@ -349,8 +431,8 @@ impl<'a, J: Run> LoggedActor<'a, J> {
         ensures is { IfSome result (λ m. (v : Served) × (self.now.step ≡ step.Answered m.lock v) × (m.at ≡ v.at) × (m.added ≡ v.added)) }
         ensures none { result ≡ None → (lock : ℕ) (v : Served) → self.now.step ≡ step.Answered lock v → ⊥ }
     {
-        match &self.step {
-            Step::Answered(lock, served) => Some(Made {
+        match &self.answer {
+            Answer::Given(lock, served) => Some(Made {
                 lock: *lock,
                 at: served.at,
                 added: served.added,
@@ -387,8 +469,8 @@ impl<'a, J: Run> LoggedActor<'a, J> {
         ensures follows { IsTrue result → IsFollowing J.code self.now.player.actor self.now.player.trace.items self.now.asks self.now.past }
         ensures limit { self.now.player.actor.limit ≡ J.limit }
     {
-        match &self.step {
-            Step::Runs => true,
+        match &self.answer {
+            Answer::Absent => went(&self.turn),
             _ => false,
         }
     }
@@ -411,10 +493,12 @@ impl<'a, J: Run> LoggedActor<'a, J> {
             player,
             asks: _,
             past,
-            step,
+            turn,
+            answer,
         } = self;
         drop(past);
-        drop(step);
+        drop(turn);
+        drop(answer);
         player
     }
 }

@@ -78,7 +78,8 @@ use Rattle.txs_history.specs.contracts.store.LoggedStore as logged_store_is
 use Rattle.txs_history.specs.contracts.store.LoggedStore.TheInside as logged_store_in
 use Rattle.txs_history.specs.contracts.atom.LoggedAtom as logged_atom_is
 use Rattle.txs_history.specs.contracts.atom.LoggedAtom.TheInside as logged_atom_in
-use Rattle.txs_history_run.specs.contracts.step.Step as step_is
+use Rattle.txs_machine_actor.specs.contracts.outcome.Turn as turn_is
+use Rattle.txs_history_run.specs.contracts.step.Answer as answer_is
 use Rattle.txs_history_run.specs.contracts.actor.LoggedActor as logged_actor_is
 use Rattle.txs_history_run.specs.contracts.actor.LoggedActor.TheInside as logged_actor_in
 
@@ -207,8 +208,11 @@ player_field_send = struct_send (S.shape player_is.the_type) ((search (actor_sen
 pub served_field_send : IsSend (served_is.the_field).row
 served_field_send = struct_send (S.shape served_is.the_type) ((search (reply_field_send, crosses, sendable) depth 60 fits 20000), (plain_send _ _ _ _ _, (plain_send _ _ _ _ _, tt)))
 
-pub step_field_send : IsSend (step_is.the_field).row
-step_field_send = enum_send (E.shape step_is.the_type) (tt, (((search (ask_field_send, crosses, sendable) depth 60 fits 20000), tt), ((plain_send _ _ _ _ _, ((search (served_field_send, crosses, sendable) depth 60 fits 20000), tt)), (tt, tt))))
+pub turn_field_send : IsSend (turn_is.the_field).row
+turn_field_send = enum_send (E.shape turn_is.the_type) (tt, (((search (ask_field_send, crosses, sendable) depth 60 fits 20000), tt), (((search (outcome.the_field_send, crosses, sendable) depth 60 fits 20000), tt), tt)))
+
+pub answer_field_send : IsSend (answer_is.the_field).row
+answer_field_send = enum_send (E.shape answer_is.the_type) (tt, ((plain_send _ _ _ _ _, ((search (served_field_send, crosses, sendable) depth 60 fits 20000), tt)), (tt, tt)))
 
 -- of a run
 module _ (J : RattleType) (run : run_is.Ghosts J.Denot) (name : naming_is.Ghosts J.Denot) where
@@ -220,4 +224,4 @@ module _ (J : RattleType) (run : run_is.Ghosts J.Denot) (name : naming_is.Ghosts
 
   module _ (a : NamedLft) where
     pub logged_actor_send : IsSend (logged_actor_is.the_row a J run name)
-    logged_actor_send = view_send (logged_actor_in.the_row a J run name) _ _ _ _ (recorded_send (logged_actor_in.the_field a J run name).row _ _ (logged_actor_in.the_type a J run name).to_one (struct_send (S.shape (logged_actor_in.the_type a J run name)) (shr_send _ _ verified_is.the_row verified_sync, (shr_slice_send _ _ Builtin.bool (plain_sync _ _ _ _ _), ((search (player_field_send, crosses, sendable) depth 60 fits 20000), (plain_send _ _ _ _ _, ((search (past_sent.the_send, crosses, sendable) depth 60 fits 20000), ((search (step_field_send, crosses, sendable) depth 60 fits 20000), tt))))))))
+    logged_actor_send = view_send (logged_actor_in.the_row a J run name) _ _ _ _ (recorded_send (logged_actor_in.the_field a J run name).row _ _ (logged_actor_in.the_type a J run name).to_one (struct_send (S.shape (logged_actor_in.the_type a J run name)) (shr_send _ _ verified_is.the_row verified_sync, (shr_slice_send _ _ Builtin.bool (plain_sync _ _ _ _ _), ((search (player_field_send, crosses, sendable) depth 60 fits 20000), (plain_send _ _ _ _ _, ((search (past_sent.the_send, crosses, sendable) depth 60 fits 20000), ((search (turn_field_send, crosses, sendable) depth 60 fits 20000), ((search (answer_field_send, crosses, sendable) depth 60 fits 20000), tt)))))))))

@@ -17,6 +17,7 @@ use txs_world_protocol::Ask;
 
 impl Store {
     /// Whether the actor may ask this of the store: it makes such asks, and the store has what it names.
+    #[inline(always)]
     pub fn lawful(&self, actor: u16, ask: &Ask) -> bool
         ensures { result ≡ is_lawful self.now actor ask.now }
     {
@@ -25,6 +26,7 @@ impl Store {
 
     /// Whether the actor makes such asks: a thread all but to take and to finish actions; an agent's actor these of its agent, and
     /// all others but to send, where its commits send nothing.
+    #[inline(always)]
     fn may_ask(&self, actor: u16, ask: &Ask) -> bool
         ensures { result ≡ may_ask self.now.cells self.now.threads actor ask.now }
     {
@@ -56,6 +58,7 @@ impl Store {
     /// commute phases made again, where it is a read point), and a read point is at most its view; an agent takes an action where
     /// it has taken none, and finishes one that it has taken, which sends to agents, and nothing where it faults. An atom's book
     /// takes what names an atom.
+    #[inline(always)]
     fn has_named(&self, actor: u16, ask: &Ask) -> bool
         ensures { result ≡ has_named self.now actor ask.now }
     {

@@ -16,4 +16,5 @@ invariant_of-result g c =
         in_step = subst (λ (d : PlainCode). IsFollowing d a c.new.result.items 0 c.args.past) c.requires.code f;
         room = tt;
       },
+      tt,
     )
