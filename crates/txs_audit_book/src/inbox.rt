@@ -23,10 +23,10 @@ pub(crate) struct Inbox {
 
 impl Inbox {
     /// An action is sent.
-    fn send(&mut self, alloc: Global, action: &Action) -> Result<(), AllocError>
+    fn send(&mut self, action: &Action) -> Result<(), AllocError>
         ensures { OnOk result (plain_inbox self.new ≡ entered (action.now ∷ []) (plain_inbox self.old)) }
     {
-        let copy = copy_action(alloc, action)?;
+        let copy = copy_action(action)?;
         self.sent.push(copy)?;
         Ok(())
     }
@@ -73,30 +73,22 @@ pub(crate) fn open_inboxes(alloc: Global, cells: &[StoreCell]) -> Result<Vec<Inb
 }
 
 /// An action is sent to its agent.
-pub(crate) fn send_one(
-    alloc: Global,
-    inboxes: &mut Vec<Inbox>,
-    action: &Action,
-) -> Result<(), AllocError>
+pub(crate) fn send_one(inboxes: &mut Vec<Inbox>, action: &Action) -> Result<(), AllocError>
     requires { action.now.agent.number < length inboxes.old.items }
     ensures { OnOk result (plain_inboxes inboxes.new.items ≡ entered_all (plain_inboxes inboxes.old.items) (action.now ∷ [])) }
 {
     let place = usize::from(action.agent.number);
     let inbox = &mut inboxes[place];
-    inbox.send(alloc, action)
+    inbox.send(action)
 }
 
 /// These actions are sent to their agents, in order.
-pub(crate) fn send_all(
-    alloc: Global,
-    inboxes: &mut Vec<Inbox>,
-    actions: &[Action],
-) -> Result<(), AllocError>
+pub(crate) fn send_all(inboxes: &mut Vec<Inbox>, actions: &[Action]) -> Result<(), AllocError>
     requires { all_sent_below (length inboxes.old.items) actions.now ≡ true }
     ensures { OnOk result (plain_inboxes inboxes.new.items ≡ entered_all (plain_inboxes inboxes.old.items) actions.now) }
 {
     for action in actions {
-        send_one(alloc, inboxes, action)?;
+        send_one(inboxes, action)?;
     }
     Ok(())
 }

@@ -315,7 +315,6 @@ impl Parts {
 
 /// What an event, which is the last of so many and may stand behind these, makes of what is known of agents.
 fn put_mail(
-    alloc: Global,
     inboxes: &mut Vec<Inbox>,
     cells: &[StoreCell],
     kind: &EventKind,
@@ -325,8 +324,8 @@ fn put_mail(
     ensures { OnOk result (plain_inboxes inboxes.new.items ≡ mail_put cells.now events kind.now (plain_inboxes inboxes.old.items)) }
 {
     match kind {
-        EventKind::Commit { sends, .. } => send_all(alloc, inboxes, sends.as_slice()),
-        EventKind::Send { action } => send_one(alloc, inboxes, action),
+        EventKind::Commit { sends, .. } => send_all(inboxes, sends.as_slice()),
+        EventKind::Send { action } => send_one(inboxes, action),
         EventKind::Act {
             agent,
             new,
@@ -335,19 +334,14 @@ fn put_mail(
         } => {
             let goes_on = cells[usize::from(agent.number)].goes_on;
             act_at(inboxes, agent.number, goes_on, new, events);
-            send_all(alloc, inboxes, sends.as_slice())
+            send_all(inboxes, sends.as_slice())
         }
         _ => Ok(()),
     }
 }
 
 /// Goes through an event that may stand behind these.
-pub(crate) fn put(
-    alloc: Global,
-    parts: &mut Parts,
-    done: &[Event],
-    event: &Event,
-) -> Result<(), AllocError>
+pub(crate) fn put(parts: &mut Parts, done: &[Event], event: &Event) -> Result<(), AllocError>
     requires few { length done.now < most_events }
     requires gone { GoneParts parts.old done.now }
     requires legal { is_legal_kind parts.old.cells done.now event.now.actor event.now.kind ≡ true }
@@ -358,7 +352,6 @@ pub(crate) fn put(
     let events = done.len() as u32 + 1;
     put_values(&mut parts.histories, &event.kind, events)?;
     put_mail(
-        alloc,
         &mut parts.inboxes,
         parts.cells.as_slice(),
         &event.kind,

@@ -160,7 +160,7 @@ pub fn go_through<'a>(
         if !parts.is_legal(done, event) {
             return Ok(Gone::UpTo(i));
         }
-        put(alloc, &mut parts, done, event)?;
+        put(&mut parts, done, event)?;
     }
     Ok(Gone::Through(Replay { parts, book }))
 }

@@ -37,15 +37,10 @@ fn copy_new(new: &Result<Value, Fault>) -> Result<Result<Value, Fault>, AllocErr
 }
 
 /// The sends that differ of an action that came to what it was to.
-fn sends_differ(
-    alloc: Global,
-    span: Span,
-    held: &[Action],
-    sends: &[Action],
-) -> Result<What, AllocError>
+fn sends_differ(span: Span, held: &[Action], sends: &[Action]) -> Result<What, AllocError>
     ensures { IfOk result (λ w. w ≡ or_what (sent_what span 0 held.now sends.now) (What.Event None)) }
 {
-    match sent_what(alloc, span, held, sends)? {
+    match sent_what(span, held, sends)? {
         Some(what) => Ok(what),
         None => Ok(What::Event { book: None }),
     }
@@ -53,7 +48,6 @@ fn sends_differ(
 
 /// What differs of what an action came to, where the text gives this and sends that.
 fn booked_what(
-    alloc: Global,
     span: Span,
     meant: Result<Value, Fault>,
     held: &[Action],
@@ -64,7 +58,7 @@ fn booked_what(
 {
     if same_new(&meant, new) {
         drop(meant);
-        return sends_differ(alloc, span, held, sends);
+        return sends_differ(span, held, sends);
     }
     Ok(What::Gave {
         expected: meant,
@@ -84,7 +78,6 @@ fn failure(span: Span) -> Fault
 
 /// The same of a value, by the first agent of its sends that had failed.
 fn valued_what(
-    alloc: Global,
     failed: Option<CellId>,
     span: Span,
     value: Value,
@@ -95,17 +88,16 @@ fn valued_what(
     ensures { IfOk result (λ w. w ≡ valued_what failed span value held.now new.now sends.now) }
 {
     match failed {
-        None => booked_what(alloc, span, Ok(value), held, new, sends),
+        None => booked_what(span, Ok(value), held, new, sends),
         Some(_) => {
             drop(value);
-            booked_what(alloc, span, Err(failure(span)), &[], new, sends)
+            booked_what(span, Err(failure(span)), &[], new, sends)
         }
     }
 }
 
 /// What differs of what an action came to by its act, where it ends so and holds these sends.
 fn gave(
-    alloc: Global,
     books: &Books<'_>,
     span: Span,
     held: &[Action],
@@ -117,10 +109,10 @@ fn gave(
     match end {
         ActionEnd::HandedIn(Ok(value)) => {
             let failed = first_failed(books, held, act.at);
-            valued_what(alloc, failed, span, value, held, act.new, act.sends)
+            valued_what(failed, span, value, held, act.new, act.sends)
         }
         ActionEnd::HandedIn(Err(fault)) => {
-            booked_what(alloc, span, Err(fault), &[], act.new, act.sends)
+            booked_what(span, Err(fault), &[], act.new, act.sends)
         }
         ActionEnd::LacksEvent => Ok(What::Unfinished),
         ActionEnd::LacksTurns | ActionEnd::Disallows => Ok(What::Event { book: None }),
@@ -164,7 +156,7 @@ fn came_with<'b>(
     let end = action_end(alloc, books.program(), bound, action, &meaning)?;
     let short = is_short_end(&end);
     let held = meaning.sends.as_slice();
-    let what = gave(alloc, books, action.span, held, end, act)?;
+    let what = gave(books, action.span, held, end, act)?;
     Ok(Came { what, short })
 }
 

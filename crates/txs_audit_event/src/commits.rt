@@ -240,18 +240,17 @@ fn wrote_what(
 // ---- what is sent otherwise
 
 /// A copy of an action, if there is one.
-fn copied(alloc: Global, action: Option<&Action>) -> Result<Option<Action>, AllocError>
+fn copied(action: Option<&Action>) -> Result<Option<Action>, AllocError>
     ensures { IfOk result (λ o. o ≡ option_copied action.entry) }
 {
     match action {
-        Some(action) => Ok(Some(copy_action(alloc, action)?)),
+        Some(action) => Ok(Some(copy_action(action)?)),
         None => Ok(None),
     }
 }
 
 /// An action that is sent otherwise.
 fn another(
-    alloc: Global,
     span: Span,
     number: usize,
     meant: Option<&Action>,
@@ -261,8 +260,8 @@ fn another(
 {
     Ok(What::Sends {
         number,
-        expected: copied(alloc, meant)?,
-        found: copied(alloc, found)?,
+        expected: copied(meant)?,
+        found: copied(found)?,
         span,
     })
 }
@@ -278,21 +277,16 @@ fn is_sent_at(sent: &[Action], at: usize, action: &Action) -> bool
 }
 
 /// The first action that is another one.
-pub fn sent_what(
-    alloc: Global,
-    span: Span,
-    meant: &[Action],
-    found: &[Action],
-) -> Result<Option<What>, AllocError>
+pub fn sent_what(span: Span, meant: &[Action], found: &[Action]) -> Result<Option<What>, AllocError>
     ensures { IfOk result (λ o. o ≡ sent_what span 0 meant.now found.now) }
 {
     for (i, action) in meant.iter().enumerate() {
         if !is_sent_at(found, i, action) {
-            return Ok(Some(another(alloc, span, i, Some(action), found.get(i))?));
+            return Ok(Some(another(span, i, Some(action), found.get(i))?));
         }
     }
     match found.get(meant.len()) {
-        Some(action) => Ok(Some(another(alloc, span, meant.len(), None, Some(action))?)),
+        Some(action) => Ok(Some(another(span, meant.len(), None, Some(action))?)),
         None => Ok(None),
     }
 }
@@ -301,7 +295,6 @@ pub fn sent_what(
 
 /// What there is, else what is sent otherwise.
 fn or_sent(
-    alloc: Global,
     span: Span,
     what: Option<What>,
     meant: &[Action],
@@ -311,13 +304,12 @@ fn or_sent(
 {
     match what {
         Some(what) => Ok(Some(what)),
-        None => sent_what(alloc, span, meant, found),
+        None => sent_what(span, meant, found),
     }
 }
 
 /// What differs of a commit that writes and sends this, where the text writes and sends that.
 fn ended_what(
-    alloc: Global,
     span: Span,
     meant: &Option<Listed<(CellId, Value)>>,
     held: &[Action],
@@ -329,9 +321,9 @@ fn ended_what(
     match meant {
         Some(meant) => {
             let wrote = wrote_what(span, meant.as_slice(), writes)?;
-            or_sent(alloc, span, wrote, held, sends)
+            or_sent(span, wrote, held, sends)
         }
-        None => sent_what(alloc, span, held, sends),
+        None => sent_what(span, held, sends),
     }
 }
 
@@ -359,5 +351,5 @@ pub fn commit_differs(
     let Question { books, turns, .. } = question;
     let meant = writes_meant(alloc, books, turns, done, question.event.here)?;
     let held = sends_of(question.doer, done.sends());
-    ended_what(alloc, span, &meant, held, writes, sends)
+    ended_what(span, &meant, held, writes, sends)
 }

@@ -45,7 +45,7 @@ fn copy_actions(alloc: Global, sends: &[Action]) -> Result<Listed<Action>, Alloc
 {
     let mut copies = Vec::with_capacity(alloc, sends.len())?;
     for send in sends {
-        copies.push_reserved(copy_action(alloc, send)?);
+        copies.push_reserved(copy_action(send)?);
     }
     Ok(Listed::from_vec(copies))
 }
@@ -165,7 +165,7 @@ pub fn ask_for(
             new: copy_value(value)?,
         }),
         Pending::Send(action, _) => Ok(Ask::Send {
-            action: copy_action(tx.alloc(), action)?,
+            action: copy_action(action)?,
         }),
         Pending::Commit => ask_of_commit(tx, at, view, frame),
         Pending::Hold(_) => ask_to_hold(tx, at, view, frame),

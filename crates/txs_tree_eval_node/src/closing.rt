@@ -7,7 +7,6 @@ ghost use Rattle.txs_tree_eval_transaction.specs.Views.{plain_view, plain_world}
 
 use crate::seen::Seen;
 use crate::state::{Progress, Transacted};
-use std::alloc::Global;
 use txs_tree_eval_transaction::{RefView, ThreadStop, same_commit};
 use txs_value_cell::Action;
 use txs_value_data::{CellId, Span, Value};
@@ -80,7 +79,6 @@ fn closes_as(
 /// What a dosync gives at the event of its transaction's end, where its run came to these final writes: a run is noted where it is
 /// refused, or is what the commit says.
 pub(crate) fn close<'a>(
-    alloc: Global,
     kind: &EventKind,
     run: Transacted<'a>,
     last: Result<Vec<(CellId, Value)>, ThreadStop>,
@@ -93,7 +91,7 @@ pub(crate) fn close<'a>(
     let sends = thread.commits(run.work.done.sends());
     match closes_as(kind, last, sends) {
         Closing::Refused => thread.refuse(run, span),
-        Closing::Committed => thread.note(alloc, run),
+        Closing::Committed => thread.note(run),
         Closing::Stopped(stop) => {
             drop(run);
             Err(stop)

@@ -673,7 +673,7 @@ fn eat_dosync<'a>(
     };
     let inner = context.deepest();
     let last = final_writes(alloc, &inner, &run.work.done, world, dosync.span);
-    let given = close(alloc, event.kind, run, last, dosync.span, thread);
+    let given = close(event.kind, run, last, dosync.span, thread);
     thread.eat(given)
 }
 

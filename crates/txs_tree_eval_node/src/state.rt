@@ -106,11 +106,11 @@ impl<'a> State<'a> {
 }
 
 /// Appends the same actions.
-fn push_actions(alloc: Global, held: &mut Vec<Action>, sends: &[Action]) -> Result<(), AllocError>
+fn push_actions(held: &mut Vec<Action>, sends: &[Action]) -> Result<(), AllocError>
     ensures { OnOk result (held.new.items ≡ held.old.items ++ sends.now) }
 {
     for action in sends {
-        held.push(copy_action(alloc, action)?)?;
+        held.push(copy_action(action)?)?;
     }
     Ok(())
 }
@@ -171,18 +171,18 @@ impl<'a> Progress<'a> {
     }
 
     /// These sends are held too, in an action.
-    fn hold(&mut self, alloc: Global, sends: &[Action]) -> Result<(), AllocError>
+    fn hold(&mut self, sends: &[Action]) -> Result<(), AllocError>
         ensures held { OnOk result (thread_state self.new ≡ holding sends.now (thread_state self.old)) }
         ensures kept { (thread_state self.new).todo ≡ (thread_state self.old).todo }
     {
         match &mut self.held {
-            Some(held) => push_actions(alloc, held, sends),
+            Some(held) => push_actions(held, sends),
             None => Ok(()),
         }
     }
 
     /// A transaction came to its end, and gives its result; an action holds its sends.
-    pub(crate) fn note(&mut self, alloc: Global, run: Transacted<'a>) -> Result<Value, ThreadStop>
+    pub(crate) fn note(&mut self, run: Transacted<'a>) -> Result<Value, ThreadStop>
         ensures value { MatchResult result (λ v. (v ≡ run.entry.result) × (thread_state self.new ≡ holding run.entry.work.done.sends (with_tx (tx_run run.entry) (thread_state self.old)))) (λ y. y ≡ Memory) }
         ensures kept { (thread_state self.new).todo ≡ (thread_state self.old).todo }
     {
@@ -190,7 +190,7 @@ impl<'a> Progress<'a> {
             drop(run);
             return Err(ThreadStop::Memory);
         };
-        let Ok(()) = self.hold(alloc, run.work.done.sends()) else {
+        let Ok(()) = self.hold(run.work.done.sends()) else {
             drop(value);
             drop(run);
             return Err(ThreadStop::Memory);

@@ -3,7 +3,7 @@
 ghost use Rattle.std.specs.Prelude.{◌≡◌, IfOk};
 
 use crate::arguments::Arguments;
-use std::alloc::{AllocError, Global};
+use std::alloc::AllocError;
 use txs_value_data::{Callee, CellId, Span};
 
 /// An action that waits for its agent: what is called on the agent's state and these further arguments, and where the `send`
@@ -29,7 +29,7 @@ impl Drop for Action {
 }
 
 /// The same action, which shares its arguments. An error where a count of owners is full.
-pub fn copy_action(_alloc: Global, action: &Action) -> Result<Action, AllocError>
+pub fn copy_action(action: &Action) -> Result<Action, AllocError>
     ensures { IfOk result (λ c. c ≡ action.now) }
 {
     Ok(Action {

@@ -15,7 +15,7 @@ ghost use Rattle.txs_world_book.specs.Served.{adds};
 use crate::inbox::{Inbox, fill_queue, mail_all, make_room_for};
 use crate::slot::{append, join_writes, put_all};
 use crate::store::Store;
-use std::alloc::{AllocError, Global};
+use std::alloc::AllocError;
 use std::collections::VecDeque;
 use txs_value_cell::Action;
 use txs_value_data::{CellId, Listed, Value};
@@ -53,7 +53,6 @@ pub fn least(a: Option<CellId>, b: Option<CellId>) -> Option<CellId>
 
 /// Fills lists, which are kept for their room, with what a commit writes and sends, and makes room for its sends in the inboxes.
 fn prepare(
-    alloc: Global,
     copies: &mut Vec<(CellId, Value)>,
     queue: &mut VecDeque<Action>,
     inboxes: &mut Vec<Inbox>,
@@ -68,7 +67,7 @@ fn prepare(
 {
     copies.clear();
     append(copies, writes.as_slice())?;
-    fill_queue(alloc, queue, sends.as_slice())?;
+    fill_queue(queue, sends.as_slice())?;
     make_room_for(inboxes, sends.as_slice())
 }
 
@@ -270,7 +269,6 @@ impl Store {
         ensures { Replies self.old (adds actor (event.Commit at view writes sends) reply.Done self.old.book) result self.new }
     {
         match prepare(
-            self.alloc,
             &mut self.spare,
             &mut self.queue,
             &mut self.inboxes,

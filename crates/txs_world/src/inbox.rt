@@ -26,7 +26,7 @@ pub(crate) struct Inbox {
 
 impl Inbox {
     /// A copy of the next action, which is taken. Where there is no memory for it, none is.
-    fn take(&mut self, alloc: Global) -> Result<Action, AllocError>
+    fn take(&mut self) -> Result<Action, AllocError>
         requires free { self.old.mailbox.plain.is_taken ≡ false }
         requires some { is_some (next self.old.mailbox.plain) ≡ true }
         ensures action { IfOk result (λ a. next self.old.mailbox.plain ≡ Some a) }
@@ -35,7 +35,7 @@ impl Inbox {
     {
         let copied = match self.mailbox.take() {
             None => unreachable!(),
-            Some(action) => copy_action(alloc, action),
+            Some(action) => copy_action(action),
         };
         match copied {
             Ok(action) => Ok(action),
@@ -78,17 +78,13 @@ pub(crate) fn open_inboxes(alloc: Global, cells: &[StoreCell]) -> Result<Vec<Inb
 }
 
 /// Fills a queue with the same actions. The queue keeps its room from one event to the next.
-pub(crate) fn fill_queue(
-    alloc: Global,
-    queue: &mut VecDeque<Action>,
-    actions: &[Action],
-) -> Result<(), AllocError>
+pub(crate) fn fill_queue(queue: &mut VecDeque<Action>, actions: &[Action]) -> Result<(), AllocError>
     ensures { OnOk result (queue.new.items ≡ actions.now) }
 {
     queue.clear();
     queue.reserve(actions.len())?;
     for action in actions {
-        let copy = copy_action(alloc, action)?;
+        let copy = copy_action(action)?;
         queue.push_back_reserved(copy);
     }
     Ok(())
@@ -127,11 +123,7 @@ pub(crate) fn put_at(inboxes: &mut Vec<Inbox>, action: Action)
 }
 
 /// A copy of an action, with room for it in the inbox of its agent.
-pub(crate) fn ready_at(
-    alloc: Global,
-    inboxes: &mut Vec<Inbox>,
-    action: &Action,
-) -> Result<Action, AllocError>
+pub(crate) fn ready_at(inboxes: &mut Vec<Inbox>, action: &Action) -> Result<Action, AllocError>
     requires { action.now.agent.number < length inboxes.old.items }
     ensures same { plain_inboxes inboxes.new.items ≡ plain_inboxes inboxes.old.items }
     ensures many { length inboxes.new.items ≡ length inboxes.old.items }
@@ -139,15 +131,11 @@ pub(crate) fn ready_at(
     ensures copy { IfOk result (λ a. a ≡ action.now) }
 {
     reserve_at(inboxes, action.agent.number, 1)?;
-    copy_action(alloc, action)
+    copy_action(action)
 }
 
 /// A copy of the next action of one inbox, which is taken. Where there is no memory for it, none is.
-pub(crate) fn take_at(
-    alloc: Global,
-    inboxes: &mut Vec<Inbox>,
-    number: u16,
-) -> Result<Action, AllocError>
+pub(crate) fn take_at(inboxes: &mut Vec<Inbox>, number: u16) -> Result<Action, AllocError>
     requires place { number < length inboxes.old.items }
     requires free { (get_or (plain_inboxes inboxes.old.items) number no_inbox).mailbox.is_taken ≡ false }
     requires some { is_some (next (get_or (plain_inboxes inboxes.old.items) number no_inbox).mailbox) ≡ true }
@@ -157,7 +145,7 @@ pub(crate) fn take_at(
 {
     let place = usize::from(number);
     let inbox = &mut inboxes[place];
-    inbox.take(alloc)
+    inbox.take()
 }
 
 /// Removes the action that was taken of one inbox, which came to this fault or to none. No inbox has less room then.

@@ -12,7 +12,7 @@ use crate::inbox::{
 };
 use crate::slot::{push_copy, put_all};
 use crate::store::Store;
-use std::alloc::{AllocError, Global};
+use std::alloc::AllocError;
 use std::collections::VecDeque;
 use txs_value_cell::Action;
 use txs_value_data::{CellId, Fault, FaultKind, Listed, Span, Value};
@@ -46,7 +46,6 @@ fn fill_state(
 /// Fills lists, which are kept for their room, with an agent's new state and with what its action sends, and makes room for
 /// these sends in the inboxes.
 fn prepare_end(
-    alloc: Global,
     copies: &mut Vec<(CellId, Value)>,
     queue: &mut VecDeque<Action>,
     inboxes: &mut Vec<Inbox>,
@@ -61,7 +60,7 @@ fn prepare_end(
     ensures room { OnOk result (HaveRoom (rooms inboxes.new.items) sends.now) }
 {
     fill_state(copies, agent, new)?;
-    fill_queue(alloc, queue, sends.as_slice())?;
+    fill_queue(queue, sends.as_slice())?;
     make_room_for(inboxes, sends.as_slice())
 }
 
@@ -96,7 +95,7 @@ impl Store {
             drop(action);
             return Reply::Full;
         }
-        let copy = match ready_at(self.alloc, &mut self.inboxes, &action) {
+        let copy = match ready_at(&mut self.inboxes, &action) {
             Ok(copy) => copy,
             Err(_) => {
                 drop(action);
@@ -130,7 +129,7 @@ impl Store {
             Ok(state) => state,
             Err(_) => return Reply::Memory,
         };
-        match take_at(self.alloc, &mut self.inboxes, agent.number) {
+        match take_at(&mut self.inboxes, agent.number) {
             Ok(action) => Reply::Action {
                 number,
                 action,
@@ -223,7 +222,6 @@ impl Store {
         let number = self.number_taken(agent);
         let fault = fault_of(&new);
         match prepare_end(
-            self.alloc,
             &mut self.spare,
             &mut self.queue,
             &mut self.inboxes,

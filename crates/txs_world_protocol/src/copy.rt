@@ -30,7 +30,7 @@ fn copy_actions(alloc: Global, actions: &Listed<Action>) -> Result<Listed<Action
     let actions = actions.as_slice();
     let mut copies = Vec::with_capacity(alloc, actions.len())?;
     for action in actions {
-        copies.push_reserved(copy_action(alloc, action)?);
+        copies.push_reserved(copy_action(action)?);
     }
     Ok(Listed::from_vec(copies))
 }
@@ -85,7 +85,7 @@ pub fn copy_ask(alloc: Global, ask: &Ask) -> Result<Ask, AllocError>
         }),
         Ask::Peek { cell } => Ok(Ask::Peek { cell: *cell }),
         Ask::Send { action } => Ok(Ask::Send {
-            action: copy_action(alloc, action)?,
+            action: copy_action(action)?,
         }),
         Ask::Take { agent } => Ok(Ask::Take { agent: *agent }),
         Ask::Finish { agent, new, sends } => {
@@ -127,7 +127,7 @@ pub fn copy_reply(alloc: Global, reply: &Reply) -> Result<Reply, AllocError>
             action,
             state,
         } => {
-            let action = copy_action(alloc, action)?;
+            let action = copy_action(action)?;
             let state = copy_value(state)?;
             Ok(Reply::Action {
                 number: *number,
@@ -177,7 +177,7 @@ fn copy_kind(alloc: Global, kind: &EventKind) -> Result<EventKind, AllocError>
             agent: *agent,
         }),
         EventKind::Send { action } => Ok(EventKind::Send {
-            action: copy_action(alloc, action)?,
+            action: copy_action(action)?,
         }),
         EventKind::SendRefused { agent } => Ok(EventKind::SendRefused { agent: *agent }),
         EventKind::Act {

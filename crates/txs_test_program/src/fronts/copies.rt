@@ -47,7 +47,7 @@ fn send_quotient(sends: &Listed<Action>) -> bool {
 // Whether such an action is copied, and an ask that sends it.
 fn are_sends_copied(alloc: Global) -> bool {
     let action = quotient(AGENT, FAULT.span);
-    let is = match copy_action(alloc, &action) {
+    let is = match copy_action(&action) {
         Ok(copy) => is_quotient(&copy),
         Err(_) => false,
     };
