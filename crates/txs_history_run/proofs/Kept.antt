@@ -1,44 +1,44 @@
 -- What an actor is to do next, by what is kept of it.
-use Rattle.std.proofs.Common.{◌≡◌, ℕ, Option, None, Some, IfSome, refl, sym, ap, subst, ◌∙◌, vec_capacity, vec_len}
+use Rattle.std.proofs.Common.{◌≡◌, ℕ, Bool, true, false, Option, None, Some, IfSome, refl, sym, ap, subst, ◌∙◌, vec_capacity, vec_len}
 use Rattle.txs_world_protocol.specs.declared.ask.Ask.{Ask}
 use Rattle.txs_machine_actor.specs.PlainActor.{PlainActor, unanswered}
 use Rattle.txs_machine_actor.specs.declared.outcome.Turn.{Turn}
 use Rattle.txs_machine_actor.specs.declared.outcome.Turn.TheVariants as turned
 use Rattle.txs_code_meaning.specs.PlainCode.{PlainCode}
 use Rattle.txs_history.specs.Asked.{History, asked_by}
-use Rattle.txs_history.specs.declared.serve.Served.{Served}
 use Rattle.txs_machine.specs.declared.player.Player.{Player}
-use Rattle.txs_history_run.specs.Actor.{HasRoom, IsInStep, IsLogged, IsTaken, ask_or, asked_of, step_of}
-use Rattle.txs_history_run.specs.declared.step.Answer.{Answer}
-use Rattle.txs_history_run.specs.declared.step.Answer.TheVariants as answer
+use Rattle.txs_history_run.specs.Actor.{HasRoom, IsFollowing, IsInStep, IsLogged, IsReady, IsTaken, ask_or, asked_of, step_of}
 use Rattle.txs_history_run.specs.declared.step.Step.{Step}
 use Rattle.txs_history_run.specs.declared.step.Step.TheVariants as step
 
--- it runs, where its last turn says so, and there is no answer
-pub runs_so : (a : Answer) (t : Turn) → a ≡ answer.Absent → t ≡ turned.Went → step_of a t ≡ step.Runs
-runs_so a t e f = ap (λ b. step_of b t) e ∙ ap (step_of answer.Absent) f
+-- it runs, where its last turn says so, and it isn't broken
+pub runs_so : (b : Bool) (t : Turn) → b ≡ false → t ≡ turned.Went → step_of b t ≡ step.Runs
+runs_so b t e f = ap (λ c. step_of c t) e ∙ ap (step_of false) f
 
 -- where its last turn came to an ask, that is what it is to do next: the ask wasn't taken
-pub asks_so : (a : Answer) (t : Turn) (q : Ask) → IsTaken a t → t ≡ turned.Asks q → step_of a t ≡ step.Asks q
-asks_so answer.Absent t q k e = ap (step_of answer.Absent) e
-asks_so (answer.Given lock v) t q k e = absurd (cc (k, e))
-asks_so answer.Broken t q k e = absurd (cc (k, e))
+pub asks_so : (b : Bool) (t : Turn) (q : Ask) → IsTaken b t → t ≡ turned.Asks q → step_of b t ≡ step.Asks q
+asks_so false t q k e = ap (step_of false) e
+asks_so true t q k e = absurd (cc (k, e))
 
 -- what waits with an ask came to it in its last turn
-pub asked_so : (a : Answer) (t : Turn) (q : Ask) → step_of a t ≡ step.Asks q → t ≡ turned.Asks q
-asked_so answer.Absent turned.Went q e = absurd (cc e)
-asked_so answer.Absent (turned.Asks p) q e = ap turned.Asks (cc e)
-asked_so answer.Absent (turned.Ended o) q e = absurd (cc e)
-asked_so (answer.Given lock v) t q e = absurd (cc e)
-asked_so answer.Broken t q e = absurd (cc e)
+pub asked_so : (b : Bool) (t : Turn) (q : Ask) → step_of b t ≡ step.Asks q → t ≡ turned.Asks q
+asked_so false turned.Went q e = absurd (cc e)
+asked_so false (turned.Asks p) q e = ap turned.Asks (cc e)
+asked_so false (turned.Ended o) q e = absurd (cc e)
+asked_so true t q e = absurd (cc e)
 
--- where there is no answer, it asks what its last turn came to
-pub waits_so : (a : Answer) (t : Turn) (q : Ask) → a ≡ answer.Absent → t ≡ turned.Asks q → step_of a t ≡ step.Asks q
-waits_so a t q e f = ap (λ b. step_of b t) e ∙ ap (step_of answer.Absent) f
+-- where it isn't broken, it asks what its last turn came to
+pub waits_so : (b : Bool) (t : Turn) (q : Ask) → b ≡ false → t ≡ turned.Asks q → step_of b t ≡ step.Asks q
+waits_so b t q e f = ap (λ c. step_of c t) e ∙ ap (step_of false) f
 
--- where there is no answer, nothing is to be known of the last turn
-pub absent_taken : (a : Answer) (t : Turn) → a ≡ answer.Absent → IsTaken a t
-absent_taken a t e = subst (λ b. IsTaken b t) (sym e) tt
+-- where it isn't broken, nothing is to be known of the last turn
+pub unbroken_taken : (b : Bool) (t : Turn) → b ≡ false → IsTaken b t
+unbroken_taken b t e = subst (λ c. IsTaken c t) (sym e) tt
+
+-- where the ask of the last turn was taken, nothing else is
+pub went_taken : (b : Bool) (t : Turn) → t ≡ turned.Went → IsTaken b t
+went_taken false t e = tt
+went_taken true t e = e
 
 -- what is kept is what holds of the step that it says
 pub kept : (code : PlainCode) (limit : ℕ) (p : Player) (m : ℕ) (h : History) (was is : Step) → was ≡ is → p.actor.limit ≡ limit → IsInStep code p.actor p.trace.items m h is → HasRoom (vec_len p.trace) (vec_capacity p.trace) is
@@ -49,29 +49,17 @@ kept code limit p m h was is e l s r = record {
   room = subst (HasRoom (vec_len p.trace) (vec_capacity p.trace)) (sym e) r;
 }
 
--- an answer that is given is what it is to take
-pub given_so : (a : Answer) (t : Turn) (lock : ℕ) (v : Served) → a ≡ answer.Given lock v → step_of a t ≡ step.Answered lock v
-given_so a t lock v e = ap (λ b. step_of b t) e
+-- an actor whose last turn came to an ask is ready to make it
+pub ready_so : (code : PlainCode) (limit : ℕ) (p : Player) (m : ℕ) (h : History) (b : Bool) (t : Turn) → IsLogged code limit (record { player = p; asks = m; past = h; step = step_of b t }) → IsTaken b t → (q : Ask) → t ≡ turned.Asks q → IsReady code p q m h
+ready_so code limit p m h b t l k q e = record {
+  waiting = subst (IsInStep code p.actor p.trace.items m h) (asks_so b t q k e) l.in_step;
+  room = subst (HasRoom (vec_len p.trace) (vec_capacity p.trace)) (asks_so b t q k e) l.room;
+}
 
--- and the ask of its last turn was taken
-pub given_taken : (a : Answer) (t : Turn) (lock : ℕ) (v : Served) → a ≡ answer.Given lock v → IsTaken a t → t ≡ turned.Went
-given_taken a t lock v e = subst (λ b. IsTaken b t) e
-
--- what is to run has no answer to take, and no ask
-pub runs_only : (a : Answer) (t : Turn) → step_of a t ≡ step.Runs → (a ≡ answer.Absent) × (t ≡ turned.Went)
-runs_only answer.Absent turned.Went e = (refl, refl)
-runs_only answer.Absent (turned.Asks q) e = absurd (cc e)
-runs_only answer.Absent (turned.Ended o) e = absurd (cc e)
-runs_only (answer.Given lock v) t e = absurd (cc e)
-runs_only answer.Broken t e = absurd (cc e)
-
--- what is to go on with an answer was given it
-pub given_only : (a : Answer) (t : Turn) (lock : ℕ) (v : Served) → step_of a t ≡ step.Answered lock v → a ≡ answer.Given lock v
-given_only answer.Absent turned.Went lock v e = absurd (cc e)
-given_only answer.Absent (turned.Asks q) lock v e = absurd (cc e)
-given_only answer.Absent (turned.Ended o) lock v e = absurd (cc e)
-given_only (answer.Given k w) t lock v e = cc e
-given_only answer.Broken t lock v e = absurd (cc e)
+-- what is kept of an actor whose ask was taken: it follows the history, unless it is broken
+pub kept_after : (code : PlainCode) (limit : ℕ) (p : Player) (m : ℕ) (h : History) (b : Bool) (t : Turn) → t ≡ turned.Went → p.actor.limit ≡ limit → (b ≡ false → IsFollowing code p.actor p.trace.items m h) → IsLogged code limit (record { player = p; asks = m; past = h; step = step_of b t })
+kept_after code limit p m h false t e l f = kept code limit p m h (step_of false t) step.Runs (ap (step_of false) e) l (f refl) tt
+kept_after code limit p m h true t e l f = kept code limit p m h (step_of true t) step.Broken refl l tt tt
 
 -- what holds of each that is so holds of the one, if there is one
 pub some_so : {A : Type 0} (o : Option A) (P Q : A → Type 0) → ((x : A) → P x → Q x) → IfSome o P → IfSome o Q

@@ -1,12 +1,13 @@
 -- What holds of an actor that has seen a history: it follows the history by its code, and is where the run's actor is.
-use Rattle.std.specs.Prelude.{◌≡◌, ◌<◌, ◌≤◌, ℕ, suc, Bool, true, false, List, [], ◌∷◌, ◌++◌, length, map, Option, Some, None, if◌then◌else◌, vec_capacity, vec_len}
+use Rattle.std.specs.Prelude.{◌≡◌, ◌<◌, ℕ, suc, Bool, true, false, List, [], ◌∷◌, ◌++◌, length, map, Option, Some, None, if◌then◌else◌, vec_capacity, vec_len}
 use Rattle.txs_world_protocol.specs.Ask.{may_add_event}
 use Rattle.txs_world_protocol.specs.declared.ask.Ask.{Ask}
 use Rattle.txs_world_protocol.specs.declared.ask.Ask.TheVariants.{Begin}
 use Rattle.txs_world_protocol.specs.declared.event.Place.{Place}
 use Rattle.txs_code_meaning.specs.Machine.{Configuration}
 use Rattle.txs_code_meaning.specs.PlainCode.{PlainCode}
-use Rattle.txs_machine_actor.specs.PlainActor.{PlainActor, Awaits, HasRun, Lives, code_of, unanswered}
+use Rattle.txs_gate.specs.declared.gate.Made.{Made}
+use Rattle.txs_machine_actor.specs.PlainActor.{PlainActor, Awaits, HasRun, Lives, answered, code_of, unanswered}
 use Rattle.txs_machine_actor.specs.declared.outcome.Turn.{Turn}
 use Rattle.txs_machine_actor.specs.declared.outcome.Turn.TheVariants as turned
 use Rattle.txs_theorem_runs.specs.Run.{Actor}
@@ -21,8 +22,9 @@ use Rattle.txs_history.specs.declared.serve.Served.{Served}
 use Rattle.txs_machine.specs.RunOver.{IsIn, IsLimited, AskedOn, places_of}
 use Rattle.txs_machine.specs.Running.{IsPlayerOf}
 use Rattle.txs_machine.specs.declared.player.Player.{Player}
-use Rattle.txs_history_run.specs.declared.step.Answer.{Answer}
-use Rattle.txs_history_run.specs.declared.step.Answer.TheVariants as answer
+use Rattle.txs_history_run.specs.Callees.{HandsOutSent}
+use Rattle.txs_history_run.specs.declared.actor.AfterReply.{AfterReply}
+use Rattle.txs_history_run.specs.declared.actor.AfterReply.TheVariants as after
 use Rattle.txs_history_run.specs.declared.step.Step.{Step}
 use Rattle.txs_history_run.specs.declared.step.Step.TheVariants as step
 
@@ -81,45 +83,49 @@ abbrev pub made_with : Bool → ℕ → ℕ
 made_with true n = n
 made_with false n = suc n
 
--- An actor's ask was served under the lock with this number, and the actor hasn't taken the answer yet.
-pub record IsServed (code : PlainCode) (a : PlainActor) (lock : ℕ) (v : Served) (trace : List Place) (asks : ℕ) (h : History) : Type 0 where
-  pub ask : Ask
-  pub old : History
-  pub made : ℕ
-  pub waiting : IsWaiting code a ask trace made old
-  pub served : WasServed code.cells (length code.threads) lock a.number ask old h v
-  pub counted : asks ≡ made_with (is_memory v.reply) made
-
 -- An ask of an actor that had made so many was served by the store: it may make one more.
 pub record AskServed (code : PlainCode) (a asks : ℕ) (q : Ask) (old new : History) (v : Served) : Type 0 where
   pub fewer : asks < 18446744073709551615
   pub was : WasServed code.cells (length code.threads) 0 a q old new v
 
--- The same of what an actor's last turn came to, which is an ask.
-pub record TurnServed (code : PlainCode) (a asks : ℕ) (turn : Turn) (old new : History) (v : Served) : Type 0 where
-  pub ask : Ask
-  pub asked : turn ≡ turned.Asks ask
-  pub served : AskServed code a asks ask old new v
-
 -- the trace with the place of the event that was added, if one was
 abbrev pub noted : Bool → ℕ → ℕ → List Place → List Place
 noted added book at ps = if added then ps ++ record { book = book; at = at } ∷ [] else ps
 
+-- An actor waits with this ask, of so many that it made, and has room for the place of the event that the ask may add.
+pub record IsReady (code : PlainCode) (p : Player) (q : Ask) (asks : ℕ) (h : History) : Type 0 where
+  pub waiting : IsWaiting code p.actor q p.trace.items asks h
+  pub room : may_add_event q ≡ true → vec_len p.trace < vec_capacity p.trace
+
+-- An actor took the answer to its ask, which was served so under the lock with this number: the place of the event is noted, and the ask is counted.
+pub record HasTaken (code : PlainCode) (lock : ℕ) (v : Served) (old new : Player) (before later : ℕ) : Type 0 where
+  pub took : new.actor ≡ answered old.actor v.reply
+  pub lives : Lives code new.actor
+  pub free : unanswered new.actor ≡ None
+  pub traced : new.trace.items ≡ noted v.added lock v.at old.trace.items
+  pub counted : later ≡ made_with (is_memory v.reply) before
+
+-- An actor's ask was served under the lock with this number, and made this. The actor is to do that next: it took the answer, or was handed an action that no code sends.
+pub record HasAsked (code : PlainCode) (lock : ℕ) (q : Ask) (old new : Player) (before later : ℕ) (h g : History) (m : Made) (n : AfterReply) : Type 0 where
+  pub served : Served
+  pub was : WasServed code.cells (length code.threads) lock old.actor.number q h g served
+  pub made : m ≡ record { lock = lock; at = served.at; added = served.added }
+  pub took : (n ≡ after.Broken → ⊥) → HasTaken code lock served old new before later
+  pub broken : n ≡ after.Broken → HandsOutSent code served.reply → ⊥
+
 -- ---- as it is kept
 
--- what an actor is to do next, by the answer that it is to take, and by what its last turn came to
-abbrev pub step_of : Answer → Turn → Step
-step_of answer.Absent turned.Went = step.Runs
-step_of answer.Absent (turned.Asks q) = step.Asks q
-step_of answer.Absent (turned.Ended o) = step.Broken
-step_of (answer.Given lock v) t = step.Answered lock v
-step_of answer.Broken t = step.Broken
+-- what an actor is to do next, by whether it met what no run gives, and by what its last turn came to
+abbrev pub step_of : Bool → Turn → Step
+step_of false turned.Went = step.Runs
+step_of false (turned.Asks q) = step.Asks q
+step_of false (turned.Ended o) = step.Broken
+step_of true t = step.Broken
 
--- where there is an answer, or will be none, the ask of the last turn was taken
-abbrev pub IsTaken : Answer → Turn → Type 0
-IsTaken answer.Absent t = Unit {0}
-IsTaken (answer.Given lock v) t = t ≡ turned.Went
-IsTaken answer.Broken t = t ≡ turned.Went
+-- where it met what no run gives, the ask of the last turn was taken
+abbrev pub IsTaken : Bool → Turn → Type 0
+IsTaken false t = Unit {0}
+IsTaken true t = t ≡ turned.Went
 
 -- ---- as contracts see it
 
@@ -134,14 +140,12 @@ pub record PlainLogged : Type 0 where
 abbrev pub IsInStep : PlainCode → PlainActor → List Place → ℕ → History → Step → Type 0
 IsInStep code a tr n h step.Runs = IsFollowing code a tr n h
 IsInStep code a tr n h (step.Asks q) = IsWaiting code a q tr n h
-IsInStep code a tr n h (step.Answered book v) = IsServed code a book v tr n h
 IsInStep code a tr n h step.Broken = Unit {0}
 
--- Of so many places that are noted, and so many for which there is room: an ask that may add an event has room for its place, and so has an answer with an event. The number of a lock fits that of a book.
+-- Of so many places that are noted, and so many for which there is room: an ask that may add an event has room for its place.
 abbrev pub HasRoom : (noted room : ℕ) → Step → Type 0
 HasRoom n room step.Runs = Unit {0}
 HasRoom n room (step.Asks q) = may_add_event q ≡ true → n < room
-HasRoom n room (step.Answered lock v) = (lock ≤ 65536) × (v.added ≡ true → n < room)
 HasRoom n room step.Broken = Unit {0}
 
 -- it was made for this code and so many steps
@@ -149,3 +153,10 @@ pub record IsLogged (code : PlainCode) (limit : ℕ) (p : PlainLogged) : Type 0 
   pub limit_is : p.player.actor.limit ≡ limit
   pub in_step : IsInStep code p.player.actor p.player.trace.items p.asks p.past p.step
   pub room : HasRoom (vec_len p.player.trace) (vec_capacity p.player.trace) p.step
+
+-- an actor that waited with an ask, which was served under the lock with this number and made this, is to do that next
+pub record HasGone (code : PlainCode) (lock : ℕ) (old new : PlainLogged) (m : Made) (n : AfterReply) : Type 0 where
+  pub ask : Ask
+  pub waited : old.step ≡ step.Asks ask
+  pub asked : HasAsked code lock ask old.player new.player old.asks new.asks old.past new.past m n
+  pub runs : (n ≡ after.Broken → ⊥) → new.step ≡ step.Runs

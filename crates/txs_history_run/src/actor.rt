@@ -1,25 +1,26 @@
 //! An actor with what it has seen of the history.
 
-ghost use Rattle.std.specs.Prelude.{◌≡◌, ◌<◌, ◌≤◌, ℕ, length, true, false, ◌++◌, ◌∷◌, [], None, Some, IfSome, IsTrue, IsFalse, vec_capacity, vec_len};
+ghost use Rattle.std.specs.Prelude.{◌≡◌, ◌<◌, ◌≤◌, length, true, false, None, Some, IfSome, IsTrue, IsFalse, vec_capacity, vec_len};
 ghost use mathlib.Core.List.{IsPrefix};
 ghost use Rattle.txs_world_protocol.specs.Ask.{may_add_event};
-ghost use Rattle.txs_machine_actor.specs.PlainActor.{Lives, PlainActor, unanswered};
+ghost use Rattle.txs_gate.specs.declared.gate.Made.{Made as PlainMade};
+ghost use Rattle.txs_machine_actor.specs.PlainActor.{Lives, MayAnswerIf, unanswered};
 ghost use Rattle.txs_machine_actor.specs.declared.outcome.Turn.TheVariants as turned;
 ghost use Rattle.txs_machine_actor.specs.Turns.{IsNew};
-ghost use Rattle.txs_history_run.specs.Actor.{AskServed, IsFollowing, TurnServed, made_with, noted};
+ghost use Rattle.txs_history_run.specs.Actor.{AskServed, HasAsked, HasGone, HasTaken, IsFollowing, IsReady, made_with, noted};
 ghost use Rattle.txs_history_run.specs.Callees.{AreCallees, HandsOutSent};
+ghost use Rattle.txs_history_run.specs.declared.actor.AfterAsk.TheVariants as came;
+ghost use Rattle.txs_history_run.specs.declared.actor.AfterReply.{AfterReply as PlainNext};
 ghost use Rattle.txs_history_run.specs.declared.actor.AfterReply.TheVariants as after;
 ghost use Rattle.txs_history_run.specs.declared.actor.Next.TheVariants as next;
 ghost use Rattle.txs_history_run.specs.declared.step.Step.TheVariants as step;
 ghost use Rattle.txs_history.specs.History.{HasOthers};
 ghost use Rattle.txs_history.specs.Logged.{is_memory, MayNot};
-ghost use Rattle.txs_history.specs.declared.serve.Served.{Served};
 ghost use Rattle.txs_world_protocol.specs.SeenEvent.{home};
 ghost use Rattle.txs_world_protocol.specs.declared.ask.Ask.{Ask};
 ghost use Rattle.txs_world_protocol.specs.declared.event.Outcome.{Outcome};
 
 use crate::callees::hands_out;
-use crate::step::Answer;
 use std::alloc::Global;
 use std::marker::Model;
 use std::mem;
@@ -43,11 +44,11 @@ pub enum Next {
     Asks,
     /// It has ended.
     Ended,
-    /// It made no turn, since it waits with an ask or an answer, or met what no run gives.
+    /// It made no turn, since it waits with an ask, or met what no run gives.
     Waits,
 }
 
-/// What an actor that took an answer is to do next.
+/// What an actor is to do next, by the answer that it took.
 #[derive(Clone, Copy)]
 pub enum AfterReply {
     /// It goes on.
@@ -58,8 +59,17 @@ pub enum AfterReply {
     Again,
     /// Nothing waits for its agent.
     Idle,
-    /// It had no answer to take, or was handed an action that no code sends: it does no more.
+    /// It was handed an action that no code sends: it does no more.
     Broken,
+}
+
+/// What became of an actor's ask.
+#[derive(Clone, Copy)]
+pub enum AfterAsk {
+    /// It wasn't served: the actor does no more.
+    Unserved,
+    /// It was served and made this. The actor took the answer, and is to do this next.
+    Took(Made, AfterReply),
 }
 
 /// For what an actor stands: for the ask that it waits with.
@@ -81,7 +91,8 @@ pub struct LoggedActor<'a, J: Run> {
     asks: u64,
     past: Past<Asked, J>,
     turn: Turn,
-    answer: Answer,
+    /// Whether it met what no run gives. Then it does no more.
+    broken: bool,
 }
 
 // Dropped by a call that is proved here, so that no crate above proves it again.
@@ -94,12 +105,11 @@ impl<'a, J: Run> Drop for LoggedActor<'a, J> {
             asks: _,
             past,
             turn,
-            answer,
+            broken: _,
         } = self;
         drop(player);
         drop(past);
         drop(turn);
-        drop(answer);
     }
 }
 
@@ -114,12 +124,13 @@ impl<'a, J: Run> Model for LoggedActor<'a, J> {
 
     ghost coded = { Prim.hlevel (codes, value.the_row.coded) };
 
-    ghost view = { λ p. record { player = p.player; asks = p.asks; past = p.past; step = step_of p.answer p.turn } };
+    ghost view = { λ p. record { player = p.player; asks = p.asks; past = p.past; step = step_of p.broken p.turn } };
 
-    ghost invariant = { λ p. (p.code.now ≡ J.code) × AreCallees p.code.now p.callees.now × IsLogged J.code J.limit (record { player = p.player; asks = p.asks; past = p.past; step = step_of p.answer p.turn }) × IsTaken p.answer p.turn };
+    ghost invariant = { λ p. (p.code.now ≡ J.code) × AreCallees p.code.now p.callees.now × IsLogged J.code J.limit (record { player = p.player; asks = p.asks; past = p.past; step = step_of p.broken p.turn }) × IsTaken p.broken p.turn };
 }
 
 /// What an actor is to do next, by the reply that it takes.
+#[inline(always)]
 fn after_reply(reply: &Reply) -> AfterReply
     ensures { result ≡ after.Broken → ⊥ }
 {
@@ -132,6 +143,7 @@ fn after_reply(reply: &Reply) -> AfterReply
 }
 
 /// What an actor does whose commit or swap found this cell changed.
+#[inline(always)]
 fn redone(cell: CellId) -> AfterReply
     ensures { result ≡ after.Broken → ⊥ }
 {
@@ -172,7 +184,7 @@ impl<'a, J: Run> LoggedActor<'a, J> {
             asks: 0,
             past,
             turn: Turn::Went,
-            answer: Answer::Absent,
+            broken: false,
         }
     }
 }
@@ -202,10 +214,7 @@ impl<'a, J: Run> LoggedActor<'a, J> {
     {
         // A law that the proof uses; it does nothing when it runs.
         actors_run();
-        let Answer::Absent = &self.answer else {
-            return Next::Waits;
-        };
-        if !went(&self.turn) {
+        if self.broken || !went(&self.turn) {
             return Next::Waits;
         }
         run(&mut self.player.actor, self.code, budget, &mut self.turn);
@@ -228,6 +237,7 @@ impl<'a, J: Run> LoggedActor<'a, J> {
 }
 
 /// How many asks were made, with one that was answered so: where there was no memory for it nothing was served.
+#[inline(always)]
 fn made_with(asks: u64, reply: &Reply) -> u64
     requires { asks < 18446744073709551615 }
     ensures { result ≡ made_with (is_memory reply.now) asks }
@@ -259,118 +269,8 @@ fn serve_by<J: Run>(
     store.serve::<Actor, Waiting>(past, actor, actor.number(), ask)
 }
 
-/// The same of the ask that the actor's last turn came to, which is taken.
-#[inline(never)]
-fn serve_whole<J: Run>(
-    store: &mut LoggedStore<J>,
-    past: &mut Past<Asked, J>,
-    asks: u64,
-    actor: &Actor,
-    turn: &mut Turn,
-) -> Option<Served>
-    requires asks { (q : Ask) → turn.old ≡ turned.Asks q → unanswered actor.now ≡ Some q }
-    ensures taken { turn.new ≡ turned.Went }
-    ensures served { IfSome result (λ v. TurnServed J.code actor.now.number asks turn.old past.old past.new v) }
-    ensures unserved { result ≡ None → store.new.broken ≡ false → (q : Ask) → turn.old ≡ turned.Asks q → asks < 18446744073709551615 → MayNot J.code.cells (length J.code.threads) 0 actor.now.number q store.old.log.log }
-    ensures breaks { store.new.broken ≡ true → store.old.broken ≡ false → HasOthers 0 store.old.log.log past.old past.new }
-{
-    match mem::replace(turn, Turn::Went) {
-        Turn::Asks(ask) => serve_by(store, past, asks, actor, ask),
-        Turn::Went | Turn::Ended(_) => None,
-    }
-}
-
-/// The same. A look and the begin of a transaction have arms of their own, so that only what serves it is left where the call is inlined. These
-/// asks keep nothing that would have to be dropped.
-#[inline(always)]
-fn serve_turn<J: Run>(
-    store: &mut LoggedStore<J>,
-    past: &mut Past<Asked, J>,
-    asks: u64,
-    actor: &Actor,
-    turn: &mut Turn,
-) -> Option<Served>
-    requires asks { (q : Ask) → turn.old ≡ turned.Asks q → unanswered actor.now ≡ Some q }
-    ensures taken { turn.new ≡ turned.Went }
-    ensures served { IfSome result (λ v. TurnServed J.code actor.now.number asks turn.old past.old past.new v) }
-    ensures unserved { result ≡ None → store.new.broken ≡ false → (q : Ask) → turn.old ≡ turned.Asks q → asks < 18446744073709551615 → MayNot J.code.cells (length J.code.threads) 0 actor.now.number q store.old.log.log }
-    ensures breaks { store.new.broken ≡ true → store.old.broken ≡ false → HasOthers 0 store.old.log.log past.old past.new }
-{
-    match &*turn {
-        Turn::Asks(Ask::Begin) => {
-            mem::forget(mem::replace(turn, Turn::Went));
-            serve_by(store, past, asks, actor, Ask::Begin)
-        }
-        Turn::Asks(Ask::Look { cell, at }) => {
-            let (cell, at) = (*cell, *at);
-            mem::forget(mem::replace(turn, Turn::Went));
-            serve_by(store, past, asks, actor, Ask::Look { cell, at })
-        }
-        _ => serve_whole(store, past, asks, actor, turn),
-    }
-}
-
-impl<'a, J: Run> LoggedActor<'a, J> {
-    /// Its ask is served by the store, behind all that it has seen: whether it was. One whose ask isn't served does no more: it has made 2^64 - 1 asks,
-    /// may not ask this, or the store is broken.
-    pub fn ask_store(&mut self, store: &mut LoggedStore<J>) -> bool
-        ensures number { self.new.player.actor.number ≡ self.old.player.actor.number }
-        ensures served { IsTrue result → (v : Served) × (self.new.step ≡ step.Answered 0 v) }
-        ensures unserved { IsFalse result → store.new.broken ≡ false → (q : Ask) → self.old.step ≡ step.Asks q → self.old.asks < 18446744073709551615 → MayNot J.code.cells (length J.code.threads) 0 self.old.player.actor.number q store.old.log.log }
-        ensures breaks { store.new.broken ≡ true → store.old.broken ≡ false → HasOthers 0 store.old.log.log self.old.past self.new.past }
-    {
-        let Some(served) = serve_turn(
-            store,
-            &mut self.past,
-            self.asks,
-            &self.player.actor,
-            &mut self.turn,
-        ) else {
-            self.answer = Answer::Broken;
-            return false;
-        };
-        self.asks = made_with(self.asks, &served.reply);
-        self.answer = Answer::Given(0, served);
-        true
-    }
-}
-
-impl<'a, J: Run> LoggedActor<'a, J> {
-    /// Its ask is served by an atom, behind all that it has seen: whether it was. One whose ask isn't served does no more: it has made 2^64 - 1 asks,
-    /// may not ask this, or the atom is broken.
-    pub fn ask_atom(&mut self, atom: &mut LoggedAtom<J>) -> bool
-        ensures number { self.new.player.actor.number ≡ self.old.player.actor.number }
-        ensures served { IsTrue result → (v : Served) × (self.new.step ≡ step.Answered (home J.code.cells atom.old.atom.cell) v) }
-        ensures unserved { IsFalse result → atom.new.broken ≡ false → (q : Ask) → self.old.step ≡ step.Asks q → self.old.asks < 18446744073709551615 → MayNot J.code.cells (length J.code.threads) (home J.code.cells atom.old.atom.cell) self.old.player.actor.number q atom.old.log.log }
-        ensures breaks { atom.new.broken ≡ true → atom.old.broken ≡ false → HasOthers (home J.code.cells atom.old.atom.cell) atom.old.log.log self.old.past self.new.past }
-    {
-        let Turn::Asks(ask) = mem::replace(&mut self.turn, Turn::Went) else {
-            self.answer = Answer::Broken;
-            return false;
-        };
-        if self.asks == u64::MAX {
-            drop(ask);
-            self.answer = Answer::Broken;
-            return false;
-        }
-        let number = self.player.actor.number();
-        let lock = atom.lock();
-        let Some(served) = atom.serve::<Actor, Waiting>(
-            &mut self.past,
-            &self.player.actor,
-            number,
-            ask,
-        ) else {
-            self.answer = Answer::Broken;
-            return false;
-        };
-        self.asks = made_with(self.asks, &served.reply);
-        self.answer = Answer::Given(lock, served);
-        true
-    }
-}
-
 /// Notes the place of an event, if one was added.
+#[inline(always)]
 fn note(trace: &mut Vec<Place>, lock: u64, at: u32, added: bool)
     requires room { added ≡ true → vec_len trace.old < vec_capacity trace.old }
     requires few { lock ≤ 65536 }
@@ -384,33 +284,233 @@ fn note(trace: &mut Vec<Place>, lock: u64, at: u32, added: bool)
     }
 }
 
+/// An actor takes the answer to its ask, which was served so under this lock, and notes the place of the event that was added. It takes no action that no
+/// code sends.
+#[inline(always)]
+fn take(
+    code: &Verified,
+    callees: &[bool],
+    player: &mut Player,
+    asks: &mut u64,
+    lock: u64,
+    served: Served,
+) -> AfterReply
+    requires callees { AreCallees code.now callees.now }
+    requires lives { Lives code.now player.old.actor }
+    requires answers { MayAnswerIf (unanswered player.old.actor) served.reply }
+    requires fewer { asks.old < 18446744073709551615 }
+    requires room { served.added ≡ true → vec_len player.old.trace < vec_capacity player.old.trace }
+    requires few { lock ≤ 65536 }
+    ensures took { (result ≡ after.Broken → ⊥) → HasTaken code.now lock served player.old player.new asks.old asks.new }
+    ensures broken { result ≡ after.Broken → (HandsOutSent code.now served.reply → ⊥) × (player.new ≡ player.old) }
+{
+    let Served { reply, at, added } = served;
+    if !hands_out(code, callees, &reply) {
+        drop(reply);
+        return AfterReply::Broken;
+    }
+    *asks = made_with(*asks, &reply);
+    note(&mut player.trace, lock, at, added);
+    let next = after_reply(&reply);
+    player.actor.answer(code, reply);
+    next
+}
+
+/// The store serves an actor's ask, behind all that its past has seen, and the actor takes the answer.
+#[inline(always)]
+fn ask_for<J: Run>(
+    store: &mut LoggedStore<J>,
+    code: &Verified,
+    callees: &[bool],
+    past: &mut Past<Asked, J>,
+    player: &mut Player,
+    asks: &mut u64,
+    ask: Ask,
+) -> AfterAsk
+    requires code { code.now ≡ J.code }
+    requires callees { AreCallees J.code callees.now }
+    requires ready { IsReady J.code player.old ask asks.old past.old }
+    ensures number { player.new.actor.number ≡ player.old.actor.number }
+    ensures limit { player.new.actor.limit ≡ player.old.actor.limit }
+    ensures asked { (m : PlainMade) (n : PlainNext) → result ≡ came.Took m n → HasAsked J.code 0 ask player.old player.new asks.old asks.new past.old past.new m n }
+    ensures unserved { result ≡ came.Unserved → store.new.broken ≡ false → asks.old < 18446744073709551615 → MayNot J.code.cells (length J.code.threads) 0 player.old.actor.number ask store.old.log.log }
+    ensures breaks { store.new.broken ≡ true → store.old.broken ≡ false → HasOthers 0 store.old.log.log past.old past.new }
+{
+    let Some(served) = serve_by(store, past, *asks, &player.actor, ask) else {
+        return AfterAsk::Unserved;
+    };
+    let made = Made {
+        lock: 0,
+        at: served.at,
+        added: served.added,
+    };
+    AfterAsk::Took(made, take(code, callees, player, asks, 0, served))
+}
+
+/// The same of the ask that the actor's last turn came to.
+#[inline(never)]
+fn ask_whole<J: Run>(
+    store: &mut LoggedStore<J>,
+    code: &Verified,
+    callees: &[bool],
+    past: &mut Past<Asked, J>,
+    player: &mut Player,
+    asks: &mut u64,
+    turn: &mut Turn,
+) -> AfterAsk
+    requires code { code.now ≡ J.code }
+    requires callees { AreCallees J.code callees.now }
+    requires ready { (q : Ask) → turn.old ≡ turned.Asks q → IsReady J.code player.old q asks.old past.old }
+    ensures taken { turn.new ≡ turned.Went }
+    ensures number { player.new.actor.number ≡ player.old.actor.number }
+    ensures limit { player.new.actor.limit ≡ player.old.actor.limit }
+    ensures asked { (m : PlainMade) (n : PlainNext) → result ≡ came.Took m n → (q : Ask) × (turn.old ≡ turned.Asks q) × HasAsked J.code 0 q player.old player.new asks.old asks.new past.old past.new m n }
+    ensures unserved { result ≡ came.Unserved → store.new.broken ≡ false → (q : Ask) → turn.old ≡ turned.Asks q → asks.old < 18446744073709551615 → MayNot J.code.cells (length J.code.threads) 0 player.old.actor.number q store.old.log.log }
+    ensures breaks { store.new.broken ≡ true → store.old.broken ≡ false → HasOthers 0 store.old.log.log past.old past.new }
+{
+    match mem::replace(turn, Turn::Went) {
+        Turn::Asks(ask) => ask_for(store, code, callees, past, player, asks, ask),
+        Turn::Went | Turn::Ended(_) => AfterAsk::Unserved,
+    }
+}
+
+/// The same. A look and the begin of a transaction have arms of their own, so that only what serves it is left where the call is inlined. These
+/// asks keep nothing that would have to be dropped.
+#[inline(always)]
+fn ask_turn<J: Run>(
+    store: &mut LoggedStore<J>,
+    code: &Verified,
+    callees: &[bool],
+    past: &mut Past<Asked, J>,
+    player: &mut Player,
+    asks: &mut u64,
+    turn: &mut Turn,
+) -> AfterAsk
+    requires code { code.now ≡ J.code }
+    requires callees { AreCallees J.code callees.now }
+    requires ready { (q : Ask) → turn.old ≡ turned.Asks q → IsReady J.code player.old q asks.old past.old }
+    ensures taken { turn.new ≡ turned.Went }
+    ensures number { player.new.actor.number ≡ player.old.actor.number }
+    ensures limit { player.new.actor.limit ≡ player.old.actor.limit }
+    ensures asked { (m : PlainMade) (n : PlainNext) → result ≡ came.Took m n → (q : Ask) × (turn.old ≡ turned.Asks q) × HasAsked J.code 0 q player.old player.new asks.old asks.new past.old past.new m n }
+    ensures unserved { result ≡ came.Unserved → store.new.broken ≡ false → (q : Ask) → turn.old ≡ turned.Asks q → asks.old < 18446744073709551615 → MayNot J.code.cells (length J.code.threads) 0 player.old.actor.number q store.old.log.log }
+    ensures breaks { store.new.broken ≡ true → store.old.broken ≡ false → HasOthers 0 store.old.log.log past.old past.new }
+{
+    match &*turn {
+        Turn::Asks(Ask::Begin) => {
+            mem::forget(mem::replace(turn, Turn::Went));
+            ask_for(store, code, callees, past, player, asks, Ask::Begin)
+        }
+        Turn::Asks(Ask::Look { cell, at }) => {
+            let (cell, at) = (*cell, *at);
+            mem::forget(mem::replace(turn, Turn::Went));
+            let ask = Ask::Look { cell, at };
+            ask_for(store, code, callees, past, player, asks, ask)
+        }
+        _ => ask_whole(store, code, callees, past, player, asks, turn),
+    }
+}
+
+/// Whether an actor of whose ask this became does no more.
+#[inline(always)]
+fn is_broken(asked: &AfterAsk) -> bool
+    ensures goes { result ≡ false → (m : PlainMade) × (n : PlainNext) × (asked.now ≡ came.Took m n) × (n ≡ after.Broken → ⊥) }
+    ensures stops { result ≡ true → (m : PlainMade) (n : PlainNext) → asked.now ≡ came.Took m n → n ≡ after.Broken }
+{
+    matches!(
+        asked,
+        AfterAsk::Unserved | AfterAsk::Took(_, AfterReply::Broken)
+    )
+}
+
 impl<'a, J: Run> LoggedActor<'a, J> {
-    /// It takes the answer to its ask, and notes the place of the event that was added. One that has no answer, or is handed an action that
-    /// no code sends, does no more.
-    pub fn go_on(&mut self) -> AfterReply
+    /// Its ask is served by the store, behind all that it has seen, and it takes the answer. One whose ask isn't served does no more: it has made
+    /// 2^64 - 1 asks, may not ask this, or the store is broken.
+    #[inline(always)]
+    pub fn ask_store(&mut self, store: &mut LoggedStore<J>) -> AfterAsk
         ensures number { self.new.player.actor.number ≡ self.old.player.actor.number }
-        ensures past { self.new.past ≡ self.old.past }
-        ensures asks { self.new.asks ≡ self.old.asks }
-        ensures goes { (result ≡ after.Broken → ⊥) → self.new.step ≡ step.Runs }
-        ensures broken { result ≡ after.Broken → (lock : ℕ) (v : Served) → self.old.step ≡ step.Answered lock v → HandsOutSent J.code v.reply → ⊥ }
+        ensures asked { (m : PlainMade) (n : PlainNext) → result ≡ came.Took m n → HasGone J.code 0 self.old self.new m n }
+        ensures unserved { result ≡ came.Unserved → store.new.broken ≡ false → (q : Ask) → self.old.step ≡ step.Asks q → self.old.asks < 18446744073709551615 → MayNot J.code.cells (length J.code.threads) 0 self.old.player.actor.number q store.old.log.log }
+        ensures breaks { store.new.broken ≡ true → store.old.broken ≡ false → HasOthers 0 store.old.log.log self.old.past self.new.past }
     {
         // A law that the proof uses; it does nothing when it runs.
         actors_run();
-        let Answer::Given(lock, served) = mem::replace(&mut self.answer, Answer::Absent) else {
-            self.answer = Answer::Broken;
-            self.turn = Turn::Went;
-            return AfterReply::Broken;
+        let asked = ask_turn(
+            store,
+            self.code,
+            self.callees,
+            &mut self.past,
+            &mut self.player,
+            &mut self.asks,
+            &mut self.turn,
+        );
+        self.broken = is_broken(&asked);
+        asked
+    }
+}
+
+/// An atom serves an actor's ask, behind all that its past has seen, if the actor may still make one; and the actor takes the answer.
+fn ask_atom<J: Run>(
+    atom: &mut LoggedAtom<J>,
+    code: &Verified,
+    callees: &[bool],
+    past: &mut Past<Asked, J>,
+    player: &mut Player,
+    asks: &mut u64,
+    ask: Ask,
+) -> AfterAsk
+    requires code { code.now ≡ J.code }
+    requires callees { AreCallees J.code callees.now }
+    requires ready { IsReady J.code player.old ask asks.old past.old }
+    ensures number { player.new.actor.number ≡ player.old.actor.number }
+    ensures limit { player.new.actor.limit ≡ player.old.actor.limit }
+    ensures asked { (m : PlainMade) (n : PlainNext) → result ≡ came.Took m n → HasAsked J.code (home J.code.cells atom.old.atom.cell) ask player.old player.new asks.old asks.new past.old past.new m n }
+    ensures unserved { result ≡ came.Unserved → atom.new.broken ≡ false → asks.old < 18446744073709551615 → MayNot J.code.cells (length J.code.threads) (home J.code.cells atom.old.atom.cell) player.old.actor.number ask atom.old.log.log }
+    ensures breaks { atom.new.broken ≡ true → atom.old.broken ≡ false → HasOthers (home J.code.cells atom.old.atom.cell) atom.old.log.log past.old past.new }
+{
+    if *asks == u64::MAX {
+        drop(ask);
+        return AfterAsk::Unserved;
+    }
+    let number = player.actor.number();
+    let lock = atom.lock();
+    let Some(served) = atom.serve::<Actor, Waiting>(past, &player.actor, number, ask) else {
+        return AfterAsk::Unserved;
+    };
+    let made = Made {
+        lock,
+        at: served.at,
+        added: served.added,
+    };
+    AfterAsk::Took(made, take(code, callees, player, asks, lock, served))
+}
+
+impl<'a, J: Run> LoggedActor<'a, J> {
+    /// Its ask is served by an atom, behind all that it has seen, and it takes the answer. One whose ask isn't served does no more: it has made
+    /// 2^64 - 1 asks, may not ask this, or the atom is broken.
+    pub fn ask_atom(&mut self, atom: &mut LoggedAtom<J>) -> AfterAsk
+        ensures number { self.new.player.actor.number ≡ self.old.player.actor.number }
+        ensures asked { (m : PlainMade) (n : PlainNext) → result ≡ came.Took m n → HasGone J.code (home J.code.cells atom.old.atom.cell) self.old self.new m n }
+        ensures unserved { result ≡ came.Unserved → atom.new.broken ≡ false → (q : Ask) → self.old.step ≡ step.Asks q → self.old.asks < 18446744073709551615 → MayNot J.code.cells (length J.code.threads) (home J.code.cells atom.old.atom.cell) self.old.player.actor.number q atom.old.log.log }
+        ensures breaks { atom.new.broken ≡ true → atom.old.broken ≡ false → HasOthers (home J.code.cells atom.old.atom.cell) atom.old.log.log self.old.past self.new.past }
+    {
+        // A law that the proof uses; it does nothing when it runs.
+        actors_run();
+        let Turn::Asks(ask) = mem::replace(&mut self.turn, Turn::Went) else {
+            self.broken = true;
+            return AfterAsk::Unserved;
         };
-        let Served { reply, at, added } = served;
-        if !hands_out(self.code, self.callees, &reply) {
-            drop(reply);
-            self.answer = Answer::Broken;
-            return AfterReply::Broken;
-        }
-        note(&mut self.player.trace, lock, at, added);
-        let next = after_reply(&reply);
-        self.player.actor.answer(self.code, reply);
-        next
+        let asked = ask_atom(
+            atom,
+            self.code,
+            self.callees,
+            &mut self.past,
+            &mut self.player,
+            &mut self.asks,
+            ask,
+        );
+        self.broken = is_broken(&asked);
+        asked
     }
 }
 
@@ -422,21 +522,6 @@ impl<'a, J: Run> LoggedActor<'a, J> {
     {
         match &self.turn {
             Turn::Asks(ask) => Some(ask),
-            _ => None,
-        }
-    }
-
-    /// Its ask that was served, where it is to go on with the answer.
-    pub fn served(&self) -> Option<Made>
-        ensures is { IfSome result (λ m. (v : Served) × (self.now.step ≡ step.Answered m.lock v) × (m.at ≡ v.at) × (m.added ≡ v.added)) }
-        ensures none { result ≡ None → (lock : ℕ) (v : Served) → self.now.step ≡ step.Answered lock v → ⊥ }
-    {
-        match &self.answer {
-            Answer::Given(lock, served) => Some(Made {
-                lock: *lock,
-                at: served.at,
-                added: served.added,
-            }),
             _ => None,
         }
     }
@@ -469,10 +554,7 @@ impl<'a, J: Run> LoggedActor<'a, J> {
         ensures follows { IsTrue result → IsFollowing J.code self.now.player.actor self.now.player.trace.items self.now.asks self.now.past }
         ensures limit { self.now.player.actor.limit ≡ J.limit }
     {
-        match &self.answer {
-            Answer::Absent => went(&self.turn),
-            _ => false,
-        }
+        !self.broken && went(&self.turn)
     }
 
     /// A past then has seen what the actor has.
@@ -494,11 +576,10 @@ impl<'a, J: Run> LoggedActor<'a, J> {
             asks: _,
             past,
             turn,
-            answer,
+            broken: _,
         } = self;
         drop(past);
         drop(turn);
-        drop(answer);
         player
     }
 }

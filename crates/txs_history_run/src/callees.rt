@@ -142,6 +142,7 @@ fn takes_so(code: &Verified, marks: &[bool], f: usize, count: usize) -> bool
 }
 
 /// Whether a reply hands out no action but one whose callee is an operation or a marked function, and takes the agent's state and the arguments.
+#[inline(always)]
 pub(crate) fn hands_out(code: &Verified, marks: &[bool], reply: &Reply) -> bool
     requires { AreCallees code.now marks.now }
     ensures { IsTrue result ↔ HandsOutSent code.now reply.now }

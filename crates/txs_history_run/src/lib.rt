@@ -11,7 +11,7 @@ mod ending;
 pub mod law;
 mod step;
 
-pub use actor::{AfterReply, LoggedActor, Next};
+pub use actor::{AfterAsk, AfterReply, LoggedActor, Next};
 pub use callees::sent_functions;
 pub use ending::{Gathered, settle};
 pub use law::settled_is_run;

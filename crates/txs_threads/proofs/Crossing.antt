@@ -29,7 +29,6 @@ use Rattle.txs_value_data.proofs.fault.Span.TheSendSync as span_sent
 use Rattle.txs_value_data.proofs.op.Callee.TheSendSync as callee_sent
 use Rattle.txs_value_cell.proofs.cell.ErrorMode.TheSendSync as error_mode_sent
 use Rattle.txs_world_protocol.specs.contracts.ask.Ask as ask_is
-use Rattle.txs_world_protocol.specs.contracts.ask.Reply as reply_is
 use Rattle.txs_world_protocol.specs.contracts.event.EventKind as event_kind_is
 use Rattle.txs_world_protocol.specs.contracts.event.Event as event_is
 use Rattle.txs_frame.specs.contracts.frame.Commute as commute_is
@@ -73,13 +72,11 @@ use Rattle.txs_history.proofs.log.Log.TheSendSync as log_sent
 use Rattle.txs_history.proofs.log.Past.TheSendSync as past_sent
 use Rattle.txs_history.specs.declared.log.Naming as naming_is
 use Rattle.txs_history.specs.declared.run.Run as run_is
-use Rattle.txs_history.specs.contracts.serve.Served as served_is
 use Rattle.txs_history.specs.contracts.store.LoggedStore as logged_store_is
 use Rattle.txs_history.specs.contracts.store.LoggedStore.TheInside as logged_store_in
 use Rattle.txs_history.specs.contracts.atom.LoggedAtom as logged_atom_is
 use Rattle.txs_history.specs.contracts.atom.LoggedAtom.TheInside as logged_atom_in
 use Rattle.txs_machine_actor.specs.contracts.outcome.Turn as turn_is
-use Rattle.txs_history_run.specs.contracts.step.Answer as answer_is
 use Rattle.txs_history_run.specs.contracts.actor.LoggedActor as logged_actor_is
 use Rattle.txs_history_run.specs.contracts.actor.LoggedActor.TheInside as logged_actor_in
 
@@ -94,9 +91,6 @@ value_sync = search (crosses, knot.crosses, sendable) depth 60 fits 20000
 
 pub ask_field_send : IsSend (ask_is.the_field).row
 ask_field_send = enum_send (E.shape ask_is.the_type) (tt, ((cell_id_sent.the_field_send, (plain_send _ _ _ _ _, tt)), (((search (listed.the_send, cell_id_sent.the_send, crosses, sendable) depth 60 fits 20000), tt), ((plain_send _ _ _ _ _, ((search (value_send, vec.the_send, listed.the_send, cell_id_sent.the_send, crosses, sendable) depth 60 fits 20000), ((search (listed.the_send, cell_id_sent.the_send, crosses, sendable) depth 60 fits 20000), (plain_send _ _ _ _ _, ((search (value_send, vec.the_send, listed.the_send, cell_id_sent.the_send, crosses, sendable) depth 60 fits 20000), ((search (action_send, listed.the_send, crosses, sendable) depth 60 fits 20000), tt)))))), ((plain_send _ _ _ _ _, (plain_send _ _ _ _ _, tt)), ((cell_id_sent.the_field_send, tt), ((action_field_send, tt), ((cell_id_sent.the_field_send, tt), ((cell_id_sent.the_field_send, ((search (value_send, fault_sent.the_send, crosses, sendable) depth 60 fits 20000), ((search (action_send, listed.the_send, crosses, sendable) depth 60 fits 20000), tt))), ((cell_id_sent.the_field_send, tt), ((cell_id_sent.the_field_send, ((search (plain_send, option.the_field_send, crosses, sendable) depth 60 fits 20000), (value_field_send, tt))), ((cell_id_sent.the_field_send, (plain_send _ _ _ _ _, tt)), tt))))))))))))
-
-pub reply_field_send : IsSend (reply_is.the_field).row
-reply_field_send = enum_send (E.shape reply_is.the_type) ((plain_send _ _ _ _ _, tt), ((value_field_send, tt), ((plain_send _ _ _ _ _, ((search (value_send, listed.the_send, crosses, sendable) depth 60 fits 20000), tt)), (tt, ((cell_id_sent.the_field_send, tt), ((cell_id_sent.the_field_send, tt), ((cell_id_sent.the_field_send, tt), ((plain_send _ _ _ _ _, (action_field_send, (value_field_send, tt))), (tt, ((plain_send _ _ _ _ _, (value_field_send, tt)), (tt, (tt, tt))))))))))))
 
 pub event_kind_field_send : IsSend (event_kind_is.the_field).row
 event_kind_field_send = enum_send (E.shape event_kind_is.the_type) ((cell_id_sent.the_field_send, tt), ((plain_send _ _ _ _ _, (plain_send _ _ _ _ _, ((search (value_send, vec.the_send, listed.the_send, cell_id_sent.the_send, crosses, sendable) depth 60 fits 20000), ((search (action_send, listed.the_send, crosses, sendable) depth 60 fits 20000), tt)))), ((plain_send _ _ _ _ _, (cell_id_sent.the_field_send, (cause_sent.the_field_send, tt))), ((plain_send _ _ _ _ _, (plain_send _ _ _ _ _, tt)), ((plain_send _ _ _ _ _, (plain_send _ _ _ _ _, (cell_id_sent.the_field_send, tt))), ((action_field_send, tt), ((cell_id_sent.the_field_send, tt), ((cell_id_sent.the_field_send, (plain_send _ _ _ _ _, ((search (value_send, fault_sent.the_send, crosses, sendable) depth 60 fits 20000), ((search (action_send, listed.the_send, crosses, sendable) depth 60 fits 20000), tt)))), ((value_field_send, tt), ((plain_send _ _ _ _ _, tt), tt))))))))))
@@ -205,14 +199,8 @@ verified_sync = view_sync verified_in.the_row _ _ _ _ (recorded_sync (verified_i
 pub player_field_send : IsSend (player_is.the_field).row
 player_field_send = struct_send (S.shape player_is.the_type) ((search (actor_send, crosses, sendable) depth 60 fits 20000), ((search (place_sent.the_send, vec.the_send, crosses, sendable) depth 60 fits 20000), tt))
 
-pub served_field_send : IsSend (served_is.the_field).row
-served_field_send = struct_send (S.shape served_is.the_type) ((search (reply_field_send, crosses, sendable) depth 60 fits 20000), (plain_send _ _ _ _ _, (plain_send _ _ _ _ _, tt)))
-
 pub turn_field_send : IsSend (turn_is.the_field).row
 turn_field_send = enum_send (E.shape turn_is.the_type) (tt, (((search (ask_field_send, crosses, sendable) depth 60 fits 20000), tt), (((search (outcome.the_field_send, crosses, sendable) depth 60 fits 20000), tt), tt)))
-
-pub answer_field_send : IsSend (answer_is.the_field).row
-answer_field_send = enum_send (E.shape answer_is.the_type) (tt, ((plain_send _ _ _ _ _, ((search (served_field_send, crosses, sendable) depth 60 fits 20000), tt)), (tt, tt)))
 
 -- of a run
 module _ (J : RattleType) (run : run_is.Ghosts J.Denot) (name : naming_is.Ghosts J.Denot) where
@@ -224,4 +212,4 @@ module _ (J : RattleType) (run : run_is.Ghosts J.Denot) (name : naming_is.Ghosts
 
   module _ (a : NamedLft) where
     pub logged_actor_send : IsSend (logged_actor_is.the_row a J run name)
-    logged_actor_send = view_send (logged_actor_in.the_row a J run name) _ _ _ _ (recorded_send (logged_actor_in.the_field a J run name).row _ _ (logged_actor_in.the_type a J run name).to_one (struct_send (S.shape (logged_actor_in.the_type a J run name)) (shr_send _ _ verified_is.the_row verified_sync, (shr_slice_send _ _ Builtin.bool (plain_sync _ _ _ _ _), ((search (player_field_send, crosses, sendable) depth 60 fits 20000), (plain_send _ _ _ _ _, ((search (past_sent.the_send, crosses, sendable) depth 60 fits 20000), ((search (turn_field_send, crosses, sendable) depth 60 fits 20000), ((search (answer_field_send, crosses, sendable) depth 60 fits 20000), tt)))))))))
+    logged_actor_send = view_send (logged_actor_in.the_row a J run name) _ _ _ _ (recorded_send (logged_actor_in.the_field a J run name).row _ _ (logged_actor_in.the_type a J run name).to_one (struct_send (S.shape (logged_actor_in.the_type a J run name)) (shr_send _ _ verified_is.the_row verified_sync, (shr_slice_send _ _ Builtin.bool (plain_sync _ _ _ _ _), ((search (player_field_send, crosses, sendable) depth 60 fits 20000), (plain_send _ _ _ _ _, ((search (past_sent.the_send, crosses, sendable) depth 60 fits 20000), ((search (turn_field_send, crosses, sendable) depth 60 fits 20000), (plain_send _ _ _ _ _, tt)))))))))

@@ -11,6 +11,7 @@ use std::hint::spin_loop;
 use std::sync::{Mutex, MutexGuard, Wait};
 use txs_code_meaning::Verified;
 use txs_history::{Asked, LoggedAtom, LoggedStore, Opened, Run};
+use txs_history_run::AfterAsk;
 use txs_machine::RunError;
 use txs_value_data::CellId;
 use txs_world::Store;
@@ -85,11 +86,11 @@ impl<A: Drop> Atoms<A> {
         let _ = self.locks.push(Mutex::new(atom));
     }
 
-    /// Serves an actor's ask that names this atom, under its lock: whether it was served.
-    pub fn serve<R: Wait, P: AsksAtom<A>>(&self, rt: &R, cell: CellId, actor: &mut P) -> bool {
+    /// Serves an actor's ask that names this atom, under its lock: what became of it.
+    pub fn serve<R: Wait, P: AsksAtom<A>>(&self, rt: &R, cell: CellId, actor: &mut P) -> AfterAsk {
         let index = index_of(self.indexes.as_slice(), cell);
         if index >= self.locks.len() {
-            return false;
+            return AfterAsk::Unserved;
         }
         let mut atom = lock_atom(rt, &self.locks[index]);
         actor.ask_atom(&mut atom)
@@ -110,11 +111,11 @@ impl<A: Drop> Atoms<A> {
 }
 
 impl<A: Drop> FreeAtoms<A> {
-    /// Serves an actor's ask that names this atom: whether it was served.
-    pub fn serve<P: AsksAtom<A>>(&mut self, cell: CellId, actor: &mut P) -> bool {
+    /// Serves an actor's ask that names this atom: what became of it.
+    pub fn serve<P: AsksAtom<A>>(&mut self, cell: CellId, actor: &mut P) -> AfterAsk {
         let index = index_of(self.indexes.as_slice(), cell);
         if index >= self.atoms.len() {
-            return false;
+            return AfterAsk::Unserved;
         }
         actor.ask_atom(&mut self.atoms[index])
     }

@@ -13,12 +13,12 @@ use crate::scheduler::{Actors, Scheduler};
 use std::alloc::Global;
 use txs_code_meaning::Verified;
 use txs_history::{Asked, LoggedAtom, LoggedStore, Past, Run};
-use txs_history_run::{AfterReply, Gathered, LoggedActor, settle};
+use txs_history_run::{AfterAsk, AfterReply, Gathered, LoggedActor, settle};
 use txs_machine::{ActorReport, RunError};
 use txs_value_data::CellId;
 use txs_world_shared::SharedState;
 
-/// Serves an actor's ask, and has it go on with the answer: whether it goes on.
+/// Serves an actor's ask, whose answer it takes: whether it goes on.
 fn serve_left<S, A: Drop, P: AsksStore<S> + AsksAtom<A>>(
     store: &mut S,
     atoms: &mut FreeAtoms<A>,
@@ -29,11 +29,13 @@ fn serve_left<S, A: Drop, P: AsksStore<S> + AsksAtom<A>>(
         Some(cell) => atoms.serve(cell, actor),
         None => actor.ask_store(store),
     };
-    asked
-        && matches!(
-            actor.go_on(),
+    matches!(
+        asked,
+        AfterAsk::Took(
+            _,
             AfterReply::GoesOn | AfterReply::Redoes | AfterReply::Again
         )
+    )
 }
 
 /// Rounds of one ask of each actor that hasn't ended, until none goes on: each is turned up to its next ask, which is served and answered, or to its end.

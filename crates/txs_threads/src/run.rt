@@ -27,7 +27,7 @@ use std::thread::Threads;
 use txs_code_meaning::Verified;
 use txs_gate::{AskKind, Gate, Moment};
 use txs_history::{Asked, Opened, Run};
-use txs_history_run::{AfterReply, Gathered, sent_functions};
+use txs_history_run::{AfterAsk, AfterReply, Gathered, sent_functions};
 use txs_machine::RunError;
 use txs_value_data::CellId;
 use txs_world::Store;
@@ -130,7 +130,8 @@ fn after_answer(
     }
 }
 
-/// Serves an actor's ask under the lock of the book that it is for: an atom's, or the store's. Hands on the agents that it woke. Whether it was served.
+/// Serves an actor's ask under the lock of the book that it is for: an atom's, or the store's. Hands on the agents that it woke. What became of it.
+#[inline(always)]
 fn serve_under<R: Wait, S: Journal, A: Drop, P: AsksStore<S> + AsksAtom<A>>(
     rt: &R,
     scheduler: &Mutex<Scheduler<S, P>>,
@@ -138,7 +139,7 @@ fn serve_under<R: Wait, S: Journal, A: Drop, P: AsksStore<S> + AsksAtom<A>>(
     to: &Sender<Option<P>>,
     actor: &mut P,
     atom: Option<CellId>,
-) -> bool {
+) -> AfterAsk {
     if let Some(cell) = atom {
         return atoms.serve(rt, cell, actor);
     }
@@ -149,7 +150,7 @@ fn serve_under<R: Wait, S: Journal, A: Drop, P: AsksStore<S> + AsksAtom<A>>(
     asked
 }
 
-/// Serves an actor's ask, hands on the agents that it woke, and has the actor go on with the answer.
+/// Serves an actor's ask, hands on the agents that it woke, and has the gate note what the ask made: what becomes of the actor then.
 fn serve_ask<R: Wait, S: Journal, A: Drop, P: AsksStore<S> + AsksAtom<A>, G: Gate>(
     rt: &R,
     scheduler: &Mutex<Scheduler<S, P>>,
@@ -160,13 +161,11 @@ fn serve_ask<R: Wait, S: Journal, A: Drop, P: AsksStore<S> + AsksAtom<A>, G: Gat
     wanted: Wanted,
     left: &mut u32,
 ) -> Option<Handover> {
-    if !serve_under(rt, scheduler, atoms, to, actor, wanted.atom) {
+    let asked = serve_under(rt, scheduler, atoms, to, actor, wanted.atom);
+    let AfterAsk::Took(made, next) = asked else {
         return Some(Handover::Rests(None));
-    }
-    if let Some(made) = actor.served() {
-        gate.note(actor.number(), made);
-    }
-    let next = actor.go_on();
+    };
+    gate.note(actor.number(), made);
     if !matches!(next, AfterReply::Broken) {
         gate.pass(actor.number(), Moment::Answered(wanted.kind));
     }

@@ -1,8 +1,8 @@
 //! What workers know of an actor, and of what lies under the store's lock.
 
-use txs_gate::{AskKind, Made, kind_of};
+use txs_gate::{AskKind, kind_of};
 use txs_history::{LoggedAtom, LoggedStore, Run};
-use txs_history_run::{AfterReply, LoggedActor, Next};
+use txs_history_run::{AfterAsk, LoggedActor, Next};
 use txs_value_data::CellId;
 use txs_world_protocol::{Ask, Event};
 use txs_world_shared::atoms::atom_named;
@@ -35,24 +35,18 @@ pub trait Runnable: Drop {
 
     /// Up to so many turns: an ask or an end is the last.
     fn run(&mut self, budget: u64) -> Ran;
-
-    /// Its ask that was served, where it is to go on with the answer.
-    fn served(&self) -> Option<Made>;
-
-    /// It goes on with the answer to its ask.
-    fn go_on(&mut self) -> AfterReply;
 }
 
 /// An actor that asks what lies under the store's lock.
 pub trait AsksStore<S>: Runnable {
-    /// Its ask is served: whether it was.
-    fn ask_store(&mut self, store: &mut S) -> bool;
+    /// Its ask is served, and it takes the answer: what became of the ask.
+    fn ask_store(&mut self, store: &mut S) -> AfterAsk;
 }
 
 /// An actor that asks what lies under an atom's lock.
 pub trait AsksAtom<A>: Runnable {
-    /// Its ask is served: whether it was.
-    fn ask_atom(&mut self, atom: &mut A) -> bool;
+    /// Its ask is served, and it takes the answer: what became of the ask.
+    fn ask_atom(&mut self, atom: &mut A) -> AfterAsk;
 }
 
 /// What lies under the store's lock, as workers look at it.
@@ -86,6 +80,7 @@ impl<'a, J: Run> Runnable for LoggedActor<'a, J> {
         LoggedActor::number(self)
     }
 
+    #[inline(always)]
     fn run(&mut self, budget: u64) -> Ran {
         match LoggedActor::run(self, budget) {
             Next::Went => Ran::Went,
@@ -96,24 +91,17 @@ impl<'a, J: Run> Runnable for LoggedActor<'a, J> {
             Next::Ended | Next::Waits => Ran::Ended,
         }
     }
-
-    fn served(&self) -> Option<Made> {
-        LoggedActor::served(self)
-    }
-
-    fn go_on(&mut self) -> AfterReply {
-        LoggedActor::go_on(self)
-    }
 }
 
 impl<'a, J: Run> AsksStore<LoggedStore<J>> for LoggedActor<'a, J> {
-    fn ask_store(&mut self, store: &mut LoggedStore<J>) -> bool {
+    #[inline(always)]
+    fn ask_store(&mut self, store: &mut LoggedStore<J>) -> AfterAsk {
         LoggedActor::ask_store(self, store)
     }
 }
 
 impl<'a, J: Run> AsksAtom<LoggedAtom<J>> for LoggedActor<'a, J> {
-    fn ask_atom(&mut self, atom: &mut LoggedAtom<J>) -> bool {
+    fn ask_atom(&mut self, atom: &mut LoggedAtom<J>) -> AfterAsk {
         LoggedActor::ask_atom(self, atom)
     }
 }

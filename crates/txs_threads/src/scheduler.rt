@@ -6,6 +6,8 @@ ghost use Rattle.std.specs.Prelude.{◌≡◌, ◌<◌, ◌≤◌, ◌+◌, ◌-
 use crate::runnable::{AsksStore, Journal, Runnable};
 use std::alloc::{AllocError, Global};
 use std::mem;
+use txs_gate::Made;
+use txs_history_run::AfterAsk;
 use txs_value_data::CellId;
 use txs_world_protocol::{Event, EventKind};
 
@@ -104,10 +106,10 @@ impl<P: Runnable> Actors<P> {
     }
 }
 
-/// Whether an ask was served, and whether agents were woken by it, which are ready.
+/// What became of an ask, and whether agents were woken by it, which are ready.
 #[derive(Clone, Copy)]
 pub struct Step {
-    pub asked: bool,
+    pub asked: AfterAsk,
     pub woke: bool,
 }
 
@@ -154,9 +156,13 @@ impl<S: Journal, P: AsksStore<S>> Scheduler<S, P> {
     }
 
     /// Serves an actor's ask from the store, and wakes the agents to which it sent actions, in one step.
+    #[inline(always)]
     pub fn serve(&mut self, actor: &mut P) -> Step {
         let before = self.store.events().len();
         let asked = actor.ask_store(&mut self.store);
+        if let AfterAsk::Took(Made { added: false, .. }, _) = asked {
+            return Step { asked, woke: false };
+        }
         let woke = wake_by(&mut self.actors, self.store.events(), before);
         Step { asked, woke }
     }
