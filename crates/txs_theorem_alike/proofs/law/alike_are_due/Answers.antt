@@ -1,0 +1,5 @@
+use Rattle.txs_theorem_alike.proofs.Relating as relating_proof
+use Rattle.txs_theorem_alike.proofs.law.alike_are_due.Goals as goal
+
+pub returns : goal.returns
+returns c = relating_proof.due
